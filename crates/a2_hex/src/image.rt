@@ -1,0 +1,58 @@
+//! Bytes at addresses of RAM.
+
+ghost use Rattle.std.specs.Prelude.{◌≡◌, ◌<◌, ℕ, None, IfOk, OnErr};
+ghost use Rattle.a2_hex.specs.Images.{held, put};
+
+use crate::fault::HexFault;
+use std::alloc::{Allocator, Global};
+use std::marker::Model;
+
+/// The end of RAM.
+const RAM_END: usize = 0xC000;
+
+/// Bytes at addresses below $C000, at each address one or none.
+#[derive(Drop)]
+pub struct Image<A: Allocator = Global> {
+    cells: Vec<Option<u8>, A>,
+}
+
+impl<A: Allocator> Model for Image<A> {
+    ghost use Rattle.std.specs.Prelude.{◌≡◌, length};
+    ghost use Rattle.a2_hex.specs.Images.{Cells};
+
+    ghost Value = { Cells };
+
+    ghost view = { λ image. image.cells.items };
+
+    ghost invariant = { λ image. length image.cells.items ≡ 49152 };
+}
+
+impl<A: Allocator> Image<A> {
+    /// No bytes. Refused only for want of memory.
+    pub fn new(alloc: A) -> Result<Image<A>, HexFault>
+        ensures empty { IfOk result (λ image. (a : ℕ) → held image a ≡ None) }
+        ensures refused { OnErr result (result ≡ Err HexFault.Memory) }
+    {
+        let mut cells = Vec::new(alloc);
+        for _i in 0..RAM_END {
+            cells.push(None)?;
+        }
+        Ok(Image { cells })
+    }
+
+    /// The byte at an address, if there is one.
+    pub fn get(&self, address: u16) -> Option<u8>
+        ensures { result ≡ held self.now address }
+    {
+        let i = usize::from(address);
+        if i < self.cells.len() { self.cells[i] } else { None }
+    }
+
+    /// Puts a byte at an address below $C000, in place of any that was there.
+    pub fn set(&mut self, address: u16, byte: u8)
+        requires { address < 49152 }
+        ensures { (a : ℕ) → held self.new a ≡ put (held self.old) address byte a }
+    {
+        self.cells[usize::from(address)] = Some(byte);
+    }
+}

@@ -1,0 +1,39 @@
+-- Kinds of bytes, and what digits stand for.
+use Rattle.std.specs.Prelude.{ℕ, ◌+◌, ◌-◌, ◌*◌, Bool, ◌&&◌, ◌||◌, ◌==◌, nat_le, nat_lt, List, length, fold, Option, Some, None, if◌then◌else◌}
+use Rattle.std.specs.List.{list_all}
+
+abbrev pub is_between : ℕ → ℕ → ℕ → Bool
+is_between low high c = nat_le low c && nat_le c high
+
+-- a space or a tab
+abbrev pub is_blank : ℕ → Bool
+is_blank c = c == 32 || c == 9
+
+abbrev pub is_digit : ℕ → Bool
+is_digit c = is_between 48 57 c
+
+-- a small letter's capital, and any other byte itself
+abbrev pub capital : ℕ → ℕ
+capital c = if is_between 97 122 c then c - 32 else c
+
+-- a digit, or one of the letters A to F in either case
+abbrev pub is_hex_digit : ℕ → Bool
+is_hex_digit c = is_digit c || is_between 65 70 (capital c)
+
+-- what a digit stands for
+abbrev pub digit : ℕ → ℕ
+digit c = if is_digit c then c - 48 else capital c - 55
+
+-- what digits stand for in a base, the highest first
+abbrev pub value : ℕ → List ℕ → ℕ
+value base digits = fold (λ n c. n * base + digit c) 0 digits
+
+-- a digit of the base
+abbrev pub is_digit_in : ℕ → ℕ → Bool
+is_digit_in base c = is_hex_digit c && nat_lt (digit c) base
+
+-- one digit or more, up to a greatest number of them, where they stand for a number of two bytes
+abbrev pub number_in : ℕ → ℕ → List ℕ → Option ℕ
+number_in base most digits =
+    if nat_lt 0 (length digits) && nat_le (length digits) most && list_all (is_digit_in base) digits && nat_lt (value base digits) 65536
+    then Some (value base digits) else None

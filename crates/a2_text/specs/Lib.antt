@@ -1,0 +1,4 @@
+pub mod Bytes
+pub mod Lines
+pub mod Refusals
+pub mod Digits

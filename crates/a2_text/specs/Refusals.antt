@@ -1,0 +1,16 @@
+-- The first of several refusals.
+use Rattle.std.specs.Prelude.{ℕ, ◌+◌, Bool, List, [], ◌∷◌, Option, Some, None, if◌then◌else◌}
+
+-- the first where there is one, and else the second
+infixr 20 ◌otherwise◌
+abbrev pub ◌otherwise◌ : {F : Type 0} → Option F → Option F → Option F
+(Some f) otherwise g = Some f
+None otherwise g = g
+
+abbrev pub refuse_if : {F : Type 0} → Bool → F → Option F
+refuse_if b f = if b then Some f else None
+
+-- the first line that a check refuses, where the lines are numbered from n on
+abbrev pub first_line : {X F : Type 0} → (ℕ → X → Option F) → ℕ → List X → Option F
+first_line check n [] = None
+first_line check n (x ∷ xs) = check n x otherwise first_line check (n + 1) xs
