@@ -1,7 +1,59 @@
--- What a screen shows of the two text pages, as the switches say. Apple II Reference Manual (1979), pages 12 to 20.
-use Rattle.std.specs.Prelude.{ℕ, ◌+◌, ◌*◌, ◌/◌, ◌%◌, List, slice_index}
+-- What a screen shows of the two text pages, as the switches say. Apple II Reference Manual (1979), pages 12 to 20;
+-- the lines are this project's profile, and one of them stands for the hi-res picture.
+use Rattle.std.specs.Prelude.{◌≡◌, ℕ, ◌+◌, ◌*◌, ◌/◌, ◌%◌, Bool, List, [], ◌∷◌, ◌++◌, flat_map, slice_index, take, drop, codes, if◌then◌else◌, true, false, replicate, refl}
+use Rattle.a2_page.specs.declared.Switches.{Switches}
 use Rattle.a2_page.specs.Grid.{Grid, grid_of}
+use Rattle.a2_page.specs.Text.{text_lines, block_lines, attribute_lines}
 
--- the rows of a page's 1,024 bytes
-abbrev pub page_grid : List ℕ → Grid
+-- the rows of a page's 1,024 bytes: a row begins as far behind the first byte as its address behind the page's start
+unfoldable pub page_grid : List ℕ → Grid
 page_grid bytes = grid_of (λ row column. slice_index bytes (128 * (row % 8) + 40 * (row / 8) + column))
+
+-- the page that is shown
+abbrev pub shown : Switches → Grid → Grid → Grid
+shown switches page1 page2 = if switches.page2 then page2 else page1
+
+-- the row of cells with which text begins: in text mode the first, in mixed mode row 20, and else none
+abbrev pub first_text_row : Switches → ℕ
+first_text_row switches = if switches.text then 0 else if switches.mixed then 20 else 24
+
+-- what stands for rows of cells in a graphics mode
+abbrev pub graphics_lines : Switches → Grid → List ℕ
+graphics_lines switches rows = if switches.hires then codes "HI-RES NOT SHOWN\n" else block_lines rows
+
+-- the lines of the shown page: graphics down to the text, and then text
+abbrev pub picture : Switches → Grid → Grid → List ℕ
+picture switches page1 page2 =
+    let rows = shown switches page1 page2 in
+    (if switches.text then [] else graphics_lines switches (take (first_text_row switches) rows))
+    ++ text_lines (drop (first_text_row switches) rows)
+
+-- the attributes of the rows that are shown as text
+abbrev pub attribute_rows : Switches → Grid → Grid → List ℕ
+attribute_rows switches page1 page2 = attribute_lines (drop (first_text_row switches) (shown switches page1 page2))
+
+-- Small screens of 21 rows, of which the last says A
+
+abbrev small_screen : Grid
+small_screen = replicate 20 (0x12 ∷ []) ++ (0xC1 ∷ []) ∷ []
+
+abbrev switches_at : Bool → Bool → Bool → Switches
+switches_at text mixed hires = record { text = text; mixed = mixed; page2 = false; hires = hires }
+
+pub page_example : picture (record (switches_at true true true) { page2 = true }) small_screen ((0xC2 ∷ []) ∷ []) ≡ codes "B\n"
+page_example = refl
+
+pub lores_example : picture (switches_at false false false) ((0xC1 ∷ 0x10 ∷ []) ∷ []) [] ≡ codes "10\nC1\n"
+lores_example = refl
+
+pub mixed_example : picture (switches_at false true false) small_screen [] ≡ flat_map {X = List ℕ} (λ line. line) (replicate 20 (codes "2\n1\n")) ++ codes "A\n"
+mixed_example = refl
+
+pub hires_example : picture (switches_at false true true) small_screen [] ≡ codes "HI-RES NOT SHOWN\nA\n"
+hires_example = refl
+
+pub attributes_example : attribute_rows (switches_at false true true) small_screen [] ≡ codes ".\n"
+attributes_example = refl
+
+pub no_attributes_example : attribute_rows (switches_at false false false) small_screen [] ≡ []
+no_attributes_example = refl

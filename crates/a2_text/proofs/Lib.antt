@@ -1,2 +1,3 @@
 mod Cutting
 mod NumberLaws
+mod Decimals

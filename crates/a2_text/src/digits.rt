@@ -1,7 +1,10 @@
-//! Numbers written in hexadecimal digits.
+//! Numbers written in digits.
 
-ghost use Rattle.std.specs.Prelude.{◌≡◌, ◌<◌};
+ghost use Rattle.std.specs.Prelude.{◌≡◌, ◌<◌, ◌≤◌, length};
+ghost use Rattle.std.specs.Fmt.{decimal as decimal_of};
 ghost use Rattle.a2_text.specs.Digits as digits;
+
+use arrayvec::ArrayVec;
 
 // The capital digit of a number below 16.
 fn hex_digit(n: u8) -> u8
@@ -25,4 +28,33 @@ pub fn hex_word(word: u16) -> [u8; 4]
     let [a, b] = hex_pair((word / 256) as u8);
     let [c, d] = hex_pair((word % 256) as u8);
     [a, b, c, d]
+}
+
+// At most 20 bytes in an array of their own.
+fn collected(bytes: &[u8]) -> ArrayVec<u8, 20>
+    requires { length bytes.now ≤ 20 }
+    ensures { result.items ≡ bytes.now }
+{
+    let mut all = ArrayVec::new();
+    match all.try_extend_from_slice(bytes) {
+        Ok(()) | Err(_) => {}
+    }
+    all
+}
+
+/// The decimal digits of a number, without leading zeros.
+pub fn decimal(number: u64) -> ArrayVec<u8, 20>
+    ensures { result.items ≡ decimal_of number }
+{
+    let mut digits = [0u8; 20];
+    let mut first = 20usize;
+    let mut rest = number;
+    while rest >= 10 {
+        first -= 1;
+        digits[first] = b'0' + (rest % 10) as u8;
+        rest /= 10;
+    }
+    first -= 1;
+    digits[first] = b'0' + rest as u8;
+    collected(&digits[first..])
 }

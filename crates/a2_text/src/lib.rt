@@ -5,6 +5,6 @@ mod digits;
 mod lines;
 mod numbers;
 
-pub use digits::{hex_pair, hex_word};
+pub use digits::{decimal, hex_pair, hex_word};
 pub use lines::cut;
 pub use numbers::{capital, is_blank, number_in};

@@ -1,0 +1,9 @@
+mod EntriesLaws
+mod PlaceLaws
+mod OneLayout
+mod LayingLaws
+mod TableLaws
+mod RowLaws
+mod DecodeLaws
+mod RunLaws
+mod AssembleLaws

@@ -1,0 +1,67 @@
+-- What the assembler makes of a source, and what a run rests on.
+use Rattle.std.specs.Prelude.{◌≡◌, ℕ, ◌+◌, ◌<◌, ◌≤◌, Bool, ◌&&◌, ◌==◌, nat_lt, nat_le, IsTrue, List, find, Option, Some, None, is_some, Contains}
+use Rattle.std.specs.List.{list_any}
+use Rattle.std.specs.Option.{option_map_or}
+use Rattle.a2_opcode.specs.declared.Instr.{Instr}
+use Rattle.a2_opcode.specs.declared.Row.{Row}
+use Rattle.a2_opcode.specs.Table.{row, length_of}
+use Rattle.a2_opcode.specs.Encoding.{fetched, instruction}
+use Rattle.a2_syntax.specs.declared.source.Line.{Line}
+use Rattle.a2_hex.specs.Images.{held}
+use Rattle.a2_asm.specs.declared.program.Statement.{Statement}
+use Rattle.a2_asm.specs.Assembled.{Assembled}
+use Rattle.a2_asm.specs.Layout.{names, rows, image, statements, entry, layout_refusal}
+
+-- an instruction that begins at an address
+abbrev pub begins_at : ℕ → Statement → Bool
+begins_at a s = s.addr == a && is_some s.instr
+
+-- the instruction that begins at an address
+abbrev pub instr_at : List Statement → ℕ → Option Instr
+instr_at all a = option_map_or (λ s. s.instr) (find (begins_at a) all) None
+
+-- an instruction with a byte at an address
+abbrev pub covers : ℕ → Statement → Bool
+covers a s = is_some s.instr && nat_le s.addr a && nat_lt a (s.addr + s.length)
+
+-- an address of an instruction's byte
+abbrev pub is_code : List Statement → ℕ → Bool
+is_code all a = list_any (covers a) all
+
+-- the program of a source that is not refused
+pub record IsProgram (source : List Line) (p : Assembled) : Type 0 where
+  pub accepted : layout_refusal source ≡ None
+  pub named : p.names ≡ names source
+  pub laid : (a : ℕ) → held p.image a ≡ image (names source) (rows source) a
+  pub stated : p.statements ≡ statements (names source) (rows source)
+  pub begins : entry (rows source) ≡ Some p.entry
+
+-- a memory shows the bytes of code as they were laid
+abbrev pub ShowsCode : Assembled → (ℕ → Option ℕ) → Type 0
+ShowsCode p byte_at = (a : ℕ) → IsTrue (is_code p.statements a) → byte_at a ≡ held p.image a
+
+-- where a memory shows the bytes of code, the processor finds at each instruction statement's address the statement's
+-- instruction, by its row of the table
+abbrev pub StatementsDecode : Assembled → Type 0
+StatementsDecode p =
+    (byte_at : ℕ → Option ℕ) → ShowsCode p byte_at →
+    (s : Statement) (i : Instr) → Contains p.statements s → s.instr ≡ Some i →
+    (found : Row) × (row i.mnemonic i.mode ≡ Some found) × (fetched byte_at s.addr ≡ instruction found i.value)
+
+-- each instruction statement is the one that begins at its address, which is the first of its bytes' addresses
+abbrev pub StatementsBegin : Assembled → Type 0
+StatementsBegin p =
+    (s : Statement) (i : Instr) → Contains p.statements s → s.instr ≡ Some i →
+    (instr_at p.statements s.addr ≡ Some i) × IsTrue (is_code p.statements s.addr) × (s.length ≡ length_of i.mode)
+
+-- no two statements share an address
+abbrev pub StatementsApart : Assembled → Type 0
+StatementsApart p = (s t : Statement) → Contains p.statements s → Contains p.statements t → s.addr ≡ t.addr → s ≡ t
+
+-- each byte of code is below $C000
+abbrev pub CodeInRam : Assembled → Type 0
+CodeInRam p = (a : ℕ) → IsTrue (is_code p.statements a) → a < 49152
+
+-- nothing is held at or above $C000
+abbrev pub ImageInRam : Assembled → Type 0
+ImageInRam p = (a : ℕ) → 49152 ≤ a → held p.image a ≡ None

@@ -1,0 +1,26 @@
+// Addresses at which nothing may be stored.
+
+ghost use Rattle.std.specs.Prelude.{◌≡◌, ℕ, Bool, false};
+
+/// A set of addresses at which a guarded step stores nothing.
+pub trait Protection {
+    /// What contracts see of the set.
+    ghost is_protected: { Self → ℕ → Bool };
+
+    /// Whether an address is protected.
+    fn is_protected(&self, address: u16) -> bool
+        ensures { result ≡ is_protected self.now address };
+}
+
+/// No address is protected.
+#[derive(Clone, Copy, PartialEq, Eq, Debug)]
+pub struct NoProtection;
+
+impl Protection for NoProtection {
+    ghost is_protected = { λ protection address. false };
+
+    #[inline(always)]
+    fn is_protected(&self, _address: u16) -> bool {
+        false
+    }
+}

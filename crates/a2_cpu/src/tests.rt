@@ -1,0 +1,120 @@
+// Worked runs, with values from the manual and from other machines.
+
+ghost use Rattle.std.specs.Prelude.{◌≡◌, ◌==◌};
+
+use crate::run::{guarded_step, step};
+use crate::writes::writes;
+use crate::{GuardedStep, NoProtection, Protection, Regs, Status, Step};
+use a2_bus::{Bus, Flat};
+use std::test::Fail;
+
+// One protected address.
+#[derive(Clone, Copy)]
+struct Only(u16);
+
+impl Protection for Only {
+    ghost is_protected = { λ only address. address == only.0 };
+
+    fn is_protected(&self, address: u16) -> bool {
+        address == self.0
+    }
+}
+
+// Writes bytes from an address on, with wrap at the end of the address space.
+fn put<B: Bus>(bus: &mut B, address: u16, bytes: &[u8]) {
+    let mut at = address;
+    for byte in bytes {
+        bus.write(at, *byte);
+        at = at.wrapping_add(1);
+    }
+}
+
+// What each byte does as an opcode at $0300 of zeros, with these flags.
+fn answers(rt: &HostRuntime, p: Status) -> Result<Vec<Step>, Fail> {
+    let mut answers = Vec::new(rt.alloc());
+    for opcode in 0..=255 {
+        let mut bus = Flat::new(rt.alloc())?;
+        bus.write(0x300, opcode);
+        let mut regs = Regs {
+            p,
+            ..Regs::start(0x300)
+        };
+        answers.push(step(&mut regs, &mut bus))?;
+    }
+    Ok(answers)
+}
+
+fn count_of(answers: &[Step], wanted: Step) -> usize {
+    answers.iter().filter(|answer| **answer == wanted).count()
+}
+
+fn count_of_next(answers: &[Step]) -> usize {
+    answers
+        .iter()
+        .filter(|answer| matches!(**answer, Step::Next(_)))
+        .count()
+}
+
+#[test]
+fn each_opcode(rt: HostRuntime) -> Result<(), Fail> {
+    for (p, next, decimal) in [(Status::none(), 150, 0), (Status::DECIMAL, 134, 16)] {
+        let all = answers(&rt, p)?;
+        assert_eq!(rt; count_of_next(&all), next);
+        assert_eq!(rt; count_of(&all, Step::Decimal), decimal);
+        assert_eq!(rt; count_of(&all, Step::Brk), 1);
+        assert_eq!(rt; count_of(&all, Step::Opcode), 105);
+    }
+    Ok(())
+}
+
+#[test]
+fn an_instruction_wraps_at_the_end(rt: HostRuntime) -> Result<(), Fail> {
+    let mut bus = Flat::new(rt.alloc())?;
+    put(&mut bus, 0xFFFF, &[0xA9, 7]);
+    let mut regs = Regs::start(0xFFFF);
+    assert_eq!(rt; step(&mut regs, &mut bus), Step::Next(2));
+    assert_eq!(rt;
+        regs,
+        Regs {
+            a: 7,
+            pc: 1,
+            ..Regs::start(0)
+        }
+    );
+    Ok(())
+}
+
+#[test]
+fn a_guarded_step(rt: HostRuntime) -> Result<(), Fail> {
+    let start = Regs::start(0x300);
+    let mut bus = Flat::new(rt.alloc())?;
+
+    // STA $0400, which stores the 0 that is there; then JSR $0400, which pushes at $01FD and $01FC.
+    for (code, guard, answer) in [
+        ([0x8D, 0, 4], 0x3FF, GuardedStep::Next(4)),
+        ([0x8D, 0, 4], 0x400, GuardedStep::Protected),
+        ([0x20, 0, 4], 0x1FE, GuardedStep::Next(6)),
+        ([0x20, 0, 4], 0x1FD, GuardedStep::Protected),
+        ([0x20, 0, 4], 0x1FC, GuardedStep::Protected),
+    ] {
+        put(&mut bus, 0x300, &code);
+        let mut regs = start;
+        assert_eq!(rt; guarded_step(&mut regs, &mut bus, &Only(guard)), answer);
+        assert_eq!(rt; regs == start, answer == GuardedStep::Protected);
+    }
+    assert_eq!(rt; writes(&start, &bus).as_slice(), [0x1FD, 0x1FC].as_slice());
+    let mut regs = start;
+    assert_eq!(rt;
+        guarded_step(&mut regs, &mut bus, &NoProtection),
+        GuardedStep::Next(6)
+    );
+    assert_eq!(rt;
+        regs,
+        Regs {
+            s: 0xFB,
+            ..Regs::start(0x400)
+        }
+    );
+    assert_eq!(rt; (bus.peek(0x1FD), bus.peek(0x1FC)), (Some(3), Some(2)));
+    Ok(())
+}

@@ -1,0 +1,152 @@
+//! Instructions and their bytes, as chapters 4 to 6 of the MCS6500 Programming Manual have them.
+
+ghost use Rattle.std.specs.Prelude.{◌≡◌, ◌+◌, ◌%◌, ◌<◌, ◌≤◌, true, false, None, Some, [], ◌∷◌, ◌++◌, length, take, slice_index, IfSome, MatchOption};
+ghost use Rattle.arrayvec.specs.ArrayVec.{array_vec_len};
+ghost use Rattle.a2_opcode.specs.Table.{length_of};
+ghost use Rattle.a2_opcode.specs.Encoding.{encoded, decoded, can_have, operand_of, value_of, branch_distance, is_near, IsFetchedFrom};
+ghost use Rattle.a2_opcode.specs.Encoding.{branch_target as branch_target_of};
+
+use crate::{Instr, Mode, row_for, row_of};
+use arrayvec::ArrayVec;
+
+impl Mode {
+    /// How many bytes an instruction of the mode takes, 1 to 3.
+    pub fn length(self) -> u8
+        ensures { result ≡ length_of self }
+    {
+        match self {
+            Mode::Implied | Mode::Accumulator => 1,
+            Mode::Absolute | Mode::AbsoluteX | Mode::AbsoluteY | Mode::Indirect => 3,
+            Mode::Immediate
+            | Mode::ZeroPage
+            | Mode::ZeroPageX
+            | Mode::ZeroPageY
+            | Mode::IndexedIndirect
+            | Mode::IndirectIndexed
+            | Mode::Relative => 2,
+        }
+    }
+}
+
+// The target of a branch.
+fn branch_target(address: u16, offset: u8) -> u16
+    ensures { result ≡ branch_target_of address offset }
+{
+    let biased = u16::from(offset.wrapping_add(128));
+    address.wrapping_add(2).wrapping_add(biased).wrapping_sub(128)
+}
+
+// The byte of a branch, if its target is near enough.
+fn branch_offset(address: u16, target: u16) -> Option<u8>
+    ensures {
+        MatchOption result (is_near (branch_distance address target) ≡ false)
+            (λ b. (is_near (branch_distance address target) ≡ true) × (b ≡ branch_distance address target % 256))
+    }
+{
+    let distance = target.wrapping_sub(address.wrapping_add(2));
+    if distance < 128 || distance >= 65408 {
+        Some((distance % 256) as u8)
+    } else {
+        None
+    }
+}
+
+// An operand's value, from the bytes behind the opcode.
+fn value(mode: Mode, address: u16, operand: &[u8]) -> u16
+    requires { length_of mode ≤ length operand.now + 1 }
+    ensures { result ≡ value_of mode address operand.now }
+{
+    match mode {
+        Mode::Implied | Mode::Accumulator => 0,
+        Mode::Absolute | Mode::AbsoluteX | Mode::AbsoluteY | Mode::Indirect => {
+            u16::from(operand[0]) + 256 * u16::from(operand[1])
+        }
+        Mode::Relative => branch_target(address, operand[0]),
+        Mode::Immediate
+        | Mode::ZeroPage
+        | Mode::ZeroPageX
+        | Mode::ZeroPageY
+        | Mode::IndexedIndirect
+        | Mode::IndirectIndexed => u16::from(operand[0]),
+    }
+}
+
+// An opcode with the bytes of its operand.
+fn joined(opcode: u8, operand: &[u8]) -> ArrayVec<u8, 3>
+    requires { length operand.now ≤ 2 }
+    ensures { result.items ≡ opcode ∷ operand.now }
+{
+    let mut bytes = ArrayVec::new();
+    bytes.push(opcode);
+    for byte in operand {
+        bytes.push(*byte);
+    }
+    bytes
+}
+
+// An opcode with the bytes of an operand's value, if the operand may have it.
+fn with_operand(opcode: u8, mode: Mode, address: u16, value: u16) -> Option<ArrayVec<u8, 3>>
+    ensures {
+        MatchOption result (can_have mode address value ≡ false)
+            (λ b. (can_have mode address value ≡ true) × (b.items ≡ opcode ∷ operand_of mode address value))
+    }
+{
+    match mode {
+        Mode::Implied | Mode::Accumulator => {
+            if value == 0 { Some(joined(opcode, &[])) } else { None }
+        }
+        Mode::Absolute | Mode::AbsoluteX | Mode::AbsoluteY | Mode::Indirect => {
+            Some(joined(opcode, &[(value % 256) as u8, (value / 256) as u8]))
+        }
+        Mode::Relative => {
+            let offset = branch_offset(address, value)?;
+            Some(joined(opcode, &[offset]))
+        }
+        Mode::Immediate
+        | Mode::ZeroPage
+        | Mode::ZeroPageX
+        | Mode::ZeroPageY
+        | Mode::IndexedIndirect
+        | Mode::IndirectIndexed => {
+            if value < 256 { Some(joined(opcode, &[value as u8])) } else { None }
+        }
+    }
+}
+
+/// The bytes of an instruction at an address.
+///
+/// None where the table has no row for its mnemonic and mode, where its value is out of range (0 alone for the
+/// implied and accumulator modes, 0 to 255 for the immediate and the zero-page modes), and where the distance of a
+/// branch's target from the following instruction, modulo 65,536, is outside -128 to 127.
+pub fn encode(instr: Instr, address: u16) -> Option<ArrayVec<u8, 3>>
+    ensures bytes { MatchOption result (encoded instr address ≡ None) (λ b. encoded instr address ≡ Some b.items) }
+    ensures length { IfSome result (λ b. length b.items ≡ length_of instr.mode) }
+    // what is decoded from the bytes is the instruction
+    ensures decodes { IfSome result (λ b. decoded b.items address ≡ Some instr) }
+    // and so is what is fetched from a memory that shows them
+    ensures fetched { IfSome result (λ b. IsFetchedFrom instr address b.items) }
+{
+    let row = row_for(instr.mnemonic, instr.mode)?;
+    with_operand(row.opcode, instr.mode, address, instr.value)
+}
+
+/// The instruction that bytes at an address begin with; bytes behind it are ignored.
+///
+/// None where there is no byte, where the first is no documented opcode, and where its operand is not whole.
+pub fn decode(bytes: &[u8], address: u16) -> Option<Instr>
+    ensures value { result ≡ decoded bytes.now address }
+    ensures whole { IfSome result (λ i. length_of i.mode ≤ length bytes.now) }
+    // the instruction's bytes are the front of the bytes
+    ensures encodes { IfSome result (λ i. encoded i address ≡ Some (take (length_of i.mode) bytes.now)) }
+{
+    let (opcode, operand) = bytes.split_first()?;
+    let row = row_of(*opcode)?;
+    if bytes.len() < usize::from(row.mode.length()) {
+        return None;
+    }
+    Some(Instr {
+        mnemonic: row.mnemonic,
+        mode: row.mode,
+        value: value(row.mode, address, operand),
+    })
+}

@@ -1,0 +1,53 @@
+//! The cells of the text pages and their addresses.
+
+ghost use Rattle.std.specs.Prelude.{◌≡◌, ◌+◌, ◌<◌, option_map};
+ghost use Rattle.a2_page.specs.Cells.{address_of, base_of, cell_at, FindsEachCell, FindsOnlyCells};
+
+use crate::Page;
+
+/// The address of a cell: of row 0 to 23 and column 0 to 39 of a page. Apple II Reference Manual (1979), page 16.
+pub fn address(page: Page, row: u8, column: u8) -> u16
+    requires row { row < 24 }
+    requires column { column < 40 }
+    ensures { result ≡ address_of page row column }
+{
+    let base: u16 = match page {
+        Page::One => 0x400,
+        Page::Two => 0x800,
+    };
+    base + 128 * u16::from(row % 8) + 40 * u16::from(row / 8) + u16::from(column)
+}
+
+/// The page, the row and the column of the cell at an address, or `None` where no cell is: outside both pages, and at
+/// the last eight bytes of each 128 in them.
+#[tactic(auto, using(crate::proofs::CellAt::nothing_before, crate::proofs::CellAt::nothing_after))]
+pub fn cell(address: u16) -> Option<(Page, u8, u8)>
+    ensures { result ≡ option_map (λ cell. (cell.page, cell.row, cell.column)) (cell_at address) }
+{
+    match address {
+        0x400..=0x7FF => cell_behind(Page::One, address - 0x400),
+        0x800..=0xBFF => cell_behind(Page::Two, address - 0x800),
+        _ => None,
+    }
+}
+
+// The cell so many bytes behind a page's start.
+#[tactic(auto, using(crate::proofs::CellAt::found_behind, crate::proofs::CellAt::gap_behind))]
+fn cell_behind(page: Page, offset: u16) -> Option<(Page, u8, u8)>
+    requires { offset < 1024 }
+    ensures { result ≡ option_map (λ cell. (cell.page, cell.row, cell.column)) (cell_at (base_of page + offset)) }
+{
+    let place = offset % 128;
+    if place >= 120 {
+        return None;
+    }
+    // Each 128 bytes hold three rows, which stand eight apart on the screen.
+    let row = offset / 128 + 8 * (place / 40);
+    Some((page, row as u8, (place % 40) as u8))
+}
+
+/// Each cell is found at its own address, and whatever is found is a cell that has this address.
+pub fn cell_and_address_are_inverse()
+    ensures each { FindsEachCell }
+    ensures only { FindsOnlyCells }
+{}

@@ -1,0 +1,35 @@
+//! What one byte of a page shows.
+
+ghost use Rattle.std.specs.Prelude.{◌≡◌};
+ghost use Rattle.a2_page.specs.Text as text;
+
+use crate::{Attribute, Half};
+
+/// The ASCII code of the character that a byte shows, from $20 to $5F. Apple II Reference Manual (1979), page 15.
+pub fn glyph(byte: u8) -> u8
+    ensures { result ≡ text.glyph byte }
+{
+    let low = byte % 64;
+    if low < 32 { low + 64 } else { low }
+}
+
+/// How a byte shows its character. Apple II Reference Manual (1979), page 15.
+pub fn attribute_of(byte: u8) -> Attribute
+    ensures { result ≡ text.attribute byte }
+{
+    match byte {
+        0x00..=0x3F => Attribute::Inverse,
+        0x40..=0x7F => Attribute::Flashing,
+        0x80..=0xFF => Attribute::Normal,
+    }
+}
+
+/// The colour, from 0 to 15, of one of the two lo-res blocks of a byte. Apple II Reference Manual (1979), page 17.
+pub fn block(byte: u8, half: Half) -> u8
+    ensures { result ≡ text.block byte half }
+{
+    match half {
+        Half::Above => byte % 16,
+        Half::Below => byte / 16,
+    }
+}

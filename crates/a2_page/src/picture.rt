@@ -1,0 +1,168 @@
+//! The screen as printed lines.
+
+ghost use Rattle.std.specs.Prelude.{◌≡◌, ◌<◌, ◌≤◌, length, slice_index_or, take, drop, []};
+ghost use Rattle.a2_stream.specs.Stream.{SendsOrBreaks};
+ghost use Rattle.a2_page.specs.Text.{line_of, lines_of, block, block_digit, block_lines, mark_of};
+ghost use Rattle.a2_page.specs.Picture as screen;
+ghost use Rattle.a2_page.specs.Picture.{page_grid, graphics_lines, picture, attribute_rows};
+ghost use Rattle.a2_page.specs.Marks as marks;
+
+use crate::{Attribute, Half, Switches, View, attribute_of, glyph};
+use a2_stream::{Output, WriteFault, put};
+use a2_text::hex_pair;
+use arrayvec::ArrayVec;
+
+/// Writes what the screen shows, each line ended by LF: in text mode 24 lines of 40 characters, in lo-res 48 lines of
+/// 40 hexadecimal digits, in hi-res the one line `HI-RES NOT SHOWN`. In the mixed modes the last four rows of cells
+/// are lines of characters, after 40 lines of digits or the one line. Where a write fails, what went out is a front of
+/// these lines. Apple II Reference Manual (1979), pages 12 to 20, and this project's profile.
+#[tactic(auto, using(a2_stream::proofs::Joined::broke_off, a2_stream::proofs::Joined::went_on))]
+pub fn print<W: Output>(view: &View, writer: &mut W) -> Result<(), WriteFault>
+    ensures { SendsOrBreaks (W.taker writer.old) (W.taker writer.new) result
+        (picture view.now.switches (page_grid view.now.page1.now) (page_grid view.now.page2.now)) }
+{
+    let page = shown_page(view);
+    if !view.switches.text {
+        put_graphics(page, view.switches, writer)?;
+    }
+    put_text_rows(page, view.switches, Mark::Glyph, writer)
+}
+
+/// Writes how each cell shows its character, for the rows that `print` writes as characters and in lines as there: `.`
+/// for normal, `I` for inverse, `F` for flashing. Where a write fails, what went out is a front of these lines.
+pub fn print_attributes<W: Output>(view: &View, writer: &mut W) -> Result<(), WriteFault>
+    ensures { SendsOrBreaks (W.taker writer.old) (W.taker writer.new) result
+        (attribute_rows view.now.switches (page_grid view.now.page1.now) (page_grid view.now.page2.now)) }
+{
+    put_text_rows(shown_page(view), view.switches, Mark::Attribute, writer)
+}
+
+// What is written of a byte of a page: its character, how it shows it, or a block.
+#[derive(Clone, Copy)]
+enum Mark {
+    Glyph,
+    Attribute,
+    Block(Half),
+}
+
+fn shown_page<'a>(view: &View<'a>) -> &'a [u8; 1024]
+    ensures { page_grid result.now ≡
+        screen.shown view.now.switches (page_grid view.now.page1.now) (page_grid view.now.page2.now) }
+{
+    if view.switches.page2 {
+        view.page2
+    } else {
+        view.page1
+    }
+}
+
+fn first_text_row(switches: Switches) -> u8
+    ensures value { result ≡ screen.first_text_row switches }
+    ensures bound { result ≤ 24 }
+{
+    match switches {
+        Switches { text: true, .. } => 0,
+        Switches { mixed: true, .. } => 20,
+        _ => 24,
+    }
+}
+
+// The rows of cells above the text.
+fn put_graphics<W: Output>(
+    page: &[u8; 1024],
+    switches: Switches,
+    writer: &mut W,
+) -> Result<(), WriteFault>
+    ensures { SendsOrBreaks (W.taker writer.old) (W.taker writer.new) result
+        (graphics_lines switches (take (screen.first_text_row switches) (page_grid page.now))) }
+{
+    if switches.hires {
+        put(b"HI-RES NOT SHOWN\n", writer)
+    } else {
+        put_blocks(page, first_text_row(switches), writer)
+    }
+}
+
+// Two lines of blocks for each row of cells above `end`.
+fn put_blocks<W: Output>(page: &[u8; 1024], end: u8, writer: &mut W) -> Result<(), WriteFault>
+    requires { end ≤ 24 }
+    ensures { SendsOrBreaks (W.taker writer.old) (W.taker writer.new) result
+        (block_lines (take end (page_grid page.now))) }
+{
+    for row in 0..end {
+        let cells = cells_in_row(page, row);
+        put_line(cells, Mark::Block(Half::Above), writer)?;
+        put_line(cells, Mark::Block(Half::Below), writer)?;
+    }
+    Ok(())
+}
+
+// The rows of cells from the first text row on.
+fn put_text_rows<W: Output>(
+    page: &[u8; 1024],
+    switches: Switches,
+    mark: Mark,
+    writer: &mut W,
+) -> Result<(), WriteFault>
+    ensures { SendsOrBreaks (W.taker writer.old) (W.taker writer.new) result
+        (lines_of (marks.character mark) (drop (screen.first_text_row switches) (page_grid page.now))) }
+{
+    let first = first_text_row(switches);
+    for row in first..24 {
+        put_line(cells_in_row(page, row), mark, writer)?;
+    }
+    Ok(())
+}
+
+fn cells_in_row(page: &[u8; 1024], row: u8) -> &[u8]
+    requires { row < 24 }
+    ensures cells { result.now ≡ slice_index_or (page_grid page.now) row [] }
+    ensures width { length result.now ≡ 40 }
+{
+    let start = 128 * usize::from(row % 8) + 40 * usize::from(row / 8);
+    &page[start..start + 40]
+}
+
+fn put_line<W: Output>(cells: &[u8], mark: Mark, writer: &mut W) -> Result<(), WriteFault>
+    requires { length cells.now ≡ 40 }
+    ensures { SendsOrBreaks (W.taker writer.old) (W.taker writer.new) result
+        (line_of (marks.character mark) cells.now) }
+{
+    let mut line: ArrayVec<u8, 41> = ArrayVec::new();
+    for byte in cells {
+        line.push(character(*byte, mark));
+    }
+    line.push(b'\n');
+    put(line.as_slice(), writer)
+}
+
+fn character(byte: u8, mark: Mark) -> u8
+    ensures { result ≡ marks.character mark byte }
+{
+    match mark {
+        Mark::Glyph => glyph(byte),
+        Mark::Attribute => letter(attribute_of(byte)),
+        Mark::Block(half) => digit(byte, half),
+    }
+}
+
+fn letter(attribute: Attribute) -> u8
+    ensures { result ≡ mark_of attribute }
+{
+    match attribute {
+        Attribute::Inverse => b'I',
+        Attribute::Flashing => b'F',
+        Attribute::Normal => b'.',
+    }
+}
+
+// The hexadecimal digit of a block.
+fn digit(byte: u8, half: Half) -> u8
+    ensures { result ≡ block_digit (block byte half) }
+{
+    let [below, above] = hex_pair(byte);
+    match half {
+        Half::Above => above,
+        Half::Below => below,
+    }
+}

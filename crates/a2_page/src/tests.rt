@@ -1,0 +1,144 @@
+//! Worked examples of cells and pictures.
+
+use super::*;
+use a2_stream::{Pinched, ToWrite, WriteFault};
+use std::test::Fail;
+
+// The switches that these words name are on.
+fn switches(words: &str) -> Switches {
+    Switches {
+        text: words.contains("text"),
+        mixed: words.contains("mixed"),
+        page2: words.contains("page2"),
+        hires: words.contains("hires"),
+    }
+}
+
+#[test]
+fn cells_and_bytes(rt: HostRuntime) {
+    for (page, row, column, at) in [
+        (Page::One, 0, 0, 0x400),
+        (Page::One, 1, 0, 0x480),
+        (Page::One, 8, 0, 0x428),
+        (Page::One, 23, 39, 0x7F7),
+        (Page::Two, 20, 0, 0xA50),
+    ] {
+        assert!(rt; row < 24 && column < 40);
+        assert_eq!(rt; address(page, row, column), at);
+        assert_eq!(rt; cell(at), Some((page, row, column)));
+    }
+    for at in [0x3FF, 0x478, 0x47F, 0x7F8, 0xC00] {
+        assert_eq!(rt; cell(at), None, "at {at}");
+    }
+    for (byte, character, attribute, above, below) in [
+        (0x01, b'A', Attribute::Inverse, 1, 0),
+        (0x41, b'A', Attribute::Flashing, 1, 4),
+        (0xC1, b'A', Attribute::Normal, 1, 12),
+        (0xA0, b' ', Attribute::Normal, 0, 10),
+        (0xFF, b'?', Attribute::Normal, 15, 15),
+    ] {
+        assert_eq!(rt; glyph(byte), character);
+        assert_eq!(rt; attribute_of(byte), attribute);
+        assert_eq!(rt; block(byte, Half::Above), above);
+        assert_eq!(rt; block(byte, Half::Below), below);
+    }
+}
+
+// Page 1 begins with three ways of A, and its row 20 with a normal A; page 2 begins with B.
+fn pages() -> ([u8; 1024], [u8; 1024]) {
+    let mut one = [0xA0; 1024];
+    one[0] = 0x01;
+    one[1] = 0x41;
+    one[2] = 0xC1;
+    one[592] = 0xC1;
+    let mut two = [0xA0; 1024];
+    two[0] = 0xC2;
+    (one, two)
+}
+
+fn has_at(text: &[u8], place: usize, piece: &[u8]) -> bool {
+    match text.get(place..) {
+        Some(rest) => rest.starts_with(piece),
+        None => false,
+    }
+}
+
+// The length of each picture, and what stands at two places in it.
+#[test]
+fn pictures(rt: HostRuntime) -> Result<(), Fail> {
+    let (page1, page2) = pages();
+    for (words, length, place1, piece1, place2, piece2) in [
+        ("text", 24 * 41, 0, "AAA  ", 20 * 41, "A  "),
+        ("text mixed hires", 24 * 41, 0, "AAA  ", 20 * 41, "A  "),
+        ("text page2", 24 * 41, 0, "B  ", 20 * 41, "   "),
+        ("", 48 * 41, 0, "11100", 41, "04CAA"),
+        ("mixed", 44 * 41, 39 * 41, "AAA", 40 * 41, "A  "),
+        ("hires", 17, 0, "HI-RES NOT SHOWN", 16, "\n"),
+        (
+            "mixed hires",
+            17 + 4 * 41,
+            0,
+            "HI-RES NOT SHOWN\n",
+            17,
+            "A  ",
+        ),
+    ] {
+        let mut text = Vec::new(rt.alloc());
+        let view = View {
+            page1: &page1,
+            page2: &page2,
+            switches: switches(words),
+        };
+        assert_eq!(rt; print(&view, &mut ToWrite::new(&mut text)), Ok(()));
+        assert_eq!(rt; text.len(), length, "{words}");
+        assert!(rt; has_at(&text, place1, piece1.as_bytes()), "{words}");
+        assert!(rt; has_at(&text, place2, piece2.as_bytes()), "{words}");
+    }
+    Ok(())
+}
+
+// The number of attribute rows, and what the first begins with.
+#[test]
+fn attributes(rt: HostRuntime) -> Result<(), Fail> {
+    let (page1, page2) = pages();
+    for (words, rows, first) in [
+        ("text", 24, "IF...."),
+        ("text page2", 24, "......"),
+        ("", 0, ""),
+        ("mixed", 4, "......"),
+        ("hires", 0, ""),
+        ("mixed hires", 4, "......"),
+    ] {
+        let mut text = Vec::new(rt.alloc());
+        let view = View {
+            page1: &page1,
+            page2: &page2,
+            switches: switches(words),
+        };
+        assert_eq!(rt;
+            print_attributes(&view, &mut ToWrite::new(&mut text)),
+            Ok(())
+        );
+        assert_eq!(rt; text.len(), 41 * rows, "{words}");
+        assert!(rt; has_at(&text, 0, first.as_bytes()), "{words}");
+    }
+    Ok(())
+}
+
+// A writer that takes ten bytes at a time and fails in the second line.
+#[test]
+fn broken_writer(rt: HostRuntime) -> Result<(), Fail> {
+    let (page1, page2) = pages();
+    let view = View {
+        page1: &page1,
+        page2: &page2,
+        switches: switches("mixed"),
+    };
+    let mut text = Vec::new(rt.alloc());
+    let mut writer = Pinched::new(ToWrite::new(&mut text), 10, 6, false);
+    assert_eq!(rt; print(&view, &mut writer), Err(WriteFault));
+    assert_eq!(rt; print_attributes(&view, &mut writer), Err(WriteFault));
+    drop(writer);
+    assert_eq!(rt; text.len(), 51);
+    Ok(())
+}

@@ -1,0 +1,243 @@
+-- Reading a line, key by key.
+use Rattle.std.specs.Prelude.{◌≡◌, ◌≢◌, ℕ, zero, suc, ◌+◌, ◌-◌, ◌<◌, ◌==◌, Bool, true, false, ◌&&◌, nat_lt, nat_le, if◌then◌else◌, List, [], ◌∷◌, length, Option, Some, None, unwrap_or, slice_index, refl}
+use Rattle.std.proofs.Common.{sym, ap, ◌∙◌, arith, true≢false}
+use Rattle.std.proofs.lemmas.Bool.Decides.{nat_tests}
+use Rattle.a2_page.specs.Cells.{Cell, cell_at}
+use Rattle.a2_cpu.specs.Arithmetic.{by_digits}
+use Rattle.a2_bus.specs.BusState.{BusState}
+use Rattle.a2_bus.specs.View.{memory_of}
+use Rattle.a2_bus.specs.Devices.{Devices, key_taken}
+use Rattle.a2_bus.specs.Memory.{Memory, with_ram}
+use Rattle.a2_bus.proofs.Agreement.{written, devices-with_grid}
+use Rattle.a2_services.specs.Put.{after_line_feed, after_return, after_backspace, after_character, after_put_unmasked, after_put, prompt, inverse_mask, with_cursor_row, with_cursor_column, window_of, cursor_row, cursor_column, screen_column, with_page1}
+use Rattle.a2_page.specs.Grid.{with_byte}
+use Rattle.a2_services.specs.Services.{Reading, byte_of_key, after_byte, after_cancel, after_prompt, line_read, with_key_taken, cleared_to_end, lacks_keys, served, ended, with_a, with_memory}
+use Rattle.a2_services.specs.World.{World}
+use Rattle.a2_services.specs.declared.Service.TheVariants.{Rdkey}
+use Rattle.a2_services.specs.Reading.{reading, rest_of, kept, first_of}
+
+-- What is put changes no device
+
+pub ram_devices : (m : Memory) (a byte : ℕ) → (with_ram m a byte).devices ≡ m.devices
+unfolding with_ram
+ram_devices m a byte = go (cell_at a)
+  where
+    go : (found : Option Cell) → (written m a byte found).devices ≡ m.devices
+    go None = refl
+    go (Some cell) = devices-with_grid m cell.page _
+
+-- the memory has these devices
+record Holds (d : Devices) (m : Memory) : Type 0 where
+  is : m.devices ≡ d
+
+holds : (d : Devices) (m : Memory) → m.devices ≡ d → Holds d m
+holds d m e = record { is = e }
+
+either : (d : Devices) (v : Bool) (x y : Memory) → Holds d x → Holds d y → Holds d (if v then x else y)
+either d true x y h g = h
+either d false x y h g = g
+
+line_feed_holds : (m : Memory) → Holds m.devices (after_line_feed m)
+unfolding after_line_feed
+line_feed_holds m = either m.devices (nat_lt (cursor_row m + 1) (window_of m).bottom) _ _ (holds m.devices _ (ram_devices m 0x25 (cursor_row m + 1))) (holds m.devices _ refl)
+
+return_devices : (m : Memory) → (after_return m).devices ≡ m.devices
+unfolding after_return
+return_devices m = (line_feed_holds (with_cursor_column 0 m)).is ∙ ram_devices m 0x24 0
+
+backspace_holds : (m : Memory) → Holds m.devices (after_backspace m)
+unfolding after_backspace
+backspace_holds m =
+    let wrapped = with_cursor_column ((window_of m).width - 1) m in
+    let first : wrapped.devices ≡ m.devices = ram_devices m 0x24 ((window_of m).width - 1) in
+    either m.devices (nat_lt 0 (cursor_column m)) _ _
+    (holds m.devices (with_cursor_column (cursor_column m - 1) m) (ram_devices m 0x24 (cursor_column m - 1)))
+    (either m.devices (nat_lt (window_of m).top (cursor_row m)) _ _
+    (holds m.devices (with_cursor_row (cursor_row m - 1) wrapped) (ram_devices wrapped 0x25 (cursor_row m - 1) ∙ first))
+    (holds m.devices wrapped first))
+
+character_holds : (byte : ℕ) (m : Memory) → Holds m.devices (after_character byte m)
+unfolding after_character
+character_holds byte m =
+    let written = with_page1 (with_byte m.page1 (cursor_row m) (screen_column m) byte) m in
+    let moved = with_cursor_column (cursor_column m + 1) written in
+    let first : moved.devices ≡ m.devices = ram_devices written 0x24 (cursor_column m + 1) in
+    either m.devices (nat_le (window_of m).width (cursor_column m + 1)) _ _
+    (holds m.devices (after_return moved) (return_devices moved ∙ first)) (holds m.devices moved first)
+
+put_unmasked_holds : (byte : ℕ) (m : Memory) → Holds m.devices (after_put_unmasked byte m)
+unfolding after_put_unmasked
+put_unmasked_holds byte m =
+    either m.devices (byte == 0x8D) _ _ (holds m.devices _ (return_devices m))
+    (either m.devices (byte == 0x8A) _ _ (line_feed_holds m)
+    (either m.devices (byte == 0x88) _ _ (backspace_holds m)
+    (either m.devices (nat_le 0x80 byte && nat_lt byte 0xA0) _ _ (holds m.devices m refl) (character_holds byte m))))
+
+put_unmasked_devices : (byte : ℕ) (m : Memory) → (after_put_unmasked byte m).devices ≡ m.devices
+put_unmasked_devices byte m = (put_unmasked_holds byte m).is
+
+pub put_devices : (byte : ℕ) (m : Memory) → (after_put byte m).devices ≡ m.devices
+unfolding after_put
+put_devices byte m = put_unmasked_devices (if nat_le 0xA0 byte then by_digits 8 ◌&&◌ byte (inverse_mask m) else byte) m
+
+prompt_devices : (m : Memory) → (after_prompt m).devices ≡ m.devices
+prompt_devices m = put_devices (prompt m) (after_put 0x8D m) ∙ put_devices 0x8D m
+
+cancel_devices : (m : Memory) → (after_cancel m).memory.devices ≡ m.devices
+cancel_devices m = prompt_devices (after_put 0xDC m) ∙ put_devices 0xDC m
+
+record HoldsLine (d : Devices) (line : Reading) : Type 0 where
+  is : line.memory.devices ≡ d
+
+holds_line : (d : Devices) (line : Reading) → line.memory.devices ≡ d → HoldsLine d line
+holds_line d line e = record { is = e }
+
+either_line : (d : Devices) (v : Bool) (x y : Reading) → HoldsLine d x → HoldsLine d y → HoldsLine d (if v then x else y)
+either_line d true x y h g = h
+either_line d false x y h g = g
+
+after_byte_holds : (byte : ℕ) (line : Reading) → HoldsLine line.memory.devices (after_byte byte line)
+after_byte_holds byte line =
+    let d = line.memory.devices in
+    let echoed = after_put_unmasked byte line.memory in
+    let gone : HoldsLine d (after_cancel echoed) = holds_line d (after_cancel echoed) (cancel_devices echoed ∙ put_unmasked_devices byte line.memory) in
+    either_line d (byte == 0x88) _ _ (backspace line.len)
+    (either_line d (byte == 0x98) _ _ gone
+    (either_line d (line.len == 255) _ _ gone (holds_line d (reading echoed (line.len + 1)) (put_unmasked_devices byte line.memory))))
+  where
+    backspace : (len : ℕ)
+        → HoldsLine line.memory.devices (elim len as (λ _. Reading) [
+          | zero ↦ record { memory = after_prompt (after_put_unmasked byte line.memory); len = 0 }
+          | suc len ↦ record { memory = after_put_unmasked byte line.memory; len = len }
+        ])
+    backspace zero = holds_line line.memory.devices _ (prompt_devices (after_put_unmasked byte line.memory) ∙ put_unmasked_devices byte line.memory)
+    backspace (suc len) = holds_line line.memory.devices _ (put_unmasked_devices byte line.memory)
+
+pub after_byte_devices : (byte : ℕ) (line : Reading) → (after_byte byte line).memory.devices ≡ line.memory.devices
+after_byte_devices byte line = (after_byte_holds byte line).is
+
+-- The keys
+
+taken_keys : (d : Devices) (key : ℕ) (keys : List ℕ) → d.keys ≡ key ∷ keys → (key_taken d).keys ≡ keys
+taken_keys d key keys e =
+    ap (λ l. (elim l as (λ _. Devices) [ [] ↦ d | k ∷ rest ↦ record d { keys = rest; last_key = k } ]).keys) e
+
+kept_keys : (m : Memory) (len byte key : ℕ) (keys : List ℕ) → m.devices.keys ≡ key ∷ keys → (kept m len byte).devices.keys ≡ keys
+kept_keys m len byte key keys e = ap (λ (d : Devices). d.keys) (ram_devices (with_key_taken m) (0x200 + len) byte) ∙ taken_keys m.devices key keys e
+
+next_keys : (m : Memory) (len byte key : ℕ) (keys : List ℕ) (next : Reading) → m.devices.keys ≡ key ∷ keys
+    → next ≡ after_byte byte (reading (kept m len byte) len) → next.memory.devices.keys ≡ keys
+next_keys m len byte key keys next e is =
+    ap (λ (r : Reading). r.memory.devices.keys) is
+    ∙ ap (λ (d : Devices). d.keys) (after_byte_devices byte (reading (kept m len byte) len))
+    ∙ kept_keys m len byte key keys e
+
+same_key : (k key : ℕ) (keys : List ℕ) → first_of (k ∷ keys) ≡ Some key → k ≡ key
+same_key k key keys e = ap (λ o. unwrap_or o k) e
+
+pub line_none : (m : Memory) (len : ℕ) → first_of m.devices.keys ≡ None → rest_of m len ≡ reading m len
+unfolding line_read
+line_none m len none = go m.devices.keys refl none
+  where
+    go : (keys : List ℕ) → m.devices.keys ≡ keys → first_of keys ≡ None → rest_of m len ≡ reading m len
+    go [] e h = ap (λ keys. line_read keys (reading m len)) e
+    go (k ∷ keys) e h = cc
+
+-- the line at its first key
+at_key : (m : Memory) (len key byte k : ℕ) (keys : List ℕ) → m.devices.keys ≡ k ∷ keys → k ≡ key → byte ≡ byte_of_key m key
+    → rest_of m len
+    ≡ (if byte == 0x8D then reading (after_put 0x8D (cleared_to_end (kept m len byte))) len
+    else line_read keys (after_byte byte (reading (kept m len byte) len)))
+unfolding line_read
+at_key m len key byte k keys e same is =
+    let b : byte_of_key m k ≡ byte = ap (λ j. byte_of_key m j) same ∙ sym is in
+    ap (λ l. line_read l (reading m len)) e
+    ∙ ap (λ x. if x == 0x8D then reading (after_put 0x8D (cleared_to_end (kept m len x))) len
+    else line_read keys (after_byte x (reading (kept m len x) len))) b
+
+pub line_end : (m : Memory) (len key byte : ℕ) → first_of m.devices.keys ≡ Some key → byte ≡ byte_of_key m key → byte ≡ 0x8D
+    → rest_of m len ≡ reading (after_put 0x8D (cleared_to_end (kept m len byte))) len
+line_end m len key byte first is end = go m.devices.keys refl first
+  where
+    go : (keys : List ℕ) → m.devices.keys ≡ keys → first_of keys ≡ Some key → rest_of m len ≡ reading (after_put 0x8D (cleared_to_end (kept m len byte))) len
+    go [] e h = cc
+    go (k ∷ keys) e h =
+        at_key m len key byte k keys e (same_key k key keys h) is
+        ∙ (let t : (byte == 0x8D) ≡ true = grind (arith, nat_tests, end) in
+        ap (λ v. if v then reading (after_put 0x8D (cleared_to_end (kept m len byte))) len else line_read keys (after_byte byte (reading (kept m len byte) len))) t)
+
+pub line_more : (m : Memory) (len key byte : ℕ) (next : Reading) → first_of m.devices.keys ≡ Some key → byte ≡ byte_of_key m key → byte ≢ 0x8D
+    → next ≡ after_byte byte (reading (kept m len byte) len)
+    → rest_of next.memory next.len ≡ rest_of m len
+line_more m len key byte next first is other step = go m.devices.keys refl first
+  where
+    go : (keys : List ℕ) → m.devices.keys ≡ keys → first_of keys ≡ Some key → rest_of next.memory next.len ≡ rest_of m len
+    go [] e h = cc
+    go (k ∷ keys) e h =
+        ap (λ l. line_read l next) (next_keys m len byte k keys next e step)
+        ∙ ap (λ r. line_read keys r) step
+        ∙ (let t : (byte == 0x8D) ≡ false = grind (arith, nat_tests, other) in
+        ap (λ v. if v then reading (after_put 0x8D (cleared_to_end (kept m len byte))) len else line_read keys (after_byte byte (reading (kept m len byte) len))) (sym t))
+        ∙ sym (at_key m len key byte k keys e (same_key k key keys h) is)
+
+pub fewer_keys : (m : Memory) (len key byte : ℕ) (next : Reading) → first_of m.devices.keys ≡ Some key
+    → next ≡ after_byte byte (reading (kept m len byte) len)
+    → length next.memory.devices.keys < length m.devices.keys
+fewer_keys m len key byte next first step = go m.devices.keys refl first
+  where
+    go : (keys : List ℕ) → m.devices.keys ≡ keys → first_of keys ≡ Some key → length next.memory.devices.keys < length m.devices.keys
+    go [] e h = cc
+    go (k ∷ keys) e h = omega (arith, ap (λ (l : List ℕ). length l) (next_keys m len byte k keys next e step), ap (λ (l : List ℕ). length l) e)
+
+-- What GETLN and RDKEY begin with
+
+pub line_from_prompt : (m n : Memory) (mark : ℕ) → mark ≡ prompt m → n ≡ after_put mark m
+    → rest_of n 0 ≡ line_read m.devices.keys (reading (after_put (prompt m) m) 0)
+line_from_prompt m n mark is step =
+    let whole : n ≡ after_put (prompt m) m = step ∙ ap (λ b. after_put b m) is in
+    ap (λ x. rest_of x 0) whole
+    ∙ ap (λ (d : Devices). line_read d.keys (reading (after_put (prompt m) m) 0)) (put_devices (prompt m) m)
+
+pub lacks_some : (m : Memory) (key : ℕ) → first_of m.devices.keys ≡ Some key → lacks_keys Rdkey m ≡ false
+lacks_some m key first = go m.devices.keys first
+  where
+    go : (keys : List ℕ) → first_of keys ≡ Some key → elim keys [ [] ↦ true | k ∷ rest ↦ false ] ≡ false
+    go [] h = cc
+    go (k ∷ keys) h = refl
+
+pub lacks_none : (m : Memory) → first_of m.devices.keys ≡ None → lacks_keys Rdkey m ≡ true
+lacks_none m first = go m.devices.keys first
+  where
+    go : (keys : List ℕ) → first_of keys ≡ None → elim keys [ [] ↦ true | k ∷ rest ↦ false ] ≡ true
+    go [] h = refl
+    go (k ∷ keys) h = cc
+
+pub served_key : (w : World) (key : ℕ) → first_of w.memory.devices.keys ≡ Some key
+    → served Rdkey w ≡ ended 6 (with_a (0x80 + key) (with_memory (with_key_taken w.memory) w))
+unfolding served
+served_key w key first = go w.memory.devices.keys first
+  where
+    go : (keys : List ℕ) → first_of keys ≡ Some key
+        → elim keys as (λ _. World) [ [] ↦ w | k ∷ rest ↦ ended 6 (with_a (0x80 + k) (with_memory (with_key_taken w.memory) w)) ]
+        ≡ ended 6 (with_a (0x80 + key) (with_memory (with_key_taken w.memory) w))
+    go [] h = cc
+    go (k ∷ keys) h = ap (λ j. ended 6 (with_a (0x80 + j) (with_memory (with_key_taken w.memory) w))) (same_key k key keys h)
+
+-- a key is there
+
+pub some_key : (bus : BusState) (keys : List ℕ) → keys ≡ bus.devices.keys → lacks_keys Rdkey (memory_of bus) ≡ false → 0 < length keys
+unfolding memory_of
+some_key bus keys e h = go keys (ap (λ (l : List ℕ). elim l [ [] ↦ true | k ∷ rest ↦ false ]) e ∙ h)
+  where
+    go : (l : List ℕ) → elim l [ [] ↦ true | k ∷ rest ↦ false ] ≡ false → 0 < length l
+    go [] bad = absurd (true≢false bad)
+    go (k ∷ rest) _ = omega arith
+
+pub key_there : (bus : BusState) (keys : List ℕ) → keys ≡ bus.devices.keys → lacks_keys Rdkey (memory_of bus) ≡ false
+    → first_of (memory_of bus).devices.keys ≡ Some (slice_index keys 0)
+unfolding memory_of
+key_there bus keys e h = ap first_of (sym e) ∙ go keys (ap (λ (l : List ℕ). elim l [ [] ↦ true | k ∷ rest ↦ false ]) e ∙ h)
+  where
+    go : (l : List ℕ) → elim l [ [] ↦ true | k ∷ rest ↦ false ] ≡ false → first_of l ≡ Some (slice_index l 0)
+    go [] bad = absurd (true≢false bad)
+    go (k ∷ rest) _ = refl

@@ -1,0 +1,240 @@
+-- A service changes no byte out of its reach.
+use Rattle.std.specs.Prelude.{◌≡◌, ◌≢◌, ◌⊎◌, ℕ, zero, suc, ◌+◌, ◌-◌, ◌/◌, ◌%◌, ◌<◌, ◌≤◌, List, [], ◌∷◌, Bool, true, false, ◌&&◌, ◌||◌, ◌==◌, nat_lt, nat_le, if◌then◌else◌, refl, slice_index_or, slice_set, replicate}
+use Rattle.std.proofs.Common.{◌∙◌, arith, inl, inr, true≢false}
+use Rattle.std.proofs.lemmas.Bool.Decides.{nat_tests}
+use Rattle.a2_page.specs.Grid.{Grid, scrolled, cleared, with_byte, with_part}
+use Rattle.a2_page.specs.declared.Page.TheVariants.{One}
+use Rattle.a2_page.specs.Cells.{row_start}
+use Rattle.a2_cpu.specs.Arithmetic.{by_digits}
+use Rattle.a2_bus.specs.Memory.{Memory, ram_byte, with_ram, memory_access}
+use Rattle.a2_bus.proofs.Frame.{ram_byte-with_ram, ram_byte-page1, changed_by_writes}
+use Rattle.a2_cpu.specs.Instruction.{returned, after_pull}
+use Rattle.a2_services.specs.declared.Service.{Service}
+use Rattle.a2_services.specs.declared.Service.TheVariants.{Cout, Crout, Home, Prbyte, Rdkey, Wait, Getln}
+use Rattle.a2_services.specs.World.{World}
+use Rattle.a2_services.specs.Put.{window_of, cursor_column, cursor_row, with_cursor_column, with_cursor_row, screen_column, prompt, inverse_mask, with_page1, after_line_feed, after_return, after_backspace, after_character, after_put, after_put_unmasked, with_base_address}
+use Rattle.a2_services.specs.Services.{reach, output_reach, is_within, cleared_to_end, Reading, byte_of_key, after_byte, after_cancel, after_prompt, line_read, with_key_taken, ended, output, with_memory, with_a, with_x, digit_byte, served}
+
+-- an address that no output service stores at
+pub record IsOutside (b : ℕ) : Type 0 where
+  pub page : (b < 0x400) ⊎ (0x800 ≤ b)
+  pub column : b ≢ 0x24
+  pub row : b ≢ 0x25
+  pub base_low : b ≢ 0x28
+  pub base_high : b ≢ 0x29
+
+pub outside_of : (b : ℕ) → output_reach b ≡ false → IsOutside b
+outside_of b h = record {
+  page = grind (arith, nat_tests, h);
+  column = grind (arith, nat_tests, h);
+  row = grind (arith, nat_tests, h);
+  base_low = grind (arith, nat_tests, h);
+  base_high = grind (arith, nat_tests, h);
+}
+
+either : (v : Bool) (x y : Memory) (b r : ℕ) → ram_byte x b ≡ r → ram_byte y b ≡ r → ram_byte (if v then x else y) b ≡ r
+either true x y b r h g = h
+either false x y b r h g = g
+
+module _ (b : ℕ) (outside : IsOutside b) where
+  page1-kept : (page : Grid) (m : Memory) → ram_byte (with_page1 page m) b ≡ ram_byte m b
+  page1-kept page m = ram_byte-page1 m page b outside.page
+
+  column-kept : (c : ℕ) (m : Memory) → ram_byte (with_cursor_column c m) b ≡ ram_byte m b
+  column-kept c m = ram_byte-with_ram m 0x24 c b outside.column
+
+  row-kept : (r : ℕ) (m : Memory) → ram_byte (with_cursor_row r m) b ≡ ram_byte m b
+  row-kept r m = ram_byte-with_ram m 0x25 r b outside.row
+
+  line_feed-kept : (m : Memory) → ram_byte (after_line_feed m) b ≡ ram_byte m b
+  unfolding after_line_feed
+  line_feed-kept m =
+      let down = with_cursor_row (cursor_row m + 1) m in
+      let moved = with_page1 (scrolled (window_of m) m.page1) m in
+      either (nat_lt (cursor_row m + 1) (window_of m).bottom) down moved b (ram_byte m b)
+      (row-kept (cursor_row m + 1) m) (page1-kept (scrolled (window_of m) m.page1) m)
+
+  return-kept : (m : Memory) → ram_byte (after_return m) b ≡ ram_byte m b
+  unfolding after_return
+  return-kept m = line_feed-kept (with_cursor_column 0 m) ∙ column-kept 0 m
+
+  backspace-kept : (m : Memory) → ram_byte (after_backspace m) b ≡ ram_byte m b
+  unfolding after_backspace
+  backspace-kept m =
+      let left = with_cursor_column (cursor_column m - 1) m in
+      let wrapped = with_cursor_column ((window_of m).width - 1) m in
+      let up = with_cursor_row (cursor_row m - 1) wrapped in
+      either (nat_lt 0 (cursor_column m)) left (if nat_lt (window_of m).top (cursor_row m) then up else wrapped) b (ram_byte m b)
+      (column-kept (cursor_column m - 1) m)
+      (either (nat_lt (window_of m).top (cursor_row m)) up wrapped b (ram_byte m b)
+      (row-kept (cursor_row m - 1) wrapped ∙ column-kept ((window_of m).width - 1) m) (column-kept ((window_of m).width - 1) m))
+
+  character-kept : (byte : ℕ) (m : Memory) → ram_byte (after_character byte m) b ≡ ram_byte m b
+  unfolding after_character
+  character-kept byte m =
+      let page = with_byte m.page1 (cursor_row m) (screen_column m) byte in
+      let written = with_page1 page m in
+      let moved = with_cursor_column (cursor_column m + 1) written in
+      let same : ram_byte moved b ≡ ram_byte m b = column-kept (cursor_column m + 1) written ∙ page1-kept page m in
+      either (nat_le (window_of m).width (cursor_column m + 1)) (after_return moved) moved b (ram_byte m b)
+      (return-kept moved ∙ same) same
+
+  put_unmasked-kept : (byte : ℕ) (m : Memory) → ram_byte (after_put_unmasked byte m) b ≡ ram_byte m b
+  unfolding after_put_unmasked
+  put_unmasked-kept byte m =
+      let was = ram_byte m b in
+      let last = if nat_le 0x80 byte && nat_lt byte 0xA0 then m else after_character byte m in
+      let back = if byte == 0x88 then after_backspace m else last in
+      let feed = if byte == 0x8A then after_line_feed m else back in
+      either (byte == 0x8D) (after_return m) feed b was (return-kept m)
+      (either (byte == 0x8A) (after_line_feed m) back b was (line_feed-kept m)
+      (either (byte == 0x88) (after_backspace m) last b was (backspace-kept m)
+      (either (nat_le 0x80 byte && nat_lt byte 0xA0) m (after_character byte m) b was refl (character-kept byte m))))
+
+  put-kept : (byte : ℕ) (m : Memory) → ram_byte (after_put byte m) b ≡ ram_byte m b
+  unfolding after_put
+  put-kept byte m = put_unmasked-kept (if nat_le 0xA0 byte then by_digits 8 ◌&&◌ byte (inverse_mask m) else byte) m
+
+  base-kept : (m : Memory) → ram_byte (with_base_address m) b ≡ ram_byte m b
+  unfolding with_base_address
+  base-kept m =
+      let base = row_start One (cursor_row m) + (window_of m).left in
+      ram_byte-with_ram (with_ram m 0x28 (base % 256)) 0x29 (base / 256) b outside.base_high
+      ∙ ram_byte-with_ram m 0x28 (base % 256) b outside.base_low
+
+  prompt-kept : (m : Memory) → ram_byte (after_prompt m) b ≡ ram_byte m b
+  prompt-kept m = put-kept (prompt m) (after_put 0x8D m) ∙ put-kept 0x8D m
+
+  cleared_to_end-kept : (m : Memory) → ram_byte (cleared_to_end m) b ≡ ram_byte m b
+  unfolding cleared_to_end
+  cleared_to_end-kept m =
+      let row = slice_index_or m.page1 (cursor_row m) [] in
+      let blanks = replicate ((window_of m).width - cursor_column m) 0xA0 in
+      page1-kept (slice_set m.page1 (cursor_row m) (with_part row (screen_column m) blanks)) m
+
+  -- a line, short enough, whose memory shows the same byte
+  record Fine (was : ℕ) (line : Reading) : Type 0 where
+    same : ram_byte line.memory b ≡ was
+    short : line.len < 256
+
+  fine-if : (was : ℕ) (v : Bool) (x y : Reading) → Fine was x → (v ≡ false → Fine was y) → Fine was (if v then x else y)
+  fine-if was true x y h g = h
+  fine-if was false x y h g = g refl
+
+  cancel-fine : (was : ℕ) (m : Memory) → ram_byte m b ≡ was → Fine was (after_cancel m)
+  cancel-fine was m h = record { same = prompt-kept (after_put 0xDC m) ∙ put-kept 0xDC m ∙ h; short = omega arith }
+
+  after_byte-fine : (was byte : ℕ) (line : Reading) → Fine was line → Fine was (after_byte byte line)
+  after_byte-fine was byte line h =
+      let echo = after_put_unmasked byte line.memory in
+      let more : Reading = record { memory = echo; len = line.len + 1 } in
+      let gone : Reading = after_cancel echo in
+      let full : Reading = if line.len == 255 then gone else more in
+      fine-if was (byte == 0x88) (elim line.len [ zero ↦ record { memory = after_prompt echo; len = 0 } | suc len ↦ record { memory = echo; len = len } ])
+      (if byte == 0x98 then gone else full) (backspace line.len h.short)
+      (λ _. fine-if was (byte == 0x98) gone full (cancel-fine was echo echoed)
+      (λ _. fine-if was (line.len == 255) gone more (cancel-fine was echo echoed)
+      (λ e. record { same = echoed; short = let l : line.len + 1 < 256 = grind (arith, nat_tests, e, h.short) in l })))
+    where
+      echoed : ram_byte (after_put_unmasked byte line.memory) b ≡ was
+      echoed = put_unmasked-kept byte line.memory ∙ h.same
+
+      backspace : (len : ℕ) → len < 256
+          → Fine was (elim len [
+            | zero ↦ record { memory = after_prompt (after_put_unmasked byte line.memory); len = 0 }
+            | suc len ↦ record { memory = after_put_unmasked byte line.memory; len = len }
+          ])
+      backspace zero l = record { same = prompt-kept (after_put_unmasked byte line.memory) ∙ echoed; short = omega arith }
+      backspace (suc len) l = record { same = echoed; short = omega (arith, l) }
+
+  line_read-kept : (b < 0x200) ⊎ (0x300 ≤ b) → (was : ℕ) (keys : List ℕ) (line : Reading) → Fine was line → ram_byte (line_read keys line).memory b ≡ was
+  unfolding line_read ram_byte
+  line_read-kept away was [] line h = h.same
+  line_read-kept away was (key ∷ keys) line h =
+      go (byte_of_key line.memory key == 0x8D) (λ next fine. line_read-kept away was keys next fine)
+    where
+      byte : ℕ
+      byte = byte_of_key line.memory key
+
+      kept : Memory
+      kept = with_ram (with_key_taken line.memory) (0x200 + line.len) byte
+
+      noted : Reading
+      noted = record { memory = kept; len = line.len }
+
+      elsewhere : (b < 0x200) ⊎ (0x300 ≤ b) → b ≢ 0x200 + line.len
+      elsewhere (inl low) = λ e. let bad : ⊥ = omega (arith, low, e) in bad
+      elsewhere (inr high) = λ e. let bad : ⊥ = omega (arith, high, e, h.short) in bad
+
+      stored : ram_byte kept b ≡ was
+      stored = ram_byte-with_ram (with_key_taken line.memory) (0x200 + line.len) byte b (elsewhere away) ∙ h.same
+
+      go : (v : Bool) → ((next : Reading) → Fine was next → ram_byte (line_read keys next).memory b ≡ was)
+          → ram_byte (if v then record { memory = after_put 0x8D (cleared_to_end kept); len = line.len } else line_read keys (after_byte byte noted)).memory b ≡ was
+      go true rest = put-kept 0x8D (cleared_to_end kept) ∙ cleared_to_end-kept kept ∙ stored
+      go false rest = rest (after_byte byte noted) (after_byte-fine was byte noted (record { same = stored; short = h.short }))
+
+-- the return keeps every byte
+returned-kept : (world : World) (b : ℕ) → ram_byte (returned memory_access world).memory b ≡ ram_byte world.memory b
+unfolding returned
+returned-kept world b =
+    changed_by_writes.kept_by_read (after_pull memory_access world).memory _ b
+    ∙ changed_by_writes.kept_by_read world.memory _ b
+
+output-kept : (b : ℕ) → IsOutside b → (memory : Memory) (world : World)
+    → ram_byte (ended 6 (output memory world)).memory b ≡ ram_byte memory b
+output-kept b outside memory world = returned-kept (output memory world) b ∙ base-kept b outside memory
+
+-- a service stores only in its reach
+pub served-kept : (service : Service) (world : World) (b : ℕ) → reach service b ≡ false
+    → ram_byte (served service world).memory b ≡ ram_byte world.memory b
+unfolding served reach ram_byte
+served-kept Cout world b h =
+    let o : IsOutside b = outside_of b h in
+    output-kept b o (after_put world.registers.a world.memory) world ∙ put-kept b o world.registers.a world.memory
+served-kept Crout world b h =
+    let o : IsOutside b = outside_of b h in
+    returned-kept (with_a 0x8D (output (after_put 0x8D world.memory) world)) b ∙ base-kept b o (after_put 0x8D world.memory) ∙ put-kept b o 0x8D world.memory
+served-kept Home world b h =
+    let o : IsOutside b = outside_of b h in
+    let blank = with_page1 (cleared (window_of world.memory) world.memory.page1) world.memory in
+    output-kept b o (with_cursor_row (window_of world.memory).top (with_cursor_column 0 blank)) world
+    ∙ row-kept b o (window_of world.memory).top (with_cursor_column 0 blank)
+    ∙ column-kept b o 0 blank
+    ∙ page1-kept b o (cleared (window_of world.memory) world.memory.page1) world.memory
+served-kept Prbyte world b h =
+    let o : IsOutside b = outside_of b h in
+    let a = world.registers.a in
+    let first = after_put (digit_byte (a / 16)) world.memory in
+    output-kept b o (after_put (digit_byte (a % 16)) first) world
+    ∙ put-kept b o (digit_byte (a % 16)) first ∙ put-kept b o (digit_byte (a / 16)) world.memory
+served-kept Rdkey world b h = go world.memory.devices.keys
+  where
+    go : (keys : List ℕ)
+        → ram_byte (elim keys as (λ _. World) [
+          | [] ↦ world
+          | key ∷ rest ↦ ended 6 (with_a (0x80 + key) (with_memory (with_key_taken world.memory) world))
+        ]).memory b
+        ≡ ram_byte world.memory b
+    go [] = refl
+    go (key ∷ rest) = returned-kept (with_a (0x80 + key) (with_memory (with_key_taken world.memory) world)) b
+served-kept Wait world b h = returned-kept (with_a 0 world) b
+served-kept Getln world b h =
+    let o : IsOutside b = outside_of b (or-left (output_reach b) (is_within 0x200 0x2FF b) h) in
+    let memory = world.memory in
+    let start : Reading = record { memory = after_put (prompt memory) memory; len = 0 } in
+    let line = line_read memory.devices.keys start in
+    returned-kept (with_x line.len (output line.memory world)) b ∙ base-kept b o line.memory
+    ∙ line_read-kept b o (away (or-right (output_reach b) (is_within 0x200 0x2FF b) h)) (ram_byte memory b) memory.devices.keys start
+    (record { same = put-kept b o (prompt memory) memory; short = omega arith })
+  where
+    or-left : (x y : Bool) → x || y ≡ false → x ≡ false
+    or-left true y h = h
+    or-left false y h = refl
+
+    or-right : (x y : Bool) → x || y ≡ false → y ≡ false
+    or-right true y h = absurd (true≢false h)
+    or-right false y h = h
+
+    away : is_within 0x200 0x2FF b ≡ false → (b < 0x200) ⊎ (0x300 ≤ b)
+    away h = grind (arith, nat_tests, h)

@@ -1,0 +1,115 @@
+-- Calls of services: the return, and what the tests of window and cursor tell.
+use Rattle.std.specs.Prelude.{◌≡◌, ℕ, ◌+◌, ◌*◌, ◌%◌, ◌<◌, true, ◌&&◌, nat_lt, if◌then◌else◌}
+use Rattle.std.proofs.Common.{sym, ap, ◌∙◌, arith}
+use Rattle.std.proofs.lemmas.Bool.Decides.{nat_tests}
+use Rattle.a2_page.specs.Window.{IsWindow}
+use Rattle.a2_page.proofs.Finding.{and-left, and-right}
+use Rattle.a2_bus.specs.Devices.{after_access, device_byte}
+use Rattle.a2_bus.specs.BusState.{BusState}
+use Rattle.a2_bus.specs.Memory.{Memory, ram_byte, with_ram, ram_end, memory_access}
+use Rattle.a2_bus.specs.View.{memory_of}
+use Rattle.a2_cpu.specs.Instruction.{with_pc, with_s, pulled, after_pull, returned}
+use Rattle.a2_cpu.specs.declared.Regs.{Regs}
+use Rattle.a2_services.specs.World.{World, world_of}
+use Rattle.a2_page.specs.Grid.{Window, cleared}
+use Rattle.a2_services.specs.declared.screen.Edges.{Edges}
+use Rattle.a2_services.specs.Put.{window_of, with_page1, with_cursor_row, with_cursor_column}
+use Rattle.a2_services.specs.Services.{window_fits, cursor_fits, ended, with_memory, with_a, with_key_taken}
+use Rattle.a2_services.specs.Fits.{Fits, window_at}
+
+-- The return
+
+read_ram : (m : Memory) (a : ℕ) → a < ram_end → memory_access.after_read m a ≡ m
+unfolding memory_access
+read_ram m a low =
+    let e : nat_lt a ram_end ≡ true = grind (arith, nat_tests, low) in
+    ap (λ v. if v then m else record m { devices = after_access m.devices a }) e
+
+byte_ram : (m : Memory) (a : ℕ) → a < ram_end → memory_access.byte_at m a ≡ ram_byte m a
+unfolding memory_access
+byte_ram m a low =
+    let e : nat_lt a ram_end ≡ true = grind (arith, nat_tests, low) in
+    ap (λ v. if v then ram_byte m a else device_byte m.devices a) e
+
+pub returned_is : (w : World)
+    → returned memory_access w
+    ≡ (let s = w.registers.s in
+    with_pc ((ram_byte w.memory (256 + (s + 1) % 256) + 256 * ram_byte w.memory (256 + ((s + 1) % 256 + 1) % 256) + 1) % 65536)
+    (with_s (((s + 1) % 256 + 1) % 256) w))
+unfolding returned
+returned_is w =
+    let s1 = (w.registers.s + 1) % 256 in
+    let s2 = (s1 + 1) % 256 in
+    let low : 256 + s1 < ram_end = omega arith in
+    let high : 256 + s2 < ram_end = omega arith in
+    let w1 : World = with_s s1 w in
+    let p1 : after_pull memory_access w ≡ w1 = ap (λ m. let x : World = with_s s1 (record w { memory = m }) in x) (read_ram w.memory (256 + s1) low) in
+    let p2 : after_pull memory_access w1 ≡ with_s s2 w1 = ap (λ m. let x : World = with_s s2 (record w1 { memory = m }) in x) (read_ram w.memory (256 + s2) high) in
+    let b1 : pulled memory_access w ≡ ram_byte w.memory (256 + s1) = byte_ram w.memory (256 + s1) low in
+    let b2 : pulled memory_access w1 ≡ ram_byte w.memory (256 + s2) = byte_ram w.memory (256 + s2) high in
+    ap (λ x. with_pc ((pulled memory_access w + 256 * pulled memory_access x + 1) % 65536) (after_pull memory_access x)) p1
+    ∙ (λ i. with_pc ((b1 i + 256 * b2 i + 1) % 65536) (p2 i))
+
+-- a call's end: the memory is what the service made, and the cycles are counted
+pub ended_is : (regs new : Regs) (bus after : BusState) (m : Memory) (n before : ℕ)
+    → world_of new after before ≡ returned memory_access (with_memory m (world_of regs bus before))
+    → world_of new after (before + n) ≡ ended n (with_memory m (world_of regs bus before))
+ended_is regs new bus after m n before e = ap (λ (w : World). let x : World = record w { cycles = before + n } in x) e
+
+-- The tests
+
+window_is : (m : Memory) → window_fits m ≡ true → IsWindow (window_of m)
+window_is m h =
+    record { width = grind (arith, nat_tests, h); right = grind (arith, nat_tests, h); height = grind (arith, nat_tests, h); bottom = grind (arith, nat_tests, h) }
+
+pub window_tells : (m : Memory) → window_fits m ≡ true → IsWindow (window_of m)
+window_tells m h = window_is m h
+
+pub fits_tells : (m : Memory) → window_fits m && cursor_fits m ≡ true → Fits m
+fits_tells m h =
+    let w : IsWindow (window_of m) = window_is m (and-left (window_fits m) (cursor_fits m) h) in
+    let cursor : cursor_fits m ≡ true = and-right (window_fits m) (cursor_fits m) h in
+    record {
+      line = record { window = w; row = grind (arith, nat_tests, cursor) };
+      column = grind (arith, nat_tests, cursor);
+    }
+
+-- what the code's return makes
+pub return_made : (regs : Regs) (bus : BusState) (low high word cycles : ℕ)
+    → word ≡ low + 256 * high
+    → low ≡ ram_byte (memory_of bus) (256 + (regs.s + 1) % 256)
+    → high ≡ ram_byte (memory_of bus) (256 + ((regs.s + 1) % 256 + 1) % 256)
+    → world_of (record regs { s = ((regs.s + 1) % 256 + 1) % 256; pc = (word + 1) % 65536 }) bus cycles
+    ≡ returned memory_access (world_of regs bus cycles)
+return_made regs bus low high word cycles w l h =
+    (λ i. world_of (record regs { s = ((regs.s + 1) % 256 + 1) % 256; pc = (w i + 1) % 65536 }) bus cycles)
+    ∙ (λ i. world_of (record regs { s = ((regs.s + 1) % 256 + 1) % 256; pc = (l i + 256 * h i + 1) % 65536 }) bus cycles)
+    ∙ sym (returned_is (world_of regs bus cycles))
+
+-- the same with the memory that a service made
+pub made_is : (new : Regs) (after : BusState) (m m2 : Memory) (regs : Regs) (bus : BusState) (n before : ℕ)
+    → world_of new after before ≡ returned memory_access (with_memory m (world_of regs bus before))
+    → m ≡ m2
+    → world_of new after (before + n) ≡ ended n (with_memory m2 (world_of regs bus before))
+made_is new after m m2 regs bus n before e same =
+    ended_is regs new bus after m n before e ∙ ap (λ x. ended n (with_memory x (world_of regs bus before))) same
+
+-- what HOME's stores make
+pub home_made : (m a b c : Memory) (edges : Edges) → window_at edges ≡ window_of m
+    → a ≡ with_page1 (cleared (window_at edges) m.page1) m
+    → b ≡ with_ram a 0x24 0
+    → c ≡ with_ram b 0x25 edges.top
+    → c ≡ with_cursor_row (window_of m).top (with_cursor_column 0 (with_page1 (cleared (window_of m) m.page1) m))
+home_made m a b c edges same ea eb ec =
+    ec
+    ∙ ap (λ x. with_ram x 0x25 edges.top) (eb ∙ ap (λ x. with_ram x 0x24 0) ea)
+    ∙ ap (λ (w : Window). with_ram (with_ram (with_page1 (cleared w m.page1) m) 0x24 0) 0x25 w.top) same
+
+-- RDKEY's end
+pub made_rdkey : (regs new : Regs) (bus after : BusState) (key before : ℕ)
+    → world_of new after before ≡ returned memory_access (world_of (record regs { a = 0x80 + key }) after before)
+    → memory_of after ≡ with_key_taken (memory_of bus)
+    → world_of new after (before + 6) ≡ ended 6 (with_a (0x80 + key) (with_memory (with_key_taken (memory_of bus)) (world_of regs bus before)))
+made_rdkey regs new bus after key before e taken =
+    ap (λ (w : World). let x : World = record w { cycles = before + 6 } in x) e
+    ∙ ap (λ m. ended 6 (with_a (0x80 + key) (with_memory m (world_of regs bus before)))) taken

@@ -1,0 +1,27 @@
+-- Bytes and keys that the Monitor gives a meaning of their own. Apple II Reference Manual (1979), pages 30 to 35.
+use Rattle.std.specs.Prelude.{ℕ}
+
+abbrev pub carriage_return : ℕ
+carriage_return = 0x8D
+
+abbrev pub line_feed : ℕ
+line_feed = 0x8A
+
+abbrev pub backspace : ℕ
+backspace = 0x88
+
+-- control X, which gives a line up, and the backslash that tells it
+abbrev pub cancel : ℕ
+cancel = 0x98
+
+abbrev pub backslash : ℕ
+backslash = 0xDC
+
+abbrev pub blank : ℕ
+blank = 0xA0
+
+abbrev pub return_key : ℕ
+return_key = 0x0D
+
+abbrev pub right_arrow_key : ℕ
+right_arrow_key = 0x15

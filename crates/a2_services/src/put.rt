@@ -1,0 +1,126 @@
+// Putting a byte: a character, a return, a line feed or a backspace.
+
+ghost use Rattle.std.specs.Prelude.{◌≡◌, ◌<◌, ◌≤◌, ◌+◌, ◌&&◌};
+ghost use Rattle.a2_cpu.specs.Arithmetic.{by_digits};
+ghost use Rattle.a2_bus.specs.Memory.{ram_byte, with_ram};
+ghost use Rattle.a2_bus.specs.View.{memory_of};
+ghost use Rattle.a2_services.specs.Put.{after_line_feed, after_return, after_backspace, after_character, after_put_unmasked, after_put, with_base_address};
+ghost use Rattle.a2_services.specs.Fits.{Fits, LineFits};
+
+use crate::bytes::{BACKSPACE, LINE_FEED, RETURN};
+use crate::locations::{BASH, BASL, CH, CV, INVFLG};
+use crate::screen::{cell_address, load, scroll, set_cell, store, window};
+use a2_bus::Board;
+use std::alloc::Allocator;
+
+// The cursor goes down, or at the window's bottom the window scrolls.
+#[tactic(auto, unfolding(crate::specs::Put::after_line_feed))]
+fn feed<A: Allocator>(board: &mut Board<A>)
+    requires { LineFits (memory_of board.old) }
+    ensures { memory_of board.new ≡ after_line_feed (memory_of board.old) }
+{
+    let edges = window(board);
+    let row = load(board, CV);
+    if row + 1 < edges.bottom {
+        store(board, CV, row + 1);
+    } else {
+        scroll(board, edges);
+    }
+}
+
+// The cursor goes to the window's left edge, and down.
+#[tactic(auto, unfolding(crate::specs::Put::after_return))]
+fn return_line<A: Allocator>(board: &mut Board<A>)
+    requires { LineFits (memory_of board.old) }
+    ensures { memory_of board.new ≡ after_return (memory_of board.old) }
+{
+    store(board, CH, 0);
+    feed(board);
+}
+
+// The cursor goes back.
+#[tactic(auto, unfolding(crate::specs::Put::after_backspace))]
+fn back<A: Allocator>(board: &mut Board<A>)
+    requires { Fits (memory_of board.old) }
+    ensures { memory_of board.new ≡ after_backspace (memory_of board.old) }
+{
+    let edges = window(board);
+    let column = load(board, CH);
+    let row = load(board, CV);
+    if column > 0 {
+        store(board, CH, column - 1);
+    } else {
+        store(board, CH, edges.width - 1);
+        if edges.top < row {
+            store(board, CV, row - 1);
+        }
+    }
+}
+
+// The byte stands in the cursor's cell, and the cursor goes on.
+#[tactic(auto, unfolding(crate::specs::Put::after_character))]
+fn show<A: Allocator>(board: &mut Board<A>, byte: u8)
+    requires { Fits (memory_of board.old) }
+    ensures { memory_of board.new ≡ after_character byte (memory_of board.old) }
+{
+    let edges = window(board);
+    let column = load(board, CH);
+    let row = load(board, CV);
+    set_cell(board, row, edges.left + column, byte);
+    store(board, CH, column + 1);
+    if edges.width <= column + 1 {
+        return_line(board);
+    }
+}
+
+/// A byte is put as it is.
+#[tactic(auto, unfolding(crate::specs::Put::after_put_unmasked))]
+pub fn put_unmasked<A: Allocator>(board: &mut Board<A>, byte: u8)
+    requires { Fits (memory_of board.old) }
+    ensures memory { memory_of board.new ≡ after_put_unmasked byte (memory_of board.old) }
+    ensures fits { Fits (memory_of board.new) }
+{
+    match byte {
+        RETURN => return_line(board),
+        LINE_FEED => feed(board),
+        BACKSPACE => back(board),
+        0x80..0xA0 => {}
+        _ => show(board, byte),
+    }
+}
+
+// Two bytes, digit by digit.
+fn masked(byte: u8, mask: u8) -> u8
+    ensures { result ≡ by_digits 8 ◌&&◌ byte mask }
+{
+    byte & mask
+}
+
+/// A byte from $A0 on is put under the mask.
+#[tactic(auto, unfolding(crate::specs::Put::after_put))]
+pub fn put<A: Allocator>(board: &mut Board<A>, byte: u8)
+    requires { Fits (memory_of board.old) }
+    ensures memory { memory_of board.new ≡ after_put byte (memory_of board.old) }
+    ensures fits { Fits (memory_of board.new) }
+{
+    let mask = load(board, INVFLG);
+    let byte = if byte >= 0xA0 {
+        masked(byte, mask)
+    } else {
+        byte
+    };
+    put_unmasked(board, byte);
+}
+
+/// BASL and BASH hold the address of the window's left edge in the cursor's row.
+#[tactic(auto, unfolding(crate::specs::Put::with_base_address))]
+pub fn set_base<A: Allocator>(board: &mut Board<A>)
+    requires { LineFits (memory_of board.old) }
+    ensures { memory_of board.new ≡ with_base_address (memory_of board.old) }
+{
+    let edges = window(board);
+    let base = cell_address(load(board, CV), edges.left);
+    let [low, high] = base.to_le_bytes();
+    store(board, BASL, low);
+    store(board, BASH, high);
+}

@@ -1,0 +1,135 @@
+// RAM, the cells of page 1, and the window.
+
+ghost use Rattle.std.specs.Prelude.{◌≡◌, ◌<◌, ◌≤◌, ◌+◌, ◌*◌, ◌%◌, ◌/◌, ℕ, slice_range, slice_index_or, length, replicate, []};
+ghost use Rattle.a2_page.specs.declared.Page.TheVariants.{One};
+ghost use Rattle.a2_page.specs.Cells.{address_of};
+ghost use Rattle.a2_page.specs.Grid.{byte_in, with_byte, with_row_part, scrolled, cleared};
+ghost use Rattle.a2_page.specs.Window.{IsWindow};
+ghost use Rattle.a2_bus.specs.Memory.{ram_byte, with_ram};
+ghost use Rattle.a2_bus.specs.View.{memory_of};
+ghost use Rattle.a2_services.specs.Bytes.{blank};
+ghost use Rattle.a2_services.specs.Put.{window_of, with_page1};
+ghost use Rattle.a2_services.specs.Fits.{window_at};
+
+use crate::bytes::BLANK;
+use crate::locations::{PAGE1, WNDBTM, WNDLFT, WNDTOP, WNDWDTH};
+use a2_bus::{Board, Bus};
+use std::alloc::Allocator;
+
+/// The window's edges: its first column, how many columns it has, its first row, and the row below its last.
+#[derive(Clone, Copy)]
+pub struct Edges {
+    pub left: u8,
+    pub width: u8,
+    pub top: u8,
+    pub bottom: u8,
+}
+
+/// The byte at an address of RAM.
+pub fn load<A: Allocator>(board: &Board<A>, address: u16) -> u8
+    requires { address < 49152 }
+    ensures byte { result ≡ ram_byte (memory_of board.now) address }
+    ensures size { length board.now.bytes ≡ 49152 }
+{
+    board.peek(address).unwrap_or(0)
+}
+
+/// The byte at an address of RAM becomes another.
+pub fn store<A: Allocator>(board: &mut Board<A>, address: u16, byte: u8)
+    requires { address < 49152 }
+    ensures { memory_of board.new ≡ with_ram (memory_of board.old) address byte }
+{
+    board.write(address, byte);
+}
+
+/// The address of a cell of page 1.
+pub fn cell_address(row: u8, column: u8) -> u16
+    requires row { row < 24 }
+    requires column { column < 40 }
+    ensures address { result ≡ address_of One row column }
+    ensures in_page { result < 2048 }
+{
+    let row = u16::from(row);
+    PAGE1 + 128 * (row % 8) + 40 * (row / 8) + u16::from(column)
+}
+
+/// The byte of a cell of page 1.
+pub fn cell<A: Allocator>(board: &Board<A>, row: u8, column: u8) -> u8
+    requires row { row < 24 }
+    requires column { column < 40 }
+    ensures { result ≡ byte_in (memory_of board.now).page1 row column }
+{
+    load(board, cell_address(row, column))
+}
+
+/// The byte of a cell of page 1 becomes another.
+pub fn set_cell<A: Allocator>(board: &mut Board<A>, row: u8, column: u8, byte: u8)
+    requires row { row < 24 }
+    requires column { column < 40 }
+    ensures { let memory = memory_of board.old in
+        memory_of board.new ≡ with_page1 (with_byte memory.page1 row column byte) memory }
+{
+    store(board, cell_address(row, column), byte);
+}
+
+/// The window's edges, as its four locations say them.
+pub fn window<A: Allocator>(board: &Board<A>) -> Edges
+    ensures edges { window_at result ≡ window_of (memory_of board.now) }
+    ensures size { length board.now.bytes ≡ 49152 }
+{
+    Edges {
+        left: load(board, WNDLFT),
+        width: load(board, WNDWDTH),
+        top: load(board, WNDTOP),
+        bottom: load(board, WNDBTM),
+    }
+}
+
+/// A part of a row becomes blank.
+pub fn blank_part<A: Allocator>(board: &mut Board<A>, row: u8, left: u8, width: u8)
+    requires row { row < 24 }
+    requires right { left + width ≤ 40 }
+    ensures { let memory = memory_of board.old in
+        memory_of board.new ≡ with_page1 (with_row_part memory.page1 row left (replicate width blank)) memory }
+{
+    for done in 0..width {
+        set_cell(board, row, left + done, BLANK);
+    }
+}
+
+/// A part of a row takes the bytes of the row below.
+pub fn copy_up<A: Allocator>(board: &mut Board<A>, row: u8, left: u8, width: u8)
+    requires row { row + 1 < 24 }
+    requires right { left + width ≤ 40 }
+    ensures { let memory = memory_of board.old in
+        let below = slice_range (slice_index_or memory.page1 (row + 1) []) left (left + width) in
+        memory_of board.new ≡ with_page1 (with_row_part memory.page1 row left below) memory }
+{
+    for done in 0..width {
+        let byte = cell(board, row + 1, left + done);
+        set_cell(board, row, left + done, byte);
+    }
+}
+
+/// The window scrolls.
+pub fn scroll<A: Allocator>(board: &mut Board<A>, edges: Edges)
+    requires { IsWindow (window_at edges) }
+    ensures { let memory = memory_of board.old in
+        memory_of board.new ≡ with_page1 (scrolled (window_at edges) memory.page1) memory }
+{
+    for row in edges.top..edges.bottom - 1 {
+        copy_up(board, row, edges.left, edges.width);
+    }
+    blank_part(board, edges.bottom - 1, edges.left, edges.width);
+}
+
+/// The window becomes blank.
+pub fn clear<A: Allocator>(board: &mut Board<A>, edges: Edges)
+    requires { IsWindow (window_at edges) }
+    ensures { let memory = memory_of board.old in
+        memory_of board.new ≡ with_page1 (cleared (window_at edges) memory.page1) memory }
+{
+    for row in edges.top..edges.bottom {
+        blank_part(board, row, edges.left, edges.width);
+    }
+}

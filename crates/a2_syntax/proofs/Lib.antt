@@ -1,0 +1,5 @@
+mod PieceLaws
+mod NameLaws
+mod LineLaws
+mod ParseLaws
+mod OneReading

@@ -1,0 +1,9 @@
+use Rattle.std.proofs.Common.{length, map}
+use Rattle.a2_syntax.proofs.PieceLaws.{Reads}
+use Rattle.a2_syntax.proofs.piece.pieces.Given as goal
+
+abbrev pub invariant-pieces : goal.invariant-pieces
+invariant-pieces l = Reads l.text l.rest (map (λ x. x.now) l.found.items)
+
+abbrev pub decreases-pieces : goal.decreases-pieces
+decreases-pieces l = length l.rest

@@ -1,0 +1,45 @@
+-- A text of pieces: signs and words, with blanks between them.
+use Rattle.std.specs.Prelude.{◌≡◌, ℕ, ◌<◌, Bool, true, false, IsTrue, ◌||◌, ◌==◌, List, [], ◌∷◌, ◌++◌, length, ◌⊎◌}
+use Rattle.std.specs.List.{AllPass}
+use Rattle.a2_text.specs.Bytes.{is_blank}
+use Rattle.a2_syntax.specs.Names.{is_name_byte}
+
+-- # , ( ) < > + - *
+abbrev pub is_sign : ℕ → Bool
+is_sign c = c == 35 || c == 44 || c == 40 || c == 41 || c == 60 || c == 62 || c == 43 || c == 45 || c == 42
+
+-- no name byte comes next
+abbrev pub EndsRun : List ℕ → Type 0
+EndsRun [] = Unit {0}
+EndsRun (c ∷ cs) = is_name_byte c ≡ false
+
+-- one name byte or more, and no further one
+abbrev pub IsRun : List ℕ → List ℕ → Type 0
+IsRun run rest = (0 < length run) × AllPass is_name_byte run × EndsRun rest
+
+-- a piece and what follows it: a sign, or `$` and a run of name bytes, or such a run
+abbrev pub IsPiece : List ℕ → List ℕ → Type 0
+IsPiece piece rest =
+    ((c : ℕ) × (piece ≡ c ∷ []) × IsTrue (is_sign c)) ⊎
+    (((run : List ℕ) × (piece ≡ 36 ∷ run) × IsRun run rest) ⊎
+    IsRun piece rest)
+
+-- text is blanks, and then rest
+abbrev pub IsBehindBlanks : List ℕ → List ℕ → Type 0
+IsBehindBlanks text rest = (gap : List ℕ) × AllPass is_blank gap × (text ≡ gap ++ rest)
+
+-- nothing, or a comment
+abbrev pub is_over : List ℕ → Bool
+is_over [] = true
+is_over (c ∷ cs) = c == 59
+
+-- nothing, a blank or a comment
+abbrev pub is_gap : List ℕ → Bool
+is_gap [] = true
+is_gap (c ∷ cs) = is_blank c || c == 59
+
+-- the pieces of a text, in which blanks may stand before each piece and at the end, and a comment behind them
+abbrev pub Spells : List ℕ → List (List ℕ) → Type 0
+Spells text [] = (rest : List ℕ) × IsBehindBlanks text rest × IsTrue (is_over rest)
+Spells text (piece ∷ pieces) =
+    (rest after : List ℕ) × IsBehindBlanks text rest × (rest ≡ piece ++ after) × IsPiece piece after × Spells after pieces
