@@ -1,20 +1,24 @@
 -- What a run rests on: where statements begin, and where code lies.
-use Rattle.std.proofs.Common.{◌≡◌, ℕ, zero, suc, ◌+◌, ◌<◌, ◌≤◌, Bool, true, false, cond, eqb, List, [], ◌∷◌, length, get_or, take, drop, refl, sym, ap, ◌∙◌, subst, ⊎_elim, Option, Some, None, is_some, arith, Contains}
+use Rattle.std.proofs.Common.{◌≡◌, ℕ, zero, suc, ◌+◌, ◌-◌, ◌++◌, ◌<◌, ◌≤◌, Bool, true, false, cond, eqb, List, [], ◌∷◌, length, get_or, take, drop, refl, sym, ap, ◌∙◌, subst, ⊎_elim, Option, Some, None, is_some, arith, Contains}
 use Rattle.std.specs.List.{find}
 use Rattle.std.specs.Option.{option_map_or}
 use Rattle.std.proofs.lemmas.Bool.{false≢true, cases_lt, and_parts}
 use Rattle.std.proofs.lemmas.Bool.Decides.{nat_tests}
 use Rattle.std.proofs.lemmas.List.{get_or-take}
 use Rattle.std.proofs.lemmas.List.Folds.{Any-from_list_any}
+use Rattle.a2_opcode.specs.declared.Instr as opcode
 use Rattle.a2_opcode.specs.Table.{length_of}
 use Rattle.a2_syntax.specs.declared.source.Line.{Line}
-use Rattle.a2_syntax.specs.declared.source.Body.TheVariants.{Instr}
+use Rattle.a2_syntax.specs.declared.source.Operand.{Operand}
+use Rattle.a2_syntax.specs.declared.source.Operand.TheVariants.{Nothing, Immediate, Plain}
+use Rattle.a2_syntax.specs.declared.source.Body.{Body}
+use Rattle.a2_syntax.specs.declared.source.Body.TheVariants.{Empty, Org, Equ, Instr}
 use Rattle.a2_asm.specs.declared.program.Statement.{Statement}
-use Rattle.a2_asm.specs.Forms.{size}
+use Rattle.a2_asm.specs.Forms.{mode_of, size, operand_bytes}
 use Rattle.a2_asm.specs.Laying.{meets}
 use Rattle.a2_asm.specs.Assembled.{Assembled}
-use Rattle.a2_asm.specs.Programs.{IsProgram, begins_at, covers, is_code, StatementsBegin, StatementsApart, CodeInRam}
-use Rattle.a2_asm.specs.Layout.{Placed, rows, names, image, bytes_of, instr_of}
+use Rattle.a2_asm.specs.Programs.{IsProgram, begins_at, instr_at, covers, is_code, StatementsBegin, StatementsApart, CodeInRam, CodeIsHeld, EntryBegins}
+use Rattle.a2_asm.specs.Layout.{Placed, rows, names, image, statements, statement_of, bytes_of, instr_of, operand_value, entry, is_instruction}
 use Rattle.a2_asm.proofs.LayingLaws.{meets-free}
 use Rattle.a2_asm.proofs.RowLaws.{instr-size, get_or-same}
 use Rattle.a2_asm.proofs.DecodeLaws.{Comes, Fits, fits-is, accepted-is, row-held, row-split, code-there, bytes-found, stated}
@@ -129,3 +133,59 @@ program-room source p is a code =
     let any = Any-from_list_any (covers a) p.statements code in
     let f = fits-of source p any.1 is (any.0, any.2, any.3) in
     omega (arith, covers-below a any.1 any.4, f.room, ap (λ x. x.addr) f.comes.is, ap (λ x. x.length) f.comes.is)
+
+covers-from : (a : ℕ) (s : Statement) → covers a s ≡ true → s.addr ≤ a
+covers-from a s h = grind (arith, nat_tests)
+
+operand-length : (o : Operand) (v : ℕ) → suc (length (operand_bytes o v)) ≡ length_of (mode_of o)
+operand-length Nothing v = refl
+operand-length (Immediate e) v = refl
+operand-length (Plain e) v = refl
+
+pub program-stored : (source : List Line) (p : Assembled) → IsProgram source p → CodeIsHeld p
+program-stored source p is a code =
+    let known = names source in
+    let places = rows source in
+    let any = Any-from_list_any (covers a) p.statements code in
+    let s = any.1 in
+    let f = fits-of source p s is (any.0, any.2, any.3) in
+    let c = f.comes in
+    let bytes = bytes_of known c.row.line.body in
+    let k = a - c.row.address in
+    let there : c.row.address ≡ s.addr = sym (ap (λ x. x.addr) c.is) in
+    let at : c.row.address + k ≡ a = omega (arith, there, covers-from a s any.4) in
+    let short : k < length bytes = omega (arith, there, covers-from a s any.4, covers-below a s any.4, ap (λ x. x.length) c.is, ap (λ b. length (bytes_of known b)) c.body, ap length (bytes-found known c.m c.o f.found), operand-length c.o (operand_value known c.o)) in
+    let row-has = row-held known (take c.index places) (drop (c.index + 1) places) c.row k f.free short in
+    (get_or bytes k 0, is.laid a ∙ ap (λ xs. image known xs a) (row-split places c.index c.row c.within c.at) ∙ ap (image known (take c.index places ++ c.row ∷ drop (c.index + 1) places)) (sym at) ∙ row-has)
+
+-- a statement of a row further on
+Contains-back : (xs ys : List Statement) (s : Statement) → Contains ys s → Contains (xs ++ ys) s
+Contains-back [] ys s h = h
+Contains-back (x ∷ xs) ys s h = let (k, lt, e) = Contains-back xs ys s h in (suc k, omega (arith, lt), e)
+
+-- the entry's row has a statement
+entry-stated : (known : List (List ℕ × ℕ)) (places : List Placed) (e : ℕ) → entry places ≡ Some e → (s : Statement) × (i : opcode.Instr) × Contains (statements known places) s × (s.instr ≡ Some i) × (s.addr ≡ e)
+entry-stated known [] e h = cc (h)
+entry-stated known (row ∷ more) e h = by row.line.body refl (λ k. entry-stated known more e k)
+  where
+    later : (b : Body) → row.line.body ≡ b → is_instruction b ≡ false → (entry more ≡ Some e → (s : Statement) × (i : opcode.Instr) × Contains (statements known more) s × (s.instr ≡ Some i) × (s.addr ≡ e)) → (s : Statement) × (i : opcode.Instr) × Contains (statements known (row ∷ more)) s × (s.instr ≡ Some i) × (s.addr ≡ e)
+    later b is none rest =
+        let r = rest (ap (λ x. cond x (Some row.address) (entry more)) (sym (ap is_instruction is ∙ none)) ∙ h) in
+        (r.0, r.1, Contains-back (statement_of known row row.line.body) (statements known more) r.0 r.2, r.3, r.4)
+
+    by : (b : Body) → row.line.body ≡ b → (entry more ≡ Some e → (s : Statement) × (i : opcode.Instr) × Contains (statements known more) s × (s.instr ≡ Some i) × (s.addr ≡ e)) → (s : Statement) × (i : opcode.Instr) × Contains (statements known (row ∷ more)) s × (s.instr ≡ Some i) × (s.addr ≡ e)
+    by (Instr m o) is rest =
+        let first : Some row.address ≡ Some e = ap (λ b. cond (is_instruction b) (Some row.address) (entry more)) (sym is) ∙ h in
+        let there : row.address ≡ e = cc (first) in
+        let P : List Statement → Type 0 = λ x. Contains (x ++ statements known more) (stated known row m o) in
+        (stated known row m o, instr_of known m o, subst P (ap (statement_of known row) (sym is)) (0, omega arith, refl), refl, there)
+    by (Org n) is rest = later (Org n) is refl rest
+    by (Equ n) is rest = later (Equ n) is refl rest
+    by Empty is rest = later Empty is refl rest
+
+pub program-enters : (source : List Line) (p : Assembled) → IsProgram source p → EntryBegins p
+program-enters source p is =
+    let r = entry-stated (names source) (rows source) p.entry is.begins in
+    let P : List Statement → Type 0 = λ x. Contains x r.0 in
+    let begins = program-begins source p is r.0 r.1 (subst P (sym is.stated) r.2) r.3 in
+    (r.1, ap (instr_at p.statements) (sym r.4) ∙ begins.0)

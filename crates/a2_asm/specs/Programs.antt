@@ -62,6 +62,14 @@ StatementsApart p = (s t : Statement) → Contains p.statements s → Contains p
 abbrev pub CodeInRam : Assembled → Type 0
 CodeInRam p = (a : ℕ) → IsTrue (is_code p.statements a) → a < 49152
 
+-- the image has each byte of code
+abbrev pub CodeIsHeld : Assembled → Type 0
+CodeIsHeld p = (a : ℕ) → IsTrue (is_code p.statements a) → (byte : ℕ) × (held p.image a ≡ Some byte)
+
+-- an instruction begins at the entry
+abbrev pub EntryBegins : Assembled → Type 0
+EntryBegins p = (i : Instr) × (instr_at p.statements p.entry ≡ Some i)
+
 -- nothing is held at or above $C000
 abbrev pub ImageInRam : Assembled → Type 0
 ImageInRam p = (a : ℕ) → 49152 ≤ a → held p.image a ≡ None

@@ -6,7 +6,7 @@ ghost use Rattle.a2_asm.specs.Forms as form;
 ghost use Rattle.a2_asm.specs.Laying.{meets, laid_over};
 ghost use Rattle.a2_asm.specs.Layout.{rows, first_behind, refuse_place, refuse_bytes, refuse_operand, refuse_value, term_value, is_known, operand_value, instr_of, image, statements, is_instruction, entry, layout_refusal};
 ghost use Rattle.a2_asm.specs.Entries.{entries};
-ghost use Rattle.a2_asm.specs.Programs.{IsProgram, StatementsDecode, StatementsBegin, StatementsApart, CodeInRam, ImageInRam};
+ghost use Rattle.a2_asm.specs.Programs.{IsProgram, StatementsDecode, StatementsBegin, StatementsApart, CodeInRam, CodeIsHeld, EntryBegins, ImageInRam};
 
 use crate::forms::{greatest, instr_bytes, mode_of, size};
 use crate::laying;
@@ -173,6 +173,8 @@ pub fn assemble(alloc: Global, source: &Source) -> Result<Program, Fault>
     ensures begin { IfOk result (λ p. StatementsBegin p) }
     ensures apart { IfOk result (λ p. StatementsApart p) }
     ensures room { IfOk result (λ p. CodeInRam p) }
+    ensures stored { IfOk result (λ p. CodeIsHeld p) }
+    ensures enters { IfOk result (λ p. EntryBegins p) }
     ensures outside { IfOk result (λ p. ImageInRam p) }
     ensures refused { IfErr result (λ f. f ≢ Fault.Memory → layout_refusal source.now ≡ Some f) }
 {

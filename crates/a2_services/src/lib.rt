@@ -16,6 +16,7 @@ mod screen;
 
 pub use calls::call;
 pub use entries::{reach, service_at};
+pub use needs::{fits, lacks_keys};
 
 /// A service of the Monitor. All but WAIT take 6 cycles.
 ///

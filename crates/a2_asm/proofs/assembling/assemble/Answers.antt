@@ -6,7 +6,7 @@ use Rattle.a2_asm.specs.Layout.{rows, image, statements, layout_refusal}
 use Rattle.a2_asm.specs.Programs.{IsProgram}
 use Rattle.a2_asm.proofs.AssembleLaws.{layout-refused, layout-accepted}
 use Rattle.a2_asm.proofs.DecodeLaws.{program-decodes}
-use Rattle.a2_asm.proofs.RunLaws.{program-begins, program-apart, program-room}
+use Rattle.a2_asm.proofs.RunLaws.{program-begins, program-apart, program-room, program-stored, program-enters}
 use Rattle.a2_asm.proofs.assembling.assemble.Goals as goal
 
 pub returns-in_err-image-clause-refused : goal.returns-in_err-image-clause-refused
@@ -42,3 +42,9 @@ returns-clause-apart c = program-apart c.args.source.now c.of.result (returns-cl
 
 pub returns-clause-room : goal.returns-clause-room
 returns-clause-room c = program-room c.args.source.now c.of.result (returns-clause-made c)
+
+pub returns-clause-stored : goal.returns-clause-stored
+returns-clause-stored c = program-stored c.args.source.now c.of.result (returns-clause-made c)
+
+pub returns-clause-enters : goal.returns-clause-enters
+returns-clause-enters c = program-enters c.args.source.now c.of.result (returns-clause-made c)

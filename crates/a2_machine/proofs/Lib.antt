@@ -1,0 +1,13 @@
+pub mod RunFrom
+pub mod Runs
+pub mod GuardedRuns
+pub mod FreeRun
+pub mod Cycles
+pub mod Turns
+pub mod Marking
+pub mod Watching
+pub mod Calls
+pub mod Costs
+pub mod Advancing
+pub mod Guarding
+pub mod Making

@@ -1,0 +1,205 @@
+//! The machine: a board with a processor, its guard, and its counts.
+
+ghost use Rattle.std.specs.Prelude.{◌≡◌, ◌+◌, ◌^◌, ◌<◌, ◌≤◌, ◌↔◌, ℕ, [], None, Some, Ok, IfOk, IfNone, IfSome, OnOk, OnErr, OnSome, IsOk, length};
+ghost use Rattle.a2_page.specs.Picture.{page_grid};
+ghost use Rattle.a2_bus.specs.Devices.{keys_typed};
+ghost use Rattle.a2_bus.specs.View.{memory_of};
+ghost use Rattle.a2_hex.specs.Images.{held};
+ghost use Rattle.a2_machine.specs.Meaning.{stuck};
+ghost use Rattle.a2_machine.specs.ProgramGuard.{guard_of_program};
+ghost use Rattle.a2_machine.specs.Start.{start_world};
+ghost use Rattle.a2_machine.specs.State.{world_of, code_of, cause_of, most_steps, steps_left, IsStep, IsRun};
+
+use crate::Cause;
+use crate::advance::advance_by;
+use crate::turn::cause_at;
+use crate::watch::Watch;
+use a2_asm::Program;
+use a2_bus::{Board, Keys, KeysFull};
+use a2_cpu::Regs;
+use a2_hex::Image;
+use a2_page::View;
+use std::alloc::{AllocError, Allocator, Global};
+use std::marker::Model;
+
+/// The most steps that a machine makes from a start.
+const MOST_STEPS: u64 = 1_000_000_000_000;
+
+/// The entry of a machine with nothing loaded.
+const FIRST_ENTRY: u16 = 0x0300;
+
+// A count of 64 bits is below 2^64, which the clauses of a field do not tell.
+fn keeps_count(count: u64)
+    ensures { count < 2 ^ 64 }
+{
+    let _ = count;
+}
+
+/// A modelled Apple II with 48K of RAM. Contracts see its registers, its board, the cycles and steps since its start, its
+/// guard, and how many steps it ever made.
+#[derive(Drop)]
+pub struct Machine<A: Allocator = Global> {
+    board: Board<A>,
+    watch: Watch<A>,
+    regs: Regs,
+    cycles: u64,
+    steps: u64,
+    made: u64,
+}
+
+impl<A: Allocator> Model for Machine<A> {
+    ghost use Rattle.std.specs.Prelude.{◌≤◌, ◌*◌};
+    ghost use Rattle.a2_machine.specs.State.{Device, most_steps};
+    ghost use Rattle.a2_machine.specs.Turn.{most_cost};
+
+    ghost Value = { Device };
+
+    ghost view = { λ m. record {
+        state = record { regs = m.regs; bus = m.board; cycles = m.cycles; steps = m.steps; guard = m.watch };
+        made = m.made
+    } };
+
+    ghost invariant = { λ m. (m.steps ≤ most_steps) × (m.cycles ≤ most_cost * m.steps) };
+}
+
+impl<A: Allocator + Copy> Machine<A> {
+    /// The machine as it is switched on, with nothing loaded, PC $0300, and free. Refused only for want of memory.
+    pub fn new(alloc: A) -> Result<Machine<A>, AllocError>
+        ensures world { IfOk result (λ m. world_of m.state ≡ start_world (λ _. None) 768 []) }
+        ensures steps { IfOk result (λ m. m.state.steps ≡ 0) }
+        ensures guard { IfOk result (λ m. m.state.guard ≡ None) }
+        ensures made { IfOk result (λ m. m.made ≡ 0) }
+    {
+        let board = Board::new(alloc)?;
+        let watch = Watch::new(alloc)?;
+        Ok(Machine { board, watch, regs: Regs::start(FIRST_ENTRY), cycles: 0, steps: 0, made: 0 })
+    }
+}
+
+impl<A: Allocator> Machine<A> {
+    /// The machine as it is switched on, with an image laid over RAM and PC at the entry; and free.
+    pub fn boot<C: Allocator>(&mut self, image: &Image<C>, entry: u16)
+        ensures world { world_of self.new.state ≡ start_world (held image.now) entry [] }
+        ensures steps { self.new.state.steps ≡ 0 }
+        ensures guard { self.new.state.guard ≡ None }
+        ensures made { self.new.made ≡ self.old.made }
+    {
+        self.board.load(image);
+        self.watch.free();
+        self.regs = Regs::start(entry);
+        self.cycles = 0;
+        self.steps = 0;
+    }
+
+    /// Guards a program: an instruction begins only where one of its instruction statements does, and nothing is stored
+    /// at the addresses of their bytes.
+    pub fn guard(&mut self, program: &Program)
+        ensures { self.new ≡ (let s = self.old.state in record self.old { state = record s { guard = Some (guard_of_program program.now) } }) }
+    {
+        self.watch.set(program);
+    }
+
+    /// Guards nothing any more.
+    pub fn free(&mut self)
+        ensures { self.new ≡ (let s = self.old.state in record self.old { state = record s { guard = None } }) }
+    {
+        self.watch.free();
+    }
+
+    /// Types keys, behind those that wait; refused exactly where more than 4,096 would wait, and then nothing changes.
+    pub fn type_keys(&mut self, keys: &Keys) -> Result<(), KeysFull>
+        ensures room { IsOk result ↔ (length self.old.state.bus.devices.keys + length keys.now ≤ 4096) }
+        ensures typed { OnOk result (self.new ≡ (let s = self.old.state in let b = s.bus in
+            record self.old { state = record s { bus = record b { devices = keys_typed b.devices keys.now } } })) }
+        ensures kept { OnErr result (self.new ≡ self.old) }
+    {
+        self.board.type_keys(keys)
+    }
+
+    /// The registers.
+    pub fn regs(&self) -> Regs
+        ensures { result ≡ self.now.state.regs }
+    {
+        self.regs
+    }
+
+    /// The steps made since the start, at most 1,000,000,000,000.
+    pub fn steps(&self) -> u64
+        ensures { result ≡ self.now.state.steps }
+    {
+        self.steps
+    }
+
+    /// The cycles since the start.
+    pub fn cycles(&self) -> u64
+        ensures { result ≡ self.now.state.cycles }
+    {
+        self.cycles
+    }
+
+    /// The steps that this machine ever made, up to the greatest value of 64 bits.
+    pub fn made(&self) -> u64
+        ensures { result ≡ self.now.made }
+    {
+        self.made
+    }
+
+    /// What a screen shows.
+    pub fn view(&self) -> View<'_>
+        ensures page1 { page_grid result.page1.now ≡ (memory_of self.now.state.bus).page1 }
+        ensures page2 { page_grid result.page2.now ≡ (memory_of self.now.state.bus).page2 }
+        ensures switches { result.switches ≡ self.now.state.bus.devices.switches }
+    {
+        self.board.view()
+    }
+
+    // Makes at most so many steps, fewer only where the machine is stuck: the cause then.
+    fn make(&mut self, limit: u64) -> Option<Cause>
+        ensures { Rattle.a2_machine.specs.State.IsMaking limit self.old self.new result }
+    {
+        keeps_count(self.made);
+        let left = MOST_STEPS - self.steps;
+        let most = if limit < left { limit } else { left };
+        let done = advance_by(&mut self.regs, &mut self.board, &self.watch, most);
+        self.cycles += done.cycles;
+        self.steps += done.made;
+        self.made = self.made.saturating_add(done.made);
+        done.stop
+    }
+
+    // Why the machine is stuck, leaving the greatest number of steps aside.
+    fn stop(&self) -> Option<Cause>
+        ensures { result ≡ stuck (code_of self.now.state) (world_of self.now.state) }
+    {
+        cause_at(&self.regs, &self.board, &self.watch)
+    }
+
+    /// Makes one step; or answers why there is none, and changes nothing.
+    pub fn step(&mut self) -> Option<Cause>
+        ensures cause { result ≡ cause_of self.old.state }
+        ensures made { IfNone result (IsStep self.old self.new) }
+        ensures stuck { IfSome result (λ _. self.new ≡ self.old) }
+    {
+        if self.steps < MOST_STEPS {
+            return self.make(1);
+        }
+        match self.stop() {
+            Some(cause) => Some(cause),
+            None => Some(Cause::Limit),
+        }
+    }
+
+    /// Makes steps until the machine is stuck or so many are made, and answers the cause: at the limit a stuck cause
+    /// comes before LIMIT.
+    pub fn run(&mut self, limit: u32) -> Cause
+        ensures { IsRun limit self.old self.new result }
+    {
+        if let Some(cause) = self.make(u64::from(limit)) {
+            return cause;
+        }
+        match self.stop() {
+            Some(cause) => cause,
+            None => Cause::Limit,
+        }
+    }
+}
