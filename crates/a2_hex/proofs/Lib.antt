@@ -1,0 +1,7 @@
+mod ImageLaws
+mod ByteLaws
+mod StoreLaws
+mod LoadLaws
+mod WriteLaws
+mod TextLaws
+mod RoundTrip

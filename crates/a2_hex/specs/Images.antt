@@ -1,5 +1,5 @@
--- Bytes at addresses of RAM.
-use Rattle.std.specs.Prelude.{ℕ, ◌==◌, List, Option, Some, None, slice_index_or, if◌then◌else◌}
+-- Bytes at addresses of RAM, which ends at $C000 (Apple II Reference Manual 1979, chapter 4).
+use Rattle.std.specs.Prelude.{ℕ, ◌+◌, ◌<◌, ◌==◌, List, [], ◌∷◌, Option, Some, None, IfSome, slice_index_or, if◌then◌else◌}
 
 -- an image's cells: the byte at each address, where there is one
 abbrev pub Cells : Type 0
@@ -9,6 +9,19 @@ Cells = List (Option ℕ)
 abbrev pub held : Cells → ℕ → Option ℕ
 held cells a = slice_index_or cells a None
 
+-- the map without bytes
+abbrev pub no_bytes : ℕ → Option ℕ
+no_bytes a = None
+
 -- the map of bytes with this one at an address
 abbrev pub put : (ℕ → Option ℕ) → ℕ → ℕ → ℕ → Option ℕ
 put image at byte a = if a == at then Some byte else image a
+
+-- the map with these bytes from an address upwards
+abbrev pub overlaid : (ℕ → Option ℕ) → ℕ → List ℕ → ℕ → Option ℕ
+overlaid image at [] = image
+overlaid image at (byte ∷ bytes) = overlaid (put image at byte) (at + 1) bytes
+
+-- a map of bytes to addresses of RAM
+abbrev pub IsImage : (ℕ → Option ℕ) → Type 0
+IsImage image = (a : ℕ) → IfSome (image a) (λ byte. (a < 49152) × (byte < 256))

@@ -1,1 +1,3 @@
 pub mod Images
+pub mod ObjectText
+pub mod ObjectLines

@@ -1,14 +1,14 @@
 //! Bytes at addresses of RAM.
 
 ghost use Rattle.std.specs.Prelude.{◌≡◌, ◌<◌, ℕ, None, IfOk, OnErr};
-ghost use Rattle.a2_hex.specs.Images.{held, put};
+ghost use Rattle.a2_hex.specs.Images.{held, put, IsImage};
 
 use crate::fault::HexFault;
 use std::alloc::{Allocator, Global};
 use std::marker::Model;
 
 /// The end of RAM.
-const RAM_END: usize = 0xC000;
+pub(crate) const RAM_END: u16 = 0xC000;
 
 /// Bytes at addresses below $C000, at each address one or none.
 #[derive(Drop)]
@@ -17,14 +17,14 @@ pub struct Image<A: Allocator = Global> {
 }
 
 impl<A: Allocator> Model for Image<A> {
-    ghost use Rattle.std.specs.Prelude.{◌≡◌, length};
-    ghost use Rattle.a2_hex.specs.Images.{Cells};
+    ghost use Rattle.std.specs.Prelude.{◌≡◌, ◌<◌, ℕ, length, IfSome};
+    ghost use Rattle.a2_hex.specs.Images.{Cells, held};
 
     ghost Value = { Cells };
 
     ghost view = { λ image. image.cells.items };
 
-    ghost invariant = { λ image. length image.cells.items ≡ 49152 };
+    ghost invariant = { λ image. (length image.cells.items ≡ 49152) × ((a : ℕ) → IfSome (held image.cells.items a) (λ byte. byte < 256)) };
 }
 
 impl<A: Allocator> Image<A> {
@@ -40,12 +40,17 @@ impl<A: Allocator> Image<A> {
         Ok(Image { cells })
     }
 
-    /// The byte at an address, if there is one.
+    /// The byte at an address, if there is one; no byte stands at or above $C000.
     pub fn get(&self, address: u16) -> Option<u8>
-        ensures { result ≡ held self.now address }
+        ensures held { result ≡ held self.now address }
+        ensures image { IsImage (held self.now) }
     {
         let i = usize::from(address);
-        if i < self.cells.len() { self.cells[i] } else { None }
+        if i < self.cells.len() {
+            self.cells[i]
+        } else {
+            None
+        }
     }
 
     /// Puts a byte at an address below $C000, in place of any that was there.

@@ -3,6 +3,16 @@
 
 mod fault;
 mod image;
+mod load;
+mod numbers;
+mod store;
+#[cfg(test)]
+mod tests;
+mod write;
 
 pub use fault::HexFault;
 pub use image::Image;
+pub use load::load_lines;
+pub use numbers::{address_of, byte_of};
+pub use store::{StoreLine, count_bytes, first_byte, store_line};
+pub use write::{write_lines, written_lines_load};

@@ -7,13 +7,17 @@ use Rattle.a2_cpu.specs.Registers.{Registers, byte_of_flags}
 use Rattle.a2_machine.specs.declared.Cause.{Cause}
 use Rattle.a2_machine.specs.declared.Cause.TheVariants.{Returned, CodeWrite, Window, Keys, OffStatement, Rom, Opcode, Brk, Decimal, Limit}
 
--- as A=C1 X=00 Y=00 P=B0 S=FF PC=FF69 STEPS=4 CYCLES=20
+-- the register line of digits for A, X, Y, P, S, PC, the steps and the cycles
+unfoldable pub line_of_digits : List ℕ → List ℕ → List ℕ → List ℕ → List ℕ → List ℕ → List ℕ → List ℕ → List ℕ
+line_of_digits a x y p s pc steps cycles = concat (
+    codes "A=" ∷ a ∷ codes " X=" ∷ x ∷ codes " Y=" ∷ y ∷ codes " P=" ∷ p ∷ codes " S=" ∷ s ∷ codes " PC=" ∷ pc
+    ∷ codes " STEPS=" ∷ steps ∷ codes " CYCLES=" ∷ cycles ∷ codes "\n" ∷ [])
+
+-- as A=C1 X=00 Y=00 P=B0 S=FF PC=FF69 STEPS=4 CYCLES=20, with the counts in decimal
 abbrev pub register_line : Registers → ℕ → ℕ → List ℕ
-register_line registers steps cycles = concat (
-    codes "A=" ∷ hex_pair registers.a ∷ codes " X=" ∷ hex_pair registers.x ∷ codes " Y=" ∷ hex_pair registers.y
-    ∷ codes " P=" ∷ hex_pair (byte_of_flags registers.flags) ∷ codes " S=" ∷ hex_pair registers.s
-    ∷ codes " PC=" ∷ hex_word registers.pc
-    ∷ codes " STEPS=" ∷ decimal steps ∷ codes " CYCLES=" ∷ decimal cycles ∷ codes "\n" ∷ [])
+register_line registers steps cycles =
+    line_of_digits (hex_pair registers.a) (hex_pair registers.x) (hex_pair registers.y) (hex_pair (byte_of_flags registers.flags))
+      (hex_pair registers.s) (hex_word registers.pc) (decimal steps) (decimal cycles)
 
 abbrev pub cause_name : Cause → List ℕ
 cause_name Returned = codes "RETURNED"

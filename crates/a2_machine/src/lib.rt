@@ -4,10 +4,12 @@
 ghost use Rattle.a2_machine.specs.Guarded.{GuardedRunMeansStatements, FreeRunIsGuardedRun, RunsHaveOneEnd};
 
 mod advance;
+mod lines;
 mod machine;
 mod turn;
 mod watch;
 
+pub use lines::{write_cause, write_registers};
 pub use machine::Machine;
 
 /// Why a run stops, in the order in which the causes are looked for before each step.

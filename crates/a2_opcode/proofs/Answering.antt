@@ -1,7 +1,6 @@
 -- What the functions on bytes answer, from what was found.
-use Rattle.std.specs.Prelude.{◌≡◌, ℕ, ◌<◌, ◌≤◌, List, [], ◌∷◌, length, Bool, true, false, nat_le, Option, Some, None, IfSome, MatchOption, refl}
+use Rattle.std.specs.Prelude.{◌≡◌, ℕ, ◌<◌, ◌≤◌, List, [], ◌∷◌, length, true, false, Option, Some, None, IfSome, MatchOption, refl}
 use Rattle.std.proofs.Common.{cond, sym, ap, ◌∙◌, arith}
-use Rattle.std.proofs.lemmas.Bool.Decides.{nat_tests}
 use Rattle.arrayvec.specs.ArrayVec.{ArrayVec}
 use Rattle.a2_opcode.specs.declared.Row.{Row}
 use Rattle.a2_opcode.specs.declared.Instr.{Instr}
@@ -9,6 +8,7 @@ use Rattle.a2_opcode.specs.Table.{row, row_of, length_of}
 use Rattle.a2_opcode.specs.Encoding.{can_have, value_of, operand_of, encoded, decoded, IsFetchedFrom}
 use Rattle.a2_opcode.proofs.RoundTrip.{encoded_by, decoded_by, decodes-back}
 use Rattle.a2_opcode.proofs.Fetching.{fetched-back}
+use Rattle.a2_opcode.proofs.Comparing.{le-test, gt-test}
 
 -- decoding
 
@@ -25,12 +25,6 @@ decoded-found bytes operand opcode at found split is = ap (λ l. decoded l at) s
 pub decoded-unknown : (bytes operand : List ℕ) (opcode at : ℕ) → bytes ≡ opcode ∷ operand → row_of opcode ≡ None → decoded bytes at ≡ None
 decoded-unknown bytes operand opcode at split is = decoded-found bytes operand opcode at None split is
 
-le-test : (m n : ℕ) → m ≤ n → nat_le m n ≡ true
-le-test m n h = grind (arith, nat_tests, h)
-
-gt-test : (m n : ℕ) → n < m → nat_le m n ≡ false
-gt-test m n h = grind (arith, nat_tests, h)
-
 abbrev made : Row → ℕ → List ℕ → Instr
 made r at operand = record { mnemonic = r.mnemonic; mode = r.mode; value = value_of r.mode at operand }
 
@@ -39,14 +33,14 @@ pub decoded-short : (bytes operand : List ℕ) (opcode at : ℕ) (r : Row) → b
 decoded-short bytes operand opcode at r split is h =
     let short : length (opcode ∷ operand) < length_of r.mode = omega (arith, h, ap length split) in
     decoded-found bytes operand opcode at (Some r) split is
-      ∙ ap (λ t. cond t (Some (made r at operand)) None) (gt-test (length_of r.mode) (length (opcode ∷ operand)) short)
+    ∙ ap (λ t. cond t (Some (made r at operand)) None) (gt-test (length_of r.mode) (length (opcode ∷ operand)) short)
 
 pub decoded-whole : (bytes operand : List ℕ) (opcode at : ℕ) (r : Row) → bytes ≡ opcode ∷ operand → row_of opcode ≡ Some r
     → length_of r.mode ≤ length bytes → decoded bytes at ≡ Some (made r at operand)
 decoded-whole bytes operand opcode at r split is h =
     let whole : length_of r.mode ≤ length (opcode ∷ operand) = omega (arith, h, ap length split) in
     decoded-found bytes operand opcode at (Some r) split is
-      ∙ ap (λ t. cond t (Some (made r at operand)) None) (le-test (length_of r.mode) (length (opcode ∷ operand)) whole)
+    ∙ ap (λ t. cond t (Some (made r at operand)) None) (le-test (length_of r.mode) (length (opcode ∷ operand)) whole)
 
 -- encoding
 
@@ -61,15 +55,15 @@ encoded-missing i at is (Some b) e = cc
 
 pub encoded-is : (i : Instr) (at : ℕ) (r : Row) → row i.mnemonic i.mode ≡ Some r → (result : Option (ArrayVec ℕ))
     → MatchOption result (can_have i.mode at i.value ≡ false)
-        (λ b. (can_have i.mode at i.value ≡ true) × (b.items ≡ r.opcode ∷ operand_of i.mode at i.value))
+    (λ b. (can_have i.mode at i.value ≡ true) × (b.items ≡ r.opcode ∷ operand_of i.mode at i.value))
     → IsEncoding i at result
 unfolding encoded
 encoded-is i at r is None h =
     ap (encoded_by i at) is ∙ ap (λ t. cond t (Some (r.opcode ∷ operand_of i.mode at i.value)) None) h
 encoded-is i at r is (Some b) h =
     ap (encoded_by i at) is
-      ∙ ap (λ t. cond t (Some (r.opcode ∷ operand_of i.mode at i.value)) None) h.0
-      ∙ ap (λ l. Some l) (sym h.1)
+    ∙ ap (λ t. cond t (Some (r.opcode ∷ operand_of i.mode at i.value)) None) h.0
+    ∙ ap (λ l. Some l) (sym h.1)
 
 pub decodes-told : (i : Instr) (at : ℕ) → at < 65536 → i.value < 65536 → (result : Option (ArrayVec ℕ)) → IsEncoding i at result
     → IfSome result (λ b. decoded b.items at ≡ Some i)

@@ -51,11 +51,11 @@ opcode_at-listed : (mnemonic : Mnemonic) (mode : Mode) → opcode_at mnemonic mo
 unfolding opcode_at
 opcode_at-listed mnemonic mode =
     ap (λ (l : List (List (Option ℕ))). slice_index_or (slice_index_or l (mnemonic_number mnemonic) []) (mode_number mode) None) forms_listed
-      ∙ ap (λ (l : List (Option ℕ)). slice_index_or l (mode_number mode) None)
-          (mapped (λ m. map (opcode_in_table m) modes) MNEMONICS (mnemonic_number mnemonic) Adc [] (mnemonic_few mnemonic))
-      ∙ mapped (opcode_in_table (slice_index_or MNEMONICS (mnemonic_number mnemonic) Adc)) modes (mode_number mode) Implied None (mode_few mode)
-      ∙ ap (λ m. opcode_in_table m (slice_index_or modes (mode_number mode) Implied)) (mnemonic-at mnemonic)
-      ∙ ap (λ m. opcode_in_table mnemonic m) (mode-at mode)
+    ∙ ap (λ (l : List (Option ℕ)). slice_index_or l (mode_number mode) None)
+    (mapped (λ m. map (opcode_in_table m) modes) MNEMONICS (mnemonic_number mnemonic) Adc [] (mnemonic_few mnemonic))
+    ∙ mapped (opcode_in_table (slice_index_or MNEMONICS (mnemonic_number mnemonic) Adc)) modes (mode_number mode) Implied None (mode_few mode)
+    ∙ ap (λ m. opcode_in_table m (slice_index_or modes (mode_number mode) Implied)) (mnemonic-at mnemonic)
+    ∙ ap (λ m. opcode_in_table mnemonic m) (mode-at mode)
 
 of_some : (mnemonic : Mnemonic) (mode : Mode) (opcode : ℕ) (found : Option Row) → row mnemonic mode ≡ found
     → option_map (λ (r : Row). r.opcode) found ≡ Some opcode → row_of opcode ≡ found

@@ -1,9 +1,9 @@
 -- Looking a row up by a key that no two rows share.
-use Rattle.std.specs.Prelude.{◌≡◌, ℕ, zero, suc, ◌<◌, ◌+◌, List, [], ◌∷◌, Bool, true, false, nat_eq, IsTrue, map, length, slice_index_or, Contains, Option, Some, None, find, refl}
-use Rattle.std.proofs.Common.{cond, sym, ap, ◌∙◌, subst, arith}
-use Rattle.std.proofs.lemmas.Bool.Decides.{nat_tests}
+use Rattle.std.specs.Prelude.{◌≡◌, ℕ, zero, suc, ◌<◌, List, [], ◌∷◌, Bool, true, false, nat_eq, IsTrue, map, length, slice_index_or, Contains, Option, Some, find, refl}
+use Rattle.std.proofs.Common.{cond, ap, ◌∙◌, subst, arith}
 use Rattle.a2_opcode.specs.declared.Row.{Row}
 use Rattle.a2_opcode.proofs.Distinct.{all_distinct, row-unique}
+use Rattle.a2_opcode.proofs.Comparing.{same-key, equal-keys}
 
 deeper : (row : Row) (rows : List Row) (r : Row) → Contains rows r → Contains (row ∷ rows) r
 deeper row rows r at = (suc at.0, omega (arith, at.1), at.2)
@@ -18,8 +18,8 @@ pub found-is : (p : Row → Bool) (rows : List Row) (r : Row) → find p rows �
 found-is p [] r e = cc
 found-is p (row ∷ rows) r e =
     found-step (p row) row (find p rows) r (λ s. Contains (row ∷ rows) s × (p s ≡ true))
-      (λ h. ((zero, omega arith, refl), h))
-      (λ s h. let below = found-is p rows s h in (deeper row rows s below.0, below.1)) e
+    (λ h. ((zero, omega arith, refl), h))
+    (λ s h. let below = found-is p rows s h in (deeper row rows s below.0, below.1)) e
 
 passing-first : (b : Bool) (row : Row) (rest : Option Row) → b ≡ true → (s : Row) × (cond b (Some row) rest ≡ Some s)
 passing-first true row rest e = (row, refl)
@@ -36,12 +36,6 @@ some-passes p [] r k lt e h = let bad : ⊥ = omega (arith, lt) in absurd bad
 some-passes p (row ∷ rows) r zero lt e h = passing-first (p row) row (find p rows) (ap p e ∙ h)
 some-passes p (row ∷ rows) r (suc k) lt e h =
     passing-later (p row) row (find p rows) (some-passes p rows r k (omega (arith, lt)) e h)
-
-same-key : (m n : ℕ) → nat_eq m n ≡ true → m ≡ n
-same-key m n h = grind (arith, nat_tests, h)
-
-equal-keys : (n : ℕ) → nat_eq n n ≡ true
-equal-keys n = grind (arith, nat_tests)
 
 -- a row is found by its key
 pub found-by : (key : Row → ℕ) (rows : List Row) → IsTrue (all_distinct (map key rows)) → (r : Row) → Contains rows r

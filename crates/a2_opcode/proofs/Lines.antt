@@ -1,5 +1,5 @@
 -- A listing's line, by what the bytes decode to.
-use Rattle.std.proofs.Common.{◌≡◌, ℕ, ◌-◌, ◌<◌, List, ◌++◌, take, true, Some, None, sym, ap, ◌∙◌, arith, append_assoc}
+use Rattle.std.proofs.Common.{◌≡◌, ℕ, List, ◌++◌, take, true, Some, None, sym, ap, ◌∙◌}
 use Rattle.std.specs.Prelude.{codes}
 use Rattle.a2_opcode.specs.declared.Instr.{Instr}
 use Rattle.a2_opcode.specs.Table.{length_of}
@@ -24,9 +24,9 @@ pub listing-some : (bytes before name named text : List ℕ) (at n : ℕ) (i : I
 unfolding listing
 listing-some bytes before name named text at n i is long front is_name first e =
     e ∙ ap (λ t. t ++ operand_column i.mode i.value)
-          (first ∙ ap (λ t. t ++ name) (front ∙ ap (λ k. columns_before at (take k bytes)) long)
-            ∙ ap (λ t. columns_before at (take (length_of i.mode) bytes) ++ t) is_name)
-      ∙ sym (ap (line_text bytes at) is)
+    (first ∙ ap (λ t. t ++ name) (front ∙ ap (λ k. columns_before at (take k bytes)) long)
+    ∙ ap (λ t. columns_before at (take (length_of i.mode) bytes) ++ t) is_name)
+    ∙ sym (ap (line_text bytes at) is)
 
 pub length-some : (bytes : List ℕ) (at n : ℕ) (i : Instr) → decoded bytes at ≡ Some i → n ≡ length_of i.mode → n ≡ listing_length bytes at
 unfolding listing_length

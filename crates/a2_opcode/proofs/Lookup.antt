@@ -1,7 +1,6 @@
 -- The table's look-ups: what they find, and that they find each row.
-use Rattle.std.specs.Prelude.{◌≡◌, ℕ, ◌+◌, ◌*◌, ◌<◌, List, [], ◌∷◌, Bool, true, false, nat_eq, slice_index_or, Contains, Option, Some, None, IfSome, find, refl}
+use Rattle.std.specs.Prelude.{◌≡◌, ℕ, ◌+◌, ◌*◌, ◌<◌, List, [], ◌∷◌, nat_eq, slice_index_or, Contains, Option, Some, None, IfSome, refl}
 use Rattle.std.proofs.Common.{sym, ap, ap₂, ◌∙◌, arith}
-use Rattle.std.proofs.lemmas.Bool.Decides.{nat_tests}
 use Rattle.a2_opcode.specs.declared.Mnemonic.{Mnemonic}
 use Rattle.a2_opcode.specs.declared.Mnemonic.TheVariants.{Adc}
 use Rattle.a2_opcode.specs.declared.Mode.{Mode}
@@ -11,6 +10,7 @@ use Rattle.a2_opcode.specs.declared.names.TheConstants.{MNEMONICS}
 use Rattle.a2_opcode.specs.Table.{table, row, row_of, mnemonic_number, mode_number, form_number, IsRowOf, IsRowFor}
 use Rattle.a2_opcode.proofs.Distinct.{opcodes_distinct, forms_distinct}
 use Rattle.a2_opcode.proofs.Finding.{found-is, found-by}
+use Rattle.a2_opcode.proofs.Comparing.{same-key}
 
 -- a mnemonic stands at its number
 pub mnemonic-at : (m : Mnemonic) → slice_index_or MNEMONICS (mnemonic_number m) Adc ≡ m
@@ -41,9 +41,6 @@ same_mnemonic m n e = sym (mnemonic-at m) ∙ ap (λ k. slice_index_or MNEMONICS
 same_mode : (m n : Mode) → mode_number m ≡ mode_number n → m ≡ n
 same_mode m n e = sym (mode-at m) ∙ ap (λ k. slice_index_or modes k Implied) e ∙ mode-at n
 
-same-key : (m n : ℕ) → nat_eq m n ≡ true → m ≡ n
-same-key m n h = grind (arith, nat_tests, h)
-
 -- what is found for a mnemonic and a mode
 split : (a b c d : ℕ) → b < 13 → d < 13 → 13 * a + b ≡ 13 * c + d → (a ≡ c) × (b ≡ d)
 split a b c d h k e = (omega (arith, h, k, e), omega (arith, h, k, e))
@@ -53,11 +50,12 @@ unfolding row
 row-is mnemonic mode r e =
     let found = found-is (λ s. nat_eq (form_number s.mnemonic s.mode) (form_number mnemonic mode)) table r e in
     let parts = split (mnemonic_number r.mnemonic) (mode_number r.mode) (mnemonic_number mnemonic) (mode_number mode)
-          (mode_few r.mode) (mode_few mode) (same-key (form_number r.mnemonic r.mode) (form_number mnemonic mode) found.1) in
+    (mode_few r.mode) (mode_few mode) (same-key (form_number r.mnemonic r.mode) (form_number mnemonic mode) found.1) in
     record {
       listed = found.0;
       mnemonic_is = same_mnemonic r.mnemonic mnemonic parts.0;
-      mode_is = same_mode r.mode mode parts.1 }
+      mode_is = same_mode r.mode mode parts.1;
+    }
 
 -- what is found for an opcode
 pub row_of-is : (opcode : ℕ) (r : Row) → row_of opcode ≡ Some r → IsRowOf opcode r

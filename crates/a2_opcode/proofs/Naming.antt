@@ -1,6 +1,6 @@
 -- A name is that of one mnemonic.
-use Rattle.std.specs.Prelude.{◌≡◌, ◌≢◌, ℕ, ◌<◌, ◌≤◌, ◌⊎◌, List, Bool, nat_eq, slice_index_or, Option, Some, None, refl}
-use Rattle.std.proofs.Common.{sym, ap, ◌∙◌, inl, inr, arith}
+use Rattle.std.specs.Prelude.{◌≡◌, ◌≢◌, ℕ, ◌<◌, ◌≤◌, List, nat_eq, slice_index_or, Some, refl}
+use Rattle.std.proofs.Common.{sym, ap, ◌∙◌, arith}
 use Rattle.std.specs.List.{position_or_len}
 use Rattle.std.specs.Cmp.Lexicographic.{pointwise}
 use Rattle.a2_opcode.specs.declared.Mnemonic.{Mnemonic}
@@ -22,8 +22,8 @@ place-back _ = refl
 pub same_name : (m n : Mnemonic) → name_of m ≡ name_of n → m ≡ n
 same_name m n e =
     sym (mnemonic-at m)
-      ∙ ap (λ k. slice_index_or MNEMONICS k Adc) (sym (place-back m) ∙ ap place_of e ∙ place-back n)
-      ∙ mnemonic-at n
+    ∙ ap (λ k. slice_index_or MNEMONICS k Adc) (sym (place-back m) ∙ ap place_of e ∙ place-back n)
+    ∙ mnemonic-at n
 
 -- a name that none of the mnemonics has is no mnemonic's
 pub name-none : (letters : List ℕ) (n : ℕ) → 56 ≤ n

@@ -1,6 +1,6 @@
 -- An instruction's bytes decode to it, and what bytes decode to has these bytes.
-use Rattle.std.specs.Prelude.{◌≡◌, ℕ, zero, suc, ◌+◌, ◌-◌, ◌*◌, ◌/◌, ◌%◌, ◌<◌, ◌≤◌, ◌⊎◌, List, [], ◌∷◌, length, take, All, Bool, true, false, ◌||◌, ◌==◌, nat_lt, nat_le, if◌then◌else◌, Option, Some, None, slice_get, slice_index, slice_index_or, refl}
-use Rattle.std.proofs.Common.{cond, sym, ap, ap₂, ◌∙◌, subst, inl, inr, arith, zero-add}
+use Rattle.std.specs.Prelude.{◌≡◌, ℕ, ◌+◌, ◌-◌, ◌*◌, ◌/◌, ◌%◌, ◌<◌, ◌≤◌, ◌⊎◌, List, [], ◌∷◌, length, take, Bool, true, false, nat_lt, nat_le, if◌then◌else◌, Option, Some, None, slice_index, refl}
+use Rattle.std.proofs.Common.{cond, sym, ap, ap₂, ◌∙◌, subst, inl, inr, arith}
 use Rattle.std.proofs.lemmas.Bool.Decides.{nat_tests}
 use Rattle.a2_opcode.specs.declared.Mode.{Mode}
 use Rattle.a2_opcode.specs.declared.Mode.TheVariants.{Implied, Accumulator, Immediate, ZeroPage, ZeroPageX, ZeroPageY, Absolute, AbsoluteX, AbsoluteY, IndexedIndirect, IndirectIndexed, Indirect, Relative}
@@ -10,24 +10,10 @@ use Rattle.a2_opcode.specs.declared.Mnemonic.{Mnemonic}
 use Rattle.a2_opcode.specs.Table.{row, row_of, length_of, IsRowOf, IsRowFor}
 use Rattle.a2_opcode.specs.Encoding.{branch_target, branch_distance, is_near, can_have, value_of, operand_of, encoded, decoded}
 use Rattle.a2_opcode.proofs.Lookup.{row-is, row-own, row_of-is, row_of-own}
+use Rattle.a2_opcode.proofs.Comparing.{lt-test, ge-test, lt-from, ge-from, le-from, same-key}
 
 near-cases : (d : ℕ) → is_near d ≡ true → (d < 128) ⊎ (65408 ≤ d)
 near-cases d h = grind (arith, nat_tests, h)
-
-lt-test : (m n : ℕ) → m < n → nat_lt m n ≡ true
-lt-test m n h = grind (arith, nat_tests, h)
-
-ge-test : (m n : ℕ) → n ≤ m → nat_lt m n ≡ false
-ge-test m n h = grind (arith, nat_tests, h)
-
-lt-from : (m n : ℕ) → nat_lt m n ≡ true → m < n
-lt-from m n h = grind (arith, nat_tests, h)
-
-ge-from : (m n : ℕ) → nat_lt m n ≡ false → n ≤ m
-ge-from m n h = grind (arith, nat_tests, h)
-
-same-key : (m n : ℕ) → (m == n) ≡ true → m ≡ n
-same-key m n h = grind (arith, nat_tests, h)
 
 forward : (at value : ℕ) → at < 65536 → value < 65536 → branch_distance at value < 128
     → (at + 2 + branch_distance at value % 256) % 65536 ≡ value
@@ -42,11 +28,12 @@ target-back : (at value : ℕ) → at < 65536 → value < 65536 → is_near (bra
     → branch_target at (branch_distance at value % 256) ≡ value
 target-back at value a v h =
     elim (near-cases (branch_distance at value) h) [
-      inl low ↦ ap (λ t. cond t ((at + 2 + branch_distance at value % 256) % 65536) ((at + 2 + branch_distance at value % 256 + 65280) % 65536))
+      | inl low ↦ ap (λ t. cond t ((at + 2 + branch_distance at value % 256) % 65536) ((at + 2 + branch_distance at value % 256 + 65280) % 65536))
           (lt-test (branch_distance at value % 256) 128 (omega (arith, low))) ∙ forward at value a v low
-    | inr high ↦ ap (λ t. cond t ((at + 2 + branch_distance at value % 256) % 65536) ((at + 2 + branch_distance at value % 256 + 65280) % 65536))
+      | inr high ↦ ap (λ t. cond t ((at + 2 + branch_distance at value % 256) % 65536) ((at + 2 + branch_distance at value % 256 + 65280) % 65536))
           (ge-test (branch_distance at value % 256) 128 (let few : branch_distance at value < 65536 = omega arith in omega (arith, high, few)))
-        ∙ backward at value a v high ]
+          ∙ backward at value a v high
+    ]
 
 word-back : (value : ℕ) → value % 256 + 256 * (value / 256) ≡ value
 word-back value = omega arith
@@ -103,8 +90,9 @@ long-enough Relative at value opcode = refl
 abbrev pub encoded_by : Instr → ℕ → Option Row → Option (List ℕ)
 encoded_by i at found =
     elim found [
-      None ↦ None
-    | Some r ↦ if can_have i.mode at i.value then Some (r.opcode ∷ operand_of i.mode at i.value) else None ]
+      | None ↦ None
+      | Some r ↦ if can_have i.mode at i.value then Some (r.opcode ∷ operand_of i.mode at i.value) else None
+    ]
 
 abbrev pub decoded_with : ℕ → List ℕ → ℕ → Mnemonic → Mode → Option Instr
 decoded_with opcode operand at mnemonic mode =
@@ -145,11 +133,11 @@ decodes-back i at bytes a v e =
     let is = coded i at bytes e in
     let operand : List ℕ = operand_of i.mode at i.value in
     ap (λ (l : List ℕ). decoded l at) is.bytes_are
-      ∙ ap (decoded_by is.row.opcode operand at) (row_of-own is.row is.row_is.listed)
-      ∙ ap₂ (decoded_with is.row.opcode operand at) is.row_is.mnemonic_is is.row_is.mode_is
-      ∙ ap (λ t. cond t (Some (record { mnemonic = i.mnemonic; mode = i.mode; value = value_of i.mode at operand })) None)
-          (long-enough i.mode at i.value is.row.opcode)
-      ∙ ap (λ k. Some (record { mnemonic = i.mnemonic; mode = i.mode; value = k })) (value-back i.mode at i.value a v is.fits)
+    ∙ ap (decoded_by is.row.opcode operand at) (row_of-own is.row is.row_is.listed)
+    ∙ ap₂ (decoded_with is.row.opcode operand at) is.row_is.mnemonic_is is.row_is.mode_is
+    ∙ ap (λ t. cond t (Some (record { mnemonic = i.mnemonic; mode = i.mode; value = value_of i.mode at operand })) None)
+    (long-enough i.mode at i.value is.row.opcode)
+    ∙ ap (λ k. Some (record { mnemonic = i.mnemonic; mode = i.mode; value = k })) (value-back i.mode at i.value a v is.fits)
 
 -- bytes are below 256
 byte-front : (operand : List ℕ) → 2 ≤ length operand + 1 → slice_index operand 0 ∷ [] ≡ take 1 operand
@@ -164,7 +152,7 @@ word-high x y h = omega (arith, h)
 
 word-front : (operand : List ℕ) → 3 ≤ length operand + 1 → slice_index operand 0 < 256
     → (slice_index operand 0 + 256 * slice_index operand 1) % 256 ∷ (slice_index operand 0 + 256 * slice_index operand 1) / 256 ∷ []
-      ≡ take 2 operand
+    ≡ take 2 operand
 word-front [] h b = absurd (omega (arith, h))
 word-front (x ∷ []) h b = absurd (omega (arith, h))
 word-front (x ∷ y ∷ rest) h b = ap₂ (λ l k. l ∷ k ∷ []) (word-low x y b) (word-high x y b)
@@ -180,20 +168,26 @@ backward-target at offset a h b = omega (arith, a, h, b)
 
 distance-of : (at offset : ℕ) → at < 65536 → offset < 256
     → (offset < 128 × (branch_distance at (branch_target at offset) ≡ offset))
-      ⊎ (128 ≤ offset × (branch_distance at (branch_target at offset) ≡ offset + 65280))
+    ⊎ (128 ≤ offset × (branch_distance at (branch_target at offset) ≡ offset + 65280))
 distance-of at offset a b = distance-by (nat_lt offset 128) refl
   where
     distance-by : (t : Bool) → nat_lt offset 128 ≡ t
         → (offset < 128 × (branch_distance at (branch_target at offset) ≡ offset))
-          ⊎ (128 ≤ offset × (branch_distance at (branch_target at offset) ≡ offset + 65280))
+        ⊎ (128 ≤ offset × (branch_distance at (branch_target at offset) ≡ offset + 65280))
     distance-by true e =
         let low : offset < 128 = lt-from offset 128 e in
-        inl (low, ap (λ t. branch_distance at (cond t ((at + 2 + offset) % 65536) ((at + 2 + offset + 65280) % 65536))) e
-          ∙ forward-target at offset a low)
+        inl (
+          low,
+          ap (λ t. branch_distance at (cond t ((at + 2 + offset) % 65536) ((at + 2 + offset + 65280) % 65536))) e
+              ∙ forward-target at offset a low,
+        )
     distance-by false e =
         let high : 128 ≤ offset = ge-from offset 128 e in
-        inr (high, ap (λ t. branch_distance at (cond t ((at + 2 + offset) % 65536) ((at + 2 + offset + 65280) % 65536))) e
-          ∙ backward-target at offset a high b)
+        inr (
+          high,
+          ap (λ t. branch_distance at (cond t ((at + 2 + offset) % 65536) ((at + 2 + offset + 65280) % 65536))) e
+              ∙ backward-target at offset a high b,
+        )
 
 near-low : (d : ℕ) → d < 128 → is_near d ≡ true
 near-low d h = grind (arith, nat_tests, h)
@@ -205,14 +199,16 @@ branch-near : (at offset : ℕ) → at < 65536 → offset < 256 → is_near (bra
 branch-near at offset a b =
     let d : ℕ = branch_distance at (branch_target at offset) in
     elim (distance-of at offset a b) [
-      inl low ↦ near-low d (let lt : d < 128 = omega (arith, low.0, low.1) in lt)
-    | inr high ↦ near-high d (let le : 65408 ≤ d = omega (arith, high.0, high.1) in le) ]
+      | inl low ↦ near-low d (let lt : d < 128 = omega (arith, low.0, low.1) in lt)
+      | inr high ↦ near-high d (let le : 65408 ≤ d = omega (arith, high.0, high.1) in le)
+    ]
 
 branch-back : (at offset : ℕ) → at < 65536 → offset < 256 → branch_distance at (branch_target at offset) % 256 ≡ offset
 branch-back at offset a b =
     elim (distance-of at offset a b) [
-      inl low ↦ ap (λ d. d % 256) low.1 ∙ omega (arith, low.0)
-    | inr high ↦ ap (λ d. d % 256) high.1 ∙ omega (arith, high.0, b) ]
+      | inl low ↦ ap (λ d. d % 256) low.1 ∙ omega (arith, low.0)
+      | inr high ↦ ap (λ d. d % 256) high.1 ∙ omega (arith, high.0, b)
+    ]
 
 -- what bytes say is a value that an operand may have
 value-fits : (mode : Mode) (at : ℕ) (operand : List ℕ) → at < 65536 → slice_index operand 0 < 256
@@ -264,9 +260,6 @@ front IndirectIndexed opcode operand = refl
 front Indirect opcode operand = refl
 front Relative opcode operand = refl
 
-le-from : (m n : ℕ) → nat_le m n ≡ true → m ≤ n
-le-from m n h = grind (arith, nat_tests, h)
-
 encodes-test : (opcode : ℕ) (operand : List ℕ) (at : ℕ) (i : Instr) → at < 65536 → slice_index operand 0 < 256 → (r : Row) → IsRowOf opcode r
     → (b : Bool) → nat_le (length_of r.mode) (length (opcode ∷ operand)) ≡ b
     → cond b (Some (record { mnemonic = r.mnemonic; mode = r.mode; value = value_of r.mode at operand })) None ≡ Some i
@@ -278,10 +271,10 @@ encodes-test opcode operand at i a b r is true long e =
     let P : Instr → Type 0 = λ j. encoded j at ≡ Some (take (length_of j.mode) (opcode ∷ operand)) in
     let enough : length_of r.mode ≤ length operand + 1 = let le = le-from (length_of r.mode) (length (opcode ∷ operand)) long in omega (arith, le) in
     subst P same (
-      ap (encoded_by made at) (row-own r is.listed)
-        ∙ ap (λ t. cond t (Some (r.opcode ∷ operand_of r.mode at (value_of r.mode at operand))) None) (value-fits r.mode at operand a b)
-        ∙ ap₂ (λ x xs. Some (x ∷ xs)) is.opcode_is (operand-back r.mode at operand a b enough)
-        ∙ ap (λ xs. Some xs) (front r.mode opcode operand))
+    ap (encoded_by made at) (row-own r is.listed)
+    ∙ ap (λ t. cond t (Some (r.opcode ∷ operand_of r.mode at (value_of r.mode at operand))) None) (value-fits r.mode at operand a b)
+    ∙ ap₂ (λ x xs. Some (x ∷ xs)) is.opcode_is (operand-back r.mode at operand a b enough)
+    ∙ ap (λ xs. Some xs) (front r.mode opcode operand))
 encodes-test opcode operand at i a b r is false long e = cc
 
 encodes-row : (opcode : ℕ) (operand : List ℕ) (at : ℕ) (i : Instr) → at < 65536 → slice_index operand 0 < 256

@@ -1,6 +1,6 @@
 -- Bytes written with one blank between.
-use Rattle.std.proofs.Common.{◌≡◌, ℕ, zero, suc, ◌+◌, ◌*◌, ◌-◌, ◌<◌, ◌≤◌, List, [], ◌∷◌, ◌++◌, length, map, take, replicate, get_or, refl, sym, ap, ◌∙◌, arith, append_assoc, length-append}
-use Rattle.std.proofs.lemmas.List.{take_more, length-take-le, append-nil}
+use Rattle.std.proofs.Common.{◌≡◌, ℕ, zero, suc, ◌+◌, ◌*◌, ◌-◌, ◌<◌, ◌≤◌, List, [], ◌∷◌, ◌++◌, length, map, take, get_or, refl, sym, ap, ◌∙◌, arith, append_assoc, length-append}
+use Rattle.std.proofs.lemmas.List.{take_more, length-take-le}
 use Rattle.std.specs.List.{join_with_byte}
 use Rattle.a2_text.specs.Digits.{hex_pair}
 
@@ -45,9 +45,9 @@ pub next-later : (start text next xs : List ℕ) (i : ℕ) → i < length xs →
     → next ≡ (text ++ 32 ∷ []) ++ hex_pair (get_or xs i 0) → next ≡ start ++ spaced (take (i + 1) xs)
 next-later start text next xs i h some so_far e =
     e ∙ append_assoc text (32 ∷ []) (hex_pair (get_or xs i 0))
-      ∙ ap (λ t. t ++ (32 ∷ hex_pair (get_or xs i 0))) so_far
-      ∙ append_assoc start (spaced (take i xs)) (32 ∷ hex_pair (get_or xs i 0))
-      ∙ ap (λ t. start ++ t) (sym (spaced-more xs i h some))
+    ∙ ap (λ t. t ++ (32 ∷ hex_pair (get_or xs i 0))) so_far
+    ∙ append_assoc start (spaced (take i xs)) (32 ∷ hex_pair (get_or xs i 0))
+    ∙ ap (λ t. start ++ t) (sym (spaced-more xs i h some))
 
 first-byte : (start xs : List ℕ) (i : ℕ) → i ≡ 0 → 0 < length xs
     → (start ++ spaced (take i xs)) ++ hex_pair (get_or xs i 0) ≡ start ++ spaced (take (i + 1) xs)

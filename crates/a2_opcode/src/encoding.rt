@@ -33,15 +33,16 @@ fn branch_target(address: u16, offset: u8) -> u16
     ensures { result ≡ branch_target_of address offset }
 {
     let biased = u16::from(offset.wrapping_add(128));
-    address.wrapping_add(2).wrapping_add(biased).wrapping_sub(128)
+    address
+        .wrapping_add(2)
+        .wrapping_add(biased)
+        .wrapping_sub(128)
 }
 
 // The byte of a branch, if its target is near enough.
 fn branch_offset(address: u16, target: u16) -> Option<u8>
-    ensures {
-        MatchOption result (is_near (branch_distance address target) ≡ false)
-            (λ b. (is_near (branch_distance address target) ≡ true) × (b ≡ branch_distance address target % 256))
-    }
+    ensures { MatchOption result (is_near (branch_distance address target) ≡ false)
+        (λ b. (is_near (branch_distance address target) ≡ true) × (b ≡ branch_distance address target % 256)) }
 {
     let distance = target.wrapping_sub(address.wrapping_add(2));
     if distance < 128 || distance >= 65408 {
@@ -86,14 +87,16 @@ fn joined(opcode: u8, operand: &[u8]) -> ArrayVec<u8, 3>
 
 // An opcode with the bytes of an operand's value, if the operand may have it.
 fn with_operand(opcode: u8, mode: Mode, address: u16, value: u16) -> Option<ArrayVec<u8, 3>>
-    ensures {
-        MatchOption result (can_have mode address value ≡ false)
-            (λ b. (can_have mode address value ≡ true) × (b.items ≡ opcode ∷ operand_of mode address value))
-    }
+    ensures { MatchOption result (can_have mode address value ≡ false)
+        (λ b. (can_have mode address value ≡ true) × (b.items ≡ opcode ∷ operand_of mode address value)) }
 {
     match mode {
         Mode::Implied | Mode::Accumulator => {
-            if value == 0 { Some(joined(opcode, &[])) } else { None }
+            if value == 0 {
+                Some(joined(opcode, &[]))
+            } else {
+                None
+            }
         }
         Mode::Absolute | Mode::AbsoluteX | Mode::AbsoluteY | Mode::Indirect => {
             Some(joined(opcode, &[(value % 256) as u8, (value / 256) as u8]))
@@ -108,15 +111,20 @@ fn with_operand(opcode: u8, mode: Mode, address: u16, value: u16) -> Option<Arra
         | Mode::ZeroPageY
         | Mode::IndexedIndirect
         | Mode::IndirectIndexed => {
-            if value < 256 { Some(joined(opcode, &[value as u8])) } else { None }
+            if value < 256 {
+                Some(joined(opcode, &[value as u8]))
+            } else {
+                None
+            }
         }
     }
 }
 
 /// The bytes of an instruction at an address.
 ///
-/// None where the table has no row for its mnemonic and mode, where its value is out of range (0 alone for the
-/// implied and accumulator modes, 0 to 255 for the immediate and the zero-page modes), and where the distance of a
+/// The opcode, then the operand's bytes, low byte first; a branch's byte is its target's distance from the following
+/// instruction. None where the table has no row for its mnemonic and mode, where its value is out of range (0 alone for
+/// the implied and accumulator modes, 0 to 255 for the immediate and the zero-page modes), and where the distance of a
 /// branch's target from the following instruction, modulo 65,536, is outside -128 to 127.
 pub fn encode(instr: Instr, address: u16) -> Option<ArrayVec<u8, 3>>
     ensures bytes { MatchOption result (encoded instr address ≡ None) (λ b. encoded instr address ≡ Some b.items) }
@@ -130,7 +138,8 @@ pub fn encode(instr: Instr, address: u16) -> Option<ArrayVec<u8, 3>>
     with_operand(row.opcode, instr.mode, address, instr.value)
 }
 
-/// The instruction that bytes at an address begin with; bytes behind it are ignored.
+/// The instruction that bytes at an address begin with; bytes behind it are ignored, and a branch's target is modulo
+/// 65,536.
 ///
 /// None where there is no byte, where the first is no documented opcode, and where its operand is not whole.
 pub fn decode(bytes: &[u8], address: u16) -> Option<Instr>
@@ -138,6 +147,8 @@ pub fn decode(bytes: &[u8], address: u16) -> Option<Instr>
     ensures whole { IfSome result (λ i. length_of i.mode ≤ length bytes.now) }
     // the instruction's bytes are the front of the bytes
     ensures encodes { IfSome result (λ i. encoded i address ≡ Some (take (length_of i.mode) bytes.now)) }
+    // and it is fetched from a memory that shows them
+    ensures fetched { IfSome result (λ i. IsFetchedFrom i address (take (length_of i.mode) bytes.now)) }
 {
     let (opcode, operand) = bytes.split_first()?;
     let row = row_of(*opcode)?;

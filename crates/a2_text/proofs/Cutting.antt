@@ -1,7 +1,7 @@
 -- The first line of a text, and the rest of it.
-use Rattle.std.proofs.Common.{◌≡◌, ℕ, ◌+◌, ◌<◌, ◌≤◌, Bool, true, false, not, cond, eqb, ltb, List, [], ◌∷◌, ◌++◌, length, get_or, take, drop, refl, sym, ap, ◌∙◌, subst, arith, rules}
+use Rattle.std.proofs.Common.{◌≡◌, ℕ, ◌+◌, ◌<◌, Bool, true, false, not, cond, eqb, List, [], ◌∷◌, ◌++◌, length, take, drop, refl, sym, ap, ◌∙◌, arith}
 use Rattle.std.proofs.lemmas.List.{append_assoc, take_all}
-use Rattle.std.specs.List.{slice_split, onto_first, position_or_len, prefix_len, before_first, after_first, All}
+use Rattle.std.specs.List.{slice_split, onto_first, position_or_len, before_first, after_first}
 use Rattle.std.specs.Str.Lines.{strip_carriage_return}
 use Rattle.std.proofs.lemmas.List.Splits.{slice_split_first, slice_split_none}
 use Rattle.std.proofs.lemmas.List.Sums.{prefix_len_passes}
@@ -25,7 +25,7 @@ pub slice_split-some : (xs : List ℕ) → (q : List ℕ) × (qs : List (List �
 slice_split-some [] = ([], [], refl)
 slice_split-some (x ∷ xs) = cond-some (is_feed x) _ _ ([], slice_split is_feed xs, refl) (onto_first-some x (slice_split is_feed xs))
 
-lines_of_pieces-cons : (piece : List ℕ) (ps qs : List (List ℕ)) (q : List ℕ) → ps ≡ q ∷ qs → lines_of_pieces (piece ∷ ps) ≡ strip_carriage_return piece ∷ lines_of_pieces ps
+pub lines_of_pieces-cons : (piece : List ℕ) (ps qs : List (List ℕ)) (q : List ℕ) → ps ≡ q ∷ qs → lines_of_pieces (piece ∷ ps) ≡ strip_carriage_return piece ∷ lines_of_pieces ps
 lines_of_pieces-cons piece ps qs q e = rw e refl
 
 pub lines_more : (text : List ℕ) → position_or_len is_feed text < length text → lines text ≡ strip_carriage_return (take (position_or_len is_feed text) text) ∷ lines (drop (position_or_len is_feed text + 1) text)

@@ -1,3 +1,4 @@
-mod Cutting
+pub mod Cutting
 mod NumberLaws
+pub mod WordLaws
 mod Decimals

@@ -2,3 +2,4 @@ pub mod Bytes
 pub mod Lines
 pub mod Refusals
 pub mod Digits
+pub mod Words

@@ -1,24 +1,20 @@
 //! Numbers written in digits.
 
-ghost use Rattle.std.specs.Prelude.{◌≡◌, ◌<◌, ◌≤◌, length};
+ghost use Rattle.std.specs.Prelude.{◌≡◌, ◌≤◌, length};
 ghost use Rattle.std.specs.Fmt.{decimal as decimal_of};
 ghost use Rattle.a2_text.specs.Digits as digits;
 
+use crate::numbers::capital;
 use arrayvec::ArrayVec;
-
-// The capital digit of a number below 16.
-fn hex_digit(n: u8) -> u8
-    requires { n < 16 }
-    ensures { result ≡ digits.hex_digit n }
-{
-    if n < 10 { b'0' + n } else { 55 + n }
-}
 
 /// The two capital hexadecimal digits of a byte.
 pub fn hex_pair(byte: u8) -> [u8; 2]
     ensures { result ≡ digits.hex_pair byte }
 {
-    [hex_digit(byte / 16), hex_digit(byte % 16)]
+    let mut small = [0u8; 2];
+    // A byte has two digits, so they fit.
+    hex::encode_to_slice([byte], &mut small).unwrap();
+    [capital(small[0]), capital(small[1])]
 }
 
 /// The four capital hexadecimal digits of an address.

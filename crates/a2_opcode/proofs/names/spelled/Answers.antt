@@ -1,4 +1,4 @@
-use Rattle.std.proofs.Common.{◌≡◌, sym, ◌∙◌, ap, below_more, arith}
+use Rattle.std.proofs.Common.{sym, ◌∙◌, below_more, arith}
 use Rattle.std.specs.Cmp.Lexicographic.{same_text, other_text}
 use Rattle.a2_opcode.proofs.Naming.{name-none, name-only}
 use Rattle.a2_opcode.proofs.names.spelled.Goals as goal
@@ -6,7 +6,7 @@ use Rattle.a2_opcode.proofs.names.spelled.Goals as goal
 pub returns-then-eq-clause-only : goal.returns-then-eq-clause-only
 returns-then-eq-clause-only c m e =
     name-only c.args.letters.now _ m
-      (sym c.name.ensures ∙ sym c.as_bytes.ensures.value ∙ same_text _ _ (sym c.if-eq.true ∙ c.eq.ensures)) e
+    (sym c.name.ensures ∙ sym c.as_bytes.ensures.value ∙ same_text _ _ (sym c.if-eq.true ∙ c.eq.ensures)) e
 
 pub loop-mnemonic-preserved : goal.loop-mnemonic-preserved
 loop-mnemonic-preserved c =

@@ -11,4 +11,5 @@ returns c =
     record {
       value = is;
       found = row_of-told c.args.opcode c.entry.result is;
-      only = λ r is_row. is ∙ row_of-only c.args.opcode r is_row }
+      only = λ r is_row. is ∙ row_of-only c.args.opcode r is_row;
+    }

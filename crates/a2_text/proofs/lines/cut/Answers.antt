@@ -1,4 +1,4 @@
-use Rattle.std.proofs.Common.{◌≡◌, ℕ, ◌+◌, eqb, not, ◌∷◌, [], ◌++◌, ◌<◌, length, map, take, drop, sym, ap, ◌∙◌, arith}
+use Rattle.std.proofs.Common.{ℕ, ◌+◌, eqb, not, ◌++◌, ◌<◌, length, map, sym, ap, ◌∙◌, arith}
 use Rattle.std.proofs.lemmas.List.{map-append, take_rest, append-nil, nil_from_length}
 use Rattle.std.proofs.lemmas.List.Sums.{prefix_len-le-length}
 use Rattle.a2_text.specs.Lines.{lines}
@@ -15,9 +15,9 @@ loop-rest-preserved g c =
 pub returns : goal.returns
 returns g c =
     elim c.loop-rest-test.branch [
-      else-loop-rest-test w ↦
-        let none = nil_from_length c.loop-rest.rest.now (omega arith) in
-        rw w.found-is (sym (append-nil _) ∙ ap (λ x. map (λ y. y.now) c.loop-rest.found.items ++ lines x) (sym none) ∙ c.loop-rest.invariant)
-    | then-loop-rest-test+in_ok-push+then-end-rest w ↦
-        rw (w.found-is, w.in_ok-push.ensures.items, map-append) (cut_last _ c.loop-rest.rest.now c.args.text.now _ w.line_end-end.result c.loop-rest.invariant w.line_end-end.ensures w.if-end-rest.true (omega arith) w.trimmed.ensures)
+      | else-loop-rest-test w ↦
+          let none = nil_from_length c.loop-rest.rest.now (omega arith) in
+          rw w.found-is (sym (append-nil _) ∙ ap (λ x. map (λ y. y.now) c.loop-rest.found.items ++ lines x) (sym none) ∙ c.loop-rest.invariant)
+      | then-loop-rest-test+in_ok-push+then-end-rest w ↦
+          rw (w.found-is, w.in_ok-push.ensures.items, map-append) (cut_last _ c.loop-rest.rest.now c.args.text.now _ w.line_end-end.result c.loop-rest.invariant w.line_end-end.ensures w.if-end-rest.true (omega arith) w.trimmed.ensures)
     ]

@@ -1,0 +1,29 @@
+-- The cells of an image.
+use Rattle.std.proofs.Common.{◌≡◌, ℕ, ◌<◌, Option, Some, None, inl, inr, length, set, arith}
+use Rattle.std.specs.Prelude.{IfSome}
+use Rattle.std.proofs.lemmas.Bool.{cases_lt, cases_eq}
+use Rattle.std.proofs.lemmas.List.{get_or_past, get_or-set_same, get_or-set_other, set_past}
+use Rattle.a2_hex.specs.Images.{Cells, held, IsImage}
+
+-- the bytes in cells
+abbrev pub HasBytes : Cells → Type 0
+HasBytes cells = (a : ℕ) → IfSome (held cells a) (λ byte. byte < 256)
+
+both : (o : Option ℕ) (a : ℕ) → IfSome o (λ byte. byte < 256) → a < 49152 → IfSome o (λ byte. (a < 49152) × (byte < 256))
+both None a h lt = tt
+both (Some byte) a h lt = (lt, h)
+
+pub cells-image : (cells : Cells) → length cells ≡ 49152 → HasBytes cells → IsImage (held cells)
+cells-image cells n h a = elim (cases_lt a (length cells)) [
+  | inl lt ↦ both (held cells a) a (h a) (omega arith)
+  | inr ge ↦ rw (get_or_past cells a None ge) tt
+]
+
+pub set-bytes : (cells : Cells) (i byte : ℕ) → byte < 256 → HasBytes cells → HasBytes (set cells i (Some byte))
+set-bytes cells i byte small h a = elim (cases_lt i (length cells)) [
+  | inl lt ↦ elim (cases_eq a i) [
+    | inl e ↦ rw (e, get_or-set_same cells i (Some byte) None lt) small
+    | inr n ↦ rw (get_or-set_other cells i a (Some byte) None n) (h a)
+  ]
+  | inr ge ↦ rw (set_past cells i (Some byte) ge) (h a)
+]

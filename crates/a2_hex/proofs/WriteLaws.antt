@@ -1,0 +1,107 @@
+-- The lines of an image, one after another.
+use Rattle.std.proofs.Common.{◌≡◌, ℕ, zero, suc, ◌+◌, ◌-◌, ◌%◌, ◌<◌, ◌≤◌, true, false, cond, List, [], ◌∷◌, ◌++◌, Option, Some, None, Result, IsErr, refl, sym, ap, ◌∙◌, subst, arith, add-one, add-zero}
+use Rattle.std.specs.List.{flat_map}
+use Rattle.std.proofs.lemmas.Bool.{cond-true, cond-false}
+use Rattle.std.proofs.lemmas.List.{append_assoc, append-nil, flat_map_more}
+use Rattle.a2_stream.specs.Stream.{Taker, Sends, Breaks, SendsOrBreaks}
+use Rattle.a2_stream.proofs.Joined.{Sends-then, Breaks-then, broke_off}
+use Rattle.a2_text.specs.Digits.{hex_pair, hex_word}
+use Rattle.a2_hex.specs.ObjectText.{after_blank, spaced, run, begins_line, line_at, lines_below, text_of_lines, object_text}
+
+-- the run from an address on
+pub run-none : (image : ℕ → Option ℕ) (a n : ℕ) → image a ≡ None → run image a n ≡ []
+run-none image a zero h = refl
+run-none image a (suc n) h = rw h refl
+
+pub run-more : (image : ℕ → Option ℕ) (a n byte : ℕ) → image a ≡ Some byte → 0 < n → run image a n ≡ byte ∷ run image (a + 1) (n - 1)
+run-more image a zero byte h some = absurd (omega arith)
+run-more image a (suc n) byte h some =
+    let one : suc n - 1 ≡ n = omega arith in
+    rw (h, one) refl
+
+pub flat_map-append : {A : Type 0} (f : A → List ℕ) (xs ys : List A) → flat_map f (xs ++ ys) ≡ flat_map f xs ++ flat_map f ys
+flat_map-append f [] ys = refl
+flat_map-append f (x ∷ xs) ys = ap (λ (l : List ℕ). f x ++ l) (flat_map-append f xs ys) ∙ sym (append_assoc (f x) (flat_map f xs) (flat_map f ys))
+
+-- one byte more of a run
+pub run-step : (image : ℕ → Option ℕ) (line new all : List ℕ) (a i n byte : ℕ) → i < n → image (a + i) ≡ Some byte → line ++ flat_map after_blank (run image (a + i) (n - i)) ≡ all → new ≡ line ++ after_blank byte
+    → new ++ flat_map after_blank (run image (a + (i + 1)) (n - (i + 1))) ≡ all
+run-step image line new all a i n byte lt h e is =
+    let next : a + (i + 1) ≡ a + i + 1 = omega arith in
+    let left : n - (i + 1) ≡ n - i - 1 = omega arith in
+    let more = run-more image (a + i) (n - i) byte h (omega arith) in
+    rw (is, next, left) (append_assoc line (after_blank byte) (flat_map after_blank (run image (a + i + 1) (n - i - 1))) ∙ ap (λ (l : List ℕ). line ++ flat_map after_blank l) (sym more) ∙ e)
+
+pub run-gap : (image : ℕ → Option ℕ) (line all : List ℕ) (a n : ℕ) → image a ≡ None → line ++ flat_map after_blank (run image a n) ≡ all → line ≡ all
+run-gap image line all a n h e = sym (append-nil line) ∙ ap (λ (l : List ℕ). line ++ flat_map after_blank l) (sym (run-none image a n h)) ∙ e
+
+pub run-over : (image : ℕ → Option ℕ) (line all : List ℕ) (a n : ℕ) → n ≡ 0 → line ++ flat_map after_blank (run image a n) ≡ all → line ≡ all
+run-over image line all a n h e = sym (append-nil line) ∙ ap (λ (k : ℕ). line ++ flat_map after_blank (run image a k)) (sym h) ∙ e
+
+-- a line by its parts
+pub line_at-parts : (image : ℕ → Option ℕ) (a first : ℕ) → image a ≡ Some first → line_at image a ≡ hex_word a ++ 58 ∷ (hex_pair first ++ flat_map after_blank (run image (a + 1) (7 - a % 8)))
+line_at-parts image a first h =
+    let seven : 8 - a % 8 - 1 ≡ 7 - a % 8 = omega arith in
+    let run-is : run image a (8 - a % 8) ≡ first ∷ run image (a + 1) (7 - a % 8) = run-more image a (8 - a % 8) first h (omega arith) ∙ ap (λ (n : ℕ). first ∷ run image (a + 1) n) seven in
+    ap (λ (l : List ℕ). hex_word a ++ 58 ∷ spaced l) run-is
+
+-- the lines below one address more
+pub below-more : (image : ℕ → Option ℕ) (a : ℕ) → begins_line image a ≡ true → lines_below image (a + 1) ≡ lines_below image a ++ line_at image a ∷ []
+unfolding lines_below
+below-more image a h = rw add-one (ap (λ (l : List (List ℕ)). lines_below image a ++ l) (cond-true (begins_line image a) (line_at image a ∷ []) [] h))
+
+pub below-same : (image : ℕ → Option ℕ) (a : ℕ) → begins_line image a ≡ false → lines_below image (a + 1) ≡ lines_below image a
+unfolding lines_below
+below-same image a h = rw add-one (ap (λ (l : List (List ℕ)). lines_below image a ++ l) (cond-false (begins_line image a) (line_at image a ∷ []) [] h) ∙ append-nil (lines_below image a))
+
+pub text-more : (image : ℕ → Option ℕ) (a : ℕ) → begins_line image a ≡ true → text_of_lines (lines_below image a) ++ (line_at image a ++ 10 ∷ []) ≡ text_of_lines (lines_below image (a + 1))
+text-more image a h = flat_map_more (λ (line : List ℕ). line ++ 10 ∷ []) [] (lines_below image a) (line_at image a) ∙ ap text_of_lines (sym (below-more image a h))
+
+-- the lines below an address are a front of all
+below-front : (image : ℕ → Option ℕ) (n k : ℕ) → (others : List (List ℕ)) × (lines_below image (n + k) ≡ lines_below image n ++ others)
+unfolding lines_below
+below-front image n zero = ([], rw add-zero (sym (append-nil (lines_below image n))))
+below-front image n (suc k) =
+    let (others, is) = below-front image n k in
+    let last : List (List ℕ) = cond (begins_line image (n + k)) (line_at image (n + k) ∷ []) [] in
+    let next : n + suc k ≡ suc (n + k) = omega arith in
+    (others ++ last, rw next (ap (λ (l : List (List ℕ)). l ++ last) is ∙ append_assoc (lines_below image n) others last))
+
+pub object_text-front : (image : ℕ → Option ℕ) (n : ℕ) → n ≤ 49152 → (rest : List ℕ) × (text_of_lines (lines_below image n) ++ rest ≡ object_text image)
+unfolding object_text
+object_text-front image n le =
+    let (others, is) = below-front image n (49152 - n) in
+    let end : n + (49152 - n) ≡ 49152 = omega arith in
+    (text_of_lines others, sym (flat_map-append (λ (line : List ℕ). line ++ 10 ∷ []) (lines_below image n) others) ∙ ap text_of_lines (sym is) ∙ ap (λ (k : ℕ). text_of_lines (lines_below image k)) end)
+
+pub object_text-is : (image : ℕ → Option ℕ) (n : ℕ) → n ≡ 49152 → text_of_lines (lines_below image n) ≡ object_text image
+unfolding object_text
+object_text-is image n h = ap (λ (k : ℕ). text_of_lines (lines_below image k)) h
+
+-- a line that was made piece by piece
+pub line-made : (image : ℕ → Option ℕ) (a first : ℕ) (word colon pair all end : List ℕ) → image a ≡ Some first → word ≡ hex_word a → colon ≡ word ++ 58 ∷ [] → pair ≡ colon ++ hex_pair first
+    → all ≡ pair ++ flat_map after_blank (run image (a + 1) (7 - a % 8)) → end ≡ all ++ 10 ∷ [] → end ≡ line_at image a ++ 10 ∷ []
+line-made image a first word colon pair all end h e0 e1 e2 e3 e4 =
+    e4 ∙ ap (λ (l : List ℕ). l ++ 10 ∷ []) (
+    e3 ∙ ap (λ (l : List ℕ). l ++ flat_map after_blank (run image (a + 1) (7 - a % 8))) (e2 ∙ ap (λ (l : List ℕ). l ++ hex_pair first) (e1 ∙ ap (λ (l : List ℕ). l ++ 58 ∷ []) e0))
+    ∙ sym (line_at-parts image a first h))
+
+-- one line more went out, or it broke off
+pub sent-more : (old mid new : Taker) (image : ℕ → Option ℕ) (a : ℕ) (piece line : List ℕ) → Sends old mid (text_of_lines (lines_below image a)) → Sends mid new piece → piece ≡ line → line ≡ line_at image a ++ 10 ∷ [] → begins_line image a ≡ true
+    → Sends old new (text_of_lines (lines_below image (a + 1)))
+sent-more old mid new image a piece line before sent is line-is begins =
+    subst (Sends old new) (ap (λ (l : List ℕ). text_of_lines (lines_below image a) ++ l) (is ∙ line-is) ∙ text-more image a begins) (Sends-then old mid new (text_of_lines (lines_below image a)) piece before sent)
+
+pub sent-same : (old new : Taker) (image : ℕ → Option ℕ) (a : ℕ) → Sends old new (text_of_lines (lines_below image a)) → begins_line image a ≡ false → Sends old new (text_of_lines (lines_below image (a + 1)))
+sent-same old new image a sent other = subst (Sends old new) (ap text_of_lines (sym (below-same image a other))) sent
+
+pub broke-in : {T E : Type 0} (r : Result T E) (old mid new : Taker) (image : ℕ → Option ℕ) (a : ℕ) (piece line : List ℕ) → IsErr r → Sends old mid (text_of_lines (lines_below image a)) → Breaks mid new piece → piece ≡ line → line ≡ line_at image a ++ 10 ∷ []
+    → begins_line image a ≡ true → a < 49152 → SendsOrBreaks old new r (object_text image)
+broke-in r old mid new image a piece line err before broke is line-is begins lt =
+    let text : List ℕ = text_of_lines (lines_below image a) in
+    let (rest, all) = object_text-front image (a + 1) (omega arith) in
+    let front : text ++ piece ≡ text_of_lines (lines_below image (a + 1)) = ap (λ (l : List ℕ). text ++ l) (is ∙ line-is) ∙ text-more image a begins in
+    subst (SendsOrBreaks old new r) (ap (λ (l : List ℕ). l ++ rest) front ∙ all) (broke_off old new r (text ++ piece) rest err (Breaks-then old mid new text piece before broke))
+
+pub sent-all : (old new : Taker) (image : ℕ → Option ℕ) (n : ℕ) → n ≡ 49152 → Sends old new (text_of_lines (lines_below image n)) → Sends old new (object_text image)
+sent-all old new image n h sent = subst (Sends old new) (object_text-is image n h) sent

@@ -1,0 +1,73 @@
+//! The image that object lines load.
+
+ghost use Rattle.std.specs.Prelude.{◌≡◌, ◌≢◌, ◌+◌, ◌≤◌, List, ℕ, length, false, Some, Ok, IfOk, IfErr};
+ghost use Rattle.a2_hex.specs.Images.{held, overlaid};
+ghost use Rattle.a2_hex.specs.ObjectLines.{bytes_of, lies_outside, after_line, image_of};
+
+use crate::fault::HexFault;
+use crate::image::{Image, RAM_END};
+use crate::store::{first_byte, store_line};
+use a2_text::{cut, first_word};
+use std::alloc::Allocator;
+
+// Puts bytes at the addresses from this one upwards, and returns the address behind them.
+fn lay<A: Allocator>(image: &mut Image<A>, address: u16, bytes: &[u8]) -> u16
+    ghost all: { List ℕ }
+    requires bytes { bytes_of bytes.now ≡ Some all }
+    requires room { lies_outside address (length all) ≡ false }
+    ensures image { held image.new ≡ overlaid (held image.old) address all }
+    ensures next { result ≡ address + length all }
+{
+    let mut next = address;
+    let mut rest = bytes;
+    while let Some((byte, behind)) = first_byte(rest) {
+        image.set(next, byte);
+        next += 1;
+        rest = behind;
+    }
+    next
+}
+
+// Loads one line, and returns the next address.
+fn load_line<A: Allocator>(
+    image: &mut Image<A>,
+    next: Option<u16>,
+    number: usize,
+    line: &[u8],
+) -> Result<Option<u16>, HexFault>
+    ensures loaded { IfOk result (λ after. after_line number (record { image = held image.old; next = next }) line.now ≡ Ok (record { image = held image.new; next = after })) }
+    ensures refused { IfErr result (λ fault. after_line number (record { image = held image.old; next = next }) line.now ≡ Err fault) }
+{
+    let Some(_) = first_word(line) else {
+        return Ok(next);
+    };
+    let Some(store) = store_line(line) else {
+        return Err(HexFault::Digit(number));
+    };
+    let Some(address) = store.address.or(next) else {
+        return Err(HexFault::NoAddress(number));
+    };
+    if store.count > usize::from(RAM_END.saturating_sub(address)) {
+        return Err(HexFault::Outside(number));
+    }
+    Ok(Some(lay(image, address, store.bytes)))
+}
+
+/// The image that a text of object lines loads.
+///
+/// A line is blank, or an address of 1 to 4 hexadecimal digits or nothing, `:`, and bytes of 1 or 2 digits with blanks
+/// between; without an address it goes on behind the last byte loaded, or at the last address given where it had no
+/// byte. A later byte replaces an earlier one. Refused with the first line that has another form, or gives no address
+/// where no line before it does, or has a byte at or above $C000; and for want of memory.
+pub fn load_lines<A: Allocator + Copy>(alloc: A, text: &[u8]) -> Result<Image<A>, HexFault>
+    ensures loaded { IfOk result (λ image. image_of text.now ≡ Ok (held image)) }
+    ensures refused { IfErr result (λ fault. fault ≢ HexFault.Memory → image_of text.now ≡ Err fault) }
+{
+    let lines = cut(alloc, text)?;
+    let mut image = Image::new(alloc)?;
+    let mut next = None;
+    for (i, line) in lines.iter().enumerate() {
+        next = load_line(&mut image, next, i + 1, line)?;
+    }
+    Ok(image)
+}

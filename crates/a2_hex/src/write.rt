@@ -1,0 +1,96 @@
+//! The object lines of an image.
+
+ghost use Rattle.std.specs.Prelude.{◌≡◌, ◌<◌, ◌+◌, ◌*◌, ◌≤◌, ◌++◌, [], ◌∷◌, ℕ, length, Option, Some, Ok, true, false, MatchOption};
+ghost use Rattle.std.specs.List.{flat_map};
+ghost use Rattle.arrayvec.specs.ArrayVec.{array_vec_len};
+ghost use Rattle.a2_stream.specs.Stream.{SendsOrBreaks};
+ghost use Rattle.a2_hex.specs.Images.{held, IsImage};
+ghost use Rattle.a2_hex.specs.ObjectText as text;
+ghost use Rattle.a2_hex.specs.ObjectLines.{image_of};
+
+use crate::image::{Image, RAM_END};
+use a2_stream::{Output, WriteFault, put};
+use a2_text::{hex_pair, hex_word};
+use arrayvec::ArrayVec;
+use std::alloc::Allocator;
+
+// The most bytes that a line of text has: an address, `:`, eight bytes with blanks between, and a line feed.
+const LINE_LEN: usize = 29;
+
+// The byte at an address, where a line begins there.
+fn begun<A: Allocator>(image: &Image<A>, address: u16) -> Option<u8>
+    ensures { MatchOption result (text.begins_line (held image.now) address ≡ false) (λ byte. (text.begins_line (held image.now) address ≡ true) × (held image.now address ≡ Some byte)) }
+{
+    let byte = image.get(address)?;
+    if address % 8 == 0 || image.get(address - 1).is_none() {
+        Some(byte)
+    } else {
+        None
+    }
+}
+
+// Appends bytes that fit.
+fn append(line: &mut ArrayVec<u8, LINE_LEN>, bytes: &[u8])
+    requires { array_vec_len line.old + length bytes.now ≤ 29 }
+    ensures { line.new.items ≡ line.old.items ++ bytes.now }
+{
+    line.try_extend_from_slice(bytes).unwrap();
+}
+
+// Appends the bytes from an address up to a gap, but at most so many, each with a blank before it.
+fn append_run<A: Allocator>(
+    image: &Image<A>,
+    address: u16,
+    most: u16,
+    line: &mut ArrayVec<u8, LINE_LEN>,
+)
+    requires address { address + most ≤ 65536 }
+    requires room { array_vec_len line.old + 3 * most ≤ 28 }
+    ensures items { line.new.items ≡ line.old.items ++ flat_map text.after_blank (text.run (held image.now) address most) }
+    ensures room { array_vec_len line.new ≤ 28 }
+{
+    for i in 0..most {
+        let Some(byte) = image.get(address + i) else {
+            return;
+        };
+        let [high, low] = hex_pair(byte);
+        append(line, &[b' ', high, low]);
+    }
+}
+
+// The line that begins at an address with this byte, and its line feed.
+fn line_at<A: Allocator>(image: &Image<A>, address: u16, first: u8) -> ArrayVec<u8, LINE_LEN>
+    requires inside { address < 49152 }
+    requires first { held image.now address ≡ Some first }
+    ensures { result.items ≡ text.line_at (held image.now) address ++ 10 ∷ [] }
+{
+    let mut line = ArrayVec::new();
+    append(&mut line, &hex_word(address));
+    line.push(b':');
+    append(&mut line, &hex_pair(first));
+    append_run(image, address + 1, 7 - address % 8, &mut line);
+    line.push(b'\n');
+    line
+}
+
+/// Writes the object lines of an image: addresses upwards; a line is four digits, `:`, and one to eight bytes of two
+/// digits with one blank between; a new line begins at each address divisible by 8 and after each gap. Refused where
+/// the writer fails, and a front of the text was written then.
+pub fn write_lines<A: Allocator, W: Output>(
+    image: &Image<A>,
+    writer: &mut W,
+) -> Result<(), WriteFault>
+    ensures { SendsOrBreaks (W.taker writer.old) (W.taker writer.new) result (text.object_text (held image.now)) }
+{
+    for address in 0..RAM_END {
+        if let Some(first) = begun(image, address) {
+            put(line_at(image, address, first).as_slice(), writer)?;
+        }
+    }
+    Ok(())
+}
+
+/// What is written loads to the image again: a law about the object lines of an image and what object lines load.
+pub fn written_lines_load()
+    ensures { (image : ℕ → Option ℕ) → IsImage image → image_of (text.object_text image) ≡ Ok image }
+{}

@@ -1,0 +1,12 @@
+-- The words of a text.
+use Rattle.std.specs.Prelude.{ℕ, List, length, drop, nat_lt}
+use Rattle.std.specs.List.{prefix_len, slice_split, filter}
+use Rattle.a2_text.specs.Bytes.{is_blank}
+
+-- what stands behind the blanks at the front
+abbrev pub behind_blanks : List ℕ → List ℕ
+behind_blanks text = drop (prefix_len is_blank text) text
+
+-- the pieces between blanks, but for empty ones
+abbrev pub words : List ℕ → List (List ℕ)
+words text = filter (λ piece. nat_lt 0 (length piece)) (slice_split is_blank text)
