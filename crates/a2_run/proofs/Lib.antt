@@ -1,0 +1,7 @@
+pub mod Reading
+pub mod Fronts
+pub mod Showing
+pub mod Laid
+pub mod Screens
+pub mod Runs
+pub mod Booting

@@ -1,0 +1,119 @@
+//! A text in, a text out.
+
+ghost use Rattle.std.specs.Prelude.{◌≡◌, IfOk, IfSome, take};
+ghost use Rattle.a2_stream.specs.Stream.{count_after};
+ghost use Rattle.a2_run.specs.Answers.{read_of, Answers, is_read_fault, is_unread, is_write_fault, NothingSent};
+ghost use Rattle.a2_run.specs.Meaning.{IsRefused, IsRun, AreObjectLines};
+ghost use Rattle.a2_run.specs.Status.{status_of, fault_status as status_of_fault, refusal_status as status_of_refusal};
+
+use crate::core::{assemble_source, run_source};
+use crate::{Options, ReadingFault, RunFault};
+use a2_machine::Cause;
+use a2_bus::Keys;
+use a2_stream::{Input, Output, fill};
+use a2_syntax::Fault;
+use std::alloc::{Allocator, Global};
+
+/// The most bytes that are read: one more than a text may have.
+const MOST_READ: usize = 65_537;
+
+// Reads at most so many bytes.
+fn read_front<A: Allocator + Copy, R: Input>(
+    alloc: A,
+    reader: &mut R,
+    most: usize,
+) -> Result<Vec<u8, A>, ReadingFault>
+    ensures text { IfOk result (λ text. IfSome (R.giver reader.old).bytes (λ input. text.items ≡ take most input)) }
+    ensures counted { (R.giver reader.new).failures ≡ count_after (is_unread result) (R.giver reader.old).failures }
+{
+    let mut text = Vec::from_elem(alloc, 0u8, most)?;
+    let filled = fill(text.as_mut_slice(), reader)?;
+    text.truncate(filled);
+    Ok(text)
+}
+
+/// Reads a text up to its end, but at most 65,537 bytes: one more than a text may have.
+pub fn read_text<A: Allocator + Copy, R: Input>(
+    alloc: A,
+    reader: &mut R,
+) -> Result<Vec<u8, A>, ReadingFault>
+    ensures text { IfOk result (λ text. IfSome (R.giver reader.old).bytes (λ input. text.items ≡ read_of input)) }
+    // A read failed exactly where that is the fault.
+    ensures counted { (R.giver reader.new).failures ≡ count_after (is_unread result) (R.giver reader.old).failures }
+{
+    read_front(alloc, reader, MOST_READ)
+}
+
+/// Assembles and runs the source that the reader gives, with these keys waiting, and writes the picture, the register
+/// line and the cause line. `limit` is the most steps. Refused where the source is, where a read or write fails, and for
+/// want of memory.
+pub fn run_text<R: Input, W: Output>(
+    alloc: Global,
+    reader: &mut R,
+    keys: &Keys,
+    limit: u32,
+    options: Options,
+    writer: &mut W,
+) -> Result<Cause, RunFault>
+    // What is written is the meaning of what is read.
+    ensures meaning { IfSome (R.giver reader.old).bytes (λ input.
+        Answers (IsRefused input) (IsRun input keys.now limit options) (W.taker writer.old) (W.taker writer.new) result) }
+    // Whatever the reader gives, a fault other than of the writer means that nothing was written.
+    ensures silent { NothingSent (W.taker writer.old) (W.taker writer.new) result }
+    // A fault of the reader or writer comes exactly where one of its calls failed.
+    ensures reader { (R.giver reader.new).failures ≡ count_after (is_read_fault result) (R.giver reader.old).failures }
+    ensures writer { (W.taker writer.new).failures ≡ count_after (is_write_fault result) (W.taker writer.old).failures }
+{
+    let text = read_text(alloc, reader)?;
+    run_source(alloc, text.as_slice(), keys, limit, options, writer)
+}
+
+/// Assembles the source that the reader gives and writes its object lines. Refused where the source is, where a read or
+/// write fails, and for want of memory.
+pub fn asm_text<R: Input, W: Output>(
+    alloc: Global,
+    reader: &mut R,
+    writer: &mut W,
+) -> Result<(), RunFault>
+    // What is written is the meaning of what is read.
+    ensures meaning { IfSome (R.giver reader.old).bytes (λ input.
+        Answers (IsRefused input) (λ _. AreObjectLines input) (W.taker writer.old) (W.taker writer.new) result) }
+    // Whatever the reader gives, a fault other than of the writer means that nothing was written.
+    ensures silent { NothingSent (W.taker writer.old) (W.taker writer.new) result }
+    // A fault of the reader or writer comes exactly where one of its calls failed.
+    ensures reader { (R.giver reader.new).failures ≡ count_after (is_read_fault result) (R.giver reader.old).failures }
+    ensures writer { (W.taker writer.new).failures ≡ count_after (is_write_fault result) (W.taker writer.old).failures }
+{
+    let text = read_text(alloc, reader)?;
+    assemble_source(alloc, text.as_slice(), writer)
+}
+
+// The status where a text is refused: 1, but 5 for want of memory.
+fn refusal_status(fault: &Fault) -> u8
+    ensures { result ≡ status_of_refusal fault.now }
+{
+    if matches!(fault, Fault::Memory) { 5 } else { 1 }
+}
+
+/// The status where a text has no answer: 1 for a refused source or script, 4 for a failed read or write, 5 for want of
+/// memory.
+pub fn fault_status(fault: &RunFault) -> u8
+    ensures { result ≡ status_of_fault fault.now }
+{
+    match fault {
+        RunFault::Source(fault) | RunFault::Script(fault) => refusal_status(fault),
+        RunFault::Read | RunFault::Write => 4,
+        RunFault::Memory => 5,
+    }
+}
+
+/// The status of a run's answer: 0 for RETURNED and BRK, 3 for another stop, and else that of the fault.
+pub fn status(answer: &Result<Cause, RunFault>) -> u8
+    ensures { result ≡ status_of answer.now }
+{
+    match answer {
+        Ok(Cause::Returned | Cause::Brk) => 0,
+        Ok(_) => 3,
+        Err(fault) => fault_status(fault),
+    }
+}
