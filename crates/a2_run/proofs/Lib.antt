@@ -1,6 +1,5 @@
 pub mod Reading
 pub mod Fronts
-pub mod Showing
 pub mod Laid
 pub mod Screens
 pub mod Runs

@@ -1,9 +1,9 @@
 //! A source text in, a screen or object lines out.
 #![tactic(auto)]
 
-mod core;
 mod fault;
 mod run;
+mod sources;
 
 pub use fault::{ReadingFault, RunFault};
 pub use run::{asm_text, fault_status, run_text, status};

@@ -6,7 +6,7 @@ ghost use Rattle.a2_run.specs.Answers.{read_of, Answers, is_read_fault, is_unrea
 ghost use Rattle.a2_run.specs.Meaning.{IsRefused, IsRun, AreObjectLines};
 ghost use Rattle.a2_run.specs.Status.{status_of, fault_status as status_of_fault, refusal_status as status_of_refusal};
 
-use crate::core::{assemble_source, run_source};
+use crate::sources::{assemble_source, run_source};
 use crate::{Options, ReadingFault, RunFault};
 use a2_machine::Cause;
 use a2_bus::Keys;

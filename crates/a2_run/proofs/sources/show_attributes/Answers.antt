@@ -5,7 +5,7 @@ use Rattle.a2_bus.specs.View.{memory_of}
 use Rattle.a2_stream.specs.Stream.{SendsOrBreaks, Sends}
 use Rattle.a2_stream.proofs.Joined.{Sends-nil}
 use Rattle.a2_run.proofs.Screens.{asked_for, not_asked_for}
-use Rattle.a2_run.proofs.core.show_attributes.Goals as goal
+use Rattle.a2_run.proofs.sources.show_attributes.Goals as goal
 
 pub returns-then-not-attr : goal.returns-then-not-attr
 returns-then-not-attr g c =

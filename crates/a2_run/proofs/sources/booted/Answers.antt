@@ -3,7 +3,7 @@ use Rattle.std.specs.Prelude.{[]}
 use Rattle.a2_hex.specs.Images.{held}
 use Rattle.a2_machine.specs.Start.{start_world}
 use Rattle.a2_run.proofs.Booting.{typed_start}
-use Rattle.a2_run.proofs.core.booted.Goals as goal
+use Rattle.a2_run.proofs.sources.booted.Goals as goal
 
 pub returns : goal.returns
 returns c =

@@ -1,6 +1,6 @@
 use Rattle.std.proofs.Common.{sym, ap, ◌∙◌}
 use Rattle.a2_run.proofs.Runs.{is_run, shown}
-use Rattle.a2_run.proofs.core.run_source.Goals as goal
+use Rattle.a2_run.proofs.sources.run_source.Goals as goal
 
 pub returns-in-Ok-show-clause-meaning : goal.returns-in-Ok-show-clause-meaning
 returns-in-Ok-show-clause-meaning g c = (

@@ -1,0 +1,214 @@
+//! The words of the command line.
+
+ghost use Rattle.std.specs.Prelude.{SomeIff};
+ghost use Rattle.std.specs.Str.Parse.{digits_value};
+ghost use Rattle.a2.specs.Words.{IsStepLimit};
+
+use a2_run::Options;
+use a2_bus::Keys;
+use clap::error::ErrorKind;
+use clap::{Arg, ArgAction, ArgMatches, Command};
+use std::alloc::{AllocError, Global};
+use thiserror::Error;
+
+/// What the words of `run` ask for.
+#[derive(Drop)]
+pub struct RunOrder<'a> {
+    /// The file, or none for the standard input.
+    pub source: Option<&'a str>,
+    pub keys: Keys,
+    /// The most steps.
+    pub limit: u32,
+    pub options: Options,
+}
+
+/// What the words ask for.
+#[derive(Drop)]
+pub enum Order<'a> {
+    /// Writes the object lines of a file.
+    Asm {
+        source: &'a str,
+    },
+    Run(RunOrder<'a>),
+}
+
+/// Why words ask for nothing.
+#[derive(Clone, Copy, Debug, PartialEq, Eq, Error)]
+pub enum WordsFault {
+    #[error("BAD WORDS")]
+    Words,
+    #[error("BAD KEYS")]
+    Keys,
+    #[error("NO MEMORY")]
+    Memory,
+}
+
+impl From<AllocError> for WordsFault {
+    fn from(_error: AllocError) -> WordsFault {
+        WordsFault::Memory
+    }
+}
+
+// Steps of a run without `--limit`.
+const DEFAULT_LIMIT: u32 = 1_000_000;
+
+// The most that `--limit` takes.
+const MOST_STEPS: u32 = 100_000_000;
+
+// A word that has to stand.
+fn needed<'a>(alloc: Global, name: &'a str) -> Arg<'a> {
+    Arg::new(alloc, name).required(true).action(ArgAction::Set)
+}
+
+// An option with a value.
+fn valued<'a>(alloc: Global, name: &'a str) -> Arg<'a> {
+    Arg::new(alloc, name).long(name).action(ArgAction::Set)
+}
+
+// An option without one.
+fn flag<'a>(alloc: Global, name: &'a str) -> Arg<'a> {
+    Arg::new(alloc, name).long(name).action(ArgAction::SetTrue)
+}
+
+// A subcommand without help.
+fn named<'a>(alloc: Global, name: &'a str) -> Command<'a> {
+    Command::new(alloc, name).disable_help_flag(true)
+}
+
+// A subcommand with one file.
+fn with_file<'a>(alloc: Global, name: &'a str) -> Result<Command<'a>, AllocError> {
+    named(alloc, name).arg(needed(alloc, "file"))
+}
+
+// The words after `run`.
+fn run_command<'a>(alloc: Global) -> Result<Command<'a>, AllocError> {
+    with_file(alloc, "run")?
+        .arg(valued(alloc, "keys"))?
+        .arg(valued(alloc, "limit"))?
+        .arg(flag(alloc, "free"))?
+        .arg(flag(alloc, "attr"))
+}
+
+// The program's name alone.
+fn bare_command<'a>(alloc: Global) -> Command<'a> {
+    named(alloc, "a2")
+        .disable_help_subcommand(true)
+        .subcommand_required(true)
+}
+
+// All that the program understands.
+fn command<'a>(alloc: Global) -> Result<Command<'a>, AllocError> {
+    bare_command(alloc)
+        .subcommand(with_file(alloc, "asm")?)?
+        .subcommand(run_command(alloc)?)
+}
+
+// The matches of the words.
+fn matches_of<'a>(alloc: Global, words: &'a [String]) -> Result<ArgMatches<'a>, WordsFault> {
+    match command(alloc)?.try_get_matches_from(words) {
+        Ok(found) => Ok(found),
+        Err(error) => match error.kind() {
+            ErrorKind::OutOfMemory => Err(WordsFault::Memory),
+            _ => Err(WordsFault::Words),
+        },
+    }
+}
+
+// A word that has to stand, as it was written.
+fn word_of<'a>(found: &ArgMatches<'a>, name: &str) -> Result<&'a str, WordsFault> {
+    found.get_str(name).ok_or(WordsFault::Words)
+}
+
+// A number of steps: 1 to 9 digits, at most 100,000,000.
+fn limit_of(word: &str) -> Option<u32>
+    ensures { SomeIff result (IsStepLimit word.now) (digits_value 10 word.now) }
+{
+    if word.len() > 9 {
+        return None;
+    }
+    if word.starts_with('+') {
+        return None;
+    }
+    let limit: u32 = word.parse().ok()?;
+    if limit <= MOST_STEPS {
+        Some(limit)
+    } else {
+        None
+    }
+}
+
+// Whether keys that begin with `-` are given as a word of their own, where they may stand behind `=` alone.
+fn has_loose_keys(words: &[String]) -> bool {
+    let mut after_keys = false;
+    for word in words {
+        let text = word.as_str();
+        if after_keys && text.starts_with('-') {
+            return true;
+        }
+        after_keys = text == "--keys";
+    }
+    false
+}
+
+// The number of steps that the words of `run` allow.
+fn limit_in(found: &ArgMatches) -> Result<u32, WordsFault> {
+    match found.get_str("limit") {
+        None => Ok(DEFAULT_LIMIT),
+        Some(word) => limit_of(word).ok_or(WordsFault::Words),
+    }
+}
+
+// What the words of `run` ask for; bad keys are told last.
+fn run_order<'a>(found: &ArgMatches<'a>) -> Result<RunOrder<'a>, WordsFault> {
+    let source = Some(word_of(found, "file")?);
+    let limit = limit_in(found)?;
+    let options = Options {
+        free: found.get_flag("free"),
+        attr: found.get_flag("attr"),
+    };
+    let keys = Keys::parse(found.get_str("keys").unwrap_or("")).ok_or(WordsFault::Keys)?;
+    Ok(RunOrder {
+        source,
+        keys,
+        limit,
+        options,
+    })
+}
+
+// What the program does without words.
+fn plain_order<'a>() -> RunOrder<'a> {
+    RunOrder {
+        source: None,
+        keys: Keys::new(),
+        limit: DEFAULT_LIMIT,
+        options: Options {
+            free: false,
+            attr: false,
+        },
+    }
+}
+
+// What a subcommand's words ask for.
+fn inner_order<'a>(
+    words: &[String],
+    name: &str,
+    inner: &ArgMatches<'a>,
+) -> Result<Order<'a>, WordsFault> {
+    match name {
+        "asm" => Ok(Order::Asm {
+            source: word_of(inner, "file")?,
+        }),
+        "run" if !has_loose_keys(words) => Ok(Order::Run(run_order(inner)?)),
+        _ => Err(WordsFault::Words),
+    }
+}
+
+/// What the words ask for. The first word is the program's name.
+pub fn order_of<'a>(alloc: Global, words: &'a [String]) -> Result<Order<'a>, WordsFault> {
+    if words.len() <= 1 {
+        return Ok(Order::Run(plain_order()));
+    }
+    let found = matches_of(alloc, words)?;
+    let (name, inner) = found.subcommand().ok_or(WordsFault::Words)?;
+    inner_order(words, name, inner)
+}
