@@ -1,8 +1,8 @@
 //! What the program does, over any files and streams.
 
+use crate::words::{Order, RunOrder, WordsFault, order_of};
 use a2_machine::Cause;
 use a2_run::{RunFault, asm_text, fault_status, run_text, status};
-use crate::words::{Order, RunOrder, WordsFault, order_of};
 use a2_stream::{Input, Output, ReadFault, put};
 use arrayvec::ArrayString;
 use std::alloc::Global;
@@ -40,7 +40,14 @@ fn run_file<S: Shelf, R: Input, W: Output>(
     output: &mut W,
 ) -> Result<Cause, RunFault> {
     let Some(name) = order.source else {
-        return run_text(alloc, input, &order.keys, order.limit, order.options, output);
+        return run_text(
+            alloc,
+            input,
+            &order.keys,
+            order.limit,
+            order.options,
+            output,
+        );
     };
     match shelf.open(name) {
         Ok(mut reader) => run_text(

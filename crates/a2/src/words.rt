@@ -4,8 +4,8 @@ ghost use Rattle.std.specs.Prelude.{SomeIff};
 ghost use Rattle.std.specs.Str.Parse.{digits_value};
 ghost use Rattle.a2.specs.Words.{IsStepLimit};
 
-use a2_run::Options;
 use a2_bus::Keys;
+use a2_run::Options;
 use clap::error::ErrorKind;
 use clap::{Arg, ArgAction, ArgMatches, Command};
 use std::alloc::{AllocError, Global};
@@ -26,9 +26,7 @@ pub struct RunOrder<'a> {
 #[derive(Drop)]
 pub enum Order<'a> {
     /// Writes the object lines of a file.
-    Asm {
-        source: &'a str,
-    },
+    Asm { source: &'a str },
     Run(RunOrder<'a>),
 }
 

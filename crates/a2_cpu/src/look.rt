@@ -14,28 +14,50 @@ use a2_bus::Bus;
 use a2_opcode::Mnemonic;
 
 // Whether one of a mnemonic's stores is at a protected address.
-fn stores_at_protected<G: Protection>(mnemonic: Mnemonic, kind: Kind, number: u16, regs: &Regs, guard: &G) -> bool
+fn stores_at_protected<G: Protection>(
+    mnemonic: Mnemonic,
+    kind: Kind,
+    number: u16,
+    regs: &Regs,
+    guard: &G,
+) -> bool
     ensures { result ≡ list_any (G.is_protected guard.now) (Rattle.a2_cpu.specs.Code.acting_stores mnemonic (place_for kind number) (registers_of regs.now)) }
 {
-    addresses(mnemonic, kind, number, regs).iter().any(|address| guard.is_protected(*address))
+    addresses(mnemonic, kind, number, regs)
+        .iter()
+        .any(|address| guard.is_protected(*address))
 }
 
 // Why a mnemonic is refused, if it is.
 #[tactic(auto, unfolding(crate::specs::Code::refused_at, crate::specs::BusStep::refusal_of, crate::specs::Code::acting_stores))]
-fn refusal<G: Protection>(mnemonic: Mnemonic, kind: Kind, number: u16, regs: &Regs, guard: &G) -> Option<GuardedStep>
+fn refusal<G: Protection>(
+    mnemonic: Mnemonic,
+    kind: Kind,
+    number: u16,
+    regs: &Regs,
+    guard: &G,
+) -> Option<GuardedStep>
     ensures { result ≡ refused_at (G.is_protected guard.now) mnemonic (place_for kind number) (registers_of regs.now) }
 {
     match mnemonic {
         Mnemonic::Brk => Some(GuardedStep::Brk),
         Mnemonic::Adc | Mnemonic::Sbc if regs.p.decimal() => Some(GuardedStep::Decimal),
         _ => {
-            if stores_at_protected(mnemonic, kind, number, regs, guard) { Some(GuardedStep::Protected) } else { None }
+            if stores_at_protected(mnemonic, kind, number, regs, guard) {
+                Some(GuardedStep::Protected)
+            } else {
+                None
+            }
         }
     }
 }
 
 /// What a guarded step here would answer in place of its cycles; none where it would be made. Nothing changes.
-pub fn guarded_refusal<B: Bus, G: Protection>(regs: &Regs, bus: &B, guard: &G) -> Option<GuardedStep>
+pub fn guarded_refusal<B: Bus, G: Protection>(
+    regs: &Regs,
+    bus: &B,
+    guard: &G,
+) -> Option<GuardedStep>
     ensures { result ≡ why_not (guarded_answer_of (guarded_bus_step (G.is_protected guard.now) B.access (state_of (registers_of regs.now) (B.state bus.now)))) }
 {
     match bus.peek(regs.pc) {

@@ -26,16 +26,18 @@ use Rattle.a2_machine.proofs.Turns.{found-admitted, code-protected}
 pub returned : (guard : Option Guard) (world : World) → (world.registers.pc == return_address) ≡ true → stuck (bytes guard) world ≡ Some Returned
 unfolding stuck stuck_at
 returned guard world here = λ i. if here i then Some Returned else elim (service_at world.registers.pc) [
-      Some service ↦ service_cause (bytes guard).protected service world
-    | None ↦ elim (found_at_pc (bytes guard) world) [ Err cause ↦ Some cause | Ok decoded ↦ instruction_cause (bytes guard).protected decoded world ] ]
+  | Some service ↦ service_cause (bytes guard).protected service world
+  | None ↦ elim (found_at_pc (bytes guard) world) [ Err cause ↦ Some cause | Ok decoded ↦ instruction_cause (bytes guard).protected decoded world ]
+]
 
 -- where there is neither a service nor an instruction
 pub refused : (guard : Option Guard) (world : World) (cause : Cause) → (world.registers.pc == return_address) ≡ false
     → service_at world.registers.pc ≡ None → found_at_pc (bytes guard) world ≡ Err cause → stuck (bytes guard) world ≡ Some cause
 unfolding stuck stuck_at
 refused guard world cause away none found = λ i. if away i then Some Returned else elim (none i) [
-      Some service ↦ service_cause (bytes guard).protected service world
-    | None ↦ elim (found i) [ Err cause ↦ Some cause | Ok decoded ↦ instruction_cause (bytes guard).protected decoded world ] ]
+  | Some service ↦ service_cause (bytes guard).protected service world
+  | None ↦ elim (found i) [ Err cause ↦ Some cause | Ok decoded ↦ instruction_cause (bytes guard).protected decoded world ]
+]
 
 pub found-off : (guard : Option Guard) (world : World) → admits guard world.registers.pc ≡ false
     → found_at_pc (bytes guard) world ≡ Err OffStatement
@@ -47,12 +49,15 @@ nothing : (shown : ℕ → Option ℕ) (at : ℕ) → shown at ≡ None → fetc
 unfolding fetched
 nothing shown at e =
     ap (λ byte. elim byte [
-        None ↦ no_byte
+      | None ↦ no_byte
       | Some opcode ↦ elim (row_of opcode) [
-          None ↦ undocumented
+        | None ↦ undocumented
         | Some row ↦ elim (bytes_from shown (at + 1) (length_of row.mode - 1)) [
-            None ↦ no_byte
-          | Some operand ↦ instruction row (value_of row.mode at operand) ] ] ]) e
+          | None ↦ no_byte
+          | Some operand ↦ instruction row (value_of row.mode at operand)
+        ]
+      ]
+    ]) e
 
 pub found-rom : (guard : Option Guard) (world : World) → ram_end ≤ world.registers.pc → admits guard world.registers.pc ≡ true
     → found_at_pc (bytes guard) world ≡ Err (cause_of_refusal rom)
@@ -64,21 +69,25 @@ found-rom guard world high admitted =
 
 module _ (guard : Option Guard) (regs : Regs) (bus : BusState) (service : Service) (here : service_at regs.pc ≡ Some service)
     (away : (regs.pc == return_address) ≡ false) where
-
   pub stuck-service : (before : ℕ) → stuck (bytes guard) (world_of regs bus before) ≡ service_cause (protected_by guard) service (world_of regs bus before)
   unfolding stuck stuck_at
   stuck-service before = λ i. if away i then Some Returned else elim (here i) [
-        Some s ↦ service_cause (code-protected guard i) s (world_of regs bus before)
-      | None ↦ elim (found_at_pc (bytes guard) (world_of regs bus before)) [
-          Err cause ↦ Some cause | Ok decoded ↦ instruction_cause (code-protected guard i) decoded (world_of regs bus before) ] ]
+    | Some s ↦ service_cause (code-protected guard i) s (world_of regs bus before)
+    | None ↦ elim (found_at_pc (bytes guard) (world_of regs bus before)) [
+      | Err cause ↦ Some cause
+      | Ok decoded ↦ instruction_cause (code-protected guard i) decoded (world_of regs bus before)
+    ]
+  ]
 
   next-service : (before : ℕ) → next (bytes guard) (world_of regs bus before) ≡ served service (world_of regs bus before)
   unfolding next next_at
   next-service before = λ i. elim (here i) as (λ _. World) [
-        Some s ↦ served s (world_of regs bus before)
-      | None ↦ elim (found_at_pc (bytes guard) (world_of regs bus before)) as (λ _. World) [
-          Err cause ↦ world_of regs bus before
-        | Ok decoded ↦ performed memory_access decoded.row decoded.value (world_of regs bus before) ] ]
+    | Some s ↦ served s (world_of regs bus before)
+    | None ↦ elim (found_at_pc (bytes guard) (world_of regs bus before)) as (λ _. World) [
+      | Err cause ↦ world_of regs bus before
+      | Ok decoded ↦ performed memory_access decoded.row decoded.value (world_of regs bus before)
+    ]
+  ]
 
   told : (reaches fitting lacking : Bool) (before : ℕ) → list_any (reach service) (protected_by guard) ≡ reaches
       → fits service (memory_of bus) ≡ fitting → lacks_keys service (memory_of bus) ≡ lacking
@@ -87,24 +96,30 @@ module _ (guard : Option Guard) (regs : Regs) (bus : BusState) (service : Servic
 
   pub blocked_turn : list_any (reach service) (protected_by guard) ≡ true → IsStuck guard regs bus regs bus CodeWrite
   blocked_turn blocks = record {
-      stuck_by = λ before. told true (fits service (memory_of bus)) (lacks_keys service (memory_of bus)) before blocks refl refl;
-      same_regs = refl; same_bus = refl }
+    stuck_by = λ before. told true (fits service (memory_of bus)) (lacks_keys service (memory_of bus)) before blocks refl refl;
+    same_regs = refl;
+    same_bus = refl;
+  }
 
   module _ (new_regs : Regs) (new_bus : BusState) (free : list_any (reach service) (protected_by guard) ≡ false) where
-
     pub window_turn : fits service (memory_of bus) ≡ false → call.IsSame regs bus new_regs new_bus
         → IsStuck guard regs bus new_regs new_bus Window
     window_turn unfit same = record {
-        stuck_by = λ before. told false false (lacks_keys service (memory_of bus)) before free unfit refl;
-        same_regs = same.same_regs; same_bus = same.same_bus }
+      stuck_by = λ before. told false false (lacks_keys service (memory_of bus)) before free unfit refl;
+      same_regs = same.same_regs;
+      same_bus = same.same_bus;
+    }
 
     pub keys_turn : fits service (memory_of bus) ≡ true → lacks_keys service (memory_of bus) ≡ true → call.IsSame regs bus new_regs new_bus
         → IsStuck guard regs bus new_regs new_bus Keys
     keys_turn fit lacking same = record {
-        stuck_by = λ before. told false true true before free fit lacking;
-        same_regs = same.same_regs; same_bus = same.same_bus }
+      stuck_by = λ before. told false true true before free fit lacking;
+      same_regs = same.same_regs;
+      same_bus = same.same_bus;
+    }
 
     pub made_turn : (cycles : ℕ) → call.IsMade service regs bus new_regs new_bus cycles → IsMade guard regs bus new_regs new_bus cycles
     made_turn cycles made = record {
-        going = λ before. told false true false before free made.fitting made.keyed;
-        world = λ before. made.served before ∙ sym (next-service before) }
+      going = λ before. told false true false before free made.fitting made.keyed;
+      world = λ before. made.served before ∙ sym (next-service before);
+    }

@@ -39,7 +39,7 @@ found-passes [] test passes row all e = absurd (true≢false (sym (ap is_some e)
 found-passes (r ∷ rs) test passes row all e = go (test r) (passes r) refl all e (λ more rest. found-passes rs test passes row more rest)
   where
     go : (here good : Bool) → passes r ≡ good → (good && list_all passes rs) ≡ true → (if here then Some r else find test rs) ≡ Some row
-      → (list_all passes rs ≡ true → find test rs ≡ Some row → passes row ≡ true) → passes row ≡ true
+        → (list_all passes rs ≡ true → find test rs ≡ Some row → passes row ≡ true) → passes row ≡ true
     go true true is all e more = ap passes (ap (λ o. unwrap_or o r) (sym e)) ∙ is
     go false true is all e more = more all e
     go here false is all e more = absurd (true≢false (sym all))
@@ -61,19 +61,32 @@ unfolding fetched
 fetched-quick shown at = by_byte (shown at)
   where
     by_operand : (row : Row) → row.cycles ≤ 7 → (operand : Option (List ℕ))
-      → Quick (elim operand [ None ↦ no_byte | Some bytes ↦ instruction row (value_of row.mode at bytes) ])
+        → Quick (elim operand [ None ↦ no_byte | Some bytes ↦ instruction row (value_of row.mode at bytes) ])
     by_operand row quick None = tt
     by_operand row quick (Some bytes) = quick
+
     by_row : (code : ℕ) (found : Option Row) → row_of code ≡ found
-      → Quick (elim found [ None ↦ undocumented | Some row ↦ elim (bytes_from shown (at + 1) (length_of row.mode - 1)) [
-          None ↦ no_byte | Some bytes ↦ instruction row (value_of row.mode at bytes) ] ])
+        → Quick (elim found [
+          | None ↦ undocumented
+          | Some row ↦ elim (bytes_from shown (at + 1) (length_of row.mode - 1)) [
+            | None ↦ no_byte
+            | Some bytes ↦ instruction row (value_of row.mode at bytes)
+          ]
+        ])
     by_row code None is = tt
     by_row code (Some row) is = by_operand row (row-cost code row is) (bytes_from shown (at + 1) (length_of row.mode - 1))
+
     by_byte : (byte : Option ℕ)
-      → Quick (elim byte [ None ↦ no_byte | Some code ↦ elim (row_of code) [
-          None ↦ undocumented
-        | Some row ↦ elim (bytes_from shown (at + 1) (length_of row.mode - 1)) [
-            None ↦ no_byte | Some bytes ↦ instruction row (value_of row.mode at bytes) ] ] ])
+        → Quick (elim byte [
+          | None ↦ no_byte
+          | Some code ↦ elim (row_of code) [
+            | None ↦ undocumented
+            | Some row ↦ elim (bytes_from shown (at + 1) (length_of row.mode - 1)) [
+              | None ↦ no_byte
+              | Some bytes ↦ instruction row (value_of row.mode at bytes)
+            ]
+          ]
+        ])
     by_byte None = tt
     by_byte (Some code) = by_row code (row_of code) refl
 
@@ -103,9 +116,13 @@ performed-cost : {M : Type 0} (access : Access M) (row : Row) (value : ℕ) (s :
     → (performed access row value s).cycles ≤ 10
 unfolding performed
 performed-cost access row value s quick none =
-    omega (arith, quick, none,
+    omega (
+      arith,
+      quick,
+      none,
       one_if-cost (row.crosses && crosses_page (base_address access s.memory row.mode value) (place_of access s.memory s.registers row.mode value)),
-      branch-cost (effect_of row.mnemonic) s.registers.flags (next_address row s.registers.pc) (place_of access s.memory s.registers row.mode value))
+      branch-cost (effect_of row.mnemonic) s.registers.flags (next_address row s.registers.pc) (place_of access s.memory s.registers row.mode value),
+    )
 
 refusal-cost : (why : Refusal) (result : GuardedStep) → result ≡ guarded_answer_of (let r : Result (State BusState) GuardedRefusal = Err (refused why) in r)
     → cost_of (turn_of result) ≤ most_cost
@@ -120,20 +137,22 @@ pub guarded-cost : (is_protected : ℕ → Bool) (access : Access BusState) (s :
 unfolding step_at
 guarded-cost is_protected access s none result e =
     by_fetched (fetched (slice_get s.memory.bytes) s.registers.pc) (fetched-quick (slice_get s.memory.bytes) s.registers.pc)
-      (list_any is_protected _) e
+    (list_any is_protected _) e
   where
     by_stores : (after : State BusState) → after.cycles ≤ 10 → (stored : Bool)
-      → result ≡ guarded_answer_of (let r : Result (State BusState) GuardedRefusal = guarded stored (Ok after) in r) → cost_of (turn_of result) ≤ most_cost
+        → result ≡ guarded_answer_of (let r : Result (State BusState) GuardedRefusal = guarded stored (Ok after) in r) → cost_of (turn_of result) ≤ most_cost
     by_stores after few true e = subst (λ (r : GuardedStep). cost_of (turn_of r) ≤ most_cost) (sym e) (lit≤ tt)
     by_stores after few false e = subst (λ (r : GuardedStep). cost_of (turn_of r) ≤ most_cost) (sym e) (omega (arith, few))
+
     by_refusal : (why : Option Refusal) (after : State BusState) → after.cycles ≤ 10 → (stored : Bool)
-      → result ≡ guarded_answer_of (let r : Result (State BusState) GuardedRefusal = guarded stored (done_unless why after) in r)
-      → cost_of (turn_of result) ≤ most_cost
+        → result ≡ guarded_answer_of (let r : Result (State BusState) GuardedRefusal = guarded stored (done_unless why after) in r)
+        → cost_of (turn_of result) ≤ most_cost
     by_refusal (Some why) after few stored e = refusal-cost why result e
     by_refusal None after few stored e = by_stores after few stored e
+
     by_fetched : (found : Fetched) → Quick found → (stored : Bool)
-      → result ≡ guarded_answer_of (let r : Result (State BusState) GuardedRefusal = guarded stored (step_at access found s) in r)
-      → cost_of (turn_of result) ≤ most_cost
+        → result ≡ guarded_answer_of (let r : Result (State BusState) GuardedRefusal = guarded stored (step_at access found s) in r)
+        → cost_of (turn_of result) ≤ most_cost
     by_fetched no_byte quick stored e = refusal-cost rom result e
     by_fetched undocumented quick stored e = refusal-cost opcode result e
     by_fetched (instruction row value) quick stored e =
@@ -144,14 +163,16 @@ wait-cost a low = go (a == 0)
   where
     square : 5 * a * a ≤ 5 * a * 255
     square = mul-le-mul_left (5 * a) (omega (arith, low))
+
     go : (none : Bool) → (if none then 167293 else (14 + 27 * a + 5 * a * a) / 2) ≤ most_cost
     go true = lit≤ tt
     go false = omega (arith, low, square)
 
 taken-cost : (w : World) (keys : List ℕ) → w.cycles ≡ 0
     → (let taken : World = elim keys [
-          [] ↦ w
-        | key ∷ rest ↦ ended 6 (with_a (0x80 + key) (with_memory (with_key_taken w.memory) w)) ] in taken).cycles ≤ most_cost
+      | [] ↦ w
+      | key ∷ rest ↦ ended 6 (with_a (0x80 + key) (with_memory (with_key_taken w.memory) w))
+    ] in taken).cycles ≤ most_cost
 taken-cost w [] none = omega (arith, none)
 taken-cost w (key ∷ rest) none = omega (arith, none)
 

@@ -48,7 +48,7 @@ begins-found [] a = refl
 begins-found (s ∷ more) a = go (s.addr == a) (is_some s.instr) refl (begins-found more a)
   where
     go : (here some : Bool) → is_some s.instr ≡ some → is_some (instr_at more a) ≡ list_any (begins_at a) more
-      → is_some (option_map_or (λ t. t.instr) (if here && some then Some s else find (begins_at a) more) None)
+        → is_some (option_map_or (λ t. t.instr) (if here && some then Some s else find (begins_at a) more) None)
         ≡ ((here && some) || list_any (begins_at a) more)
     go true true e rest = e
     go true false e rest = rest
@@ -61,6 +61,7 @@ pub guard-same : (marks : List Mark) (program : Assembled)
     → guard_of marks ≡ guard_of_program program
 unfolding guard_of guard_of_program
 guard-same marks program begins lies = λ i. record {
-    starts = same_addresses ram_end (λ a. (mark_at marks a).begins) (λ a. is_some (instr_at program.statements a))
+  starts = same_addresses ram_end (λ a. (mark_at marks a).begins) (λ a. is_some (instr_at program.statements a))
       (λ a low. begins a low ∙ sym (begins-found program.statements a)) i;
-    code = same_addresses ram_end (λ a. (mark_at marks a).code) (is_code program.statements) lies i }
+  code = same_addresses ram_end (λ a. (mark_at marks a).code) (is_code program.statements) lies i;
+}

@@ -18,8 +18,9 @@ among-kept test (n ∷ ns) a = go (test n) (n == a) refl refl (among-kept test n
   where
     same : (n == a) ≡ true → test n ≡ test a
     same h = let e : n ≡ a = grind (arith, nat_tests, h) in ap test e
+
     go : (passes here : Bool) → test n ≡ passes → (n == a) ≡ here → is_among (filter test ns) a ≡ (is_among ns a && test a)
-      → is_among (if passes then n ∷ filter test ns else filter test ns) a ≡ ((here || is_among ns a) && test a)
+        → is_among (if passes then n ∷ filter test ns else filter test ns) a ≡ ((here || is_among ns a) && test a)
     go true true p h rest = ap (λ v. v || is_among (filter test ns) a) h ∙ sym p ∙ same h
     go true false p h rest = ap (λ v. v || is_among (filter test ns) a) h ∙ rest
     go false true p h rest =
@@ -32,7 +33,7 @@ in-numbers first zero a low high = absurd (let bad : ⊥ = omega (arith, low, hi
 in-numbers first (suc count) a low high = go (first == a) refl (λ later. in-numbers (suc first) count a later (omega (arith, high)))
   where
     go : (here : Bool) → (first == a) ≡ here → (suc first ≤ a → is_among (numbers_from (suc first) count) a ≡ true)
-      → (here || is_among (numbers_from (suc first) count) a) ≡ true
+        → (here || is_among (numbers_from (suc first) count) a) ≡ true
     go true is rest = refl
     go false is rest = rest (grind (arith, nat_tests, is, low))
 
@@ -59,8 +60,9 @@ any-found p (n ∷ ns) a among is = go (n == a) refl among (λ later. any-found 
     always : (v : Bool) → (v || true) ≡ true
     always true = refl
     always false = refl
+
     go : (here : Bool) → (n == a) ≡ here → (here || is_among ns a) ≡ true → (is_among ns a ≡ true → list_any p ns ≡ true)
-      → (p n || list_any p ns) ≡ true
+        → (p n || list_any p ns) ≡ true
     go true e _ rest =
         let same : n ≡ a = grind (arith, nat_tests, e) in
         ap (λ v. v || list_any p ns) (ap p same ∙ is)
@@ -77,7 +79,7 @@ kept-append test [] ys = refl
 kept-append test (x ∷ xs) ys = go (test x) (kept-append test xs ys)
   where
     go : (passes : Bool) → filter test (xs ++ ys) ≡ filter test xs ++ filter test ys
-      → (if passes then x ∷ filter test (xs ++ ys) else filter test (xs ++ ys)) ≡ (if passes then x ∷ filter test xs else filter test xs) ++ filter test ys
+        → (if passes then x ∷ filter test (xs ++ ys) else filter test (xs ++ ys)) ≡ (if passes then x ∷ filter test xs else filter test xs) ++ filter test ys
     go true rest = ap (λ l. x ∷ l) rest
     go false rest = rest
 
@@ -96,15 +98,16 @@ unfolding addresses_below
 any-grown p test end none last =
     let e : end + 1 ≡ suc end = omega arith in
     ap (λ n. list_any p (filter test (numbers_from 0 n))) e
-      ∙ ap (λ ns. list_any p (filter test ns)) (numbers-grown 0 end)
-      ∙ ap (λ ns. list_any p ns) (kept-append test (numbers_from 0 end) ((0 + end) ∷ []))
-      ∙ any-append p (filter test (numbers_from 0 end)) (filter test ((0 + end) ∷ []))
-      ∙ ap (λ v. v || list_any p (filter test ((0 + end) ∷ []))) none
-      ∙ ap (λ n. list_any p (filter test (n ∷ []))) same
-      ∙ go (test end) last
+    ∙ ap (λ ns. list_any p (filter test ns)) (numbers-grown 0 end)
+    ∙ ap (λ ns. list_any p ns) (kept-append test (numbers_from 0 end) ((0 + end) ∷ []))
+    ∙ any-append p (filter test (numbers_from 0 end)) (filter test ((0 + end) ∷ []))
+    ∙ ap (λ v. v || list_any p (filter test ((0 + end) ∷ []))) none
+    ∙ ap (λ n. list_any p (filter test (n ∷ []))) same
+    ∙ go (test end) last
   where
     same : 0 + end ≡ end
     same = omega arith
+
     go : (passes : Bool) → (passes && p end) ≡ false → list_any p (if passes then end ∷ [] else []) ≡ false
     go true l = ap (λ v. v || false) l
     go false l = refl

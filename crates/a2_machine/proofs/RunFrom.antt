@@ -9,9 +9,11 @@ use Rattle.a2_machine.specs.Meaning.{Code, End, stuck, next}
 unfoldable pub run_from : Code → World → ℕ → ℕ → End
 run_from code world done zero =
     elim (stuck code world) [
-      Some cause ↦ record { world = world; steps = done; cause = cause }
-    | None ↦ record { world = world; steps = done; cause = Limit } ]
+      | Some cause ↦ record { world = world; steps = done; cause = cause }
+      | None ↦ record { world = world; steps = done; cause = Limit }
+    ]
 run_from code world done (suc rest) =
     elim (stuck code world) [
-      Some cause ↦ record { world = world; steps = done; cause = cause }
-    | None ↦ run_from code (next code world) (suc done) rest ]
+      | Some cause ↦ record { world = world; steps = done; cause = cause }
+      | None ↦ run_from code (next code world) (suc done) rest
+    ]

@@ -57,7 +57,7 @@ pub record IsStep (old new : Device) : Type 0 where
 -- a run with a limit came to this cause
 pub record IsRun (limit : ℕ) (old new : Device) (cause : Cause) : Type 0 where
   pub end : IsEnd (code_of old.state) (world_of old.state) (steps_left limit old.state)
-    (record { world = world_of new.state; steps = new.state.steps - old.state.steps; cause = cause })
+      (record { world = world_of new.state; steps = new.state.steps - old.state.steps; cause = cause })
   pub guard : new.state.guard ≡ old.state.guard
   pub made : new.made ≡ raised_by old.made (new.state.steps - old.state.steps)
 

@@ -40,17 +40,14 @@ pub enum Cause {
 /// The guarded run of a program's bytes is the run of its statements.
 pub fn guarded_run_means_statements()
     ensures { GuardedRunMeansStatements }
-{
-}
+{}
 
 /// Where the guard stops nothing, the free run is the guarded one.
 pub fn free_run_is_guarded_run()
     ensures { FreeRunIsGuardedRun }
-{
-}
+{}
 
 /// A run has one end.
 pub fn runs_have_one_end()
     ensures { RunsHaveOneEnd }
-{
-}
+{}

@@ -28,14 +28,33 @@ fn put_digits<W: Output>(
 {
     put_all(
         &[
-            b"A=", &a, b" X=", &x, b" Y=", &y, b" P=", &p, b" S=", &s, b" PC=", &pc, b" STEPS=", steps, b" CYCLES=", cycles, b"\n",
+            b"A=",
+            &a,
+            b" X=",
+            &x,
+            b" Y=",
+            &y,
+            b" P=",
+            &p,
+            b" S=",
+            &s,
+            b" PC=",
+            &pc,
+            b" STEPS=",
+            steps,
+            b" CYCLES=",
+            cycles,
+            b"\n",
         ],
         writer,
     )
 }
 
 /// Writes the register line: `A=C1 X=00 Y=00 P=B0 S=FF PC=FF69 STEPS=4 CYCLES=20` and LF. P has bits 5 and 4 set.
-pub fn write_registers<A: Allocator, W: Output>(machine: &Machine<A>, writer: &mut W) -> Result<(), WriteFault>
+pub fn write_registers<A: Allocator, W: Output>(
+    machine: &Machine<A>,
+    writer: &mut W,
+) -> Result<(), WriteFault>
     ensures { let s = machine.now.state in
         SendsOrBreaks (W.taker writer.old) (W.taker writer.new) result (output.register_line (registers_of s.regs) s.steps s.cycles) }
 {

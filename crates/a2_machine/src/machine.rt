@@ -55,8 +55,8 @@ impl<A: Allocator> Model for Machine<A> {
     ghost Value = { Device };
 
     ghost view = { λ m. record {
-        state = record { regs = m.regs; bus = m.board; cycles = m.cycles; steps = m.steps; guard = m.watch };
-        made = m.made
+      state = record { regs = m.regs; bus = m.board; cycles = m.cycles; steps = m.steps; guard = m.watch };
+      made = m.made;
     } };
 
     ghost invariant = { λ m. (m.steps ≤ most_steps) × (m.cycles ≤ most_cost * m.steps) };
@@ -72,7 +72,14 @@ impl<A: Allocator + Copy> Machine<A> {
     {
         let board = Board::new(alloc)?;
         let watch = Watch::new(alloc)?;
-        Ok(Machine { board, watch, regs: Regs::start(FIRST_ENTRY), cycles: 0, steps: 0, made: 0 })
+        Ok(Machine {
+            board,
+            watch,
+            regs: Regs::start(FIRST_ENTRY),
+            cycles: 0,
+            steps: 0,
+            made: 0,
+        })
     }
 }
 

@@ -29,10 +29,16 @@ pub struct Mark {
 }
 
 /// No guard: an instruction may begin anywhere, and nothing is protected.
-const FREE: Mark = Mark { begins: true, code: false };
+const FREE: Mark = Mark {
+    begins: true,
+    code: false,
+};
 
 /// No mark.
-const UNMARKED: Mark = Mark { begins: false, code: false };
+const UNMARKED: Mark = Mark {
+    begins: false,
+    code: false,
+};
 
 /// Which services may store into code.
 #[derive(Clone, Copy)]
@@ -47,7 +53,15 @@ pub struct Blocked {
 }
 
 /// No service is blocked.
-const NONE_BLOCKED: Blocked = Blocked { cout: false, crout: false, home: false, prbyte: false, rdkey: false, wait: false, getln: false };
+const NONE_BLOCKED: Blocked = Blocked {
+    cout: false,
+    crout: false,
+    home: false,
+    prbyte: false,
+    rdkey: false,
+    wait: false,
+    getln: false,
+};
 
 /// The guard, or none. Contracts see it as an option of the addresses at which instructions begin and lie.
 #[derive(Drop)]
@@ -117,7 +131,10 @@ fn mark_begin(marks: &mut [Mark], address: u16)
 {
     let start = address as usize;
     if start < RAM_END {
-        marks[start] = Mark { begins: true, code: marks[start].code };
+        marks[start] = Mark {
+            begins: true,
+            code: marks[start].code,
+        };
     }
 }
 
@@ -131,7 +148,10 @@ fn mark_bytes(marks: &mut [Mark], start: usize, end: usize)
     ensures code { (a : ℕ) → a < ram_end → (mark_at marks.new a).code ≡ ((mark_at marks.old a).code || (nat_le start a && nat_lt a end)) }
 {
     for lies in start..end {
-        marks[lies] = Mark { begins: marks[lies].begins, code: true };
+        marks[lies] = Mark {
+            begins: marks[lies].begins,
+            code: true,
+        };
     }
 }
 
@@ -180,7 +200,11 @@ impl<A: Allocator> Watch<A> {
         ensures { IfOk result (λ watch. watch ≡ None) }
     {
         let marks = free_marks(alloc, RAM_END)?;
-        Ok(Watch { marks, blocked: NONE_BLOCKED, on: false })
+        Ok(Watch {
+            marks,
+            blocked: NONE_BLOCKED,
+            on: false,
+        })
     }
 
     /// The guard of a program.
@@ -207,7 +231,11 @@ impl<A: Allocator> Watch<A> {
         ensures { result ≡ admits_of self.now address }
     {
         let _ = &self.marks;
-        if (address as usize) < RAM_END { self.marks[address as usize].begins } else { !self.on }
+        if (address as usize) < RAM_END {
+            self.marks[address as usize].begins
+        } else {
+            !self.on
+        }
     }
 
     /// Whether a service may store at a protected address.

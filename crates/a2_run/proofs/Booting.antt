@@ -15,7 +15,10 @@ use Rattle.a2_run.specs.Started.{IsStarted}
 typed_world : (state : State) (image : ℕ → Option ℕ) (entry : ℕ) (keys : List ℕ) → world_of state ≡ start_world image entry []
     → world_of (let b = state.bus in record state { bus = record b { devices = keys_typed b.devices keys } }) ≡ start_world image entry keys
 typed_world state image entry keys e = λ i. record {
-    registers = (e i).registers; memory = start_typed state.bus image keys (ap (λ w. w.memory) e) i; cycles = (e i).cycles }
+  registers = (e i).registers;
+  memory = start_typed state.bus image keys (ap (λ w. w.memory) e) i;
+  cycles = (e i).cycles;
+}
 
 none_wait : (state : State) (image : ℕ → Option ℕ) (entry : ℕ) → world_of state ≡ start_world image entry [] → length state.bus.devices.keys ≡ 0
 unfolding memory_of start_memory
@@ -36,4 +39,5 @@ typed_start program keys old new result world steps guard room typed few =
     record {
       world = ap (λ (d : Device). world_of d.state) same ∙ typed_world old.state (held program.image) program.entry keys world;
       steps = ap (λ (d : Device). d.state.steps) same ∙ steps;
-      guard = ap (λ (d : Device). d.state.guard) same ∙ guard }
+      guard = ap (λ (d : Device). d.state.guard) same ∙ guard;
+    }

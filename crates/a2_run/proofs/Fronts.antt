@@ -19,7 +19,7 @@ use Rattle.a2_run.specs.Meaning.{IsProgramOf, IsRefused, IsRun, AreObjectLines}
 too_long : (text : List ℕ) → 65536 < length text → size_refusal text ≡ Some (TooLarge 0)
 too_long text long =
     ap (λ v. refuse_if v (TooLarge 0) otherwise refuse_if (nat_lt 4096 (length (lines text))) (TooLarge 4097) otherwise
-      first_line (λ n line. refuse_if (nat_lt 255 (length line)) (TooLarge n)) 1 (lines text)) (lt-ltb 65536 (length text) long)
+    first_line (λ n line. refuse_if (nat_lt 255 (length line)) (TooLarge n)) 1 (lines text)) (lt-ltb 65536 (length text) long)
 
 none≢some : {X : Type 0} (x : X) → None ≡ Some x → ⊥
 none≢some x e = true≢false (sym (ap is_some e))
@@ -43,6 +43,7 @@ refused-front n xs fault above h = go (fronts n xs above)
     long front all (inl (inl e)) = inl (inl (all ∙ sym front ∙ e))
     long front all (inl (inr e)) = absurd (none≢some (TooLarge 0) (sym e.0 ∙ front))
     long front all (inr e) = absurd (no_source (take n xs) e.0 front e.1)
+
     go : (take n xs ≡ xs) ⊎ ((size_refusal (take n xs) ≡ Some (TooLarge 0)) × (size_refusal xs ≡ Some (TooLarge 0))) → IsRefused xs fault
     go (inl same) = subst (λ text. IsRefused text fault) same h
     go (inr e) = long e.0 e.1 h
@@ -57,8 +58,13 @@ program-front n xs program above h = go (fronts n xs above)
 pub run-front : (n : ℕ) (xs keys : List ℕ) (limit : ℕ) (options : Options) (cause : Cause) (output : List ℕ)
     → 65536 < n → IsRun (take n xs) keys limit options cause output → IsRun xs keys limit options cause output
 run-front n xs keys limit options cause output above p = record {
-    program = p.program; is_program = program-front n xs p.program above p.is_program;
-    end = p.end; is_end = p.is_end; cause_is = p.cause_is; output_is = p.output_is }
+  program = p.program;
+  is_program = program-front n xs p.program above p.is_program;
+  end = p.end;
+  is_end = p.is_end;
+  cause_is = p.cause_is;
+  output_is = p.output_is;
+}
 
 pub lines-front : (n : ℕ) (xs output : List ℕ) → 65536 < n → AreObjectLines (take n xs) output → AreObjectLines xs output
 lines-front n xs output above p =

@@ -41,12 +41,15 @@ unfolding ram_byte
 ram_byte-from byte_at devices a = go (cell_at a) refl
   where
     in_page : (page : Page) (r c : ℕ) → r < 24 → c < 40
-      → byte_in (grid (memory_from byte_at devices) page) r c ≡ byte_at (address_of page r c)
+        → byte_in (grid (memory_from byte_at devices) page) r c ≡ byte_at (address_of page r c)
     in_page One r c low narrow = grid_of-byte (λ row column. byte_at (address_of One row column)) r c low narrow
     in_page Two r c low narrow = grid_of-byte (λ row column. byte_at (address_of Two row column)) r c low narrow
+
     go : (found : Option Cell) → cell_at a ≡ found
-      → (elim found [ Some cell ↦ byte_in (grid (memory_from byte_at devices) cell.page) cell.row cell.column
-                    | None ↦ plain_from byte_at a ]) ≡ byte_at a
+        → (elim found [
+          | Some cell ↦ byte_in (grid (memory_from byte_at devices) cell.page) cell.row cell.column
+          | None ↦ plain_from byte_at a
+        ]) ≡ byte_at a
     go (Some cell) is =
         let stands : StandsAt a cell = cell_at-stands a cell is in
         in_page cell.page cell.row cell.column stands.row_ok stands.column_ok ∙ ap byte_at stands.address_is
@@ -72,8 +75,8 @@ start-holds text program keys ready a among =
     let here = is_code-guard program a among in
     let byte = ready.is_held a here.1 in
     ram_byte-from (loaded_byte (held program.image)) (first_devices keys) a
-      ∙ ap (λ v. if v then unwrap_or (held program.image a) (first_byte a) else 0) (lt-ltb a ram_end here.0)
-      ∙ ap (λ o. unwrap_or o (first_byte a)) byte.1 ∙ sym (ap (λ o. unwrap_or o 0) byte.1)
+    ∙ ap (λ v. if v then unwrap_or (held program.image a) (first_byte a) else 0) (lt-ltb a ram_end here.0)
+    ∙ ap (λ o. unwrap_or o (first_byte a)) byte.1 ∙ sym (ap (λ o. unwrap_or o 0) byte.1)
 
 -- the statement that begins at an address
 record Begins (all : List Statement) (pc : ℕ) (i : Instr) : Type 0 where
@@ -91,9 +94,10 @@ begins (s ∷ more) pc i e = go (s.addr == pc) (is_some s.instr) refl e (λ late
       where
         later-in : Contains more b.s → Contains (s ∷ more) b.s
         later-in h = (suc h.0, omega (arith, h.1), h.2)
+
     go : (here some : Bool) → (s.addr == pc) ≡ here
-      → option_map_or (λ t. t.instr) (if here && some then Some s else find (begins_at pc) more) None ≡ Some i
-      → (instr_at more pc ≡ Some i → Begins (s ∷ more) pc i) → Begins (s ∷ more) pc i
+        → option_map_or (λ t. t.instr) (if here && some then Some s else find (begins_at pc) more) None ≡ Some i
+        → (instr_at more pc ≡ Some i → Begins (s ∷ more) pc i) → Begins (s ∷ more) pc i
     go true true is e later = record { s = s; among = (0, omega arith, refl); at = (let same : s.addr ≡ pc = grind (arith, nat_tests, is) in same); does = e }
     go true false is e later = later e
     go false some is e later = later e
@@ -113,6 +117,7 @@ starts-none program pc e = go (cases_lt pc ram_end)
   where
     begins_there : ℕ → Bool
     begins_there a = is_some (instr_at program.statements a)
+
     go : (pc < ram_end) ⊎ (ram_end ≤ pc) → is_among (addresses_below ram_end begins_there) pc ≡ false
     go (inl low) = among-low ram_end begins_there pc low ∙ ap is_some e
     go (inr high) = among-high ram_end begins_there pc high
@@ -128,20 +133,24 @@ same-code text program ready memory holds pc = go (instr_at program.statements p
         let low : a < ram_end = ready.in_ram a code in
         let byte = ready.is_held a code in
         ap (λ v. if v then Some (ram_byte memory a) else None) (lt-ltb a ram_end low)
-          ∙ ap (λ b. Some b) (holds a (in_code a low code) ∙ ap (λ o. unwrap_or o 0) byte.1) ∙ sym byte.1
+        ∙ ap (λ b. Some b) (holds a (in_code a low code) ∙ ap (λ o. unwrap_or o 0) byte.1) ∙ sym byte.1
       where
         in_code : (a : ℕ) → a < ram_end → IsTrue (is_code program.statements a) → IsTrue (is_among (guard_of_program program).code a)
         in_code a low code = code-guard program a low code
+
     go : (found : Option Instr) → instr_at program.statements pc ≡ found
-      → (let r : Result Decoded Cause = elim found [
-            None ↦ Err OffStatement
+        → (let r : Result Decoded Cause = elim found [
+          | None ↦ Err OffStatement
           | Some instr ↦ elim (row instr.mnemonic instr.mode) [
-              None ↦ Err OffStatement | Some found ↦ Ok (record { row = found; value = instr.value }) ] ] in r)
+            | None ↦ Err OffStatement
+            | Some found ↦ Ok (record { row = found; value = instr.value })
+          ]
+        ] in r)
         ≡ (if is_among (guard_of_program program).starts pc then decoded (fetched (peek memory) pc) else Err OffStatement)
     go None e = sym (ap (λ v. if v then decoded (fetched (peek memory) pc) else Err OffStatement) (starts-none program pc e))
     go (Some i) e =
         let b = begins program.statements pc i e in
         let d = ready.decodes (peek memory) shows b.s i b.among b.does in
         ap (λ o. let r : Result Decoded Cause = elim o [ None ↦ Err OffStatement | Some found ↦ Ok (record { row = found; value = i.value }) ] in r) d.1
-          ∙ sym (ap (λ v. if v then decoded (fetched (peek memory) pc) else Err OffStatement) (starts-guard text program pc i ready e b)
-            ∙ ap (λ a. decoded (fetched (peek memory) a)) (sym b.at) ∙ ap decoded d.2)
+        ∙ sym (ap (λ v. if v then decoded (fetched (peek memory) pc) else Err OffStatement) (starts-guard text program pc i ready e b)
+        ∙ ap (λ a. decoded (fetched (peek memory) a)) (sym b.at) ∙ ap decoded d.2)

@@ -33,29 +33,38 @@ meant : (free : Bool) (text : List ℕ) (program : Assembled) (keys : List ℕ) 
 meant true text program keys limit end ready is = is
 meant false text program keys limit end ready is =
     guarded_run (instr_at program.statements) (guard_of_program program) (laid_by program) (start_of_run program keys) limit end
-      (same-code text program ready) (start-holds text program keys ready) is
+    (same-code text program ready) (start-holds text program keys ready) is
 
 pub is_run : (text keys : List ℕ) (limit : ℕ) (options : Options) (program : Assembled) (old new : Device) (cause : Cause)
     → limit < 2 ^ 32 → IsReady text program → IsStarted options.free program keys old.state → machine.IsRun limit old new cause
     → IsRun text keys limit options cause (shown options.attr new.state cause)
 is_run text keys limit options program old new cause low ready started run = record {
-    program = program; is_program = ready.is_program;
-    end = record { world = world_of new.state; steps = new.state.steps; cause = cause };
-    is_end = meant options.free text program keys limit _ ready
+  program = program;
+  is_program = ready.is_program;
+  end = record { world = world_of new.state; steps = new.state.steps; cause = cause };
+  is_end = meant options.free text program keys limit _ ready
       (subst Steps steps (subst Most most (subst Start started.world (subst Guarded started.guard run.end))));
-    cause_is = refl; output_is = refl }
+  cause_is = refl;
+  output_is = refl;
+}
   where
     end_at : ℕ → End
     end_at n = record { world = world_of new.state; steps = n; cause = cause }
+
     Guarded : Option Guard → Type 0
     Guarded guard = IsEnd (bytes guard) (world_of old.state) (steps_left limit old.state) (end_at (new.state.steps - old.state.steps))
+
     Start : World → Type 0
     Start start = IsEnd (bytes (guard_of_run options.free program)) start (steps_left limit old.state) (end_at (new.state.steps - old.state.steps))
+
     Most : ℕ → Type 0
     Most n = IsEnd (bytes (guard_of_run options.free program)) (start_of_run program keys) n (end_at (new.state.steps - old.state.steps))
+
     Steps : ℕ → Type 0
     Steps n = IsEnd (bytes (guard_of_run options.free program)) (start_of_run program keys) limit (end_at n)
+
     most : steps_left limit old.state ≡ limit
     most = omega (arith, started.steps, low)
+
     steps : new.state.steps - old.state.steps ≡ new.state.steps
     steps = omega (arith, started.steps)

@@ -8,8 +8,8 @@ ghost use Rattle.a2_run.specs.Status.{status_of, fault_status as status_of_fault
 
 use crate::sources::{assemble_source, run_source};
 use crate::{Options, ReadingFault, RunFault};
-use a2_machine::Cause;
 use a2_bus::Keys;
+use a2_machine::Cause;
 use a2_stream::{Input, Output, fill};
 use a2_syntax::Fault;
 use std::alloc::{Allocator, Global};

@@ -81,7 +81,11 @@ fn show_picture<W: Output>(machine: &Machine, writer: &mut W) -> Result<(), Writ
 }
 
 // Writes the attribute rows, where they are asked for.
-fn show_attributes<W: Output>(machine: &Machine, attr: bool, writer: &mut W) -> Result<(), WriteFault>
+fn show_attributes<W: Output>(
+    machine: &Machine,
+    attr: bool,
+    writer: &mut W,
+) -> Result<(), WriteFault>
     ensures { SendsOrBreaks (W.taker writer.old) (W.taker writer.new) result (attributes_of attr (memory_of machine.now.state.bus)) }
 {
     if !attr {
@@ -112,10 +116,15 @@ fn show_lines<W: Output>(machine: &Machine, cause: Cause, writer: &mut W) -> Res
 
 // Writes the whole output of a run.
 #[tactic(auto, using(a2_stream::proofs::Joined::broke_off, a2_stream::proofs::Joined::went_on))]
-fn show<W: Output>(machine: &Machine, cause: Cause, attr: bool, writer: &mut W) -> Result<(), WriteFault>
+fn show<W: Output>(
+    machine: &Machine,
+    cause: Cause,
+    attr: bool,
+    writer: &mut W,
+) -> Result<(), WriteFault>
     ensures { let s = machine.now.state in
         SendsOrBreaks (W.taker writer.old) (W.taker writer.new) result
-            (screen attr (memory_of s.bus) ++ (register_line (registers_of s.regs) s.steps s.cycles ++ cause_line cause)) }
+        (screen attr (memory_of s.bus) ++ (register_line (registers_of s.regs) s.steps s.cycles ++ cause_line cause)) }
 {
     show_screen(machine, attr, writer)?;
     show_lines(machine, cause, writer)
@@ -150,7 +159,11 @@ pub fn run_source<W: Output>(
 }
 
 /// Assembles a source and writes its object lines.
-pub fn assemble_source<W: Output>(alloc: Global, source: &[u8], writer: &mut W) -> Result<(), RunFault>
+pub fn assemble_source<W: Output>(
+    alloc: Global,
+    source: &[u8],
+    writer: &mut W,
+) -> Result<(), RunFault>
     ensures meaning { Answers (IsRefused source.now) (λ _. AreObjectLines source.now) (W.taker writer.old) (W.taker writer.new) result }
     ensures no_reader { is_read_fault result ≡ false }
 {

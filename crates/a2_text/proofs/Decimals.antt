@@ -10,10 +10,10 @@ pub one_more : (number rest first : ℕ) (digits : List ℕ) → rest < 2 ^ 64 �
     → decimal (rest / 10) ++ drop (first - 1) (set digits (first - 1) (48 + rest % 10)) ≡ decimal number
 one_more number rest first digits low more size some within is =
     ap (λ d. decimal (rest / 10) ++ d) (drop-set digits (first - 1) (48 + rest % 10) (omega (arith, size)))
-      ∙ ap (λ k. decimal (rest / 10) ++ (48 + rest % 10) ∷ drop k digits) next
-      ∙ sym (append_assoc (decimal (rest / 10)) ((48 + rest % 10) ∷ []) (drop first digits))
-      ∙ ap (λ d. d ++ drop first digits) (sym (decimal_step rest more low))
-      ∙ is
+    ∙ ap (λ k. decimal (rest / 10) ++ (48 + rest % 10) ∷ drop k digits) next
+    ∙ sym (append_assoc (decimal (rest / 10)) ((48 + rest % 10) ∷ []) (drop first digits))
+    ∙ ap (λ d. d ++ drop first digits) (sym (decimal_step rest more low))
+    ∙ is
   where
     next : first - 1 + 1 ≡ first
     next = omega (arith, some)
@@ -29,9 +29,9 @@ pub last_one : (number rest first : ℕ) (digits : List ℕ) → rest < 10 → l
     → drop (first - 1) (set digits (first - 1) (48 + rest)) ≡ decimal number
 last_one number rest first digits low size some within is =
     drop-set digits (first - 1) (48 + rest) (omega (arith, size))
-      ∙ ap (λ k. (48 + rest) ∷ drop k digits) next
-      ∙ ap (λ d. d ++ drop first digits) (sym (decimal_digit rest low))
-      ∙ is
+    ∙ ap (λ k. (48 + rest) ∷ drop k digits) next
+    ∙ ap (λ d. d ++ drop first digits) (sym (decimal_digit rest low))
+    ∙ is
   where
     next : first - 1 + 1 ≡ first
     next = omega (arith, some)

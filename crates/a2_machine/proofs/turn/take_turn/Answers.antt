@@ -15,10 +15,10 @@ returns-then-not-admits-clause-turn g c =
     let low : c.args.regs.now.pc < ram_end = c.if-regs-ge-ROM.false in
     record {
       stuck_by = λ before.
-        refused c.args.watch.now (world_of c.args.regs.now c.args.board.now before) _ (no_return c.args.regs.now.pc low) (no_service c.args.regs.now.pc low)
-        (found-off c.args.watch.now (world_of c.args.regs.now c.args.board.now before) (sym c.admits.ensures ∙ c.if-not-admits.true));
+          refused c.args.watch.now (world_of c.args.regs.now c.args.board.now before) _ (no_return c.args.regs.now.pc low) (no_service c.args.regs.now.pc low)
+          (found-off c.args.watch.now (world_of c.args.regs.now c.args.board.now before) (sym c.admits.ensures ∙ c.if-not-admits.true));
       same_regs = refl;
-      same_bus = refl
+      same_bus = refl;
     }
 
 pub returns-clause-turn : goal.returns-clause-turn
@@ -26,7 +26,7 @@ returns-clause-turn g c =
     let low : c.args.regs.now.pc < ram_end = c.if-regs-ge-ROM.false in
     subst (IsTurn c.args.watch.now c.args.regs.now c.args.board.now c.guarded_step.new.regs c.guarded_step.new.bus) (sym c.turn_of.ensures)
     (instruction_turn c.args.watch.now c.args.regs.now c.args.board.now c.peek.ensures.size low (sym c.admits.ensures ∙ c.if-not-admits.false) c.guarded_step.new.regs c.guarded_step.new.bus
-      c.guarded_step.result c.guarded_step.ensures.answer c.guarded_step.ensures.registers c.guarded_step.ensures.memory c.guarded_step.ensures.refused)
+    c.guarded_step.result c.guarded_step.ensures.answer c.guarded_step.ensures.registers c.guarded_step.ensures.memory c.guarded_step.ensures.refused)
 
 pub returns-clause-cost : goal.returns-clause-cost
 returns-clause-cost g c =

@@ -13,12 +13,13 @@ pub returns-then-reach : goal.returns-then-reach
 returns-then-reach c =
     let lies = λ (a : ℕ). (mark_at c.args.marks.now a).code in
     sym (any-found (reach c.args.service) (addresses_below (length c.args.marks.now) lies) c.loop-address.address
-      (among-low (length c.args.marks.now) lies c.loop-address.address c.loop-address-test.true ∙ c.if-mark.true)
-      (sym c.reach.ensures ∙ c.if-reach.true))
+    (among-low (length c.args.marks.now) lies c.loop-address.address c.loop-address-test.true ∙ c.if-mark.true)
+    (sym c.reach.ensures ∙ c.if-reach.true))
 
 pub loop-address-preserved : goal.loop-address-preserved
 loop-address-preserved c =
     any-grown (reach c.args.service) (λ a. (mark_at c.args.marks.now a).code) c.loop-address.address c.loop-address.invariant
-      (elim c.else-mark.branch [
-        else-mark-via-then-mark+else-reach w ↦ ap₂ (λ u v. u && v) w.if-mark.true (sym w.reach.ensures ∙ w.if-reach.false)
-      | else-mark-via-else-mark w ↦ ap (λ u. u && reach c.args.service c.loop-address.address) w.if-mark.false ])
+    (elim c.else-mark.branch [
+      | else-mark-via-then-mark+else-reach w ↦ ap₂ (λ u v. u && v) w.if-mark.true (sym w.reach.ensures ∙ w.if-reach.false)
+      | else-mark-via-else-mark w ↦ ap (λ u. u && reach c.args.service c.loop-address.address) w.if-mark.false
+    ])

@@ -10,7 +10,7 @@ loop-rest-init c = record {
   text = append-nil (decimal c.args.number);
   room = length-decimal-le 20 c.args.number (lit< tt) (omega (arith, c.ranges.number.fits)) c.ranges.number.fits;
   within = lit≤ tt;
-  size = refl
+  size = refl;
 }
 
 pub overflow_sub-first : goal.overflow_sub-first
@@ -24,7 +24,7 @@ loop-rest-preserved c =
       text = one_more c.args.number c.loop-rest.rest c.loop-rest.first c.loop-rest.digits low c.loop-rest-test.true c.loop-rest.invariant.size some c.loop-rest.invariant.within c.loop-rest.invariant.text;
       room = omega (arith, c.loop-rest.invariant.room, one_less c.loop-rest.rest low c.loop-rest-test.true);
       within = omega (arith, c.loop-rest.invariant.within);
-      size = length-set c.loop-rest.digits _ _ ∙ c.loop-rest.invariant.size
+      size = length-set c.loop-rest.digits _ _ ∙ c.loop-rest.invariant.size;
     }
 
 pub overflow_sub-first-2 : goal.overflow_sub-first-2
@@ -37,5 +37,5 @@ returns c =
     let written = set c.loop-rest.digits (c.loop-rest.first - 1) (48 + c.loop-rest.rest) in
     let size : length written ≡ 20 = length-set c.loop-rest.digits _ _ ∙ c.loop-rest.invariant.size in
     c.collected.ensures
-      ∙ take_all (20 - (c.loop-rest.first - 1)) (drop (c.loop-rest.first - 1) written) (omega (arith, length-drop (c.loop-rest.first - 1) written, size))
-      ∙ last_one c.args.number c.loop-rest.rest c.loop-rest.first c.loop-rest.digits c.loop-rest-test.false c.loop-rest.invariant.size some c.loop-rest.invariant.within c.loop-rest.invariant.text
+    ∙ take_all (20 - (c.loop-rest.first - 1)) (drop (c.loop-rest.first - 1) written) (omega (arith, length-drop (c.loop-rest.first - 1) written, size))
+    ∙ last_one c.args.number c.loop-rest.rest c.loop-rest.first c.loop-rest.digits c.loop-rest-test.false c.loop-rest.invariant.size some c.loop-rest.invariant.within c.loop-rest.invariant.text

@@ -7,7 +7,7 @@ invariant-loop-rest l = record {
   text : decimal l.rest ++ drop l.first l.digits ≡ decimal l.number;
   room : length (decimal l.rest) ≤ l.first;
   within : l.first ≤ 20;
-  size : length l.digits ≡ 20
+  size : length l.digits ≡ 20;
 }
 
 abbrev pub decreases-loop-rest : goal.decreases-loop-rest

@@ -16,12 +16,12 @@ invariant_of-self g c = record {
   size = c.mark_all.ensures.size;
   free = λ off. absurd (true≢false off);
   blocks = subst (λ (marks : List Mark). BlocksBy c.blocked_by-self-inside.result (addresses_below ram_end (λ a. (mark_at marks a).code)))
-    c.deref.ensures.value c.blocked_by-self-inside.ensures
+      c.deref.ensures.value c.blocked_by-self-inside.ensures;
 }
 
 pub returns : goal.returns
 returns g c =
     ap (λ (w : Guard). Some w)
     (guard-same c.mark_all.new.marks.items c.args.program.now
-      (λ a low. c.mark_all.ensures.begins a low ∙ ap (list_any (begins_at a)) c.statements.ensures)
-      (λ a low. c.mark_all.ensures.code a low ∙ ap (λ all. is_code all a) c.statements.ensures))
+    (λ a low. c.mark_all.ensures.begins a low ∙ ap (list_any (begins_at a)) c.statements.ensures)
+    (λ a low. c.mark_all.ensures.code a low ∙ ap (λ all. is_code all a) c.statements.ensures))
