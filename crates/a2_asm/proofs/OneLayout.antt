@@ -1,51 +1,77 @@
 -- A source has one layout.
-use Rattle.std.proofs.Common.{◌≡◌, ℕ, ◌+◌, List, [], ◌∷◌, ◌++◌, length, map, fold, refl, sym, ap, ◌∙◌, arith}
-use Rattle.std.proofs.lemmas.List.{append_assoc}
+use Rattle.std.proofs.Common.{◌≡◌, ℕ, ◌+◌, List, [], ◌∷◌, ◌++◌, length, map, refl, sym, ap, ◌∙◌, arith}
+use Rattle.std.proofs.lemmas.List.{append_assoc, append-nil}
+use Rattle.a2_opcode.specs.declared.Mode.{Mode}
 use Rattle.a2_syntax.specs.declared.source.Line.{Line}
-use Rattle.a2_asm.specs.Layout.{Placed, IsLayout, rows, rows_from, end_of, address_after}
+use Rattle.a2_asm.specs.declared.place.Place.{Place}
+use Rattle.a2_asm.specs.Layout.{Row, IsPlaced, IsLayout, rows, rows_behind, row_behind, end_of, names, mode_in, size, next_of, label_of}
+use Rattle.a2_asm.proofs.RowLaws.{rows-lines}
 
-rows-lines : (n a : ℕ) (ls : List Line) → map (λ row. row.line) (rows_from n a ls) ≡ ls
-rows-lines n a [] = refl
-rows-lines n a (l ∷ ls) = ap (λ x. l ∷ x) (rows-lines (n + 1) (address_after a l.body) ls)
+-- each row lies behind those before it
+rows-placed : {A : Type 0} (done : List (Row A)) (ls : List (Line A)) (before : List (Row A)) (row : Row A) (after : List (Row A)) → rows_behind done ls ≡ before ++ row ∷ after → row ≡ row_behind (done ++ before) row.line
+rows-placed done [] [] row after e = cc
+rows-placed done [] (x ∷ xs) row after e = cc
+rows-placed done (l ∷ ls) [] row after e =
+    let here : row ≡ row_behind done l = cc in
+    here ∙ ap (λ x. row_behind x l) (sym (append-nil done)) ∙ ap (row_behind (done ++ [])) (sym (ap (λ r. r.line) here))
+rows-placed done (l ∷ ls) (x ∷ xs) row after e =
+    let first : x ≡ row_behind done l = cc in
+    let rest : rows_behind (done ++ row_behind done l ∷ []) ls ≡ xs ++ row ∷ after = cc in
+    rows-placed (done ++ row_behind done l ∷ []) ls xs row after rest
+    ∙ ap (λ x. row_behind x row.line) (append_assoc done (row_behind done l ∷ []) xs)
+    ∙ ap (λ r. row_behind (done ++ r ∷ xs) row.line) (sym first)
 
--- each row behind those before it
-rows-placed : (n a : ℕ) (ls : List Line) (before : List Placed) (row : Placed) (after : List Placed) → rows_from n a ls ≡ before ++ row ∷ after → (row.number ≡ n + length before) × (row.address ≡ fold (λ _ r. address_after r.address r.line.body) a before)
-rows-placed n a [] [] row after e = cc
-rows-placed n a [] (x ∷ xs) row after e = cc
-rows-placed n a (l ∷ ls) [] row after e =
-    let here : row ≡ record { number = n; address = a; line = l } = cc in
-    let zero-more : n ≡ n + 0 = omega arith in
-    (ap (λ r. r.number) here ∙ zero-more, ap (λ r. r.address) here)
-rows-placed n a (l ∷ ls) (x ∷ xs) row after e =
-    let first : x ≡ record { number = n; address = a; line = l } = cc in
-    let rest : rows_from (n + 1) (address_after a l.body) ls ≡ xs ++ row ∷ after = cc in
-    let h = rows-placed (n + 1) (address_after a l.body) ls xs row after rest in
-    (omega (arith, h.0), h.1 ∙ ap (λ (r : Placed). fold (λ _ q. address_after q.address q.line.body) (address_after r.address r.line.body) xs) (sym first))
+is-placed : {A : Type 0} (before : List (Row A)) (row : Row A) → row ≡ row_behind before row.line → IsPlaced before row
+is-placed before row e =
+    let here : row.place.address ≡ end_of before = ap (λ r. r.place.address) e in
+    record {
+      number = ap (λ r. r.place.number) e;
+      address = here;
+      mode = ap (λ r. r.place.mode) e ∙ ap (λ a. mode_in (names before) a row.line.body) (sym here);
+      size = ap (λ r. r.place.length) e ∙ ap (λ a. size (names before) a row.line.body) (sym here);
+      next = ap (λ r. r.next) e ∙ ap (λ a. next_of (names before) a row.line.body) (sym here);
+      label = ap (λ r. r.label) e ∙ ap (λ a. label_of (names before) a row.line.body) (sym here);
+    }
 
-pub rows-fit : (source : List Line) → IsLayout source (rows source)
+pub rows-fit : {A : Type 0} (source : List (Line A)) → IsLayout source (rows source)
 rows-fit source = record {
-  lines = rows-lines 1 768 source;
-  placed = λ before row after e. (let h = rows-placed 1 768 source before row after e in (omega (arith, h.0), h.1));
+  lines = rows-lines [] source;
+  placed = λ before row after e. is-placed before row (rows-placed [] source before row after e);
 }
 
-same-row : (a b : Placed) → a.number ≡ b.number → a.address ≡ b.address → a.line ≡ b.line → a ≡ b
-same-row a b n m l = ap (λ (x : ℕ). record { number = x; address = a.address; line = a.line }) n ∙ ap (λ (x : ℕ). record { number = b.number; address = x; line = a.line }) m ∙ ap (λ (x : Line). record { number = b.number; address = b.address; line = x }) l
+-- a row of these parts
+abbrev row-of : {A : Type 0} → Line A → ℕ → ℕ → ℕ → Mode → ℕ → ℕ → Row A
+row-of line n a s m next label = record { line = line; place = record { number = n; address = a; length = s; mode = m }; next = next; label = label }
+
+placed-row : {A : Type 0} (before : List (Row A)) (row : Row A) → IsPlaced before row → row ≡ row_behind before row.line
+placed-row before row p =
+    let l = row.line in
+    let N = names before in
+    let E = end_of before in
+    let b = row.line.body in
+    ap (λ x. row-of l x row.place.address row.place.length row.place.mode row.next row.label) p.number
+    ∙ ap (λ x. row-of l (length before + 1) x row.place.length row.place.mode row.next row.label) p.address
+    ∙ ap (λ x. row-of l (length before + 1) E x row.place.mode row.next row.label) (p.size ∙ ap (λ x. size N x b) p.address)
+    ∙ ap (λ x. row-of l (length before + 1) E (size N E b) x row.next row.label) (p.mode ∙ ap (λ x. mode_in N x b) p.address)
+    ∙ ap (λ x. row-of l (length before + 1) E (size N E b) (mode_in N E b) x row.label) (p.next ∙ ap (λ x. next_of N x b) p.address)
+    ∙ ap (λ x. row-of l (length before + 1) E (size N E b) (mode_in N E b) (next_of N E b) x) (p.label ∙ ap (λ x. label_of N x b) p.address)
+
+abbrev Follows : {A : Type 0} → List (Row A) → Type 0
+Follows {A} all = (front : List (Row A)) (row : Row A) (back : List (Row A)) → all ≡ front ++ row ∷ back → IsPlaced front row
 
 -- rows that go on alike
-alike : (before xs ys : List Placed) → map (λ row. row.line) xs ≡ map (λ row. row.line) ys → ((front : List Placed) (row : Placed) (back : List Placed) → before ++ xs ≡ front ++ row ∷ back → (row.number ≡ length front + 1) × (row.address ≡ end_of front)) → ((front : List Placed) (row : Placed) (back : List Placed) → before ++ ys ≡ front ++ row ∷ back → (row.number ≡ length front + 1) × (row.address ≡ end_of front)) → xs ≡ ys
+alike : {A : Type 0} (before xs ys : List (Row A)) → map (λ row. row.line) xs ≡ map (λ row. row.line) ys → Follows (before ++ xs) → Follows (before ++ ys) → xs ≡ ys
 alike before [] [] e h k = refl
 alike before [] (b ∷ ys) e h k = cc
 alike before (a ∷ xs) [] e h k = cc
 alike before (a ∷ xs) (b ∷ ys) e h k =
-    let x = h before a xs refl in
-    let y = k before b ys refl in
     let l : a.line ≡ b.line = cc in
     let more : map (λ row. row.line) xs ≡ map (λ row. row.line) ys = cc in
-    let same : a ≡ b = same-row a b (x.0 ∙ sym y.0) (x.1 ∙ sym y.1) l in
+    let same : a ≡ b = placed-row before a (h before a xs refl) ∙ ap (row_behind before) l ∙ sym (placed-row before b (k before b ys refl)) in
     let rest = alike (before ++ a ∷ []) xs ys more
     (λ front row back f. h front row back (sym (append_assoc before (a ∷ []) xs) ∙ f))
     (λ front row back f. k front row back (ap (λ r. before ++ r ∷ ys) (sym same) ∙ sym (append_assoc before (a ∷ []) ys) ∙ f)) in
     ap (λ r. r ∷ xs) same ∙ ap (λ zs. b ∷ zs) rest
 
-pub one-layout : (source : List Line) (a b : List Placed) → IsLayout source a → IsLayout source b → a ≡ b
+pub one-layout : {A : Type 0} (source : List (Line A)) (a b : List (Row A)) → IsLayout source a → IsLayout source b → a ≡ b
 one-layout source a b h k = alike [] a b (h.lines ∙ sym k.lines) h.placed k.placed

@@ -1,168 +1,108 @@
 -- The lines in their places.
-use Rattle.std.proofs.Common.{◌≡◌, ℕ, zero, suc, ◌+◌, ◌<◌, ◌≤◌, Bool, true, false, not, ltb, ◌&&◌, List, [], ◌∷◌, ◌++◌, length, get_or, take, map, fold, refl, sym, ap, ◌∙◌, subst, Option, Some, None, arith}
-use Rattle.std.proofs.lemmas.Bool.Decides.{nat_tests}
-use Rattle.std.proofs.lemmas.List.{append_assoc, append-nil}
-use Rattle.a2_text.specs.Refusals.{◌otherwise◌, refuse_if}
-use Rattle.a2_syntax.specs.declared.fault.Fault.{Fault}
-use Rattle.a2_syntax.specs.declared.fault.Fault.TheVariants.{Duplicate, NoMode, Outside, Unknown, Range}
+use Rattle.std.proofs.Common.{◌≡◌, ℕ, zero, suc, ◌+◌, ◌<◌, ◌≤◌, Bool, true, false, cond, ◌&&◌, ◌||◌, List, [], ◌∷◌, ◌++◌, length, get_or, take, drop, map, fold, refl, sym, ap, ◌∙◌, Option, Some, None, is_some, arith}
+use Rattle.std.specs.List.{list_all, list_any}
+use Rattle.std.specs.Option.{option_map_or}
+use Rattle.std.specs.Str.{bytes_eq}
+use Rattle.std.proofs.lemmas.List.{append_assoc, append-nil, take_more, take-append-drop}
+use Rattle.std.proofs.lemmas.List.Sums.{fold_push}
 use Rattle.a2_syntax.specs.declared.source.Line.{Line}
-use Rattle.a2_opcode.specs.declared.Mnemonic.{Mnemonic}
-use Rattle.a2_opcode.specs.declared.Row.{Row}
-use Rattle.a2_opcode.specs.Table.{length_of}
-use Rattle.a2_syntax.specs.declared.source.Operand.{Operand}
-use Rattle.a2_syntax.specs.declared.source.Operand.TheVariants.{Nothing, Immediate, Plain}
+use Rattle.a2_syntax.specs.declared.source.Signed.{Signed}
+use Rattle.a2_syntax.specs.declared.source.Expr.{Expr}
 use Rattle.a2_syntax.specs.declared.source.Term.{Term}
-use Rattle.a2_syntax.specs.declared.source.Body.{Body}
-use Rattle.a2_syntax.specs.declared.source.Body.TheVariants.{Empty, Org, Equ, Instr}
-use Rattle.a2_opcode.specs.declared.Instr as opcode
-use Rattle.a2_asm.specs.declared.program.Statement.{Statement}
-use Rattle.a2_asm.specs.Forms.{mode_of, row_for, size, lacks_row, greatest, row_bytes, instr_bytes}
-use Rattle.a2_asm.specs.Layout.{Placed, rows_from, rows, address_after, address_behind, first_behind, refuse_place, refuse_operand, refuse_value, is_known, term_value, bytes_of, statement_of, instr_of, operand_value, is_taken, names, number_behind}
+use Rattle.a2_syntax.specs.declared.source.Term.TheVariants.{Number, Named, Here}
+use Rattle.a2_asm.specs.declared.place.Place.{Place}
+use Rattle.a2_asm.specs.Values.{Names, value_of, is_known_term, is_known}
+use Rattle.a2_asm.specs.Entries.{AreAmong}
+use Rattle.a2_asm.specs.Layout.{Row, row_behind, rows_behind, rows, names, end_of, defined_by}
+use Rattle.a2_asm.proofs.FirstLaws.{flat_map-push}
 
-pub rows-length : (n a : ℕ) (ls : List Line) → length (rows_from n a ls) ≡ length ls
-rows-length n a [] = refl
-rows-length n a (l ∷ ls) = omega (arith, rows-length (n + 1) (address_after a l.body) ls)
+pub rows-length : {A : Type 0} (before : List (Row A)) (ls : List (Line A)) → length (rows_behind before ls) ≡ length ls
+rows-length before [] = refl
+rows-length before (l ∷ ls) = ap suc (rows-length (before ++ row_behind before l ∷ []) ls)
 
-pub addresses-length : (n a : ℕ) (ls : List Line) → length (map (λ row. row.address) (rows_from n a ls)) ≡ length ls
-addresses-length n a [] = refl
-addresses-length n a (l ∷ ls) = omega (arith, addresses-length (n + 1) (address_after a l.body) ls)
+pub rows-lines : {A : Type 0} (before : List (Row A)) (ls : List (Line A)) → map (λ row. row.line) (rows_behind before ls) ≡ ls
+rows-lines before [] = refl
+rows-lines before (l ∷ ls) = ap (λ x. l ∷ x) (rows-lines (before ++ row_behind before l ∷ []) ls)
 
-pub rows-at : (n a : ℕ) (ls : List Line) (i : ℕ) (line : Line) (d : Placed) → i < length ls → get_or ls i line ≡ line → get_or (rows_from n a ls) i d ≡ record { number = n + i; address = get_or (map (λ row. row.address) (rows_from n a ls)) i 0; line = line }
-rows-at n a [] i line d lt e = absurd (omega (arith, lt))
-rows-at n a (l ∷ ls) zero line d lt e =
-    let m : n ≡ n + 0 = omega arith in
-    ap (λ (x : ℕ). record { number = x; address = a; line = l }) m ∙ ap (λ (x : Line). record { number = n + 0; address = a; line = x }) e
-rows-at n a (l ∷ ls) (suc i) line d lt e =
-    let m : n + 1 + i ≡ n + suc i = omega arith in
-    let R = rows_from (n + 1) (address_after a l.body) ls in
-    rows-at (n + 1) (address_after a l.body) ls i line d (omega (arith, lt)) e ∙ ap (λ (x : ℕ). record { number = x; address = get_or (map (λ row. row.address) R) i 0; line = line }) m
-
-pub address-at : (n a : ℕ) (ls : List Line) (i : ℕ) → i < length ls → get_or (map (λ row. row.address) (rows_from n a ls)) i 0 ≡ fold (λ address line. address_after address line.body) a (take i ls)
-address-at n a [] i lt = absurd (omega (arith, lt))
-address-at n a (l ∷ ls) zero lt = refl
-address-at n a (l ∷ ls) (suc i) lt = address-at (n + 1) (address_after a l.body) ls i (omega (arith, lt))
-
-pub otherwise-left : (o p : Option Fault) → o otherwise p ≡ None → o ≡ None
-otherwise-left None p h = refl
-otherwise-left (Some f) p h = cc
-
-pub otherwise-right : (o p : Option Fault) → o otherwise p ≡ None → p ≡ None
-otherwise-right None p h = h
-otherwise-right (Some f) p h = cc
-
--- a check that refuses no line refuses each line not
-pub first_behind-at : {X : Type 0} (check : List X → X → Option Fault) (before xs : List X) (i : ℕ) (d : X) → i < length xs → first_behind check before xs ≡ None → check (before ++ take i xs) (get_or xs i d) ≡ None
-first_behind-at check before [] i d lt h = absurd (omega (arith, lt))
-first_behind-at check before (x ∷ xs) zero d lt h = ap (λ y. check y x) (append-nil before) ∙ otherwise-left _ _ h
-first_behind-at check before (x ∷ xs) (suc i) d lt h =
-    ap (λ y. check y (get_or xs i d)) (sym (append_assoc before (x ∷ []) (take i xs))) ∙ first_behind-at check (before ++ x ∷ []) xs i d (omega (arith, lt)) (otherwise-right _ _ h)
-
-pub if-none : (b : Bool) (f : Fault) → refuse_if b f ≡ None → b ≡ false
-if-none false f h = refl
-if-none true f h = cc
-
-pub two-none : (a b : Bool) (f g : Fault) → (refuse_if a f otherwise refuse_if b g) ≡ None → (a ≡ false) × (b ≡ false)
-two-none true b f g h = cc
-two-none false b f g h = (refl, if-none b g h)
-
-three-none : (a b c : Bool) (f g h : Fault) → (refuse_if a f otherwise refuse_if b g otherwise refuse_if c h) ≡ None → (a ≡ false) × (b ≡ false) × (c ≡ false)
-three-none true b c f g h e = cc
-three-none false b c f g h e = let r = two-none b c g h e in (refl, r.0, r.1)
-
-place-tests : (before : List Line) (line : Line) → refuse_place before line ≡ None → (is_taken (names before) line.label ≡ false) × (lacks_row line.body ≡ false) × ((ltb 0 (size line.body) && ltb 49152 (address_behind before + size line.body)) ≡ false)
-place-tests before line h = three-none (is_taken (names before) line.label) (lacks_row line.body) (ltb 0 (size line.body) && ltb 49152 (address_behind before + size line.body)) (Duplicate (number_behind before)) (NoMode (number_behind before)) (Outside (number_behind before)) h
-
-place-room : (before : List Line) (line : Line) → refuse_place before line ≡ None → 0 < size line.body → address_behind before + size line.body ≤ 49152
-place-room before line h lt = let r = (place-tests before line h).2 in grind (arith, nat_tests)
-
--- a line that is an instruction has a row
-pub form-at : (ls : List Line) (i : ℕ) (line : Line) → i < length ls → get_or ls i line ≡ line → first_behind refuse_place [] ls ≡ None → lacks_row line.body ≡ false
-form-at ls i line lt e h =
-    let P : Line → Type 0 = λ x. refuse_place (take i ls) x ≡ None in
-    (place-tests (take i ls) line (subst P e (first_behind-at refuse_place [] ls i line lt h))).1
-
--- a line's bytes lie below $C000
-pub room-at : (ls : List Line) (i : ℕ) (line : Line) → i < length ls → get_or ls i line ≡ line → first_behind refuse_place [] ls ≡ None → 0 < size line.body → get_or (map (λ row. row.address) (rows ls)) i 0 + size line.body ≤ 49152
-room-at ls i line lt e h some =
-    let P : Line → Type 0 = λ x. refuse_place (take i ls) x ≡ None in
-    omega (arith, address-at 1 768 ls i lt, place-room (take i ls) line (subst P e (first_behind-at refuse_place [] ls i line lt h)) some)
-
-row_bytes-length : (found : Option Row) (o : Operand) (v : ℕ) → length (row_bytes found o v) ≤ length_of (mode_of o)
-row_bytes-length None o v = omega arith
-row_bytes-length (Some r) Nothing v = omega arith
-row_bytes-length (Some r) (Immediate e) v = omega arith
-row_bytes-length (Some r) (Plain e) v = omega arith
-
-pub bytes-length : (known : List (List ℕ × ℕ)) (m : Mnemonic) (o : Operand) → length (bytes_of known (Instr m o)) ≤ size (Instr m o)
-bytes-length known m o = row_bytes-length (row_for m o) o (operand_value known o)
-
-pub instr-size : (m : Mnemonic) (o : Operand) → 0 < size (Instr m o)
-instr-size m Nothing = omega arith
-instr-size m (Immediate e) = omega arith
-instr-size m (Plain e) = omega arith
-
-value-fits : (known : List (List ℕ × ℕ)) (most n : ℕ) (e : Term) → refuse_value known most n e ≡ None → term_value known e ≤ most
-value-fits known most n e h = let r = (two-none (not (is_known known e)) (ltb most (term_value known e)) (Unknown n) (Range n) h).1 in grind (arith, nat_tests)
-
-pub operand-fits : (known : List (List ℕ × ℕ)) (n : ℕ) (m : Mnemonic) (o : Operand) → refuse_operand known n (Instr m o) ≡ None → operand_value known o ≤ greatest o
-operand-fits known n m Nothing h = omega arith
-operand-fits known n m (Immediate e) h = value-fits known 255 n e h
-operand-fits known n m (Plain e) h = value-fits known 65535 n e h
+rows-from : {A : Type 0} (before : List (Row A)) (ls : List (Line A)) (i : ℕ) (line : Line A) (d : Row A) → i < length ls → line ≡ get_or ls i line → get_or (rows_behind before ls) i d ≡ row_behind (before ++ take i (rows_behind before ls)) line
+rows-from before [] i line d lt e = absurd (omega (arith, lt))
+rows-from before (l ∷ ls) zero line d lt e = ap (λ x. row_behind x l) (sym (append-nil before)) ∙ ap (row_behind (before ++ [])) (sym e)
+rows-from before (l ∷ ls) (suc i) line d lt e =
+    let r = row_behind before l in
+    let more = rows_behind (before ++ r ∷ []) ls in
+    rows-from (before ++ r ∷ []) ls i line d (omega (arith, lt)) e ∙ ap (λ x. row_behind x line) (append_assoc before (r ∷ []) (take i more))
 
 -- the row of a line
-pub row-is : (lines : List Line) (addresses : List ℕ) (i : ℕ) (line : Line) → addresses ≡ map (λ row. row.address) (rows lines) → i < length lines → line ≡ get_or lines i line → get_or (rows lines) i (record { number = i + 1; address = get_or addresses i 0; line = line }) ≡ record { number = i + 1; address = get_or addresses i 0; line = line }
-row-is lines addresses i line a lt e =
-    let all = map (λ row. row.address) (rows lines) in
-    let m : 1 + i ≡ i + 1 = omega arith in
-    rows-at 1 768 lines i line (record { number = i + 1; address = get_or addresses i 0; line = line }) lt (sym e)
-    ∙ ap (λ (x : ℕ). record { number = x; address = get_or all i 0; line = line }) m
-    ∙ ap (λ (x : List ℕ). record { number = i + 1; address = get_or x i 0; line = line }) (sym a)
+pub row-at : {A : Type 0} (ls : List (Line A)) (i : ℕ) (line : Line A) (d : Row A) → i < length ls → line ≡ get_or ls i line → get_or (rows ls) i d ≡ row_behind (take i (rows ls)) line
+row-at ls i line d lt e = rows-from [] ls i line d lt e
 
-pub row-within : (lines : List Line) (i : ℕ) → i < length lines → i < length (rows lines)
-row-within lines i lt = omega (arith, rows-length 1 768 lines)
+pub row-within : {A : Type 0} (ls : List (Line A)) (i : ℕ) → i < length ls → i < length (rows ls)
+row-within ls i lt = omega (arith, lt, rows-length [] ls)
 
-pub bytes-is : (known : List (List ℕ × ℕ)) (body : Body) (m : Mnemonic) (o : Operand) (instr : opcode.Instr) → body ≡ Instr m o → instr ≡ instr_of known m o → instr_bytes m o instr.value ≡ bytes_of known body
-bytes-is known body m o instr b is = ap (λ x. instr_bytes m o x.value) is ∙ ap (bytes_of known) (sym b)
+pub rows-more : {A : Type 0} (ls : List (Line A)) (i : ℕ) (line : Line A) → i < length ls → line ≡ get_or ls i line → take (i + 1) (rows ls) ≡ take i (rows ls) ++ row_behind (take i (rows ls)) line ∷ []
+rows-more ls i line lt e =
+    let r = row_behind (take i (rows ls)) line in
+    take_more (rows ls) i r (row-within ls i lt) ∙ ap (λ x. take i (rows ls) ++ x ∷ []) (row-at ls i line r lt e)
 
-pub room-for : (lines : List Line) (addresses : List ℕ) (known : List (List ℕ × ℕ)) (i : ℕ) (line : Line) (m : Mnemonic) (o : Operand) (instr : opcode.Instr) → addresses ≡ map (λ row. row.address) (rows lines) → i < length lines → line ≡ get_or lines i line → first_behind refuse_place [] lines ≡ None → line.body ≡ Instr m o → instr ≡ instr_of known m o → get_or addresses i 0 + length (instr_bytes m o instr.value) ≤ 49152
-room-for lines addresses known i line m o instr a lt e h b is =
-    let size-is : size line.body ≡ size (Instr m o) = ap size b in
-    let some : 0 < size line.body = omega (arith, instr-size m o) in
-    omega (arith, ap (λ (xs : List ℕ). get_or xs i 0) a, ap (λ x. length (instr_bytes m o x.value)) is, bytes-length known m o, room-at lines i line lt (sym e) h some)
+pub names-push : {A : Type 0} (xs : List (Row A)) (row : Row A) → names (xs ++ row ∷ []) ≡ names xs ++ defined_by row.line.label row.label
+names-push xs row = flat_map-push (λ r. defined_by r.line.label r.label) xs row
 
-pub fits-for : (known : List (List ℕ × ℕ)) (n : ℕ) (body : Body) (m : Mnemonic) (o : Operand) (instr : opcode.Instr) → body ≡ Instr m o → instr ≡ instr_of known m o → refuse_operand known n body ≡ None → instr.value ≤ greatest o
-fits-for known n body m o instr b is h =
-    let P : opcode.Instr → Type 0 = λ x. x.value ≤ greatest o in
-    subst P (sym is) (operand-fits known n m o (sym (ap (refuse_operand known n) b) ∙ h))
+pub end-push : {A : Type 0} (xs : List (Row A)) (row : Row A) → end_of (xs ++ row ∷ []) ≡ row.next
+end-push xs row = fold_push (λ _ r. r.next) 768 xs row
 
-pub statement-is : (known : List (List ℕ × ℕ)) (row : Placed) (body : Body) (m : Mnemonic) (o : Operand) (instr : opcode.Instr) (n : ℕ) → body ≡ Instr m o → instr ≡ instr_of known m o → n ≡ size body → statement_of known row body ≡ record { line = row.number; addr = row.address; length = n; instr = Some instr } ∷ []
-statement-is known row body m o instr n b is k =
-    let of-length : ℕ → Statement = λ x. record { line = row.number; addr = row.address; length = x; instr = Some (instr_of known m o) } in
-    let of-instr : opcode.Instr → Statement = λ x. record { line = row.number; addr = row.address; length = n; instr = Some x } in
-    ap (statement_of known row) b ∙ ap (λ x. of-length x ∷ []) (sym (ap size b) ∙ sym k) ∙ ap (λ x. of-instr x ∷ []) (sym is)
+if-some : (b : Bool) (v : ℕ) (o p : Option ℕ) → (is_some o ≡ true → is_some p ≡ true) → is_some (cond b (Some v) o) ≡ true → is_some (cond b (Some v) p) ≡ true
+if-some true v o p h k = refl
+if-some false v o p h k = h k
 
-pub no-bytes : (known : List (List ℕ × ℕ)) (body : Body) → ((m : Mnemonic) (o : Operand) → body ≡ Instr m o → ⊥) → bytes_of known body ≡ []
-no-bytes known (Instr m o) h = absurd (h m o refl)
-no-bytes known (Org n) h = refl
-no-bytes known (Equ n) h = refl
-no-bytes known Empty h = refl
+value_of-append : (xs ys : Names) (name : List ℕ) → is_some (value_of xs name) ≡ true → is_some (value_of (xs ++ ys) name) ≡ true
+value_of-append [] ys name h = cc
+value_of-append (x ∷ xs) ys name h = if-some (bytes_eq name x.0) x.1 (value_of xs name) (value_of (xs ++ ys) name) (value_of-append xs ys name) h
 
-pub no-statement : (known : List (List ℕ × ℕ)) (row : Placed) (body : Body) → ((m : Mnemonic) (o : Operand) → body ≡ Instr m o → ⊥) → statement_of known row body ≡ []
-no-statement known row (Instr m o) h = absurd (h m o refl)
-no-statement known row (Org n) h = refl
-no-statement known row (Equ n) h = refl
-no-statement known row Empty h = refl
+names-append : {A : Type 0} (xs ys : List (Row A)) → names (xs ++ ys) ≡ names xs ++ names ys
+names-append [] ys = refl
+names-append (x ∷ xs) ys = ap (λ z. defined_by x.line.label x.label ++ z) (names-append xs ys) ∙ sym (append_assoc (defined_by x.line.label x.label) (names xs) (names ys))
 
-pub get_or-same : {X : Type 0} (xs : List X) (i : ℕ) (x y : X) → i < length xs → get_or xs i x ≡ get_or xs i y
-get_or-same [] i x y lt = absurd (omega (arith, lt))
-get_or-same (z ∷ zs) zero x y lt = refl
-get_or-same (z ∷ zs) (suc i) x y lt = get_or-same zs i x y (omega (arith, lt))
+-- the names of the front rows are among those of all
+pub front-among : {A : Type 0} (xs : List (Row A)) (i : ℕ) → AreAmong (names (take i xs)) (names xs)
+front-among xs i name h =
+    ap (λ x. is_some (value_of x name)) (ap names (sym (take-append-drop i xs)) ∙ names-append (take i xs) (drop i xs)) ∙ value_of-append (names (take i xs)) (names (drop i xs)) name h
 
--- the line of a row
-pub row-place : (source : List Line) (i : ℕ) (row : Placed) → i < length (rows source) → get_or (rows source) i row ≡ row → (line : Line) × (get_or source i line ≡ line) × (i < length source) × (row.line ≡ line) × (row.address ≡ get_or (map (λ r. r.address) (rows source)) i 0)
-row-place source i row lt e =
-    let line = get_or source i row.line in
-    let within : i < length source = omega (arith, rows-length 1 768 source, lt) in
-    let same : get_or source i line ≡ line = get_or-same source i line row.line within in
-    let is = sym e ∙ rows-at 1 768 source i line row within same in
-    (line, same, within, ap (λ r. r.line) is, ap (λ r. r.address) is)
+known-term : {A : Type 0} (these those : Names) → AreAmong these those → (t : Term A) → is_known_term these t ≡ true → is_known_term those t ≡ true
+known-term these those among (Named name) h = among name h
+known-term these those among (Number n) h = refl
+known-term these those among Here h = refl
+
+and-both : (a b c d : Bool) → (a ≡ true → c ≡ true) → (b ≡ true → d ≡ true) → (a && b) ≡ true → (c && d) ≡ true
+and-both true true c d h k e = ap (λ x. x && d) (h refl) ∙ k refl
+and-both true false c d h k e = cc
+and-both false b c d h k e = cc
+
+known-terms : {A : Type 0} (these those : Names) → AreAmong these those → (ts : List (Signed A)) → list_all (λ t. is_known_term these t.term) ts ≡ true → list_all (λ t. is_known_term those t.term) ts ≡ true
+known-terms these those among [] h = refl
+known-terms these those among (t ∷ ts) h = and-both (is_known_term these t.term) (list_all (λ s. is_known_term these s.term) ts) (is_known_term those t.term) (list_all (λ s. is_known_term those s.term) ts) (known-term these those among t.term) (known-terms these those among ts) h
+
+-- what is known early is known
+pub known-more : {A : Type 0} (these those : Names) → AreAmong these those → (e : Expr A) → is_known these e ≡ true → is_known those e ≡ true
+known-more these those among e h = known-terms these those among e.terms h
+
+-- a line has a name as its label
+abbrev pub labelled : {A : Type 0} → List ℕ → List (Line A) → Bool
+labelled name ls = list_any (λ line. option_map_or (bytes_eq name) line.label false) ls
+
+label-more : (name : List ℕ) (label : Option (List ℕ)) (v : ℕ) (rest : Names) (b : Bool) → b ≡ is_some (value_of rest name) → (option_map_or (bytes_eq name) label false || b) ≡ is_some (value_of (defined_by label v ++ rest) name)
+label-more name None v rest b h = h
+label-more name (Some n) v rest b h = by (bytes_eq name n)
+  where
+    by : (c : Bool) → (c || b) ≡ is_some (cond c (Some v) (value_of rest name))
+    by true = refl
+    by false = h
+
+labelled-from : {A : Type 0} (name : List ℕ) (before : List (Row A)) (ls : List (Line A)) → labelled name ls ≡ is_some (value_of (names (rows_behind before ls)) name)
+labelled-from name before [] = refl
+labelled-from name before (l ∷ ls) =
+    let r = row_behind before l in
+    label-more name l.label r.label (names (rows_behind (before ++ r ∷ []) ls)) (labelled name ls) (labelled-from name (before ++ r ∷ []) ls)
+
+-- the labels of the lines are the names
+pub labelled-is : {A : Type 0} (name : List ℕ) (ls : List (Line A)) → labelled name ls ≡ is_some (value_of (names (rows ls)) name)
+labelled-is name ls = labelled-from name [] ls

@@ -1,160 +1,96 @@
--- Where the lines lie, what the names stand for, and the first refusal of a source. This project's profile.
-use Rattle.std.specs.Prelude.{◌≡◌, ℕ, ◌+◌, Bool, true, false, ◌&&◌, not, nat_lt, nat_le, List, [], ◌∷◌, ◌++◌, length, map, fold, count_by, Option, Some, None, is_some, unwrap_or, if◌then◌else◌}
-use Rattle.std.specs.List.{flat_map}
-use Rattle.std.specs.Str.{bytes_eq}
-use Rattle.a2_text.specs.Refusals.{◌otherwise◌, refuse_if}
-use Rattle.a2_syntax.specs.declared.fault.Fault.{Fault}
-use Rattle.a2_syntax.specs.declared.fault.Fault.TheVariants.{Duplicate, NoMode, Outside, TooManyNames, NoCode, Unknown, Range, Overlap}
-use Rattle.a2_opcode.specs.declared.Mnemonic.{Mnemonic}
-use Rattle.a2_syntax.specs.declared.source.Term.{Term}
-use Rattle.a2_syntax.specs.declared.source.Term.TheVariants.{Number, Named}
-use Rattle.a2_syntax.specs.declared.source.Operand.{Operand}
-use Rattle.a2_syntax.specs.declared.source.Operand.TheVariants.{Nothing, Immediate, Plain}
+-- Where the lines lie, and what their labels stand for. This project's profile.
+use Rattle.std.specs.Prelude.{◌≡◌, ℕ, ◌+◌, ◌*◌, List, [], ◌∷◌, ◌++◌, length, map, fold, flat_map, Option, Some, None, unwrap_or}
+use Rattle.a2_opcode.specs.declared.Mode.{Mode}
+use Rattle.a2_opcode.specs.declared.Mode.TheVariants.{Implied}
+use Rattle.a2_opcode.specs.Table.{length_of}
 use Rattle.a2_syntax.specs.declared.source.Body.{Body}
-use Rattle.a2_syntax.specs.declared.source.Body.TheVariants.{Org, Equ, Instr}
+use Rattle.a2_syntax.specs.declared.source.Body.TheVariants.{Empty, Instr, Org, Equ, Dfb, Dw, Asc, Ds}
 use Rattle.a2_syntax.specs.declared.source.Line.{Line}
-use Rattle.a2_asm.specs.declared.program.Statement.{Statement}
-use Rattle.a2_opcode.specs.declared.Instr as opcode
-use Rattle.a2_asm.specs.Forms.{mode_of, size, lacks_row, greatest, instr_bytes}
-use Rattle.a2_asm.specs.Laying.{byte_from, meets}
+use Rattle.a2_asm.specs.declared.place.Place.{Place}
+use Rattle.a2_asm.specs.Values.{Names, number}
+use Rattle.a2_asm.specs.Modes.{mode_of}
 
--- where the next line begins, if this one begins at address
-abbrev pub address_after : ℕ → Body → ℕ
-address_after address (Org n) = n
-address_after address body = address + size body
+-- the mode of a line's instruction; a line without one counts as Implied
+abbrev pub mode_in : {A : Type 0} → Names → ℕ → Body A → Mode
+mode_in earlier here (Instr m operand) = mode_of earlier here m operand
+mode_in earlier here body = Implied
 
--- where a line behind these lines begins
-abbrev pub address_behind : List Line → ℕ
-address_behind before = fold (λ address line. address_after address line.body) 768 before
+-- the value of ORG, EQU or DS, by names of earlier lines. One out of range counts 0: it is refused by its own rule.
+abbrev pub word : {A : Type 0} → Names → ℕ → Body A → ℕ
+word earlier here (Org e) = unwrap_or (number earlier 65535 here e) 0
+word earlier here (Equ e) = unwrap_or (number earlier 65535 here e) 0
+word earlier here (Ds e) = unwrap_or (number earlier 65535 here e) 0
+word earlier here body = 0
 
--- the name that a line defines, with its value
-abbrev pub defined_by : Option (List ℕ) → Body → List (List ℕ × ℕ)
-defined_by (Some name) (Equ n) = (name, n) ∷ []
-defined_by label body = []
+-- how many bytes a line takes
+abbrev pub size : {A : Type 0} → Names → ℕ → Body A → ℕ
+size earlier here (Instr m operand) = length_of (mode_of earlier here m operand)
+size earlier here (Dfb es) = length es
+size earlier here (Dw es) = 2 * length es
+size earlier here (Asc bytes) = length bytes
+size earlier here (Ds e) = word earlier here (Ds e)
+size earlier here body = 0
 
--- the names, in the order of the lines
-abbrev pub names : List Line → List (List ℕ × ℕ)
-names lines = flat_map (λ line. defined_by line.label line.body) lines
+-- where the next line begins: behind ORG at its value, else behind the line's bytes
+abbrev pub next_of : {A : Type 0} → Names → ℕ → Body A → ℕ
+next_of earlier here (Org e) = word earlier here (Org e)
+next_of earlier here body = here + size earlier here body
 
--- the value of a name: that of the first line that defines it
-abbrev pub value_of : List (List ℕ × ℕ) → List ℕ → Option ℕ
-value_of [] name = None
-value_of (entry ∷ more) name = if bytes_eq name entry.0 then Some entry.1 else value_of more name
+-- what a label stands for: the value of EQU, the new address of ORG, else the line's address
+abbrev pub label_of : {A : Type 0} → Names → ℕ → Body A → ℕ
+label_of earlier here (Org e) = word earlier here (Org e)
+label_of earlier here (Equ e) = word earlier here (Equ e)
+label_of earlier here body = here
 
-abbrev pub is_taken : List (List ℕ × ℕ) → Option (List ℕ) → Bool
-is_taken known None = false
-is_taken known (Some name) = is_some (value_of known name)
+-- a line in its place, where the next one begins, and what its label stands for
+pub record Row (A : Type 0) : Type 0 where
+  pub line : Line A
+  pub place : Place
+  pub next : ℕ
+  pub label : ℕ
 
--- the first refusal of a list by a check that sees what stands before each element
-abbrev pub first_behind : {X : Type 0} → (List X → X → Option Fault) → List X → List X → Option Fault
-first_behind check before [] = None
-first_behind check before (x ∷ xs) = check before x otherwise first_behind check (before ++ x ∷ []) xs
+abbrev pub defined_by : Option (List ℕ) → ℕ → Names
+defined_by None value = []
+defined_by (Some name) value = (name, value) ∷ []
 
--- the number of the line behind these lines
-abbrev pub number_behind : List Line → ℕ
-number_behind before = length before + 1
+-- the names that rows define
+abbrev pub names : {A : Type 0} → List (Row A) → Names
+names rows = flat_map (λ row. defined_by row.line.label row.label) rows
 
-abbrev pub refuse_names : List Line → Line → Option Fault
-refuse_names before line =
-    refuse_if (is_some line.label && nat_le 1024 (count_by (λ other. is_some other.label) before)) (TooManyNames (number_behind before))
+-- where the line behind these rows begins
+abbrev pub end_of : {A : Type 0} → List (Row A) → ℕ
+end_of rows = fold (λ _ row. row.next) 768 rows
 
-abbrev pub refuse_place : List Line → Line → Option Fault
-refuse_place before line =
-    refuse_if (is_taken (names before) line.label) (Duplicate (number_behind before)) otherwise
-    refuse_if (lacks_row line.body) (NoMode (number_behind before)) otherwise
-    refuse_if (nat_lt 0 (size line.body) && nat_lt 49152 (address_behind before + size line.body)) (Outside (number_behind before))
+-- a row lies behind these rows
+pub record IsPlaced {A : Type 0} (before : List (Row A)) (row : Row A) : Type 0 where
+  pub number : row.place.number ≡ length before + 1
+  pub address : row.place.address ≡ end_of before
+  pub mode : row.place.mode ≡ mode_in (names before) row.place.address row.line.body
+  pub size : row.place.length ≡ size (names before) row.place.address row.line.body
+  pub next : row.next ≡ next_of (names before) row.place.address row.line.body
+  pub label : row.label ≡ label_of (names before) row.place.address row.line.body
 
--- a line in its place
-pub record Placed : Type 0 where
-  pub number : ℕ
-  pub address : ℕ
-  pub line : Line
+-- The layout: a row for each line, and each lies behind those before it.
+pub record IsLayout {A : Type 0} (source : List (Line A)) (rows : List (Row A)) : Type 0 where
+  pub lines : map (λ row. row.line) rows ≡ source
+  pub placed : (before : List (Row A)) (row : Row A) (after : List (Row A)) → rows ≡ before ++ row ∷ after → IsPlaced before row
 
-abbrev pub rows_from : ℕ → ℕ → List Line → List Placed
-rows_from n address [] = []
-rows_from n address (line ∷ lines) =
-    record { number = n; address = address; line = line } ∷ rows_from (n + 1) (address_after address line.body) lines
+abbrev pub place_of : {A : Type 0} → Names → ℕ → ℕ → Body A → Place
+place_of earlier number here body = record { number = number; address = here; length = size earlier here body; mode = mode_in earlier here body }
 
--- the lines in their places
-abbrev pub rows : List Line → List Placed
-rows source = rows_from 1 768 source
+-- the row of a line that lies behind these rows
+abbrev pub row_behind : {A : Type 0} → List (Row A) → Line A → Row A
+row_behind before line = record {
+  line = line;
+  place = place_of (names before) (length before + 1) (end_of before) line.body;
+  next = next_of (names before) (end_of before) line.body;
+  label = label_of (names before) (end_of before) line.body;
+}
 
--- where a line behind these rows begins
-abbrev pub end_of : List Placed → ℕ
-end_of before = fold (λ _ row. address_after row.address row.line.body) 768 before
+abbrev pub rows_behind : {A : Type 0} → List (Row A) → List (Line A) → List (Row A)
+rows_behind before [] = []
+rows_behind before (line ∷ lines) = row_behind before line ∷ rows_behind (before ++ row_behind before line ∷ []) lines
 
--- The layout: a row for each line, and each begins where those before it end.
-pub record IsLayout (source : List Line) (places : List Placed) : Type 0 where
-  pub lines : map (λ row. row.line) places ≡ source
-  pub placed : (before : List Placed) (row : Placed) (after : List Placed) → places ≡ before ++ row ∷ after → (row.number ≡ length before + 1) × (row.address ≡ end_of before)
-
--- what a term stands for. A name that is not known counts 0: it is refused by its own rule.
-abbrev pub term_value : List (List ℕ × ℕ) → Term → ℕ
-term_value known (Number n) = n
-term_value known (Named name) = unwrap_or (value_of known name) 0
-
-abbrev pub is_known : List (List ℕ × ℕ) → Term → Bool
-is_known known (Number n) = true
-is_known known (Named name) = is_some (value_of known name)
-
-abbrev pub operand_value : List (List ℕ × ℕ) → Operand → ℕ
-operand_value known Nothing = 0
-operand_value known (Immediate e) = term_value known e
-operand_value known (Plain e) = term_value known e
-
--- the instruction of a line
-abbrev pub instr_of : List (List ℕ × ℕ) → Mnemonic → Operand → opcode.Instr
-instr_of known m operand = record { mnemonic = m; mode = mode_of operand; value = operand_value known operand }
-
--- the bytes of a line
-abbrev pub bytes_of : List (List ℕ × ℕ) → Body → List ℕ
-bytes_of known (Instr m operand) = instr_bytes m operand (operand_value known operand)
-bytes_of known body = []
-
--- what rows hold at an address
-abbrev pub image : List (List ℕ × ℕ) → List Placed → ℕ → Option ℕ
-image known [] a = None
-image known (row ∷ more) a = byte_from row.address (bytes_of known row.line.body) a otherwise image known more a
-
--- the statement of a row, if it has one
-abbrev pub statement_of : List (List ℕ × ℕ) → Placed → Body → List Statement
-statement_of known row (Instr m operand) =
-    record { line = row.number; addr = row.address; length = size (Instr m operand); instr = Some (instr_of known m operand) } ∷ []
-statement_of known row body = []
-
-abbrev pub statements : List (List ℕ × ℕ) → List Placed → List Statement
-statements known places = flat_map (λ row. statement_of known row row.line.body) places
-
-abbrev pub is_instruction : Body → Bool
-is_instruction (Instr m operand) = true
-is_instruction body = false
-
--- the address of the first instruction
-abbrev pub entry : List Placed → Option ℕ
-entry [] = None
-entry (row ∷ more) = if is_instruction row.line.body then Some row.address else entry more
-
--- a value is refused where a name is unknown, and else where it is too large
-abbrev pub refuse_value : List (List ℕ × ℕ) → ℕ → ℕ → Term → Option Fault
-refuse_value known most n term =
-    refuse_if (not (is_known known term)) (Unknown n) otherwise
-    refuse_if (nat_lt most (term_value known term)) (Range n)
-
-abbrev pub refuse_operand : List (List ℕ × ℕ) → ℕ → Body → Option Fault
-refuse_operand known n (Instr m (Immediate e)) = refuse_value known (greatest (Immediate e)) n e
-refuse_operand known n (Instr m (Plain e)) = refuse_value known (greatest (Plain e)) n e
-refuse_operand known n body = None
-
--- a line's operand, and then the addresses that statements before it hold
-abbrev pub refuse_bytes : List (List ℕ × ℕ) → List Placed → Placed → Option Fault
-refuse_bytes known before row =
-    refuse_operand known row.number row.line.body otherwise
-    refuse_if (meets (image known before) row.address (bytes_of known row.line.body)) (Overlap row.number)
-
--- the first refusal of the lines of a source
-abbrev pub layout_refusal : List Line → Option Fault
-layout_refusal source =
-    first_behind refuse_names [] source otherwise
-    first_behind refuse_place [] source otherwise
-    refuse_if (not (is_some (entry (rows source)))) NoCode otherwise
-    first_behind (refuse_bytes (names source)) [] (rows source)
+-- the lines of a source in their places
+abbrev pub rows : {A : Type 0} → List (Line A) → List (Row A)
+rows source = rows_behind [] source

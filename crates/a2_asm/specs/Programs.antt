@@ -10,7 +10,9 @@ use Rattle.a2_syntax.specs.declared.source.Line.{Line}
 use Rattle.a2_hex.specs.Images.{held}
 use Rattle.a2_asm.specs.declared.program.Statement.{Statement}
 use Rattle.a2_asm.specs.Assembled.{Assembled}
-use Rattle.a2_asm.specs.Layout.{names, rows, image, statements, entry, layout_refusal}
+use Rattle.a2_asm.specs.Layout.{names, rows}
+use Rattle.a2_asm.specs.Bytes.{image, statements, entry}
+use Rattle.a2_asm.specs.Refusals.{layout_refusal}
 
 -- an instruction that begins at an address
 abbrev pub begins_at : ℕ → Statement → Bool
@@ -29,11 +31,11 @@ abbrev pub is_code : List Statement → ℕ → Bool
 is_code all a = list_any (covers a) all
 
 -- the program of a source that is not refused
-pub record IsProgram (source : List Line) (p : Assembled) : Type 0 where
+pub record IsProgram {A : Type 0} (source : List (Line A)) (p : Assembled) : Type 0 where
   pub accepted : layout_refusal source ≡ None
-  pub named : p.names ≡ names source
-  pub laid : (a : ℕ) → held p.image a ≡ image (names source) (rows source) a
-  pub stated : p.statements ≡ statements (names source) (rows source)
+  pub named : p.names ≡ names (rows source)
+  pub laid : (a : ℕ) → held p.image a ≡ image (names (rows source)) (rows source) a
+  pub stated : p.statements ≡ statements (names (rows source)) (rows source)
   pub begins : entry (rows source) ≡ Some p.entry
 
 -- a memory shows the bytes of code as they were laid
@@ -54,9 +56,14 @@ StatementsBegin p =
     (s : Statement) (i : Instr) → Contains p.statements s → s.instr ≡ Some i →
     (instr_at p.statements s.addr ≡ Some i) × IsTrue (is_code p.statements s.addr) × (s.length ≡ length_of i.mode)
 
+-- a byte of a statement lies at an address
+abbrev pub Holds : Statement → ℕ → Type 0
+Holds s a = (s.addr ≤ a) × (a < s.addr + s.length)
+
 -- no two statements share an address
 abbrev pub StatementsApart : Assembled → Type 0
-StatementsApart p = (s t : Statement) → Contains p.statements s → Contains p.statements t → s.addr ≡ t.addr → s ≡ t
+StatementsApart p =
+    (s t : Statement) (a : ℕ) → Contains p.statements s → Contains p.statements t → Holds s a → Holds t a → s ≡ t
 
 -- each byte of code is below $C000
 abbrev pub CodeInRam : Assembled → Type 0

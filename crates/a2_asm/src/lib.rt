@@ -2,14 +2,17 @@
 #![tactic(auto)]
 
 mod assembling;
-mod forms;
+mod bytes;
 mod laying;
 mod layout;
+mod modes;
+mod place;
 mod program;
+mod values;
 
 pub use assembling::assemble;
 pub use layout::a_source_has_one_layout;
-pub use program::{Program, Statement};
+pub use program::{Names, Program, Statement};
 
 #[cfg(test)]
 mod tests;

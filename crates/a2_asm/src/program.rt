@@ -1,14 +1,19 @@
 //! Programs: what the assembler makes.
 
 ghost use Rattle.std.specs.Prelude.{◌≡◌};
-ghost use Rattle.a2_asm.specs.Layout.{value_of};
+ghost use Rattle.a2_asm.specs.Values.{value_of};
 ghost use Rattle.a2_asm.specs.Entries.{entries};
 ghost use Rattle.a2_asm.specs.Programs as program;
 
 use a2_hex::Image;
 use a2_opcode::Instr;
 use indexmap::IndexMap;
+use std::alloc::{Allocator, Global};
+use std::hash::{BuildHasherDefault, FoldHasher};
 use std::marker::Model;
+
+/// Names with their values, in the order of the lines that define them.
+pub type Names<A = Global> = IndexMap<String<A>, u16, BuildHasherDefault<FoldHasher>, A>;
 
 /// A statement in its place: its line, from 1; the address of its first byte; how many bytes it holds; and its
 /// instruction, if it is one.
@@ -23,14 +28,14 @@ pub struct Statement {
 /// What the assembler makes of a source. Contracts see an image, a list of statements, a list of names with their
 /// values, and the entry. Only `assemble` makes one.
 #[derive(Drop)]
-pub struct Program {
-    image: Image,
-    statements: Vec<Statement>,
-    names: IndexMap<String, u16>,
+pub struct Program<A: Allocator = Global> {
+    image: Image<A>,
+    statements: Vec<Statement, A>,
+    names: IndexMap<String<A>, u16, BuildHasherDefault<FoldHasher>, A>,
     entry: u16,
 }
 
-impl Model for Program {
+impl<A: Allocator> Model for Program<A> {
     ghost use Rattle.a2_asm.specs.Assembled.{Assembled};
     ghost use Rattle.a2_asm.specs.Entries.{entries};
 
@@ -46,14 +51,14 @@ fn begins_at(statement: &Statement, addr: u16) -> bool
     statement.addr == addr && statement.instr.is_some()
 }
 
-impl Program {
+impl<A: Allocator> Program<A> {
     // The program of these parts.
     pub(crate) fn of(
-        image: Image,
-        statements: Vec<Statement>,
-        names: IndexMap<String, u16>,
+        image: Image<A>,
+        statements: Vec<Statement, A>,
+        names: Names<A>,
         entry: u16,
-    ) -> Program
+    ) -> Program<A>
         ensures { result ≡ record { image = image; statements = statements.items; names = entries names; entry = entry } }
     {
         Program {
@@ -65,7 +70,7 @@ impl Program {
     }
 
     /// The bytes of all statements.
-    pub fn image(&self) -> &Image
+    pub fn image(&self) -> &Image<A>
         ensures { result.now ≡ self.now.image }
     {
         &self.image
@@ -79,7 +84,7 @@ impl Program {
     }
 
     /// The names with their values, in the order of the lines that define them.
-    pub fn names(&self) -> &IndexMap<String, u16>
+    pub fn names(&self) -> &Names<A>
         ensures { entries result.now ≡ self.now.names }
     {
         &self.names

@@ -27,19 +27,25 @@ struct Left {
     output: Vec<u8>,
 }
 
-/// Runs a source with no keys.
-fn left_by(alloc: Global, source: &str, limit: u32, options: Options) -> Left {
+/// Runs a source with these keys.
+fn typed(alloc: Global, source: &str, keys: &str, limit: u32, options: Options) -> Left {
+    let keys = Keys::parse(keys).unwrap_or(Keys::new());
     let mut output = Vec::new(alloc);
     let mut reader = FromRead::new(source.as_bytes());
     let answer = run_text(
         alloc,
         &mut reader,
-        &Keys::new(),
+        &keys,
         limit,
         options,
         &mut ToWrite::new(&mut output),
     );
     Left { answer, output }
+}
+
+/// Runs a source with no keys.
+fn left_by(alloc: Global, source: &str, limit: u32, options: Options) -> Left {
+    typed(alloc, source, "", limit, options)
 }
 
 /// The row of the screen, of 40 characters, from 0 on.
@@ -180,6 +186,8 @@ fn refusals(rt: HostRuntime) {
         ("N EQU 1\nN EQU 2\n RTS", Fault::Duplicate(2)),
         (" LDA #Q", Fault::Unknown(1)),
         (" LDA #256", Fault::Range(1)),
+        (" ORG $300\n BEQ $382", Fault::Branch(2)),
+        (" ORG $300\n BEQ $281", Fault::Branch(2)),
         (" ORG $BFFF\n LDA #1", Fault::Outside(2)),
         (" ORG $300\n RTS\n ORG $300\n BRK", Fault::Overlap(4)),
     ] {
@@ -190,26 +198,260 @@ fn refusals(rt: HostRuntime) {
     }
 }
 
-// A line with GETLN reads the keys that were typed.
+// A row of the screen, and register and cause line, of programs of the whole language.
 #[test]
-fn keys_are_read(rt: HostRuntime) {
-    let keys = Keys::parse("HI\\r").unwrap_or(Keys::new());
-    let mut output = Vec::new(rt.alloc());
-    let mut reader = FromRead::new(b" ORG $300\n JSR $FD6A\n RTS".as_slice());
-    let answer = run_text(
-        rt.alloc(),
-        &mut reader,
-        &keys,
-        1_000_000,
-        GUARDED,
-        &mut ToWrite::new(&mut output),
-    );
-    assert_eq!(rt; answer, Ok(Cause::Returned));
-    assert!(rt; begins_with(row_of(output.as_slice(), 0), "*HI "));
-    assert_eq!(rt;
-        lines_of(output.as_slice()),
-        b"A=00 X=02 Y=00 P=30 S=FF PC=FF69 STEPS=3 CYCLES=18\nSTOP RETURNED\n".as_slice()
-    );
+fn programs(rt: HostRuntime) {
+    for (source, keys, limit, options, number, row, lines) in [
+        (
+            "COUT EQU $FDED\nCROUT EQU $FD8E\n ORG $300\n LDA #$5A\n STA $47F\n JSR CROUT\n JSR CROUT\n LDA #$D1\n JSR COUT\n LDX #23\nL JSR CROUT\n DEX\n BNE L\n LDA #$DA\n JSR COUT\n LDA $47F\n RTS",
+            "",
+            1000000,
+            GUARDED,
+            0,
+            "Q   ",
+            "A=5A X=00 Y=00 P=30 S=FF PC=FF69 STEPS=107 CYCLES=460\nSTOP RETURNED\n",
+        ),
+        (
+            "COUT EQU $FDED\n ORG $300\n LDX #40\n LDA #$C2\nL JSR COUT\n DEX\n BNE L\n LDA #$C3\n JSR COUT\n LDA $24\n LDY $25\n RTS",
+            "",
+            1000000,
+            GUARDED,
+            1,
+            "C   ",
+            "A=01 X=00 Y=01 P=30 S=FF PC=FF69 STEPS=168 CYCLES=709\nSTOP RETURNED\n",
+        ),
+        (
+            "COUT EQU $FDED\nHOME EQU $FC58\n ORG $300\n LDA #10\n STA $20\n LDA #5\n STA $21\n LDA #3\n STA $22\n LDA #6\n STA $23\n LDA #$3F\n STA $32\n JSR HOME\n LDA #$C1\n JSR COUT\n RTS",
+            "",
+            1000000,
+            GUARDED,
+            3,
+            "          A   ",
+            "A=C1 X=00 Y=00 P=B0 S=FF PC=FF69 STEPS=16 CYCLES=57\nSTOP RETURNED\n",
+        ),
+        (
+            " ORG $300\n LDA #$88\n JSR $FDED\n LDA $24\n LDX $25\n RTS",
+            "",
+            1000000,
+            GUARDED,
+            0,
+            "    ",
+            "A=27 X=00 Y=00 P=32 S=FF PC=FF69 STEPS=6 CYCLES=26\nSTOP RETURNED\n",
+        ),
+        (
+            " ORG $300\n JSR $FD6A\n RTS",
+            "HI",
+            1000000,
+            GUARDED,
+            0,
+            "    ",
+            "A=00 X=00 Y=00 P=30 S=FB PC=FD6A STEPS=1 CYCLES=6\nSTOP KEYS\n",
+        ),
+        (
+            " ORG $300\n JSR $FD6A\n RTS",
+            "HI\\r",
+            1000000,
+            GUARDED,
+            0,
+            "*HI   ",
+            "A=00 X=02 Y=00 P=30 S=FF PC=FF69 STEPS=3 CYCLES=18\nSTOP RETURNED\n",
+        ),
+        (
+            " ORG $300\n JSR $FD6A\n RTS",
+            "AB\\bC\\r",
+            1000000,
+            GUARDED,
+            0,
+            "*AC   ",
+            "A=00 X=02 Y=00 P=30 S=FF PC=FF69 STEPS=3 CYCLES=18\nSTOP RETURNED\n",
+        ),
+        (
+            " ORG $300\n JSR $FD6A\n RTS",
+            "AB\\b\\f\\r",
+            1000000,
+            GUARDED,
+            0,
+            "*AB   ",
+            "A=00 X=02 Y=00 P=30 S=FF PC=FF69 STEPS=3 CYCLES=18\nSTOP RETURNED\n",
+        ),
+        (
+            " ORG $300\n JSR $FD6A\n RTS",
+            "A\\xB\\r",
+            1000000,
+            GUARDED,
+            1,
+            "*B   ",
+            "A=00 X=01 Y=00 P=30 S=FF PC=FF69 STEPS=3 CYCLES=18\nSTOP RETURNED\n",
+        ),
+        (
+            " ORG $300\n JSR $FD6A\n RTS",
+            "\\b\\r",
+            1000000,
+            GUARDED,
+            1,
+            "*   ",
+            "A=00 X=00 Y=00 P=30 S=FF PC=FF69 STEPS=3 CYCLES=18\nSTOP RETURNED\n",
+        ),
+        (
+            " ORG $300\nS LDA S\n JSR $FDDA\n RTS",
+            "",
+            1000000,
+            GUARDED,
+            0,
+            "AD   ",
+            "A=AD X=00 Y=00 P=B0 S=FF PC=FF69 STEPS=4 CYCLES=22\nSTOP RETURNED\n",
+        ),
+        (
+            " ORG $400\n ASC \"HELLO\"\n ORG $300\n RTS",
+            "",
+            0,
+            GUARDED,
+            0,
+            "HELLO   ",
+            "A=00 X=00 Y=00 P=30 S=FD PC=0300 STEPS=0 CYCLES=0\nSTOP LIMIT\n",
+        ),
+        (
+            " ORG $300\n LDA #1\n DFB $2C\n LDA #2\n RTS",
+            "",
+            1000000,
+            GUARDED,
+            0,
+            "    ",
+            "A=01 X=00 Y=00 P=30 S=FD PC=0302 STEPS=1 CYCLES=2\nSTOP OFF STATEMENT\n",
+        ),
+        (
+            " ORG $300\n LDA #1\n DFB $2C\n LDA #2\n RTS",
+            "",
+            1000000,
+            FREE,
+            0,
+            "    ",
+            "A=01 X=00 Y=00 P=32 S=FF PC=FF69 STEPS=3 CYCLES=12\nSTOP RETURNED\n",
+        ),
+        (
+            " ORG $400\n LDA #7\n STA $400\n RTS",
+            "",
+            1000000,
+            GUARDED,
+            0,
+            ")GM@D    ",
+            "A=07 X=00 Y=00 P=30 S=FD PC=0402 STEPS=1 CYCLES=2\nSTOP CODE WRITE\n",
+        ),
+        (
+            " ORG $300\nL LDA $C000\n BPL L\n STA $C010\n STA $50\n JMP L",
+            "Q",
+            9,
+            GUARDED,
+            0,
+            "    ",
+            "A=51 X=00 Y=00 P=30 S=FD PC=0300 STEPS=9 CYCLES=30\nSTOP LIMIT\n",
+        ),
+        (
+            " ORG $300\n CLC\n LDA #$7F\n ADC #$01\n RTS",
+            "",
+            1000000,
+            GUARDED,
+            0,
+            "    ",
+            "A=80 X=00 Y=00 P=F0 S=FF PC=FF69 STEPS=4 CYCLES=12\nSTOP RETURNED\n",
+        ),
+        (
+            " ORG $300\n SEC\n LDA #$80\n SBC #$01\n RTS",
+            "",
+            1000000,
+            GUARDED,
+            0,
+            "    ",
+            "A=7F X=00 Y=00 P=71 S=FF PC=FF69 STEPS=4 CYCLES=12\nSTOP RETURNED\n",
+        ),
+        (
+            " ORG $300\n SED\n LDA #5\n ADC #1",
+            "",
+            1000000,
+            GUARDED,
+            0,
+            "    ",
+            "A=05 X=00 Y=00 P=38 S=FD PC=0303 STEPS=2 CYCLES=4\nSTOP DECIMAL\n",
+        ),
+        (
+            " ORG $300\n JMP ($3FF)\n ORG $3FF\n DFB $05\n ORG $6C05\n RTS",
+            "",
+            1000000,
+            GUARDED,
+            0,
+            "    ",
+            "A=00 X=00 Y=00 P=30 S=FF PC=FF69 STEPS=2 CYCLES=11\nSTOP RETURNED\n",
+        ),
+        (
+            " ORG $300\n INC $C010\n LDA $C000\n RTS",
+            "AB",
+            1000000,
+            GUARDED,
+            0,
+            "    ",
+            "A=42 X=00 Y=00 P=30 S=FF PC=FF69 STEPS=3 CYCLES=16\nSTOP RETURNED\n",
+        ),
+        (
+            " ORG $300\n LDA #1\n JSR $FCA8\n RTS",
+            "",
+            1000000,
+            GUARDED,
+            0,
+            "    ",
+            "A=00 X=00 Y=00 P=30 S=FF PC=FF69 STEPS=4 CYCLES=37\nSTOP RETURNED\n",
+        ),
+        (
+            " ORG $300\n LDX #1\n LDA $2FF,X\n RTS",
+            "",
+            1000000,
+            GUARDED,
+            0,
+            "    ",
+            "A=A2 X=01 Y=00 P=B0 S=FF PC=FF69 STEPS=3 CYCLES=13\nSTOP RETURNED\n",
+        ),
+        (
+            " ORG $2FC\n CLC\n BCC L\n NOP\n NOP\nL RTS",
+            "",
+            1000000,
+            GUARDED,
+            0,
+            "    ",
+            "A=00 X=00 Y=00 P=30 S=FF PC=FF69 STEPS=3 CYCLES=12\nSTOP RETURNED\n",
+        ),
+    ] {
+        let left = typed(rt.alloc(), source, keys, limit, options);
+        assert!(rt;
+            begins_with(row_of(left.output.as_slice(), number), row),
+            "{source}"
+        );
+        assert_eq!(rt;
+            lines_of(left.output.as_slice()),
+            lines.as_bytes(),
+            "{source}"
+        );
+    }
+}
+
+// Object lines, or the refusal of the source.
+#[test]
+fn assembled(rt: HostRuntime) {
+    for (source, lines) in [
+        (" ORG $300\n BEQ $381", "0300:F0 7F\n"),
+        (" ORG $300\n BEQ $282", "0300:F0 80\n"),
+        (" ORG $300\n LDA Z\nZ EQU $10", "0300:AD 10 00\n"),
+        ("Z EQU $10\n ORG $300\n LDA Z", "0300:A5 10\n"),
+        (" ORG $BFFF\n RTS", "BFFF:60\n"),
+        (
+            " ORG $400\n ASC \"HELLO\"\n ORG $300\n RTS",
+            "0300:60\n0400:C8 C5 CC CC CF\n",
+        ),
+    ] {
+        let mut output = Vec::new(rt.alloc());
+        let mut reader = FromRead::new(source.as_bytes());
+        let answer = asm_text(rt.alloc(), &mut reader, &mut ToWrite::new(&mut output));
+        assert_eq!(rt; answer, Ok(()), "{source}");
+        assert_eq!(rt; output.as_slice(), lines.as_bytes(), "{source}");
+    }
 }
 
 // The object lines of the five lines.

@@ -1,14 +1,15 @@
 -- What a source text means: its first refusal, or its run and its object lines.
 use Rattle.std.specs.Prelude.{◌≡◌, ◌⊎◌, ℕ, Bool, List, [], ◌++◌, Option, Some, None, if◌then◌else◌}
+use Rattle.std.specs.declared.alloc.Global.{Global}
 use Rattle.a2_page.specs.Picture as page
 use Rattle.a2_bus.specs.Memory.{Memory}
 use Rattle.a2_hex.specs.Images.{held}
 use Rattle.a2_hex.specs.ObjectText.{object_text}
 use Rattle.a2_syntax.specs.declared.fault.Fault.{Fault}
 use Rattle.a2_syntax.specs.declared.source.Line.{Line}
-use Rattle.a2_syntax.specs.Grammar.{IsSource, IsTextRefusal}
+use Rattle.a2_syntax.specs.Sources.{IsSource, IsTextRefusal}
 use Rattle.a2_asm.specs.Assembled.{Assembled}
-use Rattle.a2_asm.specs.Layout.{layout_refusal}
+use Rattle.a2_asm.specs.Refusals.{layout_refusal}
 use Rattle.a2_asm.specs.Programs.{IsProgram, instr_at}
 use Rattle.a2_services.specs.World.{World}
 use Rattle.a2_machine.specs.declared.Cause.{Cause}
@@ -22,14 +23,14 @@ use Rattle.a2_run.specs.declared.Options.{Options}
 -- the text is accepted, and this is its program: the grammar gives it lines, and these the layout, names, image and
 -- statements
 pub record IsProgramOf (text : List ℕ) (program : Assembled) : Type 0 where
-  pub source : List Line
+  pub source : List (Line Global)
   pub is_source : IsSource text source
   pub is_program : IsProgram source program
 
 -- the text has this first refusal: of its size or grammar, or of the layout of its lines
 abbrev pub IsRefused : List ℕ → Fault → Type 0
 IsRefused text fault =
-    IsTextRefusal text fault ⊎ ((source : List Line) × IsSource text source × (layout_refusal source ≡ Some fault))
+    IsTextRefusal Global text fault ⊎ ((source : List (Line Global)) × IsSource text source × (layout_refusal source ≡ Some fault))
 
 -- where a run's instructions come from: in a guarded run from the program's statements, in a free one from memory's bytes
 abbrev pub code_of_run : Bool → Assembled → Code

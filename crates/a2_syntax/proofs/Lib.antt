@@ -1,5 +1,8 @@
-mod PieceLaws
-mod NameLaws
-mod LineLaws
-mod ParseLaws
-mod OneReading
+pub mod NameLaws
+pub mod PieceLaws
+pub mod ExprLaws
+pub mod OperandLaws
+pub mod BodyLaws
+pub mod LineLaws
+pub mod ParseLaws
+pub mod OneReading

@@ -1,15 +1,16 @@
 -- A text spells one list of pieces at most.
-use Rattle.std.proofs.Common.{◌≡◌, ℕ, suc, ◌+◌, ◌<◌, Bool, true, false, cond, eqb, List, [], ◌∷◌, ◌++◌, length, take, drop, refl, sym, ap, ◌∙◌, subst, inl, inr, arith}
+use Rattle.std.proofs.Common.{◌≡◌, ℕ, suc, ◌+◌, ◌<◌, Bool, true, false, eqb, List, [], ◌∷◌, ◌++◌, length, take, drop, refl, sym, ap, ◌∙◌, subst, inl, inr, arith, eq-eqb, length-append}
 use Rattle.std.specs.List.{prefix_len, AllPass}
 use Rattle.std.proofs.lemmas.Bool.Decides.{nat_tests}
-use Rattle.std.proofs.lemmas.Bool.{cases_lt, cond-true, cond-false, ne_eqb, eqb-true, eqb-false, false≢true}
+use Rattle.std.proofs.lemmas.Bool.{cases_lt, cases_Bool, cond-true, cond-false, ne_eqb, eqb-true, false≢true}
 use Rattle.std.proofs.lemmas.List.{append-nil, append_assoc, take-append-drop, drop_at, take_at, drop_more, drop_all, get_or-take, length-take-le}
 use Rattle.std.proofs.lemmas.List.Elements.{All-head, All-tail, All-from_get_or}
 use Rattle.std.proofs.lemmas.List.Sums.{prefix_len_passes, prefix_len_stops, prefix_len-le-length}
 use Rattle.a2_text.specs.Bytes.{is_blank}
 use Rattle.a2_syntax.specs.Names.{is_name_byte}
-use Rattle.a2_syntax.specs.Pieces.{is_sign, EndsRun, IsRun, IsPiece, IsBehindBlanks, is_over, Spells}
-use Rattle.a2_syntax.specs.Reading.{behind_blanks, run_len, piece_len}
+use Rattle.a2_syntax.specs.Numbers.{is_quote, is_quotable}
+use Rattle.a2_syntax.specs.Pieces.{is_sign, is_mark, EndsRun, IsRun, IsPiece, IsBehindBlanks, is_over, Spells}
+use Rattle.a2_syntax.specs.Reading.{behind_blanks, run_len, closed_len, quoted_len, marked_len, piece_len}
 
 abbrev pub Stops : (ℕ → Bool) → List ℕ → Type 0
 Stops p [] = Unit {0}
@@ -60,8 +61,35 @@ name-not_comment c h = grind (arith, nat_tests)
 name-not_sign : (c : ℕ) → is_name_byte c ≡ true → is_sign c ≡ false
 name-not_sign c h = grind (arith, nat_tests)
 
-name-not_dollar : (c : ℕ) → is_name_byte c ≡ true → eqb c 36 ≡ false
-name-not_dollar c h = grind (arith, nat_tests)
+name-not_mark : (c : ℕ) → is_name_byte c ≡ true → is_mark c ≡ false
+name-not_mark c h = grind (arith, nat_tests)
+
+name-not_quote : (c : ℕ) → is_name_byte c ≡ true → is_quote c ≡ false
+name-not_quote c h = grind (arith, nat_tests)
+
+mark-not_blank : (c : ℕ) → is_mark c ≡ true → is_blank c ≡ false
+mark-not_blank c h = grind (arith, nat_tests)
+
+mark-not_comment : (c : ℕ) → is_mark c ≡ true → eqb c 59 ≡ false
+mark-not_comment c h = grind (arith, nat_tests)
+
+mark-not_sign : (c : ℕ) → is_mark c ≡ true → is_sign c ≡ false
+mark-not_sign c h = grind (arith, nat_tests)
+
+quote-not_blank : (c : ℕ) → is_quote c ≡ true → is_blank c ≡ false
+quote-not_blank c h = grind (arith, nat_tests)
+
+quote-not_comment : (c : ℕ) → is_quote c ≡ true → eqb c 59 ≡ false
+quote-not_comment c h = grind (arith, nat_tests)
+
+quote-not_sign : (c : ℕ) → is_quote c ≡ true → is_sign c ≡ false
+quote-not_sign c h = grind (arith, nat_tests)
+
+quote-not_mark : (c : ℕ) → is_quote c ≡ true → is_mark c ≡ false
+quote-not_mark c h = grind (arith, nat_tests)
+
+quote-stops : (q : ℕ) → is_quotable q q ≡ false
+quote-stops q = grind (arith, nat_tests)
 
 -- the piece at the front
 IsRun-front : (xs : List ℕ) → 0 < run_len xs → IsRun (take (run_len xs) xs) (drop (run_len xs) xs)
@@ -84,61 +112,106 @@ run_len-run run rest h = prefix_len-append is_name_byte run rest h.1 (stops-run 
 piece_len-sign : (c : ℕ) (cs : List ℕ) → is_sign c ≡ true → piece_len (c ∷ cs) ≡ 1
 piece_len-sign c cs h = cond-true (is_sign c) 1 _ h
 
-piece_len-dollar : (cs : List ℕ) → piece_len (36 ∷ cs) ≡ cond (eqb (run_len cs) 0) 0 (1 + run_len cs)
-piece_len-dollar cs = refl
+piece_len-mark : (c : ℕ) (cs : List ℕ) → is_mark c ≡ true → piece_len (c ∷ cs) ≡ marked_len cs
+piece_len-mark c cs m = cond-false (is_sign c) 1 _ (mark-not_sign c m) ∙ cond-true (is_mark c) (marked_len cs) _ m
 
-piece_len-other : (c : ℕ) (cs : List ℕ) → is_sign c ≡ false → eqb c 36 ≡ false → piece_len (c ∷ cs) ≡ run_len (c ∷ cs)
-piece_len-other c cs s d = cond-false (is_sign c) 1 _ s ∙ cond-false (eqb c 36) _ (run_len (c ∷ cs)) d
+piece_len-quote : (c : ℕ) (cs : List ℕ) → is_quote c ≡ true → piece_len (c ∷ cs) ≡ quoted_len c cs
+piece_len-quote c cs q =
+    cond-false (is_sign c) 1 _ (quote-not_sign c q) ∙ cond-false (is_mark c) (marked_len cs) _ (quote-not_mark c q) ∙ cond-true (is_quote c) (quoted_len c cs) _ q
+
+piece_len-other : (c : ℕ) (cs : List ℕ) → is_sign c ≡ false → is_mark c ≡ false → is_quote c ≡ false → piece_len (c ∷ cs) ≡ run_len (c ∷ cs)
+piece_len-other c cs s m q =
+    cond-false (is_sign c) 1 _ s ∙ cond-false (is_mark c) (marked_len cs) _ m ∙ cond-false (is_quote c) (quoted_len c cs) (run_len (c ∷ cs)) q
+
+marked_len-some : (cs : List ℕ) → 0 < run_len cs → marked_len cs ≡ 1 + run_len cs
+marked_len-some cs h = cond-false (eqb (run_len cs) 0) 0 (1 + run_len cs) (ne_eqb _ 0 (λ z. absurd (omega (arith, h, z))))
+
+quoted_len-is : (q : ℕ) (text rest : List ℕ) → AllPass (is_quotable q) text → quoted_len q ((text ++ q ∷ []) ++ rest) ≡ length text + 2
+quoted_len-is q text rest h =
+    let n : prefix_len (is_quotable q) (text ++ q ∷ rest) ≡ length text = prefix_len-append (is_quotable q) text (q ∷ rest) h (quote-stops q) in
+    let d : drop (length text) (text ++ q ∷ rest) ≡ q ∷ rest = drop_at text (q ∷ rest) (length text) refl in
+    ap (quoted_len q) (append_assoc text (q ∷ []) rest)
+    ∙ ap (λ k. closed_len q k (drop k (text ++ q ∷ rest))) n
+    ∙ ap (closed_len q (length text)) d
+    ∙ cond-true (eqb q q) (length text + 2) 0 (eq-eqb q q refl)
+
+quoted-length : (q : ℕ) (text : List ℕ) → length (q ∷ text ++ q ∷ []) ≡ length text + 2
+quoted-length q text = omega (arith, length-append text (q ∷ []))
 
 piece_len-piece : (piece rest : List ℕ) → IsPiece piece rest → piece_len (piece ++ rest) ≡ length piece
 piece_len-piece piece rest (inl (c, e, s)) = rw e (piece_len-sign c rest s)
-piece_len-piece piece rest (inr (inl (run, e, h))) =
+piece_len-piece piece rest (inr (inl (c, run, e, m, h))) =
     let n = run_len-run run rest h in
-    let ne : run_len (run ++ rest) ≡ 0 → ⊥ = λ z. absurd (omega (arith, n, h.0)) in
-    rw e (cond-false (eqb (run_len (run ++ rest)) 0) 0 (1 + run_len (run ++ rest)) (ne_eqb _ 0 ne) ∙ omega (arith, n))
-piece_len-piece [] rest (inr (inr h)) = absurd (omega (arith, h.0))
-piece_len-piece (c ∷ cs) rest (inr (inr h)) =
+    let some : 0 < run_len (run ++ rest) = omega (arith, n, h.0) in
+    rw e (piece_len-mark c (run ++ rest) m ∙ marked_len-some (run ++ rest) some ∙ omega (arith, n))
+piece_len-piece piece rest (inr (inr (inl (q, text, (is, h, e))))) =
+    ap (λ x. piece_len (x ++ rest)) e ∙ piece_len-quote q ((text ++ q ∷ []) ++ rest) is ∙ quoted_len-is q text rest h ∙ sym (ap length e ∙ quoted-length q text)
+piece_len-piece [] rest (inr (inr (inr h))) = absurd (omega (arith, h.0))
+piece_len-piece (c ∷ cs) rest (inr (inr (inr h))) =
     let first = All-head (λ x. is_name_byte x ≡ true) c cs h.1 in
-    piece_len-other c (cs ++ rest) (name-not_sign c first) (name-not_dollar c first) ∙ run_len-run (c ∷ cs) rest h
+    piece_len-other c (cs ++ rest) (name-not_sign c first) (name-not_mark c first) (name-not_quote c first) ∙ run_len-run (c ∷ cs) rest h
 
 -- a piece begins with no blank, and is no comment
 piece-not_blank : (piece rest : List ℕ) → IsPiece piece rest → Stops is_blank (piece ++ rest)
 piece-not_blank piece rest (inl (c, e, s)) = let P : List ℕ → Type 0 = λ x. Stops is_blank (x ++ rest) in subst P (sym e) (sign-not_blank c s)
-piece-not_blank piece rest (inr (inl (run, e, h))) = let P : List ℕ → Type 0 = λ x. Stops is_blank (x ++ rest) in subst P (sym e) refl
-piece-not_blank [] rest (inr (inr h)) = absurd (omega (arith, h.0))
-piece-not_blank (c ∷ cs) rest (inr (inr h)) = name-not_blank c (All-head (λ x. is_name_byte x ≡ true) c cs h.1)
+piece-not_blank piece rest (inr (inl (c, run, e, m, h))) = let P : List ℕ → Type 0 = λ x. Stops is_blank (x ++ rest) in subst P (sym e) (mark-not_blank c m)
+piece-not_blank piece rest (inr (inr (inl (q, text, (is, h, e))))) = let P : List ℕ → Type 0 = λ x. Stops is_blank (x ++ rest) in subst P (sym e) (quote-not_blank q is)
+piece-not_blank [] rest (inr (inr (inr h))) = absurd (omega (arith, h.0))
+piece-not_blank (c ∷ cs) rest (inr (inr (inr h))) = name-not_blank c (All-head (λ x. is_name_byte x ≡ true) c cs h.1)
 
 piece-not_over : (piece rest : List ℕ) → IsPiece piece rest → is_over (piece ++ rest) ≡ false
 piece-not_over piece rest (inl (c, e, s)) = let P : List ℕ → Type 0 = λ x. is_over (x ++ rest) ≡ false in subst P (sym e) (sign-not_comment c s)
-piece-not_over piece rest (inr (inl (run, e, h))) = let P : List ℕ → Type 0 = λ x. is_over (x ++ rest) ≡ false in subst P (sym e) refl
-piece-not_over [] rest (inr (inr h)) = absurd (omega (arith, h.0))
-piece-not_over (c ∷ cs) rest (inr (inr h)) = name-not_comment c (All-head (λ x. is_name_byte x ≡ true) c cs h.1)
+piece-not_over piece rest (inr (inl (c, run, e, m, h))) = let P : List ℕ → Type 0 = λ x. is_over (x ++ rest) ≡ false in subst P (sym e) (mark-not_comment c m)
+piece-not_over piece rest (inr (inr (inl (q, text, (is, h, e))))) = let P : List ℕ → Type 0 = λ x. is_over (x ++ rest) ≡ false in subst P (sym e) (quote-not_comment q is)
+piece-not_over [] rest (inr (inr (inr h))) = absurd (omega (arith, h.0))
+piece-not_over (c ∷ cs) rest (inr (inr (inr h))) = name-not_comment c (All-head (λ x. is_name_byte x ≡ true) c cs h.1)
 
--- the front of this length is a piece
-IsFront : ℕ → List ℕ → Type 0
-IsFront n text = 0 < n → IsPiece (take n text) (drop n text)
+-- the front of a length is a piece
+front_as : (text : List ℕ) (n m : ℕ) → n ≡ m → IsPiece (take m text) (drop m text) → IsPiece (take n text) (drop n text)
+front_as text n m e h = let P : ℕ → Type 0 = λ k. IsPiece (take k text) (drop k text) in subst P (sym e) h
 
-dollar_front : (cs : List ℕ) (z : Bool) → eqb (run_len cs) 0 ≡ z → IsFront (cond z 0 (1 + run_len cs)) (36 ∷ cs)
-unfolding IsFront
-dollar_front cs true e = λ h. absurd (omega (arith, h))
-dollar_front cs false e = λ h.
-    let some : 0 < run_len cs = omega (arith, eqb-false (run_len cs) 0 e) in
-    let P : ℕ → Type 0 = λ n. IsPiece (take n (36 ∷ cs)) (drop n (36 ∷ cs)) in
-    let same : suc (run_len cs) ≡ 1 + run_len cs = omega arith in
-    subst P same (inr (inl (take (run_len cs) cs, refl, IsRun-front cs some)))
+mark_front : (c : ℕ) (cs : List ℕ) → is_mark c ≡ true → 0 < marked_len cs → IsPiece (take (marked_len cs) (c ∷ cs)) (drop (marked_len cs) (c ∷ cs))
+mark_front c cs m h = elim (cases_lt 0 (run_len cs)) [
+  | inl some ↦
+      let same : marked_len cs ≡ suc (run_len cs) = marked_len-some cs some ∙ omega arith in
+      front_as (c ∷ cs) (marked_len cs) (suc (run_len cs)) same (inr (inl (c, take (run_len cs) cs, refl, m, IsRun-front cs some)))
+  | inr none ↦
+      let zero : marked_len cs ≡ 0 = cond-true (eqb (run_len cs) 0) 0 (1 + run_len cs) (eq-eqb (run_len cs) 0 (omega (arith, none))) in
+      absurd (omega (arith, h, zero))
+]
 
-piece_front-by : (c : ℕ) (cs : List ℕ) (s d : Bool) → is_sign c ≡ s → eqb c 36 ≡ d → IsFront (cond s 1 (cond d (cond (eqb (run_len cs) 0) 0 (1 + run_len cs)) (run_len (c ∷ cs)))) (c ∷ cs)
-unfolding IsFront
-piece_front-by c cs true d s e = λ h. inl (c, refl, s)
-piece_front-by c cs false true s e =
-    let P : ℕ → Type 0 = λ x. IsFront (cond (eqb (run_len cs) 0) 0 (1 + run_len cs)) (x ∷ cs) in
-    subst P (sym (eqb-true c 36 e)) (dollar_front cs (eqb (run_len cs) 0) refl)
-piece_front-by c cs false false s e = λ h. inr (inr (IsRun-front (c ∷ cs) h))
+closed-some : (q n : ℕ) (r : List ℕ) → 0 < closed_len q n r → (rest : List ℕ) × (r ≡ q ∷ rest) × (closed_len q n r ≡ n + 2)
+closed-some q n [] h = absurd (omega (arith, h))
+closed-some q n (c ∷ cs) h = elim (cases_Bool (eqb c q)) [
+  | inl e ↦ (cs, ap (λ x. x ∷ cs) (eqb-true c q e), cond-true (eqb c q) (n + 2) 0 e)
+  | inr e ↦ (let zero : closed_len q n (c ∷ cs) ≡ 0 = cond-false (eqb c q) (n + 2) 0 e in absurd (omega (arith, h, zero)))
+]
+
+quote_front : (q : ℕ) (cs : List ℕ) → is_quote q ≡ true → 0 < quoted_len q cs → IsPiece (take (quoted_len q cs) (q ∷ cs)) (drop (quoted_len q cs) (q ∷ cs))
+quote_front q cs is h =
+    let n = prefix_len (is_quotable q) cs in
+    let k = closed-some q n (drop n cs) h in
+    let text = take n cs in
+    let many : length text ≡ n = length-take-le n cs (prefix_len-le-length (is_quotable q) cs) in
+    let whole : (q ∷ text ++ q ∷ []) ++ k.0 ≡ q ∷ cs =
+    ap (λ x. q ∷ x) (append_assoc text (q ∷ []) k.0 ∙ ap (λ x. text ++ x) (sym k.1) ∙ take-append-drop n cs) in
+    let long : length (q ∷ text ++ q ∷ []) ≡ quoted_len q cs = quoted-length q text ∙ ap (λ x. x + 2) many ∙ sym k.2 in
+    let front : take (quoted_len q cs) (q ∷ cs) ≡ q ∷ text ++ q ∷ [] =
+    ap (λ x. take (quoted_len q cs) x) (sym whole) ∙ take_at (q ∷ text ++ q ∷ []) k.0 (quoted_len q cs) long in
+    inr (inr (inl (q, text, (is, AllPass-front (is_quotable q) cs, front))))
 
 piece_front : (text : List ℕ) → 0 < piece_len text → IsPiece (take (piece_len text) text) (drop (piece_len text) text)
-unfolding IsFront
 piece_front [] h = absurd (omega (arith, h))
-piece_front (c ∷ cs) h = piece_front-by c cs (is_sign c) (eqb c 36) refl refl h
+piece_front (c ∷ cs) h = elim (cases_Bool (is_sign c)) [
+  | inl s ↦ front_as (c ∷ cs) _ 1 (piece_len-sign c cs s) (inl (c, refl, s))
+  | inr s ↦ elim (cases_Bool (is_mark c)) [
+    | inl m ↦ (let e = piece_len-mark c cs m in front_as (c ∷ cs) _ (marked_len cs) e (mark_front c cs m (omega (arith, h, e))))
+    | inr m ↦ elim (cases_Bool (is_quote c)) [
+      | inl q ↦ (let e = piece_len-quote c cs q in front_as (c ∷ cs) _ (quoted_len c cs) e (quote_front c cs q (omega (arith, h, e))))
+      | inr q ↦ (let e = piece_len-other c cs s m q in front_as (c ∷ cs) _ (run_len (c ∷ cs)) e (inr (inr (inr (IsRun-front (c ∷ cs) (omega (arith, h, e)))))))
+    ]
+  ]
+]
 
 -- what is over begins with no blank
 over-not_blank : (rest : List ℕ) → is_over rest ≡ true → Stops is_blank rest
@@ -179,8 +252,9 @@ Spells-more_only text (p ∷ ps) e (rest, after, behind, is, piece, more) =
   where
     piece-some : (piece rest : List ℕ) → IsPiece piece rest → 0 < length piece
     piece-some piece rest (inl (c, e, s)) = rw e (omega arith)
-    piece-some piece rest (inr (inl (run, e, h))) = rw e (omega arith)
-    piece-some piece rest (inr (inr h)) = h.0
+    piece-some piece rest (inr (inl (c, run, e, m, h))) = rw e (omega arith)
+    piece-some piece rest (inr (inr (inl (q, text, (is, h, e))))) = rw e (omega arith)
+    piece-some piece rest (inr (inr (inr h))) = h.0
 
 -- one list of pieces
 Spells-one-by : (text p : List ℕ) (ps qs : List (List ℕ)) → ((rest : List ℕ) (qs : List (List ℕ)) → Spells rest ps → Spells rest qs → ps ≡ qs) → (b : Bool) → is_over (behind_blanks text) ≡ b → Spells text (p ∷ ps) → Spells text qs → p ∷ ps ≡ qs

@@ -1,49 +1,125 @@
 -- The grammar of a source line. This project's profile.
-use Rattle.std.specs.Prelude.{◌≡◌, ℕ, ◌+◌, length, Bool, true, false, IsTrue, List, [], ◌∷◌, ◌++◌, map, Option, Some, None, is_some, ◌⊎◌, codes}
-use Rattle.std.specs.List.{AllZip}
-use Rattle.a2_text.specs.Lines.{lines}
-use Rattle.a2_syntax.specs.Sizes.{size_refusal}
-use Rattle.a2_syntax.specs.declared.fault.Fault.{Fault}
-use Rattle.a2_syntax.specs.declared.fault.Fault.TheVariants.{Syntax}
+use Rattle.std.specs.Prelude.{◌≡◌, ℕ, ◌<◌, Bool, true, false, IsTrue, List, [], ◌∷◌, ◌++◌, length, map, Option, Some, None, ◌⊎◌, codes}
 use Rattle.a2_text.specs.Bytes.{capital}
-use Rattle.a2_syntax.specs.Names.{is_name, number}
-use Rattle.a2_syntax.specs.Pieces.{IsBehindBlanks, is_gap, Spells}
-use Rattle.a2_syntax.specs.declared.source.Term.{Term}
-use Rattle.a2_syntax.specs.declared.source.Term.TheVariants.{Number, Named}
-use Rattle.a2_syntax.specs.declared.source.Operand.{Operand}
-use Rattle.a2_syntax.specs.declared.source.Operand.TheVariants.{Nothing, Immediate, Plain}
-use Rattle.a2_syntax.specs.declared.source.Body.{Body}
-use Rattle.a2_syntax.specs.declared.source.Body.TheVariants.{Empty, Org, Equ, Instr}
-use Rattle.a2_syntax.specs.declared.source.Line.{Line}
+use Rattle.a2_opcode.specs.declared.Mnemonic.{Mnemonic}
+use Rattle.a2_opcode.specs.declared.Mnemonic.TheVariants.{Asl, Lsr, Rol, Ror}
+use Rattle.a2_syntax.specs.Names.{is_name}
+use Rattle.a2_syntax.specs.Numbers.{code_in, number}
+use Rattle.a2_syntax.specs.Pieces.{IsQuoted, IsBehindBlanks, is_gap, Spells}
 use Rattle.a2_syntax.specs.Words.{operation_of}
+use Rattle.a2_syntax.specs.declared.source.Term.{Term}
+use Rattle.a2_syntax.specs.declared.source.Term.TheVariants.{Number, Named, Here}
+use Rattle.a2_syntax.specs.declared.source.Signed.{Signed}
+use Rattle.a2_syntax.specs.declared.source.Part.{Part}
+use Rattle.a2_syntax.specs.declared.source.Part.TheVariants.{Whole, Low, High}
+use Rattle.a2_syntax.specs.declared.source.Expr.{Expr}
+use Rattle.a2_syntax.specs.declared.source.Operand.{Operand}
+use Rattle.a2_syntax.specs.declared.source.Operand.TheVariants.{Nothing, Accumulator, Immediate, Plain, WithX, WithY, InParenthesesX, ParenthesesY, InParentheses}
+use Rattle.a2_syntax.specs.declared.source.Body.{Body}
+use Rattle.a2_syntax.specs.declared.source.Body.TheVariants.{Empty, Instr, Org, Equ, Dfb, Dw, Asc, Ds}
+use Rattle.a2_syntax.specs.declared.source.Line.{Line}
 use Rattle.a2_syntax.specs.declared.operation.Operation.{Operation}
 use Rattle.a2_syntax.specs.declared.operation.Operation.TheVariants as operations
 
--- blanks, an operation in either case, and the pieces of its operand
+-- a number or a character, a name, or `*`
+abbrev pub IsTerm : {A : Type 0} → List ℕ → Term A → Type 0
+IsTerm piece (Number n) = number piece ≡ Some n
+IsTerm piece (Named name) = (piece ≡ name) × IsTrue (is_name piece)
+IsTerm piece Here = piece ≡ codes "*"
+
+-- the sign before a term
+abbrev pub IsSign : List ℕ → Bool → Type 0
+IsSign piece false = piece ≡ codes "+"
+IsSign piece true = piece ≡ codes "-"
+
+-- further terms, each behind its sign
+abbrev pub AreMoreTerms : {A : Type 0} → List (List ℕ) → List (Signed A) → Type 0
+AreMoreTerms pieces [] = pieces ≡ []
+AreMoreTerms pieces (t ∷ ts) =
+    (sign piece : List ℕ) × (more : List (List ℕ)) × (pieces ≡ sign ∷ piece ∷ more) × IsSign sign t.minus × IsTerm piece t.term × AreMoreTerms more ts
+
+-- a term without a sign, and further terms
+abbrev pub AreTerms : {A : Type 0} → List (List ℕ) → List (Signed A) → Type 0
+AreTerms pieces [] = ⊥
+AreTerms pieces (t ∷ ts) = (piece : List ℕ) × (more : List (List ℕ)) × (pieces ≡ piece ∷ more) × (t.minus ≡ false) × IsTerm piece t.term × AreMoreTerms more ts
+
+-- an optional `<` or `>`
+abbrev pub IsPart : Part → List (List ℕ) → List (List ℕ) → Type 0
+IsPart Whole pieces rest = pieces ≡ rest
+IsPart Low pieces rest = pieces ≡ codes "<" ∷ rest
+IsPart High pieces rest = pieces ≡ codes ">" ∷ rest
+
+-- a part of a sum of terms
+abbrev pub IsExpr : {A : Type 0} → List (List ℕ) → Expr A → Type 0
+IsExpr pieces e = (rest : List (List ℕ)) × IsPart e.part pieces rest × AreTerms rest e.terms
+
+-- expressions with commas between them, one or more
+abbrev pub AreExprs : {A : Type 0} → List (List ℕ) → List (Expr A) → Type 0
+AreExprs pieces [] = ⊥
+AreExprs pieces (e ∷ []) = IsExpr pieces e
+AreExprs pieces (e ∷ f ∷ es) = (front back : List (List ℕ)) × (pieces ≡ front ++ codes "," ∷ back) × IsExpr front e × AreExprs back (f ∷ es)
+
+-- the letter of a register, in either case
+abbrev pub IsLetter : ℕ → List ℕ → Type 0
+IsLetter c piece = map capital piece ≡ c ∷ []
+
+-- a comma and the letter of a register behind these pieces
+abbrev pub IsIndexed : ℕ → List (List ℕ) → List (List ℕ) → Type 0
+IsIndexed c pieces es = (x : List ℕ) × (pieces ≡ es ++ codes "," ∷ x ∷ []) × IsLetter c x
+
+-- parentheses round these pieces
+abbrev pub IsEnclosed : List (List ℕ) → List (List ℕ) → Type 0
+IsEnclosed pieces es = pieces ≡ codes "(" ∷ es ++ codes ")" ∷ []
+
+-- the nine forms of an operand; 88 is X, 89 is Y and 65 is A
+abbrev pub IsOperand : {A : Type 0} → List (List ℕ) → Operand A → Type 0
+IsOperand pieces Nothing = pieces ≡ []
+IsOperand pieces Accumulator = (a : List ℕ) × (pieces ≡ a ∷ []) × IsLetter 65 a
+IsOperand pieces (Immediate e) = (es : List (List ℕ)) × (pieces ≡ codes "#" ∷ es) × IsExpr es e
+IsOperand pieces (Plain e) = IsExpr pieces e
+IsOperand pieces (WithX e) = (es : List (List ℕ)) × IsIndexed 88 pieces es × IsExpr es e
+IsOperand pieces (WithY e) = (es : List (List ℕ)) × IsIndexed 89 pieces es × IsExpr es e
+IsOperand pieces (InParenthesesX e) = (inner es : List (List ℕ)) × IsEnclosed pieces inner × IsIndexed 88 inner es × IsExpr es e
+IsOperand pieces (ParenthesesY e) = (front es : List (List ℕ)) × IsIndexed 89 pieces front × IsEnclosed front es × IsExpr es e
+IsOperand pieces (InParentheses e) = (es : List (List ℕ)) × IsEnclosed pieces es × IsExpr es e
+
+-- the operations that shift a byte
+abbrev pub is_shift : Mnemonic → Bool
+is_shift Asl = true
+is_shift Lsr = true
+is_shift Rol = true
+is_shift Ror = true
+is_shift m = false
+
+-- the operand of an instruction; a shift with nothing behind it means the accumulator
+abbrev pub IsOperandOf : {A : Type 0} → Mnemonic → List (List ℕ) → Operand A → Type 0
+IsOperandOf m pieces Nothing = (is_shift m ≡ false) × (pieces ≡ [])
+IsOperandOf {A} m pieces Accumulator = IsOperand {A = A} pieces Accumulator ⊎ ((is_shift m ≡ true) × (pieces ≡ []))
+IsOperandOf m pieces operand = IsOperand pieces operand
+
+-- one character or more in quotes, and what they stand for
+abbrev pub IsText : List (List ℕ) → List ℕ → Type 0
+IsText pieces bytes =
+    (quote : ℕ) × (text piece : List ℕ) × (pieces ≡ piece ∷ []) × IsQuoted quote text piece × (0 < length text) × (bytes ≡ map (code_in quote) text)
+
+-- an operation with these pieces behind it
+abbrev pub IsOperation : {A : Type 0} → Operation → List (List ℕ) → Body A → Type 0
+IsOperation (operations.Instr m) pieces (Instr mnemonic operand) = (mnemonic ≡ m) × IsOperandOf m pieces operand
+IsOperation operations.Org pieces (Org e) = IsExpr pieces e
+IsOperation operations.Equ pieces (Equ e) = IsExpr pieces e
+IsOperation operations.Dfb pieces (Dfb es) = AreExprs pieces es
+IsOperation operations.Dw pieces (Dw es) = AreExprs pieces es
+IsOperation operations.Asc pieces (Asc bytes) = IsText pieces bytes
+IsOperation operations.Ds pieces (Ds e) = IsExpr pieces e
+IsOperation operation pieces body = ⊥
+
+-- blanks, an operation in either case, and the pieces behind it
 abbrev pub HasOperation : List ℕ → Operation → List (List ℕ) → Type 0
 HasOperation text operation pieces =
     (rest word after : List ℕ) × IsBehindBlanks text rest × (rest ≡ word ++ after) × (operation_of (map capital word) ≡ Some operation) × IsTrue (is_gap after) × Spells after pieces
 
--- a term is a number or a name
-abbrev pub IsTerm : List ℕ → Term → Type 0
-IsTerm piece (Number n) = number piece ≡ Some n
-IsTerm piece (Named name) = (piece ≡ name) × IsTrue (is_name piece)
-
--- the forms of an operand: nothing, `#e` and `e`
-abbrev pub IsOperand : List (List ℕ) → Operand → Type 0
-IsOperand pieces Nothing = pieces ≡ []
-IsOperand pieces (Immediate e) = (piece : List ℕ) × (pieces ≡ codes "#" ∷ piece ∷ []) × IsTerm piece e
-IsOperand pieces (Plain e) = (piece : List ℕ) × (pieces ≡ piece ∷ []) × IsTerm piece e
-
--- an operation with these pieces behind it
-abbrev pub IsOperation : Operation → List (List ℕ) → Body → Type 0
-IsOperation operations.Org pieces (Org n) = (piece : List ℕ) × (pieces ≡ piece ∷ []) × (number piece ≡ Some n)
-IsOperation operations.Equ pieces (Equ n) = (piece : List ℕ) × (pieces ≡ piece ∷ []) × (number piece ≡ Some n)
-IsOperation (operations.Instr m) pieces (Instr mnemonic operand) = (mnemonic ≡ m) × IsOperand pieces operand
-IsOperation _ _ _ = ⊥
-
--- what stands behind the label
-abbrev pub IsBody : List ℕ → Body → Type 0
+-- what stands behind the label: nothing, or an operation
+abbrev pub IsBody : {A : Type 0} → List ℕ → Body A → Type 0
 IsBody text body =
     (Spells text [] × (body ≡ Empty)) ⊎ ((operation : Operation) × (pieces : List (List ℕ)) × HasOperation text operation pieces × IsOperation operation pieces body)
 
@@ -52,42 +128,19 @@ abbrev pub IsLabelled : List ℕ → Option (List ℕ) → List ℕ → Type 0
 IsLabelled text None rest = text ≡ rest
 IsLabelled text (Some name) rest = (text ≡ name ++ rest) × IsTrue (is_name name)
 
--- EQU lines have a label, and no other lines
-abbrev pub needs_label : Body → Bool
-needs_label (Equ n) = true
-needs_label _ = false
+-- EQU has to have a label
+abbrev pub may_stand : {A : Type 0} → Option (List ℕ) → Body A → Bool
+may_stand None (Equ e) = false
+may_stand label body = true
 
--- a line that begins with `*`
-abbrev pub IsStarred : List ℕ → Line → Type 0
+-- an optional label, and, behind a blank, nothing or an operation
+abbrev pub IsStatement : {A : Type 0} → List ℕ → Line A → Type 0
+IsStatement text line = (rest : List ℕ) × IsLabelled text line.label rest × IsTrue (is_gap rest) × IsBody rest line.body × IsTrue (may_stand line.label line.body)
+
+-- a line that begins with `*` is a comment
+abbrev pub IsStarred : {A : Type 0} → List ℕ → Line A → Type 0
 IsStarred text line = (comment : List ℕ) × (text ≡ 42 ∷ comment) × (line.label ≡ None) × (line.body ≡ Empty)
 
-abbrev pub IsStatement : List ℕ → Line → Type 0
-IsStatement text line = (rest : List ℕ) × IsLabelled text line.label rest × IsTrue (is_gap rest) × IsBody rest line.body × (is_some line.label ≡ needs_label line.body)
-
-abbrev pub IsLine : List ℕ → Line → Type 0
+-- a line of the source language
+abbrev pub IsLine : {A : Type 0} → List ℕ → Line A → Type 0
 IsLine text line = IsStarred text line ⊎ IsStatement text line
-
--- the one value in a relation, or None where there is none
-abbrev pub TheOne : {A : Type 0} → (A → Type 0) → Option A → Type 0
-TheOne {A} R None = (a : A) → R a → ⊥
-TheOne {A} R (Some a) = R a × ((b : A) → R b → b ≡ a)
-
--- the lines of a text, one for one
-abbrev pub AreLines : List (List ℕ) → List Line → Type 0
-AreLines = AllZip IsLine
-
--- the line of this number is the first that is not in the grammar
-abbrev pub FirstUnread : List (List ℕ) → ℕ → Type 0
-FirstUnread texts n =
-    (before : List (List ℕ)) × (text : List ℕ) × (after : List (List ℕ)) × (texts ≡ before ++ text ∷ after) × (n ≡ length before + 1) ×
-    ((read : List Line) × AreLines before read) × ((line : Line) → IsLine text line → ⊥)
-
--- a text within the limits, and its lines
-abbrev pub IsSource : List ℕ → List Line → Type 0
-IsSource text source = (size_refusal text ≡ None) × AreLines (lines text) source
-
--- the first refusal of a text that is no source
-abbrev pub IsTextRefusal : List ℕ → Fault → Type 0
-IsTextRefusal text fault =
-    (size_refusal text ≡ Some fault) ⊎
-    ((size_refusal text ≡ None) × (n : ℕ) × (fault ≡ Syntax n) × FirstUnread (lines text) n)

@@ -1,6 +1,11 @@
 pub mod Names
-pub mod Sizes
+pub mod Numbers
 pub mod Pieces
-pub mod Reading
 pub mod Words
+pub mod Relations
 pub mod Grammar
+pub mod Limits
+pub mod Sources
+pub mod Reading
+pub mod Shapes
+pub mod Texts

@@ -1,13 +1,13 @@
--- Names, and numbers of terms. This project's profile.
-use Rattle.std.specs.Prelude.{ℕ, Bool, false, ◌&&◌, ◌||◌, not, ◌==◌, nat_le, List, [], ◌∷◌, length, Option, None, if◌then◌else◌}
+-- Names. This project's profile.
+use Rattle.std.specs.Prelude.{ℕ, Bool, false, ◌&&◌, ◌||◌, not, ◌==◌, nat_le, List, [], ◌∷◌, length}
 use Rattle.std.specs.List.{list_all}
-use Rattle.a2_text.specs.Bytes.{is_between, is_digit, capital, number_in}
+use Rattle.a2_text.specs.Bytes.{is_between, is_digit, capital}
 
 -- a letter or `_`
 abbrev pub begins_name : ℕ → Bool
 begins_name c = is_between 65 90 c || is_between 97 122 c || c == 95
 
--- a letter, a digit or `_`
+-- a letter, `_` or a digit
 abbrev pub is_name_byte : ℕ → Bool
 is_name_byte c = begins_name c || is_digit c
 
@@ -15,8 +15,3 @@ is_name_byte c = begins_name c || is_digit c
 abbrev pub is_name : List ℕ → Bool
 is_name [] = false
 is_name (c ∷ cs) = begins_name c && list_all is_name_byte cs && nat_le (length cs) 31 && not (length cs == 0 && capital c == 65)
-
--- `$` and 1 to 4 hexadecimal digits, or 1 to 5 decimal digits
-abbrev pub number : List ℕ → Option ℕ
-number [] = None
-number (c ∷ cs) = if c == 36 then number_in 16 4 cs else number_in 10 5 (c ∷ cs)

@@ -1,12 +1,17 @@
--- A text of pieces: signs and words, with blanks between them.
+-- A text of pieces: signs, words and texts in quotes, with blanks between them. This project's profile.
 use Rattle.std.specs.Prelude.{◌≡◌, ℕ, ◌<◌, Bool, true, false, IsTrue, ◌||◌, ◌==◌, List, [], ◌∷◌, ◌++◌, length, ◌⊎◌}
 use Rattle.std.specs.List.{AllPass}
 use Rattle.a2_text.specs.Bytes.{is_blank}
 use Rattle.a2_syntax.specs.Names.{is_name_byte}
+use Rattle.a2_syntax.specs.Numbers.{is_quote, is_quotable}
 
 -- # , ( ) < > + - *
 abbrev pub is_sign : ℕ → Bool
 is_sign c = c == 35 || c == 44 || c == 40 || c == 41 || c == 60 || c == 62 || c == 43 || c == 45 || c == 42
+
+-- `$` or `%`, the mark of a number's base
+abbrev pub is_mark : ℕ → Bool
+is_mark c = c == 36 || c == 37
 
 -- no name byte comes next
 abbrev pub EndsRun : List ℕ → Type 0
@@ -17,18 +22,23 @@ EndsRun (c ∷ cs) = is_name_byte c ≡ false
 abbrev pub IsRun : List ℕ → List ℕ → Type 0
 IsRun run rest = (0 < length run) × AllPass is_name_byte run × EndsRun rest
 
--- a piece and what follows it: a sign, or `$` and a run of name bytes, or such a run
+-- characters between quotes of this kind
+abbrev pub IsQuoted : ℕ → List ℕ → List ℕ → Type 0
+IsQuoted quote text piece = IsTrue (is_quote quote) × AllPass (is_quotable quote) text × (piece ≡ quote ∷ text ++ quote ∷ [])
+
+-- a piece and what follows it: a sign, a mark and a run of name bytes, a text in quotes, or a run of name bytes
 abbrev pub IsPiece : List ℕ → List ℕ → Type 0
 IsPiece piece rest =
     ((c : ℕ) × (piece ≡ c ∷ []) × IsTrue (is_sign c)) ⊎
-    (((run : List ℕ) × (piece ≡ 36 ∷ run) × IsRun run rest) ⊎
-    IsRun piece rest)
+    (((c : ℕ) × (run : List ℕ) × (piece ≡ c ∷ run) × IsTrue (is_mark c) × IsRun run rest) ⊎
+    (((quote : ℕ) × (text : List ℕ) × IsQuoted quote text piece) ⊎
+    IsRun piece rest))
 
 -- text is blanks, and then rest
 abbrev pub IsBehindBlanks : List ℕ → List ℕ → Type 0
 IsBehindBlanks text rest = (gap : List ℕ) × AllPass is_blank gap × (text ≡ gap ++ rest)
 
--- nothing, or a comment
+-- nothing, or a comment, which may hold any byte
 abbrev pub is_over : List ℕ → Bool
 is_over [] = true
 is_over (c ∷ cs) = c == 59

@@ -1,9 +1,13 @@
--- What the code finds at the front of a text. No public clause cites this file.
-use Rattle.std.specs.Prelude.{ℕ, ◌+◌, ◌==◌, List, [], ◌∷◌, drop, if◌then◌else◌}
-use Rattle.std.specs.List.{prefix_len}
+-- What stands at the front of a text. No public clause cites this file.
+use Rattle.std.specs.Prelude.{◌≡◌, ℕ, ◌+◌, Bool, false, ◌==◌, List, [], ◌∷◌, drop, codes, if◌then◌else◌}
+use Rattle.std.specs.List.{prefix_len, list_any}
 use Rattle.a2_text.specs.Bytes.{is_blank}
 use Rattle.a2_syntax.specs.Names.{is_name_byte}
-use Rattle.a2_syntax.specs.Pieces.{is_sign}
+use Rattle.a2_syntax.specs.Numbers.{is_quote, is_quotable}
+use Rattle.a2_syntax.specs.Pieces.{is_sign, is_mark}
+use Rattle.a2_syntax.specs.Grammar.{IsPart}
+use Rattle.a2_syntax.specs.declared.source.Part.{Part}
+use Rattle.a2_syntax.specs.declared.source.Part.TheVariants.{Whole}
 
 -- behind the blanks
 abbrev pub behind_blanks : List ℕ → List ℕ
@@ -12,7 +16,40 @@ behind_blanks text = drop (prefix_len is_blank text) text
 abbrev pub run_len : List ℕ → ℕ
 run_len text = prefix_len is_name_byte text
 
+-- how much a closing quote adds to what stands before it, and 0 where there is none
+abbrev pub closed_len : ℕ → ℕ → List ℕ → ℕ
+closed_len quote n [] = 0
+closed_len quote n (c ∷ cs) = if c == quote then n + 2 else 0
+
+-- how long a quoted text is, from what stands behind the opening quote, or 0 where there is none
+abbrev pub quoted_len : ℕ → List ℕ → ℕ
+quoted_len quote text = closed_len quote (prefix_len (is_quotable quote) text) (drop (prefix_len (is_quotable quote) text) text)
+
+-- how long a mark and a run are, from what stands behind the mark, or 0 where there is no run
+abbrev pub marked_len : List ℕ → ℕ
+marked_len text = if run_len text == 0 then 0 else 1 + run_len text
+
 -- how long the piece at the front is, or 0 where there is none
 abbrev pub piece_len : List ℕ → ℕ
 piece_len [] = 0
-piece_len (c ∷ cs) = if is_sign c then 1 else if c == 36 then (if run_len cs == 0 then 0 else 1 + run_len cs) else run_len (c ∷ cs)
+piece_len (c ∷ cs) =
+    if is_sign c then 1 else
+    if is_mark c then marked_len cs else
+    if is_quote c then quoted_len c cs else
+    run_len (c ∷ cs)
+
+-- the part at the front of pieces, and no other
+abbrev pub PartIs : Part → List (List ℕ) → List (List ℕ) → Type 0
+PartIs p pieces rest = IsPart p pieces rest × (p ≡ Whole → (r : List (List ℕ)) → (pieces ≡ codes "<" ∷ r → ⊥) × (pieces ≡ codes ">" ∷ r → ⊥))
+
+abbrev pub is_comma : List ℕ → Bool
+is_comma (c ∷ []) = c == 44
+is_comma piece = false
+
+abbrev pub has_comma : List (List ℕ) → Bool
+has_comma pieces = list_any is_comma pieces
+
+-- nothing, or a comma and more
+abbrev pub BeginsComma : List (List ℕ) → Type 0
+BeginsComma [] = Unit {0}
+BeginsComma (p ∷ ps) = p ≡ codes ","

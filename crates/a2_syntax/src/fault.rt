@@ -1,70 +1,103 @@
-//! Why source texts are refused.
+//! Why a source text is refused.
+
+ghost use Rattle.std.specs.Prelude.{◌≡◌, Some};
+ghost use Rattle.a2_syntax.specs.Texts.{line_of, text_of, shown};
 
 use std::alloc::{AllocError, AllocFailed};
+use std::error::Error;
 use std::fmt;
 
-/// Why a source text is refused. A line counts from 1; 0 is no line.
+/// Why a source text is refused. A line counts from 1, and 0 is no line.
 #[derive(Clone, Copy, Debug, PartialEq, Eq, Drop)]
 pub enum Fault {
-    /// The text is too long (line 0), has too many lines (line 4,097), or the line is too long.
+    /// E1: the text has more than 65,536 bytes (line 0), more than 4,096 lines (line 4,097), or a line of more than
+    /// 255 bytes.
     TooLarge(u16),
-    /// The line is not in the grammar.
+    /// E2: the line is not in the grammar.
     Syntax(u16),
-    /// The line's label is the 1,025th.
+    /// E3: the line has the 1,025th label.
     TooManyNames(u16),
-    /// The line's label is that of an earlier line.
+    /// E4: the line's label is that of an earlier line.
     Duplicate(u16),
-    /// The line uses a name that no line defines.
+    /// E5: a name of the line is defined nowhere.
     Unknown(u16),
-    /// The line uses a name that a later line defines.
+    /// E6: a name in ORG, EQU or DS is not defined in an earlier line.
     Forward(u16),
-    /// The line's mnemonic has no such form.
+    /// E7: the instruction has no such addressing mode.
     NoMode(u16),
-    /// A value of the line is too large or too small.
+    /// E8: a value of the line is out of its range.
     Range(u16),
-    /// The line's branch goes too far.
+    /// E9: the branch goes too far.
     Branch(u16),
-    /// A byte of the line would lie at or above $C000.
+    /// E10: a byte of the line lies at or above $C000.
     Outside(u16),
-    /// A byte of the line would lie where an earlier line has one.
+    /// E11: a byte of the line lies where an earlier statement holds one.
     Overlap(u16),
-    /// The text has no instruction.
+    /// E12: there is no instruction.
     NoCode,
     /// A growth of memory was refused.
     Memory,
 }
 
 impl Fault {
-    // The line, 0 for none, and the text behind it.
-    fn parts(&self) -> (u16, &'static str) {
+    // The line of a refusal, or 0 where it is of no line.
+    fn line(&self) -> u16
+        ensures { result ≡ line_of self.now }
+    {
         match self {
-            Fault::TooLarge(line) => (*line, "E1 TOO LARGE"),
-            Fault::Syntax(line) => (*line, "E2 SYNTAX"),
-            Fault::TooManyNames(line) => (*line, "E3 TOO MANY NAMES"),
-            Fault::Duplicate(line) => (*line, "E4 DUPLICATE NAME"),
-            Fault::Unknown(line) => (*line, "E5 UNKNOWN NAME"),
-            Fault::Forward(line) => (*line, "E6 NAME DEFINED LATER"),
-            Fault::NoMode(line) => (*line, "E7 NO SUCH MODE"),
-            Fault::Range(line) => (*line, "E8 VALUE OUT OF RANGE"),
-            Fault::Branch(line) => (*line, "E9 BRANCH TOO FAR"),
-            Fault::Outside(line) => (*line, "E10 OUTSIDE RAM"),
-            Fault::Overlap(line) => (*line, "E11 OVERLAP"),
-            Fault::NoCode => (0, "E12 NO INSTRUCTION"),
-            Fault::Memory => (0, "NO MEMORY"),
+            Fault::TooLarge(n)
+            | Fault::Syntax(n)
+            | Fault::TooManyNames(n)
+            | Fault::Duplicate(n)
+            | Fault::Unknown(n)
+            | Fault::Forward(n)
+            | Fault::NoMode(n)
+            | Fault::Range(n)
+            | Fault::Branch(n)
+            | Fault::Outside(n)
+            | Fault::Overlap(n) => *n,
+            Fault::NoCode | Fault::Memory => 0,
+        }
+    }
+
+    // The text of a refusal, behind its line.
+    fn text(&self) -> &'static str
+        ensures { result.now ≡ text_of self.now }
+    {
+        match self {
+            Fault::TooLarge(_) => "E1 TOO LARGE",
+            Fault::Syntax(_) => "E2 SYNTAX",
+            Fault::TooManyNames(_) => "E3 TOO MANY NAMES",
+            Fault::Duplicate(_) => "E4 DUPLICATE NAME",
+            Fault::Unknown(_) => "E5 UNKNOWN NAME",
+            Fault::Forward(_) => "E6 NAME DEFINED LATER",
+            Fault::NoMode(_) => "E7 NO SUCH MODE",
+            Fault::Range(_) => "E8 VALUE OUT OF RANGE",
+            Fault::Branch(_) => "E9 BRANCH TOO FAR",
+            Fault::Outside(_) => "E10 OUTSIDE RAM",
+            Fault::Overlap(_) => "E11 OVERLAP",
+            Fault::NoCode => "E12 NO INSTRUCTION",
+            Fault::Memory => "NO MEMORY",
         }
     }
 }
 
+/// `LINE `, the line and a blank, where the refusal is of a line, and its text.
 impl fmt::Display for Fault {
+    ghost output = { λ fault. Some (shown fault) };
+
     fn fmt<W: fmt::Write>(&self, f: &mut fmt::Formatter<W>) -> fmt::Result {
-        let (line, text) = self.parts();
-        if line == 0 {
-            write!(f, "{text}")
+        let n = self.line();
+        let text = self.text();
+        if n == 0 {
+            f.write_str(text)
         } else {
-            write!(f, "LINE {line} {text}")
+            write!(f, "LINE {n} {text}")
         }
     }
 }
+
+impl Error for Fault {}
 
 impl From<AllocError> for Fault {
     ghost use Rattle.std.specs.Prelude.{◌≡◌};

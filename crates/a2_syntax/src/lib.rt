@@ -1,22 +1,26 @@
-//! Source texts: their lines, names and grammar, and why they are refused.
+//! Source texts of the assembler: their lines, and what each line says.
 #![tactic(auto)]
 
-mod cutting;
+mod body;
+mod expr;
 mod fault;
+mod limits;
 mod line;
-mod names;
-mod number;
 mod operand;
 mod operation;
-mod parsing;
+mod parser;
 mod piece;
 mod source;
+mod term;
+mod word;
 
-pub use cutting::lines;
 pub use fault::Fault;
-pub use names::is_name;
-pub use parsing::{a_refused_text_is_no_source, a_text_is_one_source, parse};
-pub use source::{Body, Line, Name, Operand, Source, Term};
+pub use limits::lines;
+pub use parser::{a_refused_text_is_no_source, a_text_is_one_source, parse};
+pub use source::{
+    Body, Bytes, Expr, Exprs, Line, Name, Operand, Part, Signed, Source, Term, Terms,
+};
+pub use word::is_name;
 
 #[cfg(test)]
 mod tests;

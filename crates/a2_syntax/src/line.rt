@@ -1,28 +1,31 @@
 //! A source line.
 
-ghost use Rattle.std.specs.Prelude.{◌≡◌, List, ℕ, map, ◌∷◌, IsTrue, ◌↔◌, IfOk};
-ghost use Rattle.a2_syntax.specs.Grammar.{IsBody, needs_label, IsLine, TheOne};
+ghost use Rattle.std.specs.Prelude.{◌≡◌, ◌≤◌, List, ℕ, not, length, None, ◌∷◌, IsTrue, ◌↔◌, IfOk};
+ghost use Rattle.a2_syntax.specs.Relations.{TheOne};
+ghost use Rattle.a2_syntax.specs.Grammar.{IsBody, may_stand, IsLine};
 
-use crate::names::is_name;
-use crate::operand::{name_of, operation_body};
-use crate::operation::named_operation;
-use crate::piece::{front_run, gap, over, pieces, unblanked};
+use crate::body::operation_body;
+use crate::operation::named;
+use crate::piece::{front_run, is_gap, is_over, pieces, unblanked};
 use crate::source::{Body, Line};
-use std::alloc::{AllocError, Global};
+use crate::term::name_of;
+use crate::word::is_name;
+use std::alloc::{AllocError, Allocator};
 
-/// What stands behind the label.
-fn body(alloc: Global, text: &[u8]) -> Result<Option<Body>, AllocError>
+// What stands behind the label.
+fn body<A: Allocator + Copy>(alloc: A, text: &[u8]) -> Result<Option<Body<A>>, AllocError>
+    requires { length text.now ≤ 255 }
     ensures { IfOk result (λ o. TheOne (IsBody text.now) o) }
 {
     let here = unblanked(text);
-    if over(here) {
+    if is_over(here) {
         return Ok(Some(Body::Empty));
     }
     let (word, after) = front_run(here);
-    if !gap(after) {
+    if !is_gap(after) {
         return Ok(None);
     }
-    let Some(operation) = named_operation(word) else {
+    let Some(operation) = named(word) else {
         return Ok(None);
     };
     let found = pieces(alloc, after)?;
@@ -32,35 +35,48 @@ fn body(alloc: Global, text: &[u8]) -> Result<Option<Body>, AllocError>
     operation_body(alloc, operation, pieces.as_slice())
 }
 
-fn needs_label(body: &Body) -> bool
-    ensures { result ≡ needs_label body.now }
+fn needs_label<A: Allocator>(body: &Body<A>) -> bool
+    ensures { result ≡ not (may_stand None body.now) }
 {
     matches!(body, Body::Equ(_))
 }
 
-/// A line, or None where it is not in the grammar.
-pub fn line(alloc: Global, text: &[u8]) -> Result<Option<Line>, AllocError>
+// Whether a line begins with `*`.
+fn is_starred(text: &[u8]) -> bool
+    ensures { IsTrue result ↔ ((rest : List ℕ) × (text.now ≡ 42 ∷ rest)) }
+{
+    match text.split_first() {
+        None => false,
+        Some((first, _)) => *first == b'*',
+    }
+}
+
+// A line, or None where it is not in the grammar.
+pub(crate) fn line<A: Allocator + Copy>(
+    alloc: A,
+    text: &[u8],
+) -> Result<Option<Line<A>>, AllocError>
+    requires { length text.now ≤ 255 }
     ensures { IfOk result (λ o. TheOne (IsLine text.now) o) }
 {
-    if starred(text) {
+    if is_starred(text) {
         return Ok(Some(Line {
             label: None,
             body: Body::Empty,
         }));
     }
     let (word, rest) = front_run(text);
-    if !gap(rest) {
+    if !is_gap(rest) {
         return Ok(None);
     }
     let found = body(alloc, rest)?;
     let Some(body) = found else {
         return Ok(None);
     };
-    let has_label = word.len() > 0;
-    if needs_label(&body) != has_label {
-        return Ok(None);
-    }
-    if !has_label {
+    if word.len() == 0 {
+        if needs_label(&body) {
+            return Ok(None);
+        }
         return Ok(Some(Line { label: None, body }));
     }
     if !is_name(word) {
@@ -71,13 +87,4 @@ pub fn line(alloc: Global, text: &[u8]) -> Result<Option<Line>, AllocError>
         label: Some(name),
         body,
     }))
-}
-
-fn starred(text: &[u8]) -> bool
-    ensures { IsTrue result ↔ ((rest : List ℕ) × (text.now ≡ 42 ∷ rest)) }
-{
-    match text.split_first() {
-        None => false,
-        Some((first, _)) => *first == b'*',
-    }
 }

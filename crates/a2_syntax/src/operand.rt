@@ -1,106 +1,151 @@
-//! Operands, and what an operation does with them.
+//! The operands of instructions.
 
-ghost use Rattle.std.specs.Prelude.{◌≡◌, List, ℕ, [], ◌∷◌, map, codes, true, IsTrue, ◌↔◌, IfOk, MatchOption};
-ghost use Rattle.a2_syntax.specs.Names.{is_name};
-ghost use Rattle.a2_syntax.specs.Grammar.{IsTerm, IsOperand, IsOperation, TheOne};
+ghost use Rattle.std.specs.Prelude.{◌≡◌, ◌↔◌, ◌≤◌, ◌∷◌, ◌++◌, [], List, ℕ, IsTrue, length, map, IfOk, IfSome, MatchOption};
+ghost use Rattle.std.specs.Option.{option_map};
+ghost use Rattle.a2_syntax.specs.Relations.{TheOne};
+ghost use Rattle.a2_syntax.specs.Grammar.{IsLetter, IsOperand, IsIndexed, IsEnclosed};
+ghost use Rattle.a2_syntax.specs.Shapes.{of_shape};
 
-use crate::names::is_name;
-use crate::number::number;
-use crate::operation::Operation;
-use crate::source::{Body, Name, Operand, Term};
-use std::alloc::{AllocError, Global};
+use crate::expr::{expr, is_byte};
+use crate::source::{Expr, Operand};
+use a2_text::capital;
+use std::alloc::{AllocError, Allocator};
 
-/// A name of its own from bytes that are one.
-pub fn name_of(alloc: Global, bytes: &[u8]) -> Result<Name, AllocError>
-    requires { is_name bytes.now ≡ true }
-    ensures { IfOk result (λ n. n ≡ bytes.now) }
-{
-    match std::str::from_utf8(bytes) {
-        Ok(text) => Ok(Name::of(String::from_str(alloc, text)?)),
-        Err(_) => unreachable!(),
-    }
+// What stands round an operand's expression.
+#[derive(Clone, Copy, Drop)]
+pub(crate) enum Shape {
+    Immediate,
+    Plain,
+    WithX,
+    WithY,
+    InParenthesesX,
+    ParenthesesY,
+    InParentheses,
 }
 
-fn term(alloc: Global, piece: &[u8]) -> Result<Option<Term>, AllocError>
-    ensures { IfOk result (λ o. TheOne (IsTerm piece.now) o) }
-{
-    if let Some(n) = number(piece) {
-        return Ok(Some(Term::Number(n)));
-    }
-    if is_name(piece) {
-        return Ok(Some(Term::Named(name_of(alloc, piece)?)));
-    }
-    Ok(None)
-}
-
-/// The piece that stands alone.
-fn only<'a>(pieces: &[&'a [u8]]) -> Option<&'a [u8]>
-    ensures { MatchOption result
-        ((p : List ℕ) → map (λ x. x.now) pieces.now ≡ p ∷ [] → ⊥)
-        (λ r. map (λ x. x.now) pieces.now ≡ r.now ∷ []) }
-{
-    match pieces {
-        [piece] => Some(*piece),
-        _ => None,
-    }
-}
-
-/// The piece behind a `#`.
-fn behind_hash<'a>(pieces: &[&'a [u8]]) -> Option<&'a [u8]>
-    ensures { MatchOption result
-        ((p : List ℕ) → map (λ x. x.now) pieces.now ≡ codes "#" ∷ p ∷ [] → ⊥)
-        (λ r. map (λ x. x.now) pieces.now ≡ codes "#" ∷ r.now ∷ []) }
-{
-    match pieces {
-        [hash, piece] => { if is_hash(*hash) { Some(*piece) } else { None } }
-        _ => None,
-    }
-}
-
-fn is_hash(piece: &[u8]) -> bool
-    ensures { IsTrue result ↔ (piece.now ≡ codes "#") }
+// Whether a piece is this letter, in either case.
+fn is_letter(piece: &[u8], c: u8) -> bool
+    ensures { IsTrue result ↔ IsLetter c piece.now }
 {
     match piece {
-        [b'#'] => true,
+        [x] => capital(*x) == c,
         _ => false,
     }
 }
 
-fn operand(alloc: Global, pieces: &[&[u8]]) -> Result<Option<Operand>, AllocError>
+// What stands behind a sign at the front.
+fn behind<'a, 'b>(pieces: &'a [&'b [u8]], c: u8) -> Option<&'a [&'b [u8]]>
+    ensures is { MatchOption result
+        ((es : List (List ℕ)) → map (λ x. x.now) pieces.now ≡ (c ∷ []) ∷ es → ⊥)
+        (λ r. map (λ x. x.now) pieces.now ≡ (c ∷ []) ∷ map (λ x. x.now) r.now) }
+    ensures within { IfSome result (λ r. length r.now ≤ length pieces.now) }
+{
+    match pieces.split_first() {
+        Some((first, rest)) => { if is_byte(*first, c) { Some(rest) } else { None } }
+        None => None,
+    }
+}
+
+// What stands before a sign at the end.
+fn front_of<'a, 'b>(pieces: &'a [&'b [u8]], c: u8) -> Option<&'a [&'b [u8]]>
+    ensures is { MatchOption result
+        ((es : List (List ℕ)) → map (λ x. x.now) pieces.now ≡ es ++ (c ∷ []) ∷ [] → ⊥)
+        (λ r. map (λ x. x.now) pieces.now ≡ map (λ x. x.now) r.now ++ (c ∷ []) ∷ []) }
+    ensures within { IfSome result (λ r. length r.now ≤ length pieces.now) }
+{
+    match pieces.split_last() {
+        Some((last, front)) => { if is_byte(*last, c) { Some(front) } else { None } }
+        None => None,
+    }
+}
+
+// What stands before a comma and the letter of a register.
+fn indexed<'a, 'b>(pieces: &'a [&'b [u8]], c: u8) -> Option<&'a [&'b [u8]]>
+    ensures is { MatchOption result
+        ((es : List (List ℕ)) → IsIndexed c (map (λ x. x.now) pieces.now) es → ⊥)
+        (λ r. IsIndexed c (map (λ x. x.now) pieces.now) (map (λ x. x.now) r.now)) }
+    ensures within { IfSome result (λ r. length r.now ≤ length pieces.now) }
+{
+    match pieces.split_last() {
+        Some((last, front)) => {
+            if is_letter(*last, c) {
+                front_of(front, b',')
+            } else {
+                None
+            }
+        }
+        None => None,
+    }
+}
+
+fn is_accumulator(pieces: &[&[u8]]) -> bool
+    ensures { IsTrue result ↔ ((a : List ℕ) × (map (λ x. x.now) pieces.now ≡ a ∷ []) × IsLetter 65 a) }
+{
+    match pieces {
+        [a] => is_letter(*a, b'A'),
+        _ => false,
+    }
+}
+
+// What stands in parentheses.
+fn enclosed<'a, 'b>(pieces: &'a [&'b [u8]]) -> Option<&'a [&'b [u8]]>
+    ensures is { MatchOption result
+        ((es : List (List ℕ)) → IsEnclosed (map (λ x. x.now) pieces.now) es → ⊥)
+        (λ r. IsEnclosed (map (λ x. x.now) pieces.now) (map (λ x. x.now) r.now)) }
+    ensures within { IfSome result (λ r. length r.now ≤ length pieces.now) }
+{
+    match behind(pieces, b'(') {
+        Some(rest) => front_of(rest, b')'),
+        None => None,
+    }
+}
+
+fn shaped<A: Allocator>(shape: Shape, found: Option<Expr<A>>) -> Option<Operand<A>>
+    ensures { result ≡ option_map (of_shape shape) found }
+{
+    let e = found?;
+    Some(match shape {
+        Shape::Immediate => Operand::Immediate(e),
+        Shape::Plain => Operand::Plain(e),
+        Shape::WithX => Operand::WithX(e),
+        Shape::WithY => Operand::WithY(e),
+        Shape::InParenthesesX => Operand::InParenthesesX(e),
+        Shape::ParenthesesY => Operand::ParenthesesY(e),
+        Shape::InParentheses => Operand::InParentheses(e),
+    })
+}
+
+// The operand that the pieces behind an operation are.
+pub(crate) fn operand<A: Allocator + Copy>(
+    alloc: A,
+    pieces: &[&[u8]],
+) -> Result<Option<Operand<A>>, AllocError>
+    requires { length pieces.now ≤ 255 }
     ensures { IfOk result (λ o. TheOne (IsOperand (map (λ x. x.now) pieces.now)) o) }
 {
     if pieces.len() == 0 {
         return Ok(Some(Operand::Nothing));
     }
-    if let Some(piece) = behind_hash(pieces) {
-        return Ok(term(alloc, piece)?.map(Operand::Immediate));
+    if is_accumulator(pieces) {
+        return Ok(Some(Operand::Accumulator));
     }
-    match only(pieces) {
-        Some(piece) => Ok(term(alloc, piece)?.map(Operand::Plain)),
-        None => Ok(None),
+    if let Some(es) = behind(pieces, b'#') {
+        return Ok(shaped(Shape::Immediate, expr(alloc, es)?));
     }
-}
-
-/// What an operation does with these pieces behind it.
-pub fn operation_body(
-    alloc: Global,
-    operation: Operation,
-    pieces: &[&[u8]],
-) -> Result<Option<Body>, AllocError>
-    ensures { IfOk result (λ o. TheOne (IsOperation operation (map (λ x. x.now) pieces.now)) o) }
-{
-    match operation {
-        Operation::Org => match only(pieces) {
-            Some(piece) => Ok(number(piece).map(Body::Org)),
-            None => Ok(None),
-        },
-        Operation::Equ => match only(pieces) {
-            Some(piece) => Ok(number(piece).map(Body::Equ)),
-            None => Ok(None),
-        },
-        Operation::Instr(mnemonic) => match operand(alloc, pieces)? {
-            Some(operand) => Ok(Some(Body::Instr(mnemonic, operand))),
-            None => Ok(None),
-        },
+    if let Some(inner) = enclosed(pieces) {
+        if let Some(es) = indexed(inner, b'X') {
+            return Ok(shaped(Shape::InParenthesesX, expr(alloc, es)?));
+        }
+        return Ok(shaped(Shape::InParentheses, expr(alloc, inner)?));
     }
+    if let Some(es) = indexed(pieces, b'X') {
+        return Ok(shaped(Shape::WithX, expr(alloc, es)?));
+    }
+    if let Some(front) = indexed(pieces, b'Y') {
+        if let Some(es) = enclosed(front) {
+            return Ok(shaped(Shape::ParenthesesY, expr(alloc, es)?));
+        }
+        return Ok(shaped(Shape::WithY, expr(alloc, front)?));
+    }
+    Ok(shaped(Shape::Plain, expr(alloc, pieces)?))
 }

@@ -1,18 +1,19 @@
-//! Texts of pieces: signs and words, with blanks between them.
+//! The pieces of a text: signs, words and texts in quotes.
 
-ghost use Rattle.std.specs.Prelude.{◌≡◌, ◌-◌, ◌≤◌, ℕ, List, take, drop, map, length, IfOk, MatchOption};
+ghost use Rattle.std.specs.Prelude.{◌≡◌, ◌+◌, ◌≤◌, ℕ, List, take, drop, map, length, IfOk, IfSome, MatchOption};
 ghost use Rattle.std.specs.List.{prefix_len};
-ghost use Rattle.a2_text.specs.Bytes as byte;
-ghost use Rattle.a2_syntax.specs.Names.{is_name_byte};
-ghost use Rattle.a2_syntax.specs.Pieces.{is_sign, is_over, is_gap, Spells};
-ghost use Rattle.a2_syntax.specs.Reading.{behind_blanks, run_len, piece_len};
+ghost use Rattle.a2_text.specs.Bytes.{is_blank};
+ghost use Rattle.a2_syntax.specs.Numbers as numbers;
+ghost use Rattle.a2_syntax.specs.Pieces as pieces;
+ghost use Rattle.a2_syntax.specs.Pieces.{Spells};
+ghost use Rattle.a2_syntax.specs.Reading as reading;
 
-use crate::names::in_name;
+use crate::word::in_name;
 use a2_text::is_blank;
-use std::alloc::{AllocError, Global};
+use std::alloc::{AllocError, Allocator};
 
-pub fn blanks(text: &[u8]) -> usize
-    ensures is { result ≡ prefix_len byte.is_blank text.now }
+fn blanks(text: &[u8]) -> usize
+    ensures is { result ≡ prefix_len is_blank text.now }
     ensures within { result ≤ length text.now }
 {
     for (i, c) in text.iter().enumerate() {
@@ -23,8 +24,8 @@ pub fn blanks(text: &[u8]) -> usize
     text.len()
 }
 
-pub fn run_len(text: &[u8]) -> usize
-    ensures is { result ≡ run_len text.now }
+fn run_len(text: &[u8]) -> usize
+    ensures is { result ≡ reading.run_len text.now }
     ensures within { result ≤ length text.now }
 {
     for (i, c) in text.iter().enumerate() {
@@ -35,16 +36,72 @@ pub fn run_len(text: &[u8]) -> usize
     text.len()
 }
 
-/// The name bytes at the front, and what stands behind them.
-pub fn front_run(text: &[u8]) -> (&[u8], &[u8])
-    ensures word { result.0.now ≡ take (run_len text.now) text.now }
-    ensures rest { result.1.now ≡ drop (run_len text.now) text.now }
+// Whether a byte is a quote.
+pub(crate) fn is_quote(c: u8) -> bool
+    ensures { result ≡ numbers.is_quote c }
+{
+    c == b'\'' || c == b'"'
+}
+
+// Whether a character may stand in quotes of this kind.
+pub(crate) fn is_quotable(quote: u8, c: u8) -> bool
+    ensures { result ≡ numbers.is_quotable quote c }
+{
+    c >= 32 && c <= 126 && c != quote
+}
+
+fn quotable_len(quote: u8, text: &[u8]) -> usize
+    ensures is { result ≡ prefix_len (numbers.is_quotable quote) text.now }
+    ensures within { result ≤ length text.now }
+{
+    for (i, c) in text.iter().enumerate() {
+        if !is_quotable(quote, *c) {
+            return i;
+        }
+    }
+    text.len()
+}
+
+// How much a closing quote adds to what stands before it, and 0 where there is none.
+fn closed_len(quote: u8, n: usize, rest: &[u8]) -> usize
+    requires { n ≤ 65536 }
+    ensures { result ≡ reading.closed_len quote n rest.now }
+{
+    match rest.split_first() {
+        Some((c, _)) => { if *c == quote { n + 2 } else { 0 } }
+        None => 0,
+    }
+}
+
+// How long a quoted text is, from what stands behind the opening quote, or 0 where there is none.
+fn quoted_len(quote: u8, text: &[u8]) -> usize
+    requires { length text.now ≤ 65536 }
+    ensures is { result ≡ reading.quoted_len quote text.now }
+    ensures within { result ≤ length text.now + 1 }
+{
+    let n = quotable_len(quote, text);
+    closed_len(quote, n, &text[n..])
+}
+
+// How long a mark and a run are, from what stands behind the mark, or 0 where there is no run.
+fn marked_len(text: &[u8]) -> usize
+    ensures is { result ≡ reading.marked_len text.now }
+    ensures within { result ≤ length text.now + 1 }
+{
+    let n = run_len(text);
+    if n == 0 { 0 } else { 1 + n }
+}
+
+// The name bytes at the front, and what stands behind them.
+pub(crate) fn front_run(text: &[u8]) -> (&[u8], &[u8])
+    ensures word { result.0.now ≡ take (reading.run_len text.now) text.now }
+    ensures rest { result.1.now ≡ drop (reading.run_len text.now) text.now }
 {
     text.split_at(run_len(text))
 }
 
-fn sign(c: u8) -> bool
-    ensures { result ≡ is_sign c }
+fn is_sign(c: u8) -> bool
+    ensures { result ≡ pieces.is_sign c }
 {
     matches!(
         c,
@@ -52,8 +109,15 @@ fn sign(c: u8) -> bool
     )
 }
 
-pub fn over(text: &[u8]) -> bool
-    ensures { result ≡ is_over text.now }
+fn is_mark(c: u8) -> bool
+    ensures { result ≡ pieces.is_mark c }
+{
+    c == b'$' || c == b'%'
+}
+
+// Whether there is nothing, or a comment.
+pub(crate) fn is_over(text: &[u8]) -> bool
+    ensures { result ≡ pieces.is_over text.now }
 {
     match text.split_first() {
         None => true,
@@ -61,8 +125,9 @@ pub fn over(text: &[u8]) -> bool
     }
 }
 
-pub fn gap(text: &[u8]) -> bool
-    ensures { result ≡ is_gap text.now }
+// Whether there is nothing, a blank or a comment.
+pub(crate) fn is_gap(text: &[u8]) -> bool
+    ensures { result ≡ pieces.is_gap text.now }
 {
     match text.split_first() {
         None => true,
@@ -70,42 +135,51 @@ pub fn gap(text: &[u8]) -> bool
     }
 }
 
-/// How long the piece at the front is, or 0 where there is none.
+// How long the piece at the front is, or 0 where there is none.
 fn piece_len(text: &[u8]) -> usize
-    ensures is { result ≡ piece_len text.now }
+    requires { length text.now ≤ 65536 }
+    ensures is { result ≡ reading.piece_len text.now }
     ensures within { result ≤ length text.now }
 {
     let Some((first, others)) = text.split_first() else {
         return 0;
     };
-    if sign(*first) {
+    if is_sign(*first) {
         return 1;
     }
-    if *first != b'$' {
-        return run_len(text);
+    if is_mark(*first) {
+        return marked_len(others);
     }
-    let n = run_len(others);
-    if n == 0 { 0 } else { 1 + n }
+    if is_quote(*first) {
+        return quoted_len(*first, others);
+    }
+    run_len(text)
 }
 
-/// What stands behind the blanks.
-pub fn unblanked(text: &[u8]) -> &[u8]
-    ensures { result.now ≡ behind_blanks text.now }
+// What stands behind the blanks.
+pub(crate) fn unblanked(text: &[u8]) -> &[u8]
+    ensures is { result.now ≡ reading.behind_blanks text.now }
+    ensures within { length result.now ≤ length text.now }
 {
     &text[blanks(text)..]
 }
 
-/// The pieces of a text, or None where it is no text of pieces.
-pub fn pieces(alloc: Global, text: &[u8]) -> Result<Option<Vec<&[u8]>>, AllocError>
-    ensures { IfOk result (λ o. MatchOption o
+// The pieces of a text, or None where it is no text of pieces.
+pub(crate) fn pieces<'a, A: Allocator>(
+    alloc: A,
+    text: &'a [u8],
+) -> Result<Option<Vec<&'a [u8], A>>, AllocError>
+    requires { length text.now ≤ 65536 }
+    ensures read { IfOk result (λ o. MatchOption o
         ((pieces : List (List ℕ)) → Spells text.now pieces → ⊥)
         (λ v. Spells text.now (map (λ x. x.now) v.items))) }
+    ensures few { IfOk result (λ o. IfSome o (λ v. length v.items ≤ length text.now)) }
 {
     let mut found = Vec::new(alloc);
     let mut rest = text;
     'pieces: loop {
         let here = unblanked(rest);
-        if over(here) {
+        if is_over(here) {
             return Ok(Some(found));
         }
         let n = piece_len(here);

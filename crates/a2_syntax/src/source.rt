@@ -1,25 +1,32 @@
-//! Source lines.
+//! The lines of a source text, and their parts.
 
-ghost use Rattle.std.specs.Prelude.{◌≡◌, ◌≤◌, List, ℕ, length, string_bytes};
+ghost use Rattle.std.specs.Prelude.{◌≡◌, ◌≤◌, true, length, string_bytes};
+ghost use Rattle.a2_syntax.specs.Names.{is_name};
 
 use a2_opcode::Mnemonic;
+use std::alloc::{Allocator, Global};
 use std::marker::Model;
 
-/// A name, as it was written. Contracts see its bytes. Only `parse` makes one.
+/// A name, as it was written.
 #[derive(Drop)]
-pub struct Name {
-    text: String,
+pub struct Name<A: Allocator = Global> {
+    text: String<A>,
 }
 
-impl Model for Name {
+impl<A: Allocator> Model for Name<A> {
+    ghost use Rattle.std.specs.Prelude.{◌≡◌, true, List, ℕ, string_bytes};
+    ghost use Rattle.a2_syntax.specs.Names.{is_name};
+
     ghost Value = { List ℕ };
 
     ghost view = { λ a. string_bytes a.text };
+
+    ghost invariant = { λ a. is_name (string_bytes a.text) ≡ true };
 }
 
-impl Name {
-    // The name that a text is.
-    pub(crate) fn of(text: String) -> Name
+impl<A: Allocator> Name<A> {
+    pub(crate) fn of(text: String<A>) -> Name<A>
+        requires { is_name (string_bytes text) ≡ true }
         ensures { result ≡ string_bytes text }
     {
         Name { text }
@@ -27,78 +34,234 @@ impl Name {
 
     /// The name's text.
     pub fn get(&self) -> &str
-        ensures { result.now ≡ self.now }
+        ensures is { result.now ≡ self.now }
+        ensures name { is_name result.now ≡ true }
     {
         self.text.as_str()
     }
 }
 
-/// A term of an operand: a number, or a name that stands for one.
+/// A term of an expression.
 #[derive(Drop)]
-pub enum Term {
+pub enum Term<A: Allocator = Global> {
+    /// A number, or the code of a character.
     Number(u16),
-    Named(Name),
+    /// What a name stands for.
+    Named(Name<A>),
+    /// `*`, the address of the line.
+    Here,
 }
 
-/// An instruction's operand, by its form.
+/// A term, and whether a `-` stands before it.
 #[derive(Drop)]
-pub enum Operand {
+pub struct Signed<A: Allocator = Global> {
+    /// Whether the term counts below zero.
+    pub minus: bool,
+    /// The term without its sign.
+    pub term: Term<A>,
+}
+
+/// The terms of an expression: one or more, and at most 255.
+#[derive(Drop)]
+pub struct Terms<A: Allocator = Global> {
+    terms: Vec<Signed<A>, A>,
+}
+
+impl<A: Allocator> Model for Terms<A> {
+    ghost use Rattle.std.specs.Prelude.{◌≤◌, List, length};
+    ghost use Rattle.a2_syntax.specs.declared.source.Signed.{Signed};
+
+    ghost Value = { List (Signed A) };
+
+    ghost view = { λ a. a.terms.items };
+
+    ghost invariant = { λ a. length a.terms.items ≤ 255 };
+}
+
+impl<A: Allocator> Terms<A> {
+    pub(crate) fn of(terms: Vec<Signed<A>, A>) -> Terms<A>
+        requires { length terms.items ≤ 255 }
+        ensures { result ≡ terms.items }
+    {
+        Terms { terms }
+    }
+
+    /// The terms in order.
+    pub fn get(&self) -> &[Signed<A>]
+        ensures is { result.now ≡ self.now }
+        ensures few { length result.now ≤ 255 }
+    {
+        self.terms.as_slice()
+    }
+}
+
+/// Which part of an expression's sum is its value.
+#[derive(Clone, Copy, Debug, PartialEq, Eq, Drop)]
+pub enum Part {
+    /// The sum itself.
+    Whole,
+    /// `<`, the sum modulo 256.
+    Low,
+    /// `>`, the sum's quotient by 256, modulo 256.
+    High,
+}
+
+/// An expression.
+#[derive(Drop)]
+pub struct Expr<A: Allocator = Global> {
+    /// Which part of the sum is the value.
+    pub part: Part,
+    /// The terms of the sum, from left to right.
+    pub terms: Terms<A>,
+}
+
+/// Expressions with commas between them: one or more, and at most 255.
+#[derive(Drop)]
+pub struct Exprs<A: Allocator = Global> {
+    exprs: Vec<Expr<A>, A>,
+}
+
+impl<A: Allocator> Model for Exprs<A> {
+    ghost use Rattle.std.specs.Prelude.{◌≤◌, List, length};
+    ghost use Rattle.a2_syntax.specs.declared.source.Expr.{Expr};
+
+    ghost Value = { List (Expr A) };
+
+    ghost view = { λ a. a.exprs.items };
+
+    ghost invariant = { λ a. length a.exprs.items ≤ 255 };
+}
+
+impl<A: Allocator> Exprs<A> {
+    pub(crate) fn of(exprs: Vec<Expr<A>, A>) -> Exprs<A>
+        requires { length exprs.items ≤ 255 }
+        ensures { result ≡ exprs.items }
+    {
+        Exprs { exprs }
+    }
+
+    /// The expressions in order.
+    pub fn get(&self) -> &[Expr<A>]
+        ensures is { result.now ≡ self.now }
+        ensures few { length result.now ≤ 255 }
+    {
+        self.exprs.as_slice()
+    }
+}
+
+/// The bytes of a text in quotes: one or more, and at most 255.
+#[derive(Drop)]
+pub struct Bytes<A: Allocator = Global> {
+    bytes: Vec<u8, A>,
+}
+
+impl<A: Allocator> Model for Bytes<A> {
+    ghost use Rattle.std.specs.Prelude.{◌≤◌, List, ℕ, length};
+
+    ghost Value = { List ℕ };
+
+    ghost view = { λ a. a.bytes.items };
+
+    ghost invariant = { λ a. length a.bytes.items ≤ 255 };
+}
+
+impl<A: Allocator> Bytes<A> {
+    pub(crate) fn of(bytes: Vec<u8, A>) -> Bytes<A>
+        requires { length bytes.items ≤ 255 }
+        ensures { result ≡ bytes.items }
+    {
+        Bytes { bytes }
+    }
+
+    /// The bytes in order.
+    pub fn get(&self) -> &[u8]
+        ensures is { result.now ≡ self.now }
+        ensures few { length result.now ≤ 255 }
+    {
+        self.bytes.as_slice()
+    }
+}
+
+/// The operand of an instruction, by the form in which it is written. `e` is an expression.
+#[derive(Drop)]
+pub enum Operand<A: Allocator = Global> {
     /// No operand.
     Nothing,
+    /// `A`, or nothing behind ASL, LSR, ROL or ROR.
+    Accumulator,
     /// `#e`
-    Immediate(Term),
+    Immediate(Expr<A>),
     /// `e`
-    Plain(Term),
+    Plain(Expr<A>),
+    /// `e,X`
+    WithX(Expr<A>),
+    /// `e,Y`
+    WithY(Expr<A>),
+    /// `(e,X)`
+    InParenthesesX(Expr<A>),
+    /// `(e),Y`
+    ParenthesesY(Expr<A>),
+    /// `(e)`
+    InParentheses(Expr<A>),
 }
 
 /// What a line does.
 #[derive(Drop)]
-pub enum Body {
-    /// Nothing: a comment or blanks.
+pub enum Body<A: Allocator = Global> {
+    /// Nothing.
     Empty,
-    /// `ORG e`: the next line's address.
-    Org(u16),
-    /// `EQU e`: the label's value.
-    Equ(u16),
-    /// An instruction.
-    Instr(Mnemonic, Operand),
+    /// An instruction of the processor.
+    Instr(Mnemonic, Operand<A>),
+    /// Sets the address.
+    Org(Expr<A>),
+    /// Gives the label a value.
+    Equ(Expr<A>),
+    /// One byte for each value.
+    Dfb(Exprs<A>),
+    /// Two bytes for each value, the low one first.
+    Dw(Exprs<A>),
+    /// The codes of a text.
+    Asc(Bytes<A>),
+    /// So many zero bytes.
+    Ds(Expr<A>),
 }
 
 /// A line of a source text.
 #[derive(Drop)]
-pub struct Line {
-    pub label: Option<Name>,
-    pub body: Body,
+pub struct Line<A: Allocator = Global> {
+    /// The name in the first column.
+    pub label: Option<Name<A>>,
+    /// What stands behind it.
+    pub body: Body<A>,
 }
 
-/// The lines of a source text, at most 4,096. Contracts see their list. Only `parse` makes one.
+/// The lines of a source text, at most 4,096. Only `parse` makes one.
 #[derive(Drop)]
-pub struct Source {
-    lines: Vec<Line>,
+pub struct Source<A: Allocator = Global> {
+    lines: Vec<Line<A>, A>,
 }
 
-impl Model for Source {
-    ghost use Rattle.std.specs.Prelude.{List, length, ◌≤◌};
+impl<A: Allocator> Model for Source<A> {
+    ghost use Rattle.std.specs.Prelude.{◌≤◌, List, length};
     ghost use Rattle.a2_syntax.specs.declared.source.Line.{Line};
 
-    ghost Value = { List Line };
+    ghost Value = { List (Line A) };
 
     ghost view = { λ a. a.lines.items };
 
     ghost invariant = { λ a. length a.lines.items ≤ 4096 };
 }
 
-impl Source {
-    // The source of these lines.
-    pub(crate) fn of(lines: Vec<Line>) -> Source
+impl<A: Allocator> Source<A> {
+    pub(crate) fn of(lines: Vec<Line<A>, A>) -> Source<A>
         requires { length lines.items ≤ 4096 }
         ensures { result ≡ lines.items }
     {
         Source { lines }
     }
 
-    /// The lines, one for each line of the text, in its order.
-    pub fn lines(&self) -> &[Line]
+    /// The lines in order, one for each line of the text.
+    pub fn lines(&self) -> &[Line<A>]
         ensures is { result.now ≡ self.now }
         ensures few { length result.now ≤ 4096 }
     {

@@ -1,9 +1,9 @@
 //! Worked texts.
 
-use crate::fault::Fault;
-use crate::names::is_name;
-use crate::parsing::parse;
-use crate::source::{Body, Operand, Term};
+use crate::{
+    Body, Expr, Fault, Operand, Part, Term, a_refused_text_is_no_source, a_text_is_one_source,
+    is_name, lines, parse,
+};
 use a2_opcode::Mnemonic;
 use std::alloc::Global;
 
@@ -14,105 +14,187 @@ fn fault_of(alloc: Global, text: &[u8]) -> Option<Fault> {
     }
 }
 
+// The number that an expression begins with.
+fn first_number(e: &Expr) -> Option<u16> {
+    let first = e.terms.get().first()?;
+    match &first.term {
+        Term::Number(n) => Some(*n),
+        _ => None,
+    }
+}
+
+// The number that an expression ends with, and whether it counts below zero.
+fn last_number(e: &Expr) -> Option<(bool, u16)> {
+    let last = e.terms.get().last()?;
+    match &last.term {
+        Term::Number(n) => Some((last.minus, *n)),
+        _ => None,
+    }
+}
+
+#[test]
+fn names(rt: HostRuntime) {
+    assert!(rt; is_name(b"COUT"));
+    assert!(rt; is_name(b"_a1"));
+    assert!(rt; is_name(b"X"));
+    assert!(rt; !is_name(b"A"));
+    assert!(rt; !is_name(b"a"));
+    assert!(rt; !is_name(b"1A"));
+    assert!(rt; !is_name(b""));
+    assert!(rt; is_name(b"ABCDEFGHIJKLMNOPQRSTUVWXYZ012345"));
+    assert!(rt; !is_name(b"ABCDEFGHIJKLMNOPQRSTUVWXYZ0123456"));
+}
+
+#[test]
+fn cut_lines(rt: HostRuntime) -> Result<(), std::test::Fail> {
+    let found = lines(rt.alloc(), b"A\r\nB\n\nC")?;
+    assert_eq!(rt; found.len(), 4);
+    assert_eq!(rt; found[0].len(), 1);
+    assert_eq!(rt; found[2].len(), 0);
+    Ok(())
+}
+
 #[test]
 fn stored_run(rt: HostRuntime) -> Result<(), std::test::Fail> {
-    let text = b"COUT EQU $FDED\r\n ORG $300 ; start\n lda #$C1\n\tJSR COUT\n* end\n RTS\n";
+    let text =
+        b"COUT EQU $FDED\r\n ORG $300 ; it's \"here\nLOOP lda #'A'\n\tJSR COUT+1-%10\n* end\n ASL\nEND RTS;\n";
+    let source = parse(rt.alloc(), text)?;
+    let lines = source.lines();
+    assert_eq!(rt; lines.len(), 7);
+    assert!(rt; lines[0].label.is_some());
+    assert!(rt; lines[1].label.is_none());
+    assert!(rt; matches!(&lines[1].body, Body::Org(e) if first_number(e) == Some(0x300)));
+    assert!(rt;
+        matches!(&lines[2].body, Body::Instr(Mnemonic::Lda, Operand::Immediate(e)) if first_number(e) == Some(0x41))
+    );
+    assert!(rt;
+        matches!(&lines[3].body, Body::Instr(Mnemonic::Jsr, Operand::Plain(e)) if last_number(e) == Some((true, 2)))
+    );
+    assert!(rt; matches!(&lines[4].body, Body::Empty));
+    assert!(rt;
+        matches!(
+            &lines[5].body,
+            Body::Instr(Mnemonic::Asl, Operand::Accumulator)
+        )
+    );
+    assert!(rt; matches!(&lines[6].body, Body::Instr(Mnemonic::Rts, Operand::Nothing)));
+    Ok(())
+}
+
+#[test]
+fn operands(rt: HostRuntime) -> Result<(), std::test::Fail> {
+    let text = b" LDA ( $24 , x )\n LDA ($24),Y\n JMP ($300)\n LDX N,Y\n STA N,X\n ROL a\n";
     let source = parse(rt.alloc(), text)?;
     let lines = source.lines();
     assert_eq!(rt; lines.len(), 6);
-    match &lines[0].label {
-        Some(name) => assert_eq!(rt; name.get(), "COUT"),
-        None => assert!(rt; false),
-    }
-    assert!(rt; matches!(&lines[0].body, Body::Equ(0xFDED)));
-    assert!(rt; matches!(&lines[1].body, Body::Org(0x300)));
+    assert!(rt;
+        matches!(
+            &lines[0].body,
+            Body::Instr(Mnemonic::Lda, Operand::InParenthesesX(_))
+        )
+    );
+    assert!(rt;
+        matches!(
+            &lines[1].body,
+            Body::Instr(Mnemonic::Lda, Operand::ParenthesesY(_))
+        )
+    );
     assert!(rt;
         matches!(
             &lines[2].body,
-            Body::Instr(Mnemonic::Lda, Operand::Immediate(Term::Number(0xC1)))
+            Body::Instr(Mnemonic::Jmp, Operand::InParentheses(_))
         )
     );
     assert!(rt;
         matches!(
             &lines[3].body,
-            Body::Instr(Mnemonic::Jsr, Operand::Plain(Term::Named(_)))
+            Body::Instr(Mnemonic::Ldx, Operand::WithY(_))
         )
     );
-    assert!(rt; matches!(&lines[4].body, Body::Empty));
-    assert!(rt; matches!(&lines[5].body, Body::Instr(Mnemonic::Rts, Operand::Nothing)));
+    assert!(rt;
+        matches!(
+            &lines[4].body,
+            Body::Instr(Mnemonic::Sta, Operand::WithX(_))
+        )
+    );
+    assert!(rt;
+        matches!(
+            &lines[5].body,
+            Body::Instr(Mnemonic::Rol, Operand::Accumulator)
+        )
+    );
     Ok(())
 }
 
 #[test]
-fn lines_outside_the_grammar(rt: HostRuntime) {
+fn directives(rt: HostRuntime) -> Result<(), std::test::Fail> {
+    let text = b"T DFB <T,>T,\"A\",','\n ASC \"HI;\" ; text\n DS *-T\n DW $FFFF\n";
+    let source = parse(rt.alloc(), text)?;
+    let lines = source.lines();
+    assert_eq!(rt; lines.len(), 4);
+    if let Body::Dfb(es) = &lines[0].body {
+        let es = es.get();
+        assert_eq!(rt; es.len(), 4);
+        assert!(rt; es[0].part == Part::Low);
+        assert!(rt; es[1].part == Part::High);
+        assert_eq!(rt; first_number(&es[2]), Some(0xC1));
+        assert_eq!(rt; first_number(&es[3]), Some(0x2C));
+    }
+    assert!(rt; matches!(&lines[0].body, Body::Dfb(_)));
+    assert!(rt;
+        matches!(&lines[1].body, Body::Asc(bytes) if bytes.get() == [0xC8, 0xC9, 0xBB].as_slice())
+    );
+    assert!(rt; matches!(&lines[2].body, Body::Ds(_)));
+    assert!(rt; matches!(&lines[3].body, Body::Dw(_)));
+    Ok(())
+}
+
+#[test]
+fn refusals(rt: HostRuntime) {
     assert_eq!(rt; fault_of(rt.alloc(), b" FOO 1"), Some(Fault::Syntax(1)));
     assert_eq!(rt;
         fault_of(rt.alloc(), b" RTS\n LDA#1\n"),
         Some(Fault::Syntax(2))
     );
-    assert_eq!(rt; fault_of(rt.alloc(), b"L RTS"), Some(Fault::Syntax(1)));
-    assert_eq!(rt; fault_of(rt.alloc(), b"A EQU 1"), Some(Fault::Syntax(1)));
+    assert_eq!(rt; fault_of(rt.alloc(), b"A RTS"), Some(Fault::Syntax(1)));
+    assert_eq!(rt; fault_of(rt.alloc(), b" EQU 1"), Some(Fault::Syntax(1)));
     assert_eq!(rt; fault_of(rt.alloc(), b" ORG 65536"), Some(Fault::Syntax(1)));
     assert_eq!(rt; fault_of(rt.alloc(), b" ORG 65535"), None);
+    assert_eq!(rt; fault_of(rt.alloc(), b" LDA #$"), Some(Fault::Syntax(1)));
+    assert_eq!(rt; fault_of(rt.alloc(), b" LDA A+1"), Some(Fault::Syntax(1)));
+    assert_eq!(rt; fault_of(rt.alloc(), b" LDA A"), None);
+    assert_eq!(rt; fault_of(rt.alloc(), b" LDA #'\"' ; \""), None);
+    assert_eq!(rt; fault_of(rt.alloc(), b" LDA #'A"), Some(Fault::Syntax(1)));
+    assert_eq!(rt; fault_of(rt.alloc(), b" ASC ''"), Some(Fault::Syntax(1)));
+    assert_eq!(rt; fault_of(rt.alloc(), b" DFB 1,"), Some(Fault::Syntax(1)));
+    assert_eq!(rt; fault_of(rt.alloc(), b" RTS \x80"), Some(Fault::Syntax(1)));
+    assert_eq!(rt; fault_of(rt.alloc(), b" RTS ; \x80"), None);
     assert_eq!(rt; fault_of(rt.alloc(), b""), None);
-    assert_eq!(rt; fault_of(rt.alloc(), b"; only a comment"), None);
-}
-
-// So many copies of a text.
-fn copies(alloc: Global, text: &[u8], count: usize) -> Result<Vec<u8>, std::alloc::AllocError> {
-    let mut whole = Vec::new(alloc);
-    for _i in 0..count {
-        whole.extend_from_slice(text)?;
-    }
-    Ok(whole)
 }
 
 #[test]
-fn texts_that_are_too_large(rt: HostRuntime) -> Result<(), std::test::Fail> {
-    let sizes: [(&[u8], usize, Option<Fault>); 5] = [
-        (b";", 255, None),
-        (b";", 256, Some(Fault::TooLarge(1))),
-        (b"\n", 4096, None),
-        (b"\n", 4097, Some(Fault::TooLarge(4097))),
-        (b"\n", 65537, Some(Fault::TooLarge(0))),
-    ];
-    for (text, count, expected) in &sizes {
-        let whole = copies(rt.alloc(), *text, *count)?;
-        assert_eq!(rt; fault_of(rt.alloc(), whole.as_slice()), *expected);
-    }
+fn texts(rt: HostRuntime) -> Result<(), std::test::Fail> {
+    assert_eq!(rt;
+        format!(in rt.alloc(); "{}", Fault::Duplicate(12))?.as_str(),
+        "LINE 12 E4 DUPLICATE NAME"
+    );
+    assert_eq!(rt;
+        format!(in rt.alloc(); "{}", Fault::TooLarge(0))?.as_str(),
+        "E1 TOO LARGE"
+    );
+    assert_eq!(rt;
+        format!(in rt.alloc(); "{}", Fault::NoCode)?.as_str(),
+        "E12 NO INSTRUCTION"
+    );
+    assert_eq!(rt;
+        format!(in rt.alloc(); "{}", Fault::Memory)?.as_str(),
+        "NO MEMORY"
+    );
     Ok(())
 }
 
 #[test]
-fn names(rt: HostRuntime) {
-    assert!(rt; is_name(b"_cout2"));
-    assert!(rt; !is_name(b"2COUT"));
-    assert!(rt; !is_name(b"a"));
-    assert!(rt; is_name(b"X"));
-}
-
-#[test]
-fn texts_of_faults(rt: HostRuntime) -> Result<(), std::test::Fail> {
-    let expected: [(Fault, &str); 15] = [
-        (Fault::TooLarge(0), "E1 TOO LARGE"),
-        (Fault::TooLarge(4097), "LINE 4097 E1 TOO LARGE"),
-        (Fault::Syntax(1), "LINE 1 E2 SYNTAX"),
-        (Fault::TooManyNames(1025), "LINE 1025 E3 TOO MANY NAMES"),
-        (Fault::Duplicate(2), "LINE 2 E4 DUPLICATE NAME"),
-        (Fault::Unknown(1), "LINE 1 E5 UNKNOWN NAME"),
-        (Fault::Forward(1), "LINE 1 E6 NAME DEFINED LATER"),
-        (Fault::NoMode(2), "LINE 2 E7 NO SUCH MODE"),
-        (Fault::Range(1), "LINE 1 E8 VALUE OUT OF RANGE"),
-        (Fault::Branch(2), "LINE 2 E9 BRANCH TOO FAR"),
-        (Fault::Outside(2), "LINE 2 E10 OUTSIDE RAM"),
-        (Fault::Overlap(4), "LINE 4 E11 OVERLAP"),
-        (Fault::NoCode, "E12 NO INSTRUCTION"),
-        (Fault::Memory, "NO MEMORY"),
-        (Fault::Syntax(0), "E2 SYNTAX"),
-    ];
-    for (fault, text) in &expected {
-        let shown = format!(in rt.alloc(); "{}", *fault)?;
-        assert_eq!(rt; shown.as_str(), *text);
-    }
-    Ok(())
+fn laws(_rt: HostRuntime) {
+    a_refused_text_is_no_source::<Global>();
+    a_text_is_one_source::<Global>();
 }

@@ -1,30 +1,35 @@
-use Rattle.std.proofs.Common.{◌≡◌, List, Some, ap, sym, ◌∙◌, subst}
+use Rattle.std.proofs.Common.{◌≡◌, List, Some, None, ap, sym, ◌∙◌, subst}
 use Rattle.std.proofs.lemmas.Result.{err_from_is_err_and}
 use Rattle.a2_syntax.specs.declared.source.Line.{Line}
+use Rattle.a2_syntax.specs.declared.fault.Fault.TheVariants.{NoCode}
 use Rattle.a2_asm.specs.Entries.{entries}
-use Rattle.a2_asm.specs.Layout.{rows, image, statements, layout_refusal}
+use Rattle.a2_asm.specs.Layout.{rows}
+use Rattle.a2_asm.specs.Bytes.{image, statements}
+use Rattle.a2_asm.specs.Refusals.{layout_refusal}
 use Rattle.a2_asm.specs.Programs.{IsProgram}
-use Rattle.a2_asm.proofs.AssembleLaws.{layout-refused, layout-accepted}
-use Rattle.a2_asm.proofs.DecodeLaws.{program-decodes}
-use Rattle.a2_asm.proofs.RunLaws.{program-begins, program-apart, program-room, program-stored, program-enters}
+use Rattle.a2_asm.proofs.AssembleLaws.{layout-by, layout-no_code}
+use Rattle.a2_asm.proofs.RunLaws.{program-decodes, program-begins, program-apart, program-room, program-stored, program-enters}
 use Rattle.a2_asm.proofs.assembling.assemble.Goals as goal
 
+pub returns-in_default-entry-clause-refused : goal.returns-in_default-entry-clause-refused
+returns-in_default-entry-clause-refused g c =
+    λ _. ap layout_refusal (sym c.lines-lines.ensures.is) ∙ layout-no_code c.lines-lines.result.now (sym c.refuse_names.ensures ∙ c.in_default.is) c.in_ok-places.ensures.placed (sym c.entry.ensures ∙ c.in_default-entry.is)
+
 pub returns-in_err-image-clause-refused : goal.returns-in_err-image-clause-refused
-returns-in_err-image-clause-refused c =
+returns-in_err-image-clause-refused g c =
     let p = err_from_is_err_and c.from_residual-in_err-image.result c.from_residual-in_err-image.ensures.1 in
     let lines = c.lines-lines.result.now in
     let f = c.in_err-image.field-0.0 in
-    let P : List Line → Type 0 = λ x. layout_refusal x ≡ Some f in
-    rw (p.1, p.2) (λ ne. subst P c.lines-lines.ensures.is (layout-refused lines (entries c.in_ok-addresses.names) c.in-Some-entry.entry f (sym c.refuse_names.ensures ∙ c.in_default.is) c.in_ok-addresses.ensures.placed (sym c.in-Some-entry.ensures) c.in_ok-addresses.ensures.names (c.in_err-image.ensures.refused ne)))
+    rw (p.1, p.2) (λ ne. ap layout_refusal (sym c.lines-lines.ensures.is) ∙ layout-by lines (entries c.in_ok-places.names) c.in-Some-entry.entry (Some f) (sym c.refuse_names.ensures ∙ c.in_default.is) c.in_ok-places.ensures.placed (sym c.in-Some-entry.ensures) c.in_ok-places.ensures.names (c.in_err-image.ensures.refused ne))
 
 pub returns-clause-made : goal.returns-clause-made
-returns-clause-made c =
+returns-clause-made g c =
     let lines = c.lines-lines.result.now in
-    let known = entries c.in_ok-addresses.names in
-    let are = c.in_ok-addresses.ensures.names in
-    let P : List Line → Type 0 = λ x. IsProgram x c.of.result in
+    let known = entries c.in_ok-places.names in
+    let are = c.in_ok-places.ensures.names in
+    let P : List (Line g.row.A.Denot) → Type 0 = λ x. IsProgram x c.of.result in
     subst P c.lines-lines.ensures.is (rw c.of.ensures (record {
-      accepted = layout-accepted lines known c.in-Some-entry.entry (sym c.refuse_names.ensures ∙ c.in_default.is) c.in_ok-addresses.ensures.placed (sym c.in-Some-entry.ensures) are c.in_ok-image.ensures.laid;
+      accepted = layout-by lines known c.in-Some-entry.entry None (sym c.refuse_names.ensures ∙ c.in_default.is) c.in_ok-places.ensures.placed (sym c.in-Some-entry.ensures) are c.in_ok-image.ensures.laid;
       named = are;
       laid = λ a. c.in_ok-image.ensures.image a ∙ ap (λ k. image k (rows lines) a) are;
       stated = c.in_ok-image.ensures.statements ∙ ap (λ k. statements k (rows lines)) are;
@@ -32,19 +37,19 @@ returns-clause-made c =
     }))
 
 pub returns-clause-decodes : goal.returns-clause-decodes
-returns-clause-decodes c = program-decodes c.args.source.now c.of.result (returns-clause-made c)
+returns-clause-decodes g c = program-decodes c.args.source.now c.of.result (returns-clause-made g c)
 
 pub returns-clause-begin : goal.returns-clause-begin
-returns-clause-begin c = program-begins c.args.source.now c.of.result (returns-clause-made c)
+returns-clause-begin g c = program-begins c.args.source.now c.of.result (returns-clause-made g c)
 
 pub returns-clause-apart : goal.returns-clause-apart
-returns-clause-apart c = program-apart c.args.source.now c.of.result (returns-clause-made c)
+returns-clause-apart g c = program-apart c.args.source.now c.of.result (returns-clause-made g c)
 
 pub returns-clause-room : goal.returns-clause-room
-returns-clause-room c = program-room c.args.source.now c.of.result (returns-clause-made c)
+returns-clause-room g c = program-room c.args.source.now c.of.result (returns-clause-made g c)
 
 pub returns-clause-stored : goal.returns-clause-stored
-returns-clause-stored c = program-stored c.args.source.now c.of.result (returns-clause-made c)
+returns-clause-stored g c = program-stored c.args.source.now c.of.result (returns-clause-made g c)
 
 pub returns-clause-enters : goal.returns-clause-enters
-returns-clause-enters c = program-enters c.args.source.now c.of.result (returns-clause-made c)
+returns-clause-enters g c = program-enters c.args.source.now c.of.result (returns-clause-made g c)

@@ -1,69 +1,71 @@
-use Rattle.std.proofs.Common.{◌≡◌, ◌+◌, ℕ, List, Bool, true, false, not, get_or, arith, ap, sym, ◌∙◌, refl, length}
-use Rattle.a2_asm.specs.Entries.{entries}
+use Rattle.std.proofs.Common.{◌≡◌, ◌++◌, ℕ, List, [], take, sym, ap, ◌∙◌, arith}
 use Rattle.a2_hex.specs.Images.{held}
+use Rattle.a2_asm.specs.Entries.{entries}
 use Rattle.a2_asm.specs.Laying.{meets, laid_over}
-use Rattle.a2_asm.specs.Layout.{Placed, rows}
-use Rattle.a2_asm.proofs.RowLaws.{statement-is, no-bytes, no-statement, addresses-length, rows-length, row-is, row-within, bytes-is, room-for, fits-for}
-use Rattle.a2_asm.proofs.AssembleLaws.{Lays-skip, Lays-more, Lays-operand, Lays-meets, Lays-end}
+use Rattle.a2_asm.specs.Layout.{rows, names}
+use Rattle.a2_asm.specs.Bytes.{bytes_of}
+use Rattle.a2_asm.proofs.RowLaws.{rows-length, row-within}
+use Rattle.a2_asm.proofs.SeatLaws.{spot, spot-within, seated, seated-row, seated-keeps, bytes-room}
+use Rattle.a2_asm.proofs.AssembleLaws.{Lays-more, Lays-operand, Lays-meets, Lays-end, statement-there, no-statement}
 use Rattle.a2_asm.proofs.assembling.lay.Goals as goal
-use Rattle.a2_asm.proofs.assembling.lay.Goals.{in-Instr+else-not-lay_instr+in_ok-push, in_default-body}
+use Rattle.a2_asm.proofs.assembling.lay.Goals.{then-is_statement+in_ok-push, else-is_statement}
 
-not-false : (b : Bool) → false ≡ not b → b ≡ true
-not-false true h = refl
-not-false false h = cc
+pub bounds-places-i : goal.bounds-places-i
+bounds-places-i g c = spot-within c.args.lines.now c.args.places.now c.loop-i.i c.requires.places c.loop-i-test.true
 
-not-true : (b : Bool) → true ≡ not b → b ≡ false
-not-true false h = refl
-not-true true h = cc
+pub line_bytes-requires-clause-row : goal.line_bytes-requires-clause-row
+line_bytes-requires-clause-row g c = (seated-keeps c.args.lines.now c.args.places.now c.loop-i.i c.index-lines-i.result c.requires.places c.loop-i-test.true c.index-lines-i.is c.requires.placed).has_row
 
-pub bounds-addresses-i : goal.bounds-addresses-i
-bounds-addresses-i c = omega (arith, ap length c.requires.places, addresses-length 1 768 c.args.lines.now)
+pub line_bytes-requires-clause-form : goal.line_bytes-requires-clause-form
+line_bytes-requires-clause-form g c =
+    (names (take c.loop-i.i (rows c.args.lines.now)), (seated-keeps c.args.lines.now c.args.places.now c.loop-i.i c.index-lines-i.result c.requires.places c.loop-i-test.true c.index-lines-i.is c.requires.placed).form)
 
-pub returns-in-Some-clause-refused : goal.returns-in-Some-clause-refused
-returns-in-Some-clause-refused c =
-    λ _. Lays-operand (entries c.args.known.now) (rows c.args.lines.now) c.loop-i.i c.loop-i.image c.loop-i.statements.items _ c.in-Some.fault c.loop-i.invariant (row-within c.args.lines.now c.loop-i.i c.loop-i-test.true) (row-is c.args.lines.now c.args.addresses.now c.loop-i.i c.index-lines-i.result c.requires.places c.loop-i-test.true c.index-lines-i.is) (sym c.in-Some.ensures)
+pub returns-in-Err-line_bytes-clause-refused : goal.returns-in-Err-line_bytes-clause-refused
+returns-in-Err-line_bytes-clause-refused g c =
+    λ ne. Lays-operand (entries c.args.known.now) (rows c.args.lines.now) c.loop-i.i c.loop-i.image c.loop-i.statements.items (seated c.args.lines.now c.args.places.now c.loop-i.i c.index-lines-i.result) c.in-Err-line_bytes.fault c.loop-i.invariant (row-within c.args.lines.now c.loop-i.i c.loop-i-test.true) (seated-row c.args.lines.now c.args.places.now c.loop-i.i c.index-lines-i.result c.requires.places c.loop-i-test.true c.index-lines-i.is) (c.in-Err-line_bytes.ensures.refused ne)
 
-pub lay_instr-requires-clause-fits : goal.lay_instr-requires-clause-fits
-lay_instr-requires-clause-fits c =
-    fits-for (entries c.args.known.now) (c.loop-i.i + 1) c.index-lines-i.result.body c.in-Instr.m c.in-Instr.operand c.instr_of-instr.result c.in-Instr.is c.instr_of-instr.ensures (sym c.in_default.ensures)
+pub meets-requires : goal.meets-requires
+meets-requires g c =
+    bytes-room (entries c.args.known.now) (names (take c.loop-i.i (rows c.args.lines.now))) (spot c.args.places.now c.loop-i.i) c.index-lines-i.result.body c.as_slice.result.now (seated-keeps c.args.lines.now c.args.places.now c.loop-i.i c.index-lines-i.result c.requires.places c.loop-i-test.true c.index-lines-i.is c.requires.placed) (c.as_slice.ensures.value ∙ c.in-Ok-line_bytes.ensures.bytes)
 
-pub lay_instr-requires-clause-room : goal.lay_instr-requires-clause-room
-lay_instr-requires-clause-room c =
-    room-for c.args.lines.now c.args.addresses.now (entries c.args.known.now) c.loop-i.i c.index-lines-i.result c.in-Instr.m c.in-Instr.operand c.instr_of-instr.result c.requires.places c.loop-i-test.true c.index-lines-i.is c.requires.placed c.in-Instr.is c.instr_of-instr.ensures
+pub lay-requires : goal.lay-requires
+lay-requires g c =
+    bytes-room (entries c.args.known.now) (names (take c.loop-i.i (rows c.args.lines.now))) (spot c.args.places.now c.loop-i.i) c.index-lines-i.result.body c.as_slice-in-loop-i.result.now (seated-keeps c.args.lines.now c.args.places.now c.loop-i.i c.index-lines-i.result c.requires.places c.loop-i-test.true c.index-lines-i.is c.requires.placed) (c.as_slice-in-loop-i.ensures.value ∙ c.in-Ok-line_bytes.ensures.bytes)
 
-pub returns-then-not-lay_instr-clause-refused : goal.returns-then-not-lay_instr-clause-refused
-returns-then-not-lay_instr-clause-refused c =
-    λ _. Lays-meets (entries c.args.known.now) (rows c.args.lines.now) c.loop-i.i c.loop-i.image c.loop-i.statements.items _ c.loop-i.invariant (row-within c.args.lines.now c.loop-i.i c.loop-i-test.true) (row-is c.args.lines.now c.args.addresses.now c.loop-i.i c.index-lines-i.result c.requires.places c.loop-i-test.true c.index-lines-i.is) (sym c.in_default.ensures)
-    (ap (meets (held c.loop-i.image) (get_or c.args.addresses.now c.loop-i.i 0)) (sym (bytes-is (entries c.args.known.now) _ _ _ _ c.in-Instr.is c.instr_of-instr.ensures)) ∙ not-false _ c.if-not-lay_instr.ensures.free)
+pub returns-then-meets-clause-refused : goal.returns-then-meets-clause-refused
+returns-then-meets-clause-refused g c =
+    λ _. Lays-meets (entries c.args.known.now) (rows c.args.lines.now) c.loop-i.i c.loop-i.image c.loop-i.statements.items (seated c.args.lines.now c.args.places.now c.loop-i.i c.index-lines-i.result) c.as_slice.result.now c.loop-i.invariant (row-within c.args.lines.now c.loop-i.i c.loop-i-test.true) (seated-row c.args.lines.now c.args.places.now c.loop-i.i c.index-lines-i.result c.requires.places c.loop-i-test.true c.index-lines-i.is) (c.as_slice.ensures.value ∙ c.in-Ok-line_bytes.ensures.bytes) c.in-Ok-line_bytes.ensures.taken (sym c.meets.ensures ∙ c.if-meets.true)
 
 pub loop-i-preserved : goal.loop-i-preserved
-loop-i-preserved c =
+loop-i-preserved g c =
     let known = entries c.args.known.now in
     let lines = c.args.lines.now in
+    let places = c.args.places.now in
     let i = c.loop-i.i in
     let line = c.index-lines-i.result in
-    let here : Placed = record { number = i + 1; address = get_or c.args.addresses.now i 0; line = line } in
+    let here = spot places i in
     let within = row-within lines i c.loop-i-test.true in
-    let is = row-is lines c.args.addresses.now i line c.requires.places c.loop-i-test.true c.index-lines-i.is in
-    let free = sym c.in_default.ensures in
-    elim c.match-line.branch [
-      | in-Instr+else-not-lay_instr+in_ok-push w ↦
-          let bytes = bytes-is known line.body w.in-Instr.m w.in-Instr.operand w.instr_of-instr.result w.in-Instr.is w.instr_of-instr.ensures in
-          rw (w.image-is, w.statements-is, w.in_ok-push.ensures.items)
-          (Lays-more known (rows lines) i c.loop-i.image w.lay_instr.new.image c.loop-i.statements.items here _ c.loop-i.invariant within is free
-          (ap (meets (held c.loop-i.image) here.address) (sym bytes) ∙ not-true _ w.if-not-lay_instr.ensures.free)
-          (λ a. w.if-not-lay_instr.ensures.laid refl a ∙ ap (λ (b : List ℕ). laid_over (held c.loop-i.image) here.address b a) bytes)
-          (statement-is known here line.body w.in-Instr.m w.in-Instr.operand w.instr_of-instr.result w.size.result w.in-Instr.is w.instr_of-instr.ensures w.size.ensures.is))
-      | in_default-body w ↦
-          rw (w.image-is, w.statements-is)
-          (Lays-skip known (rows lines) i c.loop-i.image c.loop-i.statements.items here c.loop-i.invariant within is free (no-bytes known line.body w.in_default-body.not-Instr) (no-statement known here line.body w.in_default-body.not-Instr))
+    let is = seated-row lines places i line c.requires.places c.loop-i-test.true c.index-lines-i.is in
+    let bytes-is = c.as_slice.ensures.value ∙ c.in-Ok-line_bytes.ensures.bytes in
+    let same = c.as_slice-in-loop-i.ensures.value ∙ sym c.as_slice.ensures.value in
+    elim c.if-is_statement.branch [
+      | then-is_statement+in_ok-push w ↦
+          rw (w.statements-is, w.in_ok-push.ensures.items)
+          (Lays-more known (rows lines) i c.loop-i.image c.lay.new.image c.loop-i.statements.items _ (seated lines places i line) c.as_slice.result.now c.loop-i.invariant within is bytes-is c.in-Ok-line_bytes.ensures.taken (sym c.meets.ensures ∙ c.if-meets.false)
+          (λ a. c.lay.ensures a ∙ ap (λ (b : List ℕ). laid_over (held c.loop-i.image) here.address b a) same)
+          (statement-there known here line.body c.loop-i.statements.items w.instr_in.result (sym c.is_statement.ensures ∙ w.if-is_statement.true) w.instr_in.ensures))
+      | else-is_statement w ↦
+          rw w.statements-is
+          (Lays-more known (rows lines) i c.loop-i.image c.lay.new.image c.loop-i.statements.items c.loop-i.statements.items (seated lines places i line) c.as_slice.result.now c.loop-i.invariant within is bytes-is c.in-Ok-line_bytes.ensures.taken (sym c.meets.ensures ∙ c.if-meets.false)
+          (λ a. c.lay.ensures a ∙ ap (λ (b : List ℕ). laid_over (held c.loop-i.image) here.address b a) same)
+          (no-statement known here line.body c.loop-i.statements.items (sym c.is_statement.ensures ∙ w.if-is_statement.false)))
     ]
 
 pub returns-clause-image : goal.returns-clause-image
-returns-clause-image c = (Lays-end _ _ _ _ _ c.loop-i.invariant (omega (arith, rows-length 1 768 c.args.lines.now))).0
+returns-clause-image g c = (Lays-end (entries c.args.known.now) (rows c.args.lines.now) c.loop-i.i c.loop-i.image c.loop-i.statements.items c.loop-i.invariant (omega (arith, rows-length [] c.args.lines.now))).0
 
 pub returns-clause-statements : goal.returns-clause-statements
-returns-clause-statements c = (Lays-end _ _ _ _ _ c.loop-i.invariant (omega (arith, rows-length 1 768 c.args.lines.now))).1
+returns-clause-statements g c = (Lays-end (entries c.args.known.now) (rows c.args.lines.now) c.loop-i.i c.loop-i.image c.loop-i.statements.items c.loop-i.invariant (omega (arith, rows-length [] c.args.lines.now))).1
 
 pub returns-clause-laid : goal.returns-clause-laid
-returns-clause-laid c = (Lays-end _ _ _ _ _ c.loop-i.invariant (omega (arith, rows-length 1 768 c.args.lines.now))).2
+returns-clause-laid g c = (Lays-end (entries c.args.known.now) (rows c.args.lines.now) c.loop-i.i c.loop-i.image c.loop-i.statements.items c.loop-i.invariant (omega (arith, rows-length [] c.args.lines.now))).2

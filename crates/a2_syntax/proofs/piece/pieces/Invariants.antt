@@ -1,9 +1,12 @@
-use Rattle.std.proofs.Common.{length, map}
+use Rattle.std.proofs.Common.{◌+◌, ◌≤◌, length, map}
 use Rattle.a2_syntax.proofs.PieceLaws.{Reads}
 use Rattle.a2_syntax.proofs.piece.pieces.Given as goal
 
 abbrev pub invariant-pieces : goal.invariant-pieces
-invariant-pieces l = Reads l.text l.rest (map (λ x. x.now) l.found.items)
+invariant-pieces g l = record {
+  reads : Reads l.text l.rest (map (λ x. x.now) l.found.items);
+  count : length l.found.items + length l.rest ≤ length l.text;
+}
 
 abbrev pub decreases-pieces : goal.decreases-pieces
-decreases-pieces l = length l.rest
+decreases-pieces g l = length l.rest

@@ -1,0 +1,137 @@
+//! What operations do with the pieces behind them.
+
+ghost use Rattle.std.specs.Prelude.{◌≡◌, ◌≤◌, ◌<◌, ℕ, List, true, length, map, IfOk, MatchOption};
+ghost use Rattle.std.specs.List.{list_all, All};
+ghost use Rattle.a2_syntax.specs.Numbers.{is_quotable, code_in};
+ghost use Rattle.a2_syntax.specs.Pieces.{IsQuoted};
+ghost use Rattle.a2_syntax.specs.Relations.{TheOne};
+ghost use Rattle.a2_syntax.specs.Grammar as grammar;
+ghost use Rattle.a2_syntax.specs.Grammar.{IsText, IsOperandOf, IsOperation};
+
+use crate::expr::{expr, exprs};
+use crate::operand::operand;
+use crate::operation::Operation;
+use crate::piece::{is_quotable, is_quote};
+use crate::source::{Body, Bytes, Operand};
+use crate::term::code_in;
+use a2_opcode::Mnemonic;
+use std::alloc::{AllocError, Allocator};
+
+fn all_quotable(quote: u8, text: &[u8]) -> bool
+    ensures { result ≡ list_all (is_quotable quote) text.now }
+{
+    text.iter().all(|c| is_quotable(quote, *c))
+}
+
+// The quote and the characters of a text in quotes that has any.
+fn unquoted(piece: &[u8]) -> Option<(u8, &[u8])>
+    ensures { MatchOption result
+        ((quote : ℕ) (text : List ℕ) → IsQuoted quote text piece.now → 0 < length text → ⊥)
+        (λ r. IsQuoted r.0 r.1.now piece.now × (0 < length r.1.now)) }
+{
+    let (quote, behind) = piece.split_first()?;
+    let (last, text) = behind.split_last()?;
+    if !is_quote(*quote) || *last != *quote || text.len() == 0 {
+        return None;
+    }
+    if !all_quotable(*quote, text) {
+        return None;
+    }
+    Some((*quote, text))
+}
+
+// The codes of the characters in quotes of this kind.
+fn codes<A: Allocator>(alloc: A, quote: u8, text: &[u8]) -> Result<Bytes<A>, AllocError>
+    requires quotable { list_all (is_quotable quote) text.now ≡ true }
+    requires short { length text.now ≤ 255 }
+    ensures { IfOk result (λ bytes. bytes ≡ map (code_in quote) text.now) }
+{
+    let mut bytes = Vec::new(alloc);
+    for c in text {
+        bytes.push(code_in(quote, *c))?;
+    }
+    Ok(Bytes::of(bytes))
+}
+
+// What a text in quotes, the only piece, stands for.
+fn text<A: Allocator>(alloc: A, pieces: &[&[u8]]) -> Result<Option<Bytes<A>>, AllocError>
+    requires { All (λ p. length p ≤ 255) (map (λ x. x.now) pieces.now) }
+    ensures { IfOk result (λ o. TheOne (IsText (map (λ x. x.now) pieces.now)) o) }
+{
+    let [piece] = pieces else {
+        return Ok(None);
+    };
+    let Some((quote, text)) = unquoted(*piece) else {
+        return Ok(None);
+    };
+    let bytes = codes(alloc, quote, text)?;
+    Ok(Some(bytes))
+}
+
+fn is_shift(mnemonic: Mnemonic) -> bool
+    ensures { result ≡ grammar.is_shift mnemonic }
+{
+    matches!(
+        mnemonic,
+        Mnemonic::Asl | Mnemonic::Lsr | Mnemonic::Rol | Mnemonic::Ror
+    )
+}
+
+// The operand of an instruction.
+fn operand_of<A: Allocator + Copy>(
+    alloc: A,
+    mnemonic: Mnemonic,
+    pieces: &[&[u8]],
+) -> Result<Option<Operand<A>>, AllocError>
+    requires { length pieces.now ≤ 255 }
+    ensures { IfOk result (λ o. TheOne (IsOperandOf mnemonic (map (λ x. x.now) pieces.now)) o) }
+{
+    if is_shift(mnemonic) {
+        if pieces.len() == 0 {
+            return Ok(Some(Operand::Accumulator));
+        }
+    }
+    operand(alloc, pieces)
+}
+
+// What an operation does with these pieces behind it.
+pub(crate) fn operation_body<A: Allocator + Copy>(
+    alloc: A,
+    operation: Operation,
+    pieces: &[&[u8]],
+) -> Result<Option<Body<A>>, AllocError>
+    requires few { length pieces.now ≤ 255 }
+    requires short { All (λ p. length p ≤ 255) (map (λ x. x.now) pieces.now) }
+    ensures { IfOk result (λ o. TheOne (IsOperation operation (map (λ x. x.now) pieces.now)) o) }
+{
+    match operation {
+        Operation::Instr(mnemonic) => match operand_of(alloc, mnemonic, pieces)? {
+            Some(operand) => Ok(Some(Body::Instr(mnemonic, operand))),
+            None => Ok(None),
+        },
+        Operation::Org => match expr(alloc, pieces)? {
+            Some(e) => Ok(Some(Body::Org(e))),
+            None => Ok(None),
+        },
+        Operation::Equ => match expr(alloc, pieces)? {
+            Some(e) => Ok(Some(Body::Equ(e))),
+            None => Ok(None),
+        },
+        Operation::Dfb => match exprs(alloc, pieces)? {
+            Some(es) => Ok(Some(Body::Dfb(es))),
+            None => Ok(None),
+        },
+        Operation::Dw => match exprs(alloc, pieces)? {
+            Some(es) => Ok(Some(Body::Dw(es))),
+            None => Ok(None),
+        },
+        Operation::Asc => match text(alloc, pieces)? {
+            Some(bytes) => Ok(Some(Body::Asc(bytes))),
+            None => Ok(None),
+        },
+        Operation::Ds => match expr(alloc, pieces)? {
+            Some(e) => Ok(Some(Body::Ds(e))),
+            None => Ok(None),
+        },
+    }
+}

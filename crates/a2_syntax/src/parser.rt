@@ -1,0 +1,57 @@
+//! Source texts.
+
+ghost use Rattle.std.specs.Prelude.{◌≡◌, ◌≢◌, ◌≤◌, List, ℕ, map, length, IfOk, IfErr};
+ghost use Rattle.std.specs.List.{All};
+ghost use Rattle.a2_syntax.specs.Sources.{AreLines, FirstUnread, IsSource, IsTextRefusal};
+ghost use Rattle.a2_syntax.specs.declared.source.Line.{Line};
+ghost use Rattle.a2_syntax.specs.declared.fault.Fault.{Fault};
+
+use crate::fault::Fault;
+use crate::limits::lines;
+use crate::line::line;
+use crate::source::Source;
+use std::alloc::Allocator;
+
+// The lines of a source text that is cut.
+fn parse_lines<A: Allocator + Copy>(alloc: A, texts: &[&[u8]]) -> Result<Source<A>, Fault>
+    requires few { length texts.now ≤ 4096 }
+    requires short { All (λ text. length text.now ≤ 255) texts.now }
+    ensures read { IfOk result (λ source. AreLines (map (λ x. x.now) texts.now) source) }
+    ensures only { IfOk result (λ source. (others : List (Line A)) → AreLines (map (λ x. x.now) texts.now) others → others ≡ source) }
+    ensures refused { IfErr result (λ fault. fault ≢ Fault.Memory → (n : ℕ) × (fault ≡ Fault.Syntax n) × FirstUnread A (map (λ x. x.now) texts.now) n) }
+{
+    let mut parsed = Vec::new(alloc);
+    let mut n: u16 = 1;
+    for text in texts {
+        let read = line(alloc, *text)?;
+        let Some(line) = read else {
+            return Err(Fault::Syntax(n));
+        };
+        parsed.push(line)?;
+        n += 1;
+    }
+    Ok(Source::of(parsed))
+}
+
+/// The lines of a source text, of any bytes, one for each line of the text and in its order.
+///
+/// Refused by `TooLarge` as `lines` says, else by `Syntax` with the number of the first line, counted from 1, that is
+/// not in the grammar; and for want of memory.
+pub fn parse<A: Allocator + Copy>(alloc: A, text: &[u8]) -> Result<Source<A>, Fault>
+    ensures read { IfOk result (λ source. IsSource text.now source) }
+    ensures only { IfOk result (λ source. (others : List (Line A)) → IsSource text.now others → others ≡ source) }
+    ensures refused { IfErr result (λ fault. fault ≢ Fault.Memory → IsTextRefusal A text.now fault) }
+{
+    let texts = lines(alloc, text)?;
+    parse_lines(alloc, texts.as_slice())
+}
+
+/// A text that has a refusal is no source.
+pub fn a_refused_text_is_no_source<A: Allocator>()
+    ensures { (text : List ℕ) (fault : Fault) (source : List (Line A)) → IsTextRefusal A text fault → IsSource text source → ⊥ }
+{}
+
+/// A text is one source at most.
+pub fn a_text_is_one_source<A: Allocator>()
+    ensures { (text : List ℕ) (a b : List (Line A)) → IsSource text a → IsSource text b → a ≡ b }
+{}

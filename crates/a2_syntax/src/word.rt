@@ -1,0 +1,40 @@
+//! Names, and the bytes that they are made of.
+
+ghost use Rattle.std.specs.Prelude.{◌≡◌};
+ghost use Rattle.std.specs.List.{list_all};
+ghost use Rattle.a2_syntax.specs.Names.{begins_name, is_name_byte, is_name};
+
+use a2_text::capital;
+
+fn starts_name(c: u8) -> bool
+    ensures { result ≡ begins_name c }
+{
+    matches!(c, b'A'..=b'Z' | b'a'..=b'z' | b'_')
+}
+
+// Whether a byte may stand in a name.
+pub(crate) fn in_name(c: u8) -> bool
+    ensures { result ≡ is_name_byte c }
+{
+    starts_name(c) || matches!(c, b'0'..=b'9')
+}
+
+fn all_in_name(bytes: &[u8]) -> bool
+    ensures { result ≡ list_all is_name_byte bytes.now }
+{
+    bytes.iter().all(|c| in_name(*c))
+}
+
+/// Whether the bytes are a name: a letter or `_`, then letters, digits and `_`, at most 32 bytes, but not `A` or `a`
+/// alone.
+pub fn is_name(bytes: &[u8]) -> bool
+    ensures { result ≡ is_name bytes.now }
+{
+    let Some((first, others)) = bytes.split_first() else {
+        return false;
+    };
+    starts_name(*first)
+        && all_in_name(others)
+        && others.len() <= 31
+        && !(others.is_empty() && capital(*first) == b'A')
+}
