@@ -1,8 +1,8 @@
 -- Decimal digits, written from the last on.
-use Rattle.std.proofs.Common.{◌≡◌, ℕ, ◌+◌, ◌-◌, ◌^◌, ◌/◌, ◌%◌, ◌<◌, ◌≤◌, List, [], ◌∷◌, ◌++◌, length, take, drop, set, refl, sym, ap, ◌∙◌, subst, arith, length-append}
+use Rattle.std.proofs.Common.{◌≡◌, ℕ, ◌+◌, ◌-◌, ◌^◌, ◌/◌, ◌%◌, ◌<◌, ◌≤◌, List, [], ◌∷◌, ◌++◌, length, drop, set, sym, ap, ◌∙◌, arith, length-append}
 use Rattle.std.specs.Fmt.{decimal}
-use Rattle.std.proofs.lemmas.List.{append_assoc, drop-set, append-nil}
-use Rattle.std.proofs.lemmas.Fmt.{decimal_step, decimal_digit, decimal_nonempty, length-decimal-le}
+use Rattle.std.proofs.lemmas.List.{append_assoc, drop-set}
+use Rattle.std.proofs.lemmas.Fmt.{decimal_step, decimal_digit}
 
 -- the last digit put before those behind it
 pub one_more : (number rest first : ℕ) (digits : List ℕ) → rest < 2 ^ 64 → 10 ≤ rest → length digits ≡ 20 → 1 ≤ first → first ≤ 20

@@ -9,4 +9,4 @@ mod words;
 pub use digits::{decimal, hex_pair, hex_word};
 pub use lines::cut;
 pub use numbers::{capital, is_blank, number_in};
-pub use words::{behind_blanks, first_word};
+pub use words::{behind_blanks, first_word, front_len};

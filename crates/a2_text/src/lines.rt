@@ -1,10 +1,10 @@
 //! The cut of a text into lines.
 
-ghost use Rattle.std.specs.Prelude.{◌≡◌, ◌==◌, map, IfOk};
+ghost use Rattle.std.specs.Prelude.{◌≡◌, map, IfOk};
 ghost use Rattle.std.specs.Str.Lines.{strip_carriage_return};
-ghost use Rattle.std.specs.List.{position_or_len};
 ghost use Rattle.a2_text.specs.Lines.{lines};
 
+use crate::words::front_len;
 use std::alloc::{AllocError, Allocator};
 
 // A piece without the carriage return at its end.
@@ -17,19 +17,6 @@ fn trimmed(piece: &[u8]) -> &[u8]
     }
 }
 
-// Where the first line feed is, or the end.
-#[tactic(auto, using(std::proofs::lemmas::List::Sums::prefix_len_is))]
-fn line_end(bytes: &[u8]) -> usize
-    ensures { result ≡ position_or_len (λ c. c == 10) bytes.now }
-{
-    for (i, c) in bytes.iter().enumerate() {
-        if *c == b'\n' {
-            return i;
-        }
-    }
-    bytes.len()
-}
-
 /// The lines of a text: its pieces between line feeds, each without a carriage return at its end. A final empty piece
 /// is no line. Refused only for want of memory.
 pub fn cut<A: Allocator>(alloc: A, text: &[u8]) -> Result<Vec<&[u8], A>, AllocError>
@@ -38,7 +25,7 @@ pub fn cut<A: Allocator>(alloc: A, text: &[u8]) -> Result<Vec<&[u8], A>, AllocEr
     let mut found = Vec::new(alloc);
     let mut rest = text;
     while rest.len() > 0 {
-        let end = line_end(rest);
+        let end = front_len(rest, |c| c != b'\n');
         found.push(trimmed(&rest[..end]))?;
         if end == rest.len() {
             break;

@@ -1,33 +1,20 @@
 //! The words of a text: its pieces between blanks.
 
-ghost use Rattle.std.specs.Prelude.{◌≡◌, ◌<◌, ◌≤◌, [], ◌∷◌, length, take, drop, MatchOption, IfSome};
-ghost use Rattle.std.specs.List.{prefix_len, position_or_len};
-ghost use Rattle.a2_text.specs.Bytes as byte;
+ghost use Rattle.std.specs.Prelude.{◌≡◌, ◌<◌, ◌≤◌, ℕ, Bool, [], ◌∷◌, length, MatchOption, IfSome};
+ghost use Rattle.std.specs.List.{prefix_len};
 ghost use Rattle.a2_text.specs.Words as word;
+ghost use Rattle.a2_text.specs.Words.{IsTest};
 
 use crate::numbers::is_blank;
 
-#[tactic(auto, using(std::proofs::lemmas::List::Sums::prefix_len_is))]
-// How many blanks stand at the front.
-fn blanks_len(text: &[u8]) -> usize
-    ensures is { result ≡ prefix_len byte.is_blank text.now }
+/// How many bytes at the front of a text pass a test, 0 to the text's length.
+pub fn front_len<P: Fn(u8) -> bool>(text: &[u8], test: P) -> usize
+    requires { P.IsAlwaysCallable test }
+    ensures is { (p : ℕ → Bool) → IsTest p (P.post test) → result ≡ prefix_len p text.now }
     ensures within { result ≤ length text.now }
 {
     for (i, c) in text.iter().enumerate() {
-        if !is_blank(*c) {
-            return i;
-        }
-    }
-    text.len()
-}
-
-// Where the first blank is, or the end.
-fn word_len(text: &[u8]) -> usize
-    ensures is { result ≡ position_or_len byte.is_blank text.now }
-    ensures within { result ≤ length text.now }
-{
-    for (i, c) in text.iter().enumerate() {
-        if is_blank(*c) {
+        if !test(*c) {
             return i;
         }
     }
@@ -38,7 +25,7 @@ fn word_len(text: &[u8]) -> usize
 pub fn behind_blanks(text: &[u8]) -> &[u8]
     ensures { result.now ≡ word.behind_blanks text.now }
 {
-    &text[blanks_len(text)..]
+    &text[front_len(text, |c| is_blank(c))..]
 }
 
 /// The first word of a text and what stands behind it, or none where the text is blank.
@@ -50,5 +37,5 @@ pub fn first_word(text: &[u8]) -> Option<(&[u8], &[u8])>
     if here.is_empty() {
         return None;
     }
-    Some(here.split_at(word_len(here)))
+    Some(here.split_at(front_len(here, |c| !is_blank(c))))
 }

@@ -1,5 +1,6 @@
-use Rattle.std.proofs.Common.{◌<◌, length, sym, ◌∙◌, arith, length-drop}
+use Rattle.std.proofs.Common.{◌<◌, not, length, sym, ◌∙◌, arith, rules, length-drop}
 use Rattle.std.proofs.lemmas.Bool.{eqb-true, eqb-false}
+use Rattle.a2_text.specs.Bytes.{is_blank}
 use Rattle.a2_text.proofs.WordLaws.{words-none, words-first, behind-shorter}
 use Rattle.a2_text.proofs.words.first_word.Goals as goal
 
@@ -12,12 +13,12 @@ returns-clause-words c =
     let here = c.behind_blanks-here.result.now in
     let none = eqb-false (length here) 0 (sym c.is_empty.ensures ∙ c.if-is_empty.false) in
     let some : 0 < length here = omega arith in
-    rw (c.split_at.ensures.front, c.split_at.ensures.back) (words-first c.args.text.now here c.word_len.result c.behind_blanks-here.ensures some c.word_len.ensures.is)
+    rw (c.split_at.ensures.front, c.split_at.ensures.back) (words-first c.args.text.now here c.front_len.result c.behind_blanks-here.ensures some (c.front_len.ensures.is (λ b. not (is_blank b)) (λ b t k. search rules)))
 
 pub returns-clause-shorter : goal.returns-clause-shorter
 returns-clause-shorter c =
     let here = c.behind_blanks-here.result.now in
     let none = eqb-false (length here) 0 (sym c.is_empty.ensures ∙ c.if-is_empty.false) in
     let some : 0 < length here = omega arith in
-    let short = behind-shorter c.args.text.now here c.word_len.result c.behind_blanks-here.ensures some c.word_len.ensures.is in
-    rw c.split_at.ensures.back (omega (arith, length-drop c.word_len.result here))
+    let short = behind-shorter c.args.text.now here c.front_len.result c.behind_blanks-here.ensures some (c.front_len.ensures.is (λ b. not (is_blank b)) (λ b t k. search rules)) in
+    rw c.split_at.ensures.back (omega (arith, length-drop c.front_len.result here))
