@@ -8,15 +8,16 @@ use Rattle.std.proofs.lemmas.List.Elements.{All-head, All-nil, All-cons, All-wea
 use Rattle.a2_text.specs.Bytes.{is_blank, capital}
 use Rattle.a2_syntax.specs.Names.{is_name_byte, is_name}
 use Rattle.a2_syntax.specs.Pieces.{IsBehindBlanks, is_over, is_gap, Spells}
-use Rattle.a2_syntax.specs.Reading.{behind_blanks, run_len}
+use Rattle.a2_text.specs.Words.{behind_blanks}
+use Rattle.a2_syntax.specs.Reading.{run_len}
 use Rattle.a2_syntax.specs.Relations.{TheOne}
-use Rattle.a2_syntax.specs.Words.{operation_of}
+use Rattle.a2_syntax.specs.Words.{letters_of}
 use Rattle.a2_syntax.specs.Grammar.{HasOperation, IsOperation, IsBody, IsLabelled, may_stand, IsLine}
 use Rattle.a2_syntax.specs.declared.operation.Operation.{Operation}
 use Rattle.a2_syntax.specs.declared.source.Body.{Body}
 use Rattle.a2_syntax.specs.declared.source.Body.TheVariants.{Empty}
 use Rattle.a2_syntax.specs.declared.source.Line.{Line}
-use Rattle.a2_syntax.proofs.NameLaws.{name-bytes, name-some, word-bytes, word-some}
+use Rattle.a2_syntax.proofs.NameLaws.{name-bytes, name-some, word-bytes, word-some, same-letters}
 use Rattle.a2_syntax.proofs.PieceLaws.{Stops, prefix_len-append, behind-is, behind-self, name-not_blank, name-not_comment, Spells-over, Spells-more_only, Spells-one}
 use Rattle.a2_syntax.proofs.BodyLaws.{TheOne-like}
 
@@ -51,7 +52,7 @@ Spells-short text (p ∷ ps) (rest, after, (gap, blank, whole), is, piece, more)
 pub record FrontOperation (here : List ℕ) (o : Operation) (ps : List (List ℕ)) : Type 0 where
   pub not_over : is_over here ≡ false
   pub gap : is_gap (drop (run_len here) here) ≡ true
-  pub name : operation_of (map capital (take (run_len here) here)) ≡ Some o
+  pub name : map capital (take (run_len here) here) ≡ letters_of o
   pub spells : Spells (drop (run_len here) here) ps
 
 pub HasOperation-front : (text here : List ℕ) (o : Operation) (ps : List (List ℕ)) → here ≡ behind_blanks text → HasOperation text o ps → FrontOperation here o ps
@@ -65,11 +66,11 @@ HasOperation-front text here o ps e (rest, word, after, behind, is, name, gap, s
     record {
       not_over = ap is_over same ∙ first.1;
       gap = ap is_gap front.2 ∙ gap;
-      name = ap (λ z. operation_of (map capital z)) front.1 ∙ name;
+      name = ap (map capital) front.1 ∙ name;
       spells = subst Q (sym front.2) spells;
     }
 
-pub HasOperation-from : (text here : List ℕ) (o : Operation) (ps : List (List ℕ)) → here ≡ behind_blanks text → operation_of (map capital (take (run_len here) here)) ≡ Some o → is_gap (drop (run_len here) here) ≡ true → Spells (drop (run_len here) here) ps → HasOperation text o ps
+pub HasOperation-from : (text here : List ℕ) (o : Operation) (ps : List (List ℕ)) → here ≡ behind_blanks text → map capital (take (run_len here) here) ≡ letters_of o → is_gap (drop (run_len here) here) ≡ true → Spells (drop (run_len here) here) ps → HasOperation text o ps
 HasOperation-from text here o ps e name gap spells =
     let P : List ℕ → Type 0 = IsBehindBlanks text in
     (here, take (run_len here) here, drop (run_len here) here, subst P (sym e) (behind-self text), sym (take-append-drop (run_len here) here), name, gap, spells)
@@ -89,13 +90,13 @@ IsBody-parts text here b e over (inl (s, is)) =
     cc (m.3)
 IsBody-parts text here b e over (inr (o, ps, h, is)) = (o, ps, HasOperation-front text here o ps e h, is)
 
-same-operation : (a b : Operation) (x y : List ℕ) → x ≡ y → operation_of (map capital x) ≡ Some a → operation_of (map capital y) ≡ Some b → a ≡ b
-same-operation a b x y e h k = let both : Some a ≡ Some b = sym h ∙ ap (λ z. operation_of (map capital z)) e ∙ k in cc
+same-operation : (a b : Operation) (x y : List ℕ) → x ≡ y → map capital x ≡ letters_of a → map capital y ≡ letters_of b → a ≡ b
+same-operation a b x y e h k = same-letters a b (sym h ∙ ap (map capital) e ∙ k)
 
-pub IsBody-operation : {A : Type 0} → (text here word after : List ℕ) (o : Operation) (ps : List (List ℕ)) (r : Option (Body A)) → here ≡ behind_blanks text → is_over here ≡ false → word ≡ take (run_len here) here → after ≡ drop (run_len here) here → is_gap after ≡ true → operation_of (map capital word) ≡ Some o → Spells after ps → TheOne (IsOperation o ps) r → TheOne (IsBody text) r
+pub IsBody-operation : {A : Type 0} → (text here word after : List ℕ) (o : Operation) (ps : List (List ℕ)) (r : Option (Body A)) → here ≡ behind_blanks text → is_over here ≡ false → word ≡ take (run_len here) here → after ≡ drop (run_len here) here → is_gap after ≡ true → map capital word ≡ letters_of o → Spells after ps → TheOne (IsOperation o ps) r → TheOne (IsBody text) r
 IsBody-operation {A} text here word after o ps r e over is-word is-after gap named spells h =
     let P : List ℕ → Type 0 = λ x. Spells x ps in
-    let name : operation_of (map capital (take (run_len here) here)) ≡ Some o = ap (λ z. operation_of (map capital z)) (sym is-word) ∙ named in
+    let name : map capital (take (run_len here) here) ≡ letters_of o = ap (map capital) (sym is-word) ∙ named in
     let has = HasOperation-from text here o ps e name (ap is_gap (sym is-after) ∙ gap) (subst P is-after spells) in
     TheOne-like (IsOperation o ps) (IsBody text) (λ b i. inr (o, ps, has, i)) (λ b i.
     let p = IsBody-parts text here b e over i in
@@ -109,11 +110,10 @@ IsBody-operation {A} text here word after o ps r e over is-word is-after gap nam
 pub IsBody-no_gap : {A : Type 0} → (text here after : List ℕ) → here ≡ behind_blanks text → is_over here ≡ false → after ≡ drop (run_len here) here → is_gap after ≡ false → (b : Body A) → IsBody text b → ⊥
 IsBody-no_gap text here after e over is fails b h = false≢true (sym fails ∙ ap is_gap is ∙ (IsBody-parts text here b e over h).2.gap)
 
-pub IsBody-no_operation : {A : Type 0} → (text here word : List ℕ) → here ≡ behind_blanks text → is_over here ≡ false → word ≡ take (run_len here) here → operation_of (map capital word) ≡ None → (b : Body A) → IsBody text b → ⊥
+pub IsBody-no_operation : {A : Type 0} → (text here word : List ℕ) → here ≡ behind_blanks text → is_over here ≡ false → word ≡ take (run_len here) here → ((o : Operation) → letters_of o ≡ map capital word → ⊥) → (b : Body A) → IsBody text b → ⊥
 IsBody-no_operation text here word e over is fails b h =
     let p = IsBody-parts text here b e over h in
-    let never : None ≡ Some p.0 = sym fails ∙ ap (λ z. operation_of (map capital z)) is ∙ p.2.name in
-    cc
+    fails p.0 (sym (ap (map capital) is ∙ p.2.name))
 
 pub IsBody-no_pieces : {A : Type 0} → (text here after : List ℕ) → here ≡ behind_blanks text → is_over here ≡ false → after ≡ drop (run_len here) here → ((ps : List (List ℕ)) → Spells after ps → ⊥) → (b : Body A) → IsBody text b → ⊥
 IsBody-no_pieces text here after e over is fails b h =

@@ -1,8 +1,9 @@
 -- Names and the words of operations are made of name bytes.
-use Rattle.std.proofs.Common.{◌≡◌, ℕ, ◌<◌, Bool, true, false, ◌&&◌, ◌||◌, eqb, List, [], ◌∷◌, length, map, refl, sym, ap, ◌∙◌, inl, inr, arith, Some, None}
+use Rattle.std.proofs.Common.{◌≡◌, ℕ, ◌<◌, Bool, true, false, ◌&&◌, List, [], ◌∷◌, length, map, refl, sym, ap, ◌∙◌, arith, Some, None}
 use Rattle.std.specs.List.{AllPass, list_all}
-use Rattle.std.specs.Str.{IsUtf8}
-use Rattle.std.proofs.lemmas.Bool.{and_parts, and_from, cases_Bool, cond-true, cond-false, eqb-true, false≢true}
+use Rattle.std.specs.Prelude.{Option, codes, if◌then◌else◌}
+use Rattle.std.specs.Str.{IsUtf8, bytes_eq}
+use Rattle.std.proofs.lemmas.Bool.{and_parts, and_from, false≢true}
 use Rattle.std.proofs.lemmas.Bool.Decides.{nat_tests}
 use Rattle.std.proofs.lemmas.List.Sums.{AllPass-from_list_all}
 use Rattle.std.proofs.lemmas.List.Elements.{All-weaker, All-cons}
@@ -10,9 +11,13 @@ use Rattle.std.proofs.lemmas.Str.Ascii.{IsAscii-from_all}
 use Rattle.std.proofs.lemmas.Str.{IsUtf8-from_ascii}
 use Rattle.a2_text.specs.Bytes.{is_between, capital}
 use Rattle.a2_syntax.specs.Names.{begins_name, is_name_byte, is_name}
-use Rattle.a2_syntax.specs.Words.{is_same, look_up, words, operation_of}
+use Rattle.a2_opcode.specs.Names.{name_of}
+use Rattle.a2_opcode.specs.declared.Mnemonic.{Mnemonic}
+use Rattle.a2_opcode.specs.declared.Mnemonic.TheVariants.{Adc}
+use Rattle.a2_opcode.proofs.Naming.{same_name}
+use Rattle.a2_syntax.specs.Words.{letters_of}
 use Rattle.a2_syntax.specs.declared.operation.Operation.{Operation}
-use Rattle.a2_syntax.specs.declared.operation.Word.{Word}
+use Rattle.a2_syntax.specs.declared.operation.Operation.TheVariants.{Instr, Org, Equ, Dfb, Dw, Asc, Ds}
 
 begins_name-is : (c : ℕ) → begins_name c ≡ true → is_name_byte c ≡ true
 begins_name-is c h = grind (arith, nat_tests)
@@ -37,56 +42,21 @@ name-text word h = IsUtf8-from_ascii word (IsAscii-from_all word (All-weaker (λ
 is_letter : ℕ → Bool
 is_letter c = is_between 65 90 c
 
--- three capitals, or two and a blank
-is_word : List ℕ → Bool
-is_word (a ∷ b ∷ c ∷ []) = is_letter a && is_letter b && (is_letter c || eqb c 32)
-is_word name = false
+-- capital letters, one or more
+are_letters : List ℕ → Bool
+are_letters [] = false
+are_letters (c ∷ cs) = is_letter c && list_all is_letter cs
 
-words-are : list_all (λ w. is_word w.name) words ≡ true
-unfolding words is_word is_letter
-words-are = refl
+name-letters : (m : Mnemonic) → are_letters (name_of m) ≡ true
+unfolding are_letters is_letter
+name-letters Adc = refl
+name-letters _ = refl
 
-is_same-equal : (xs ys : List ℕ) → is_same xs ys ≡ true → xs ≡ ys
-is_same-equal [] [] h = refl
-is_same-equal [] (y ∷ ys) h = absurd (false≢true h)
-is_same-equal (x ∷ xs) [] h = absurd (false≢true h)
-is_same-equal (x ∷ xs) (y ∷ ys) h =
-    let p = and_parts _ _ h in
-    let a = eqb-true x y p.0 in
-    let b = is_same-equal xs ys p.1 in
-    cc
-
--- what is found by a name has that name
-found-is_word : (name : List ℕ) (ws : List Word) (o : Operation) → list_all (λ w. is_word w.name) ws ≡ true → look_up name ws ≡ Some o → is_word name ≡ true
-found-is_word name [] o all h = let never : None ≡ Some o = h in cc
-found-is_word name (w ∷ ws) o all h =
-    let p = and_parts (is_word w.name) (list_all (λ w. is_word w.name) ws) all in
-    elim (cases_Bool (is_same w.name name)) [
-      | inl s ↦ ap is_word (sym (is_same-equal w.name name s)) ∙ p.0
-      | inr s ↦ found-is_word name ws o p.1 (sym (cond-false (is_same w.name name) (Some w.operation) (look_up name ws) s) ∙ h)
-    ]
-
-letter-or : (c : ℕ) → (is_letter c || eqb c 32) ≡ true → eqb c 32 ≡ false → is_letter c ≡ true
-unfolding is_letter
-letter-or c h k = grind (arith, nat_tests)
-
--- the words of operations are made of capitals
-operation-letters : (word : List ℕ) (o : Operation) → operation_of word ≡ Some o → list_all is_letter word ≡ true
-unfolding is_word
-operation-letters [] o h = let never : None ≡ Some o = h in cc
-operation-letters (a ∷ []) o h = let never : None ≡ Some o = h in cc
-operation-letters (a ∷ b ∷ []) o h =
-    let p = and_parts _ _ (and_parts _ _ (found-is_word (a ∷ b ∷ 32 ∷ []) words o words-are h)).0 in
-    and_from _ _ p.0 (and_from _ _ p.1 refl)
-operation-letters (a ∷ b ∷ c ∷ []) o h =
-    elim (cases_Bool (eqb c 32)) [
-      | inl s ↦ (let never : None ≡ Some o = sym (cond-true (eqb c 32) None (look_up (a ∷ b ∷ c ∷ []) words) s) ∙ h in cc)
-      | inr s ↦
-          let p = and_parts _ _ (found-is_word (a ∷ b ∷ c ∷ []) words o words-are (sym (cond-false (eqb c 32) None (look_up (a ∷ b ∷ c ∷ []) words) s) ∙ h)) in
-          let q = and_parts _ _ p.0 in
-          and_from _ _ q.0 (and_from _ _ q.1 (and_from _ _ (letter-or c p.1 s) refl))
-    ]
-operation-letters (a ∷ b ∷ c ∷ d ∷ ds) o h = let never : None ≡ Some o = h in cc
+-- an operation's letters are capitals
+operation-letters : (o : Operation) → are_letters (letters_of o) ≡ true
+unfolding are_letters is_letter
+operation-letters (Instr m) = name-letters m
+operation-letters _ = refl
 
 capital-name : (c : ℕ) → is_letter (capital c) ≡ true → is_name_byte c ≡ true
 unfolding is_letter
@@ -98,9 +68,56 @@ capitals-names (c ∷ cs) h =
     let a = and_parts _ _ h in
     and_from _ _ (capital-name c a.0) (capitals-names cs a.1)
 
-pub word-bytes : (word : List ℕ) (o : Operation) → operation_of (map capital word) ≡ Some o → AllPass is_name_byte word
-word-bytes word o e = AllPass-from_list_all is_name_byte word (capitals-names word (operation-letters (map capital word) o e))
+-- a word of an operation is made of name bytes, one or more
+word-names : (word : List ℕ) → are_letters (map capital word) ≡ true → (0 < length word) × AllPass is_name_byte word
+unfolding are_letters
+word-names [] h = absurd (false≢true h)
+word-names (c ∷ cs) h = (omega arith, AllPass-from_list_all is_name_byte (c ∷ cs) (capitals-names (c ∷ cs) h))
 
-pub word-some : (word : List ℕ) (o : Operation) → operation_of (map capital word) ≡ Some o → 0 < length word
-word-some [] o e = let never : None ≡ Some o = e in cc
-word-some (c ∷ cs) o e = omega arith
+word-is : (word : List ℕ) (o : Operation) → map capital word ≡ letters_of o → (0 < length word) × AllPass is_name_byte word
+word-is word o e = word-names word (ap are_letters e ∙ operation-letters o)
+
+pub word-bytes : (word : List ℕ) (o : Operation) → map capital word ≡ letters_of o → AllPass is_name_byte word
+word-bytes word o e = (word-is word o e).1
+
+pub word-some : (word : List ℕ) (o : Operation) → map capital word ≡ letters_of o → 0 < length word
+word-some word o e = (word-is word o e).0
+
+-- the directive of letters
+directive_of : List ℕ → Option Operation
+directive_of letters =
+    if bytes_eq letters (codes "ORG") then Some Org else
+    if bytes_eq letters (codes "EQU") then Some Equ else
+    if bytes_eq letters (codes "DFB") then Some Dfb else
+    if bytes_eq letters (codes "DW") then Some Dw else
+    if bytes_eq letters (codes "ASC") then Some Asc else
+    if bytes_eq letters (codes "DS") then Some Ds else None
+
+directive : Operation → Option Operation
+directive (Instr m) = None
+directive o = Some o
+
+name-no_directive : (m : Mnemonic) → directive_of (name_of m) ≡ None
+unfolding directive_of
+name-no_directive Adc = refl
+name-no_directive _ = refl
+
+directive-is : (o : Operation) → directive_of (letters_of o) ≡ directive o
+unfolding directive_of directive
+directive-is (Instr m) = name-no_directive m
+directive-is _ = refl
+
+directive-back : (a b : Operation) → directive b ≡ Some a → b ≡ a
+unfolding directive
+directive-back a (Instr n) d = cc
+directive-back a _ d = cc
+
+same-directive : (a b : Operation) → directive a ≡ directive b → letters_of a ≡ letters_of b → a ≡ b
+unfolding directive
+same-directive (Instr m) (Instr n) d e = ap Instr (same_name m n e)
+same-directive (Instr m) b d e = cc
+same-directive a b d e = sym (directive-back a b (sym d))
+
+-- two operations with the same letters are one
+pub same-letters : (a b : Operation) → letters_of a ≡ letters_of b → a ≡ b
+same-letters a b e = same-directive a b (sym (directive-is a) ∙ ap directive_of e ∙ directive-is b) e

@@ -8,7 +8,8 @@ use Rattle.a2_opcode.specs.declared.Mnemonic.{Mnemonic}
 use Rattle.a2_syntax.specs.Names.{is_name_byte, is_name}
 use Rattle.a2_syntax.specs.Numbers.{number}
 use Rattle.a2_syntax.specs.Pieces.{is_over, is_gap}
-use Rattle.a2_syntax.specs.Reading.{behind_blanks, has_comma}
+use Rattle.a2_text.specs.Words.{behind_blanks}
+use Rattle.a2_syntax.specs.Reading.{has_comma}
 use Rattle.a2_syntax.specs.Grammar.{IsTerm, IsSign, AreMoreTerms, AreTerms, IsPart, IsExpr, AreExprs, IsIndexed, IsEnclosed, IsOperand, is_shift, IsOperandOf, IsText, IsOperation, IsBody, IsLabelled, IsLine}
 use Rattle.a2_syntax.specs.Sources.{AreLines, FirstUnread, IsSource, IsTextRefusal}
 use Rattle.a2_syntax.specs.declared.fault.Fault.{Fault}
@@ -25,7 +26,7 @@ use Rattle.a2_syntax.specs.declared.source.Body.TheVariants.{Instr, Org, Equ, Df
 use Rattle.a2_syntax.specs.declared.source.Line.{Line}
 use Rattle.a2_syntax.specs.declared.operation.Operation.{Operation}
 use Rattle.a2_syntax.specs.declared.operation.Operation.TheVariants as operations
-use Rattle.a2_syntax.proofs.NameLaws.{name-bytes}
+use Rattle.a2_syntax.proofs.NameLaws.{name-bytes, same-letters}
 use Rattle.a2_syntax.proofs.PieceLaws.{Spells-one}
 use Rattle.a2_syntax.proofs.ExprLaws.{same-signed, same-expr, IsSign-one, no-terms, angle-low, angle-high, low-high, tail-one}
 use Rattle.a2_syntax.proofs.OperandLaws.{expr-nil, expr-letter, expr-comma, expr-hash, expr-indexed, expr-enclosed, comma-behind, cut-one, Others, Bare, hash-form, plain-form, with_x-form, with_y-form, parentheses_y-form, in_parentheses-form, in_parentheses_x-form, letter-form, letter-hash, letter-indexed, letter-enclosed, indexed-hash, indexed-enclosed-hash, not-both, not-both-y}
@@ -258,9 +259,6 @@ IsOperation-one {A} (operations.Instr m) ps a b h k =
     let y = instr-is m ps b k in
     x.2 ∙ ap (Instr m) (IsOperandOf-one m ps x.0 y.0 x.1 y.1) ∙ sym y.2
 
-one_operation : (a b : Operation) (o : Option Operation) → o ≡ Some a → o ≡ Some b → b ≡ a
-one_operation a b o h k = let e : Some b ≡ Some a = sym k ∙ h in cc
-
 IsBody-one-by : {A : Type 0} → (text : List ℕ) (a b : Body A) (z : Bool) → is_over (behind_blanks text) ≡ z → IsBody text a → IsBody text b → a ≡ b
 IsBody-one-by {A} text a b true e h k =
     let one = IsBody-over {A = A} text (behind_blanks text) refl e in
@@ -268,7 +266,7 @@ IsBody-one-by {A} text a b true e h k =
 IsBody-one-by text a b false e h k =
     let x = IsBody-parts text (behind_blanks text) a refl e h in
     let y = IsBody-parts text (behind_blanks text) b refl e k in
-    let same-o = one_operation x.0 y.0 _ x.2.name y.2.name in
+    let same-o = same-letters y.0 x.0 (sym y.2.name ∙ x.2.name) in
     let same-ps = Spells-one _ x.1 y.1 x.2.spells y.2.spells in
     let P : Operation → Type 0 = λ o. IsOperation o y.1 b in
     let Q : List (List ℕ) → Type 0 = λ ps. IsOperation x.0 ps b in

@@ -1,16 +1,17 @@
 -- A text spells one list of pieces at most.
-use Rattle.std.proofs.Common.{◌≡◌, ℕ, suc, ◌+◌, ◌<◌, Bool, true, false, eqb, List, [], ◌∷◌, ◌++◌, length, take, drop, refl, sym, ap, ◌∙◌, subst, inl, inr, arith, eq-eqb, length-append}
+use Rattle.std.proofs.Common.{◌≡◌, ℕ, suc, ◌+◌, ◌<◌, ◌≤◌, Bool, true, false, eqb, List, [], ◌∷◌, ◌++◌, length, take, drop, refl, sym, ap, ◌∙◌, subst, inl, inr, arith, eq-eqb, length-append}
 use Rattle.std.specs.List.{prefix_len, AllPass}
 use Rattle.std.proofs.lemmas.Bool.Decides.{nat_tests}
 use Rattle.std.proofs.lemmas.Bool.{cases_lt, cases_Bool, cond-true, cond-false, ne_eqb, eqb-true, false≢true}
-use Rattle.std.proofs.lemmas.List.{append-nil, append_assoc, take-append-drop, drop_at, take_at, drop_more, drop_all, get_or-take, length-take-le}
+use Rattle.std.proofs.lemmas.List.{append-nil, append_assoc, take-append-drop, drop_at, take_at, drop_more, drop_all, get_or-take, length-take-le, length-drop}
 use Rattle.std.proofs.lemmas.List.Elements.{All-head, All-tail, All-from_get_or}
 use Rattle.std.proofs.lemmas.List.Sums.{prefix_len_passes, prefix_len_stops, prefix_len-le-length}
 use Rattle.a2_text.specs.Bytes.{is_blank}
 use Rattle.a2_syntax.specs.Names.{is_name_byte}
 use Rattle.a2_syntax.specs.Numbers.{is_quote, is_quotable}
 use Rattle.a2_syntax.specs.Pieces.{is_sign, is_mark, EndsRun, IsRun, IsPiece, IsBehindBlanks, is_over, Spells}
-use Rattle.a2_syntax.specs.Reading.{behind_blanks, run_len, closed_len, quoted_len, marked_len, piece_len}
+use Rattle.a2_text.specs.Words.{behind_blanks}
+use Rattle.a2_syntax.specs.Reading.{run_len, closed_len, quoted_len, marked_len, piece_len}
 
 abbrev pub Stops : (ℕ → Bool) → List ℕ → Type 0
 Stops p [] = Unit {0}
@@ -44,6 +45,9 @@ pub behind-is : (text rest : List ℕ) → IsBehindBlanks text rest → Stops is
 behind-is text rest h s =
     let n : prefix_len is_blank text ≡ length h.0 = ap (prefix_len is_blank) h.2 ∙ prefix_len-append is_blank h.0 rest h.1 s in
     sym (ap (λ t. drop (prefix_len is_blank text) t) h.2 ∙ drop_at h.0 rest (prefix_len is_blank text) (sym n))
+
+pub behind-within : (text here : List ℕ) → here ≡ behind_blanks text → length here ≤ length text
+behind-within text here e = omega (arith, ap length e, length-drop (prefix_len is_blank text) text)
 
 -- kinds of bytes
 sign-not_blank : (c : ℕ) → is_sign c ≡ true → is_blank c ≡ false

@@ -6,7 +6,7 @@ use Rattle.a2_opcode.specs.declared.Mnemonic.TheVariants.{Asl, Lsr, Rol, Ror}
 use Rattle.a2_syntax.specs.Names.{is_name}
 use Rattle.a2_syntax.specs.Numbers.{code_in, number}
 use Rattle.a2_syntax.specs.Pieces.{IsQuoted, IsBehindBlanks, is_gap, Spells}
-use Rattle.a2_syntax.specs.Words.{operation_of}
+use Rattle.a2_syntax.specs.Words.{letters_of}
 use Rattle.a2_syntax.specs.declared.source.Term.{Term}
 use Rattle.a2_syntax.specs.declared.source.Term.TheVariants.{Number, Named, Here}
 use Rattle.a2_syntax.specs.declared.source.Signed.{Signed}
@@ -116,7 +116,7 @@ IsOperation operation pieces body = ⊥
 -- blanks, an operation in either case, and the pieces behind it
 abbrev pub HasOperation : List ℕ → Operation → List (List ℕ) → Type 0
 HasOperation text operation pieces =
-    (rest word after : List ℕ) × IsBehindBlanks text rest × (rest ≡ word ++ after) × (operation_of (map capital word) ≡ Some operation) × IsTrue (is_gap after) × Spells after pieces
+    (rest word after : List ℕ) × IsBehindBlanks text rest × (rest ≡ word ++ after) × (map capital word ≡ letters_of operation) × IsTrue (is_gap after) × Spells after pieces
 
 -- what stands behind the label: nothing, or an operation
 abbrev pub IsBody : {A : Type 0} → List ℕ → Body A → Type 0

@@ -1,17 +1,14 @@
--- What stands at the front of a text. No public clause cites this file.
+-- What stands at the front of a text, and kinds of operations. No public clause cites this file.
 use Rattle.std.specs.Prelude.{◌≡◌, ℕ, ◌+◌, Bool, false, ◌==◌, List, [], ◌∷◌, drop, codes, if◌then◌else◌}
 use Rattle.std.specs.List.{prefix_len, list_any}
-use Rattle.a2_text.specs.Bytes.{is_blank}
 use Rattle.a2_syntax.specs.Names.{is_name_byte}
 use Rattle.a2_syntax.specs.Numbers.{is_quote, is_quotable}
 use Rattle.a2_syntax.specs.Pieces.{is_sign, is_mark}
 use Rattle.a2_syntax.specs.Grammar.{IsPart}
+use Rattle.a2_syntax.specs.declared.operation.Operation.{Operation}
+use Rattle.a2_syntax.specs.declared.operation.Operation.TheVariants.{Instr}
 use Rattle.a2_syntax.specs.declared.source.Part.{Part}
 use Rattle.a2_syntax.specs.declared.source.Part.TheVariants.{Whole}
-
--- behind the blanks
-abbrev pub behind_blanks : List ℕ → List ℕ
-behind_blanks text = drop (prefix_len is_blank text) text
 
 abbrev pub run_len : List ℕ → ℕ
 run_len text = prefix_len is_name_byte text
@@ -53,3 +50,8 @@ has_comma pieces = list_any is_comma pieces
 abbrev pub BeginsComma : List (List ℕ) → Type 0
 BeginsComma [] = Unit {0}
 BeginsComma (p ∷ ps) = p ≡ codes ","
+
+-- an instruction, and no directive
+abbrev pub IsInstr : Operation → Type 0
+IsInstr (Instr m) = Unit {0}
+IsInstr directive = ⊥

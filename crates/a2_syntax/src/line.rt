@@ -6,10 +6,11 @@ ghost use Rattle.a2_syntax.specs.Grammar.{IsBody, may_stand, IsLine};
 
 use crate::body::operation_body;
 use crate::operation::named;
-use crate::piece::{front_run, is_gap, is_over, pieces, unblanked};
+use crate::piece::{front_run, is_gap, is_over, pieces};
 use crate::source::{Body, Line};
 use crate::term::name_of;
 use crate::word::is_name;
+use a2_text::behind_blanks;
 use std::alloc::{AllocError, Allocator};
 
 // What stands behind the label.
@@ -17,7 +18,7 @@ fn body<A: Allocator + Copy>(alloc: A, text: &[u8]) -> Result<Option<Body<A>>, A
     requires { length text.now ≤ 255 }
     ensures { IfOk result (λ o. TheOne (IsBody text.now) o) }
 {
-    let here = unblanked(text);
+    let here = behind_blanks(text);
     if is_over(here) {
         return Ok(Some(Body::Empty));
     }

@@ -1,39 +1,21 @@
 //! The pieces of a text: signs, words and texts in quotes.
 
 ghost use Rattle.std.specs.Prelude.{◌≡◌, ◌+◌, ◌≤◌, ℕ, List, take, drop, map, length, IfOk, IfSome, MatchOption};
-ghost use Rattle.std.specs.List.{prefix_len};
-ghost use Rattle.a2_text.specs.Bytes.{is_blank};
 ghost use Rattle.a2_syntax.specs.Numbers as numbers;
 ghost use Rattle.a2_syntax.specs.Pieces as pieces;
 ghost use Rattle.a2_syntax.specs.Pieces.{Spells};
 ghost use Rattle.a2_syntax.specs.Reading as reading;
 
 use crate::word::in_name;
-use a2_text::is_blank;
+use a2_text::{behind_blanks, front_len, is_blank};
 use std::alloc::{AllocError, Allocator};
 
-fn blanks(text: &[u8]) -> usize
-    ensures is { result ≡ prefix_len is_blank text.now }
-    ensures within { result ≤ length text.now }
-{
-    for (i, c) in text.iter().enumerate() {
-        if !is_blank(*c) {
-            return i;
-        }
-    }
-    text.len()
-}
-
+// How many name bytes stand at the front.
 fn run_len(text: &[u8]) -> usize
     ensures is { result ≡ reading.run_len text.now }
     ensures within { result ≤ length text.now }
 {
-    for (i, c) in text.iter().enumerate() {
-        if !in_name(*c) {
-            return i;
-        }
-    }
-    text.len()
+    front_len(text, |c| in_name(c))
 }
 
 // Whether a byte is a quote.
@@ -48,18 +30,6 @@ pub(crate) fn is_quotable(quote: u8, c: u8) -> bool
     ensures { result ≡ numbers.is_quotable quote c }
 {
     c >= 32 && c <= 126 && c != quote
-}
-
-fn quotable_len(quote: u8, text: &[u8]) -> usize
-    ensures is { result ≡ prefix_len (numbers.is_quotable quote) text.now }
-    ensures within { result ≤ length text.now }
-{
-    for (i, c) in text.iter().enumerate() {
-        if !is_quotable(quote, *c) {
-            return i;
-        }
-    }
-    text.len()
 }
 
 // How much a closing quote adds to what stands before it, and 0 where there is none.
@@ -79,7 +49,7 @@ fn quoted_len(quote: u8, text: &[u8]) -> usize
     ensures is { result ≡ reading.quoted_len quote text.now }
     ensures within { result ≤ length text.now + 1 }
 {
-    let n = quotable_len(quote, text);
+    let n = front_len(text, |c| is_quotable(quote, c));
     closed_len(quote, n, &text[n..])
 }
 
@@ -156,14 +126,6 @@ fn piece_len(text: &[u8]) -> usize
     run_len(text)
 }
 
-// What stands behind the blanks.
-pub(crate) fn unblanked(text: &[u8]) -> &[u8]
-    ensures is { result.now ≡ reading.behind_blanks text.now }
-    ensures within { length result.now ≤ length text.now }
-{
-    &text[blanks(text)..]
-}
-
 // The pieces of a text, or None where it is no text of pieces.
 pub(crate) fn pieces<'a, A: Allocator>(
     alloc: A,
@@ -178,7 +140,7 @@ pub(crate) fn pieces<'a, A: Allocator>(
     let mut found = Vec::new(alloc);
     let mut rest = text;
     'pieces: loop {
-        let here = unblanked(rest);
+        let here = behind_blanks(rest);
         if is_over(here) {
             return Ok(Some(found));
         }

@@ -1,6 +1,0 @@
-use Rattle.std.proofs.Common.{◌≡◌, ℕ, ◌<◌, get_or, true}
-use Rattle.a2_syntax.specs.Names.{is_name_byte}
-use Rattle.a2_syntax.proofs.piece.run_len.Given as goal
-
-abbrev pub invariant-loop-i : goal.invariant-loop-i
-invariant-loop-i l = (k : ℕ) → k < l.i → is_name_byte (get_or l.text k 0) ≡ true
