@@ -6,3 +6,4 @@ pub mod BodyLaws
 pub mod LineLaws
 pub mod ParseLaws
 pub mod OneReading
+pub mod ListedLaws

@@ -177,7 +177,7 @@ nil-form pieces (InParenthesesX x) e (inner, es, i, _, _) = absurd ((enclosed-ot
 nil-form pieces (ParenthesesY x) e (front, es, i, _, _) = absurd ((indexed-others 89 pieces front i).some e)
 nil-form pieces (InParentheses x) e (es, i, _) = absurd ((enclosed-others pieces es i).some e)
 
-IsOperand-one : {A : Type 0} → (pieces : List (List ℕ)) (a b : Operand A) → IsOperand pieces a → IsOperand pieces b → a ≡ b
+pub IsOperand-one : {A : Type 0} → (pieces : List (List ℕ)) (a b : Operand A) → IsOperand pieces a → IsOperand pieces b → a ≡ b
 IsOperand-one pieces Nothing b h k = nil-form pieces b h k
 IsOperand-one pieces Accumulator b (a, e, l) k = sym (letter-form pieces a e l b k)
 IsOperand-one pieces (Immediate x) b (es, e, h) k = form-one Immediate es x b h (hash-form pieces es (hash-others pieces es e) e b k)

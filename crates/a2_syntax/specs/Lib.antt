@@ -4,6 +4,7 @@ pub mod Pieces
 pub mod Words
 pub mod Relations
 pub mod Grammar
+pub mod Listed
 pub mod Limits
 pub mod Sources
 pub mod Reading

@@ -6,6 +6,7 @@ mod expr;
 mod fault;
 mod limits;
 mod line;
+mod listed;
 mod operand;
 mod operation;
 mod parser;
@@ -16,6 +17,7 @@ mod word;
 
 pub use fault::Fault;
 pub use limits::lines;
+pub use listed::{a_listed_instruction_is_its_line, a_listed_operand_is_its_operand};
 pub use parser::{a_refused_text_is_no_source, a_text_is_one_source, parse};
 pub use source::{
     Body, Bytes, Expr, Exprs, Line, Name, Operand, Part, Signed, Source, Term, Terms,

@@ -1,0 +1,223 @@
+-- What a listing shows is read as what it lists.
+use Rattle.std.proofs.Common.{◌≡◌, ℕ, ◌+◌, ◌/◌, ◌%◌, ◌<◌, true, false, eqb, ltb, ◌&&◌, List, [], ◌∷◌, ◌++◌, length, map, refl, sym, ap, ◌∙◌, subst, inl, inr, arith, Some, None}
+use Rattle.std.specs.List.{AllPass, list_all}
+use Rattle.std.proofs.lemmas.Bool.{agree_below_at, eqb-true, false≢true, and_from, cond-true, lt-ltb}
+use Rattle.std.proofs.lemmas.List.Sums.{AllPass-from_list_all}
+use Rattle.std.proofs.lemmas.List.Elements.{All-nil, All-cons}
+use Rattle.a2_text.specs.Bytes.{is_blank, capital, digit, value, is_digit_in, number_in}
+use Rattle.a2_text.specs.Digits.{hex_digit, hex_pair, hex_word}
+use Rattle.a2_opcode.specs.declared.Mnemonic.{Mnemonic}
+use Rattle.a2_opcode.specs.declared.Mnemonic.TheVariants.{Adc, Asl, Lsr, Rol, Ror}
+use Rattle.a2_opcode.specs.declared.Mode.{Mode}
+use Rattle.a2_opcode.specs.declared.Mode.TheVariants.{Implied, Accumulator, Immediate, ZeroPage, ZeroPageX, ZeroPageY, Absolute, AbsoluteX, AbsoluteY, IndexedIndirect, IndirectIndexed, Indirect, Relative}
+use Rattle.a2_opcode.specs.declared.Row.{Row}
+use Rattle.a2_opcode.specs.declared.Instr as opcode
+use Rattle.a2_opcode.specs.Table.{row, table}
+use Rattle.a2_opcode.specs.Names.{name_of}
+use Rattle.a2_opcode.specs.Encoding.{can_have, encoded}
+use Rattle.a2_opcode.specs.Listing.{operand_text, operand_column}
+use Rattle.a2_opcode.proofs.Comparing.{lt-from}
+use Rattle.a2_opcode.proofs.Lookup.{row-only}
+use Rattle.a2_opcode.proofs.RoundTrip.{coded}
+use Rattle.a2_syntax.specs.Names.{is_name_byte}
+use Rattle.a2_syntax.specs.Numbers.{number}
+use Rattle.a2_syntax.specs.Pieces.{is_sign, EndsRun, is_gap, Spells}
+use Rattle.a2_syntax.specs.Grammar.{IsExpr, IsOperand, is_shift, IsLine}
+use Rattle.a2_syntax.specs.Listed.{one_number, listed_operand, SpellsOperand, ListedOperandIsOperand, listed_text, listed_line, ListedTextIsLine}
+use Rattle.a2_syntax.specs.declared.source.Operand.{Operand}
+use Rattle.a2_syntax.specs.declared.source.Operand.TheVariants as form
+use Rattle.a2_syntax.specs.declared.operation.Operation.TheVariants as operations
+use Rattle.a2_syntax.proofs.BodyLaws.{operand_of-to}
+use Rattle.a2_syntax.proofs.OneReading.{IsOperand-one}
+
+-- a digit
+digit-is : (n : ℕ) → n < 16 → is_digit_in 16 (hex_digit n) ≡ true
+digit-is n h = agree_below_at (λ n. is_digit_in 16 (hex_digit n)) (λ _. true) 16 n refl h
+
+digit-value : (n : ℕ) → n < 16 → digit (hex_digit n) ≡ n
+digit-value n h = eqb-true (digit (hex_digit n)) n (agree_below_at (λ n. eqb (digit (hex_digit n)) n) (λ _. true) 16 n refl h)
+
+digit-name : (n : ℕ) → n < 16 → is_name_byte (hex_digit n) ≡ true
+digit-name n h = agree_below_at (λ n. is_name_byte (hex_digit n)) (λ _. true) 16 n refl h
+
+-- digits behind `$` that stand for a number
+record Digits (digits : List ℕ) (n : ℕ) : Type 0 where
+  some : 0 < length digits
+  names : AllPass is_name_byte digits
+  is : number (36 ∷ digits) ≡ Some n
+
+pair-digits : (byte : ℕ) → byte < 256 → Digits (hex_pair byte) byte
+pair-digits byte h =
+    let n1 : byte / 16 < 16 = omega arith in
+    let n2 : byte % 16 < 16 = omega arith in
+    let d1 = digit-value (byte / 16) n1 in
+    let d2 = digit-value (byte % 16) n2 in
+    let v : value 16 (hex_pair byte) ≡ byte = omega arith in
+    let all : list_all (is_digit_in 16) (hex_pair byte) ≡ true = and_from _ _ (digit-is (byte / 16) n1) (and_from _ _ (digit-is (byte % 16) n2) refl) in
+    let small : ltb (value 16 (hex_pair byte)) 65536 ≡ true = lt-ltb _ 65536 (omega (arith, v)) in
+    record {
+      some = omega arith;
+      names = AllPass-from_list_all is_name_byte (hex_pair byte) (and_from _ _ (digit-name (byte / 16) n1) (and_from _ _ (digit-name (byte % 16) n2) refl));
+      is = cond-true (list_all (is_digit_in 16) (hex_pair byte) && ltb (value 16 (hex_pair byte)) 65536) (Some (value 16 (hex_pair byte))) None (and_from _ _ all small) ∙ ap Some v;
+    }
+
+word-digits : (a : ℕ) → a < 65536 → Digits (hex_word a) a
+word-digits a h =
+    let n1 : a / 256 / 16 < 16 = omega arith in
+    let n2 : a / 256 % 16 < 16 = omega arith in
+    let n3 : a % 256 / 16 < 16 = omega arith in
+    let n4 : a % 256 % 16 < 16 = omega arith in
+    let d1 = digit-value (a / 256 / 16) n1 in
+    let d2 = digit-value (a / 256 % 16) n2 in
+    let d3 = digit-value (a % 256 / 16) n3 in
+    let d4 = digit-value (a % 256 % 16) n4 in
+    let v : value 16 (hex_word a) ≡ a = omega arith in
+    let all : list_all (is_digit_in 16) (hex_word a) ≡ true =
+    and_from _ _ (digit-is (a / 256 / 16) n1) (and_from _ _ (digit-is (a / 256 % 16) n2) (and_from _ _ (digit-is (a % 256 / 16) n3) (and_from _ _ (digit-is (a % 256 % 16) n4) refl))) in
+    let small : ltb (value 16 (hex_word a)) 65536 ≡ true = lt-ltb _ 65536 (omega (arith, v)) in
+    record {
+      some = omega arith;
+      names = AllPass-from_list_all is_name_byte (hex_word a) (and_from _ _ (digit-name (a / 256 / 16) n1) (and_from _ _ (digit-name (a / 256 % 16) n2) (and_from _ _ (digit-name (a % 256 / 16) n3) (and_from _ _ (digit-name (a % 256 % 16) n4) refl))));
+      is = cond-true (list_all (is_digit_in 16) (hex_word a) && ltb (value 16 (hex_word a)) 65536) (Some (value 16 (hex_word a))) None (and_from _ _ all small) ∙ ap Some v;
+    }
+
+-- a text's pieces, from its front
+record Reads (text : List ℕ) (pieces : List (List ℕ)) : Type 0 where
+  spells : Spells text pieces
+
+no-blanks : AllPass is_blank []
+no-blanks = All-nil (λ c. is_blank c ≡ true)
+
+nothing : Reads [] []
+nothing = record { spells = ([], ([], no-blanks, refl), refl) }
+
+sign-first : {text : List ℕ} {ps : List (List ℕ)} (c : ℕ) → is_sign c ≡ true → Reads text ps → Reads (c ∷ text) ((c ∷ []) ∷ ps)
+sign-first {text} c s h = record { spells = (c ∷ text, text, ([], no-blanks, refl), refl, inl (c, refl, s), h.spells) }
+
+letter-first : {text : List ℕ} {ps : List (List ℕ)} (c : ℕ) → is_name_byte c ≡ true → EndsRun text → Reads text ps → Reads (c ∷ text) ((c ∷ []) ∷ ps)
+letter-first {text} c is ends h =
+    record { spells = (c ∷ text, text, ([], no-blanks, refl), refl, inr (inr (inr (omega arith, AllPass-from_list_all is_name_byte (c ∷ []) (and_from _ _ is refl), ends))), h.spells) }
+
+number-first : {text : List ℕ} {ps : List (List ℕ)} (digits : List ℕ) (n : ℕ) → Digits digits n → EndsRun text → Reads text ps
+    → Reads (36 ∷ digits ++ text) ((36 ∷ digits) ∷ ps)
+number-first {text} digits n d ends h =
+    record { spells = (36 ∷ digits ++ text, text, ([], no-blanks, refl), refl, inr (inl (36, digits, refl, refl, (d.some, d.names, ends))), h.spells) }
+
+blank-first : (text : List ℕ) (ps : List (List ℕ)) → Spells text ps → Spells (32 ∷ text) ps
+blank-first text [] (rest, (gap, blank, whole), over) =
+    (rest, (32 ∷ gap, All-cons (λ c. is_blank c ≡ true) 32 gap refl blank, ap (λ x. 32 ∷ x) whole), over)
+blank-first text (p ∷ ps) (rest, after, (gap, blank, whole), is, piece, more) =
+    (rest, after, (32 ∷ gap, All-cons (λ c. is_blank c ≡ true) 32 gap refl blank, ap (λ x. 32 ∷ x) whole), is, piece, more)
+
+-- a number alone
+number-expr : (A : Type 0) (digits : List ℕ) (n : ℕ) → Digits digits n → IsExpr {A = A} ((36 ∷ digits) ∷ []) (one_number n)
+number-expr A digits n d = ((36 ∷ digits) ∷ [], refl, (36 ∷ digits, [], refl, refl, d.is, refl))
+
+abbrev Form : (A : Type 0) → List ℕ → Operand A → Type 0
+Form A text operand = SpellsOperand {A = A} text operand
+
+formed : (A : Type 0) (text : List ℕ) (pieces : List (List ℕ)) (operand : Operand A) → Reads text pieces → IsOperand pieces operand → SpellsOperand text operand
+formed A text pieces operand h is = (pieces, h.spells, is)
+
+-- the forms of operands
+immediate : (A : Type 0) (digits : List ℕ) (n : ℕ) → Digits digits n → Form A (35 ∷ 36 ∷ digits ++ []) (form.Immediate (one_number n))
+immediate A digits n d =
+    formed A _ ((35 ∷ []) ∷ (36 ∷ digits) ∷ []) (form.Immediate (one_number n)) (sign-first 35 refl (number-first digits n d tt nothing))
+    ((36 ∷ digits) ∷ [], refl, number-expr A digits n d)
+
+plain : (A : Type 0) (digits : List ℕ) (n : ℕ) → Digits digits n → Form A (36 ∷ digits ++ []) (form.Plain (one_number n))
+plain A digits n d =
+    formed A _ ((36 ∷ digits) ∷ []) (form.Plain (one_number n)) (number-first digits n d tt nothing) (number-expr A digits n d)
+
+with_x : (A : Type 0) (digits : List ℕ) (n : ℕ) → Digits digits n → Form A (36 ∷ digits ++ 44 ∷ 88 ∷ []) (form.WithX (one_number n))
+with_x A digits n d =
+    formed A _ ((36 ∷ digits) ∷ (44 ∷ []) ∷ (88 ∷ []) ∷ []) (form.WithX (one_number n))
+    (number-first digits n d refl (sign-first 44 refl (letter-first 88 refl tt nothing)))
+    ((36 ∷ digits) ∷ [], (88 ∷ [], refl, refl), number-expr A digits n d)
+
+with_y : (A : Type 0) (digits : List ℕ) (n : ℕ) → Digits digits n → Form A (36 ∷ digits ++ 44 ∷ 89 ∷ []) (form.WithY (one_number n))
+with_y A digits n d =
+    formed A _ ((36 ∷ digits) ∷ (44 ∷ []) ∷ (89 ∷ []) ∷ []) (form.WithY (one_number n))
+    (number-first digits n d refl (sign-first 44 refl (letter-first 89 refl tt nothing)))
+    ((36 ∷ digits) ∷ [], (89 ∷ [], refl, refl), number-expr A digits n d)
+
+in_parentheses_x : (A : Type 0) (digits : List ℕ) (n : ℕ) → Digits digits n
+    → Form A (40 ∷ 36 ∷ digits ++ 44 ∷ 88 ∷ 41 ∷ []) (form.InParenthesesX (one_number n))
+in_parentheses_x A digits n d =
+    formed A _ ((40 ∷ []) ∷ (36 ∷ digits) ∷ (44 ∷ []) ∷ (88 ∷ []) ∷ (41 ∷ []) ∷ []) (form.InParenthesesX (one_number n))
+    (sign-first 40 refl (number-first digits n d refl (sign-first 44 refl (letter-first 88 refl refl (sign-first 41 refl nothing)))))
+    ((36 ∷ digits) ∷ (44 ∷ []) ∷ (88 ∷ []) ∷ [], (36 ∷ digits) ∷ [], refl, (88 ∷ [], refl, refl), number-expr A digits n d)
+
+parentheses_y : (A : Type 0) (digits : List ℕ) (n : ℕ) → Digits digits n
+    → Form A (40 ∷ 36 ∷ digits ++ 41 ∷ 44 ∷ 89 ∷ []) (form.ParenthesesY (one_number n))
+parentheses_y A digits n d =
+    formed A _ ((40 ∷ []) ∷ (36 ∷ digits) ∷ (41 ∷ []) ∷ (44 ∷ []) ∷ (89 ∷ []) ∷ []) (form.ParenthesesY (one_number n))
+    (sign-first 40 refl (number-first digits n d refl (sign-first 41 refl (sign-first 44 refl (letter-first 89 refl tt nothing)))))
+    ((40 ∷ []) ∷ (36 ∷ digits) ∷ (41 ∷ []) ∷ [], (36 ∷ digits) ∷ [], (89 ∷ [], refl, refl), refl, number-expr A digits n d)
+
+in_parentheses : (A : Type 0) (digits : List ℕ) (n : ℕ) → Digits digits n → Form A (40 ∷ 36 ∷ digits ++ 41 ∷ []) (form.InParentheses (one_number n))
+in_parentheses A digits n d =
+    formed A _ ((40 ∷ []) ∷ (36 ∷ digits) ∷ (41 ∷ []) ∷ []) (form.InParentheses (one_number n))
+    (sign-first 40 refl (number-first digits n d refl (sign-first 41 refl nothing)))
+    ((36 ∷ digits) ∷ [], refl, number-expr A digits n d)
+
+byte-digits : (n : ℕ) → ltb n 256 ≡ true → Digits (hex_pair n) n
+byte-digits n h = pair-digits n (lt-from n 256 h)
+
+pub listed-operand : (A : Type 0) → ListedOperandIsOperand A
+listed-operand A Implied at n h k = ([], nothing.spells, refl)
+listed-operand A Accumulator at n h k = formed A _ ((65 ∷ []) ∷ []) form.Accumulator (letter-first 65 refl tt nothing) (65 ∷ [], refl, refl)
+listed-operand A Immediate at n h k = immediate A (hex_pair n) n (byte-digits n k)
+listed-operand A ZeroPage at n h k = plain A (hex_pair n) n (byte-digits n k)
+listed-operand A ZeroPageX at n h k = with_x A (hex_pair n) n (byte-digits n k)
+listed-operand A ZeroPageY at n h k = with_y A (hex_pair n) n (byte-digits n k)
+listed-operand A Absolute at n h k = plain A (hex_word n) n (word-digits n h)
+listed-operand A AbsoluteX at n h k = with_x A (hex_word n) n (word-digits n h)
+listed-operand A AbsoluteY at n h k = with_y A (hex_word n) n (word-digits n h)
+listed-operand A IndexedIndirect at n h k = in_parentheses_x A (hex_pair n) n (byte-digits n k)
+listed-operand A IndirectIndexed at n h k = parentheses_y A (hex_pair n) n (byte-digits n k)
+listed-operand A Indirect at n h k = in_parentheses A (hex_word n) n (word-digits n h)
+listed-operand A Relative at n h k = plain A (hex_word n) n (word-digits n h)
+
+-- the operand's column
+column-gap : (mode : Mode) (n : ℕ) → is_gap (operand_column mode n) ≡ true
+column-gap Implied n = refl
+column-gap _ n = refl
+
+column-spells : (mode : Mode) (n : ℕ) (ps : List (List ℕ)) → Spells (operand_text mode n) ps → Spells (operand_column mode n) ps
+column-spells Implied n ps h = h
+column-spells mode n ps h = blank-first _ ps (blank-first _ ps (blank-first _ ps h))
+
+-- a shift has no row of the implied mode
+shift-row : (m : Mnemonic) (r : Row) → is_shift m ≡ true → row m Implied ≡ Some r → ⊥
+unfolding row table
+shift-row Asl r s e = let never : None ≡ Some r = e in cc
+shift-row Lsr r s e = let never : None ≡ Some r = e in cc
+shift-row Rol r s e = let never : None ≡ Some r = e in cc
+shift-row Ror r s e = let never : None ≡ Some r = e in cc
+shift-row _ r s e = false≢true s
+
+only-implied : (A : Type 0) (mode : Mode) (n : ℕ) → listed_operand {A = A} mode n ≡ form.Nothing → mode ≡ Implied
+only-implied A Implied n e = refl
+only-implied A _ n e = cc
+
+name-capitals : (m : Mnemonic) → map capital (name_of m) ≡ name_of m
+name-capitals Adc = refl
+name-capitals _ = refl
+
+pub listed-line : (A : Type 0) → ListedTextIsLine A
+listed-line A i at bytes small e =
+    let is = coded i at bytes e in
+    let operand = listed-operand A i.mode at i.value small is.fits in
+    let column = operand_column i.mode i.value in
+    let rest = name_of i.mnemonic ++ column in
+    let never : is_shift i.mnemonic ≡ true → operand.0 ≡ [] → ⊥ = λ s none.
+    let implied = only-implied A i.mode i.value (IsOperand-one operand.0 _ form.Nothing operand.2 none) in
+    let P : Mode → Type 0 = λ k. row i.mnemonic k ≡ Some is.row in
+    shift-row i.mnemonic is.row s (subst P implied (row-only i.mnemonic i.mode is.row is.row_is)) in
+    inr (32 ∷ rest, refl, refl,
+    inr (operations.Instr i.mnemonic, operand.0,
+    (rest, name_of i.mnemonic, column, (32 ∷ [], All-cons (λ c. is_blank c ≡ true) 32 [] refl (All-nil (λ c. is_blank c ≡ true)), refl), refl,
+    name-capitals i.mnemonic, column-gap i.mode i.value, column-spells i.mode i.value operand.0 operand.1),
+    (refl, operand_of-to i.mnemonic operand.0 never (listed_operand i.mode i.value) operand.2)),
+    refl)

@@ -1,0 +1,61 @@
+-- Listed instructions, as the source language reads them.
+use Rattle.std.specs.Prelude.{◌≡◌, ℕ, ◌<◌, false, IsTrue, List, [], ◌∷◌, ◌++◌, Some, None, codes}
+use Rattle.a2_opcode.specs.declared.Mode.{Mode}
+use Rattle.a2_opcode.specs.declared.Mode.TheVariants.{Implied, Accumulator, Immediate, ZeroPage, ZeroPageX, ZeroPageY, Absolute, AbsoluteX, AbsoluteY, IndexedIndirect, IndirectIndexed, Indirect, Relative}
+use Rattle.a2_opcode.specs.declared.Instr as opcode
+use Rattle.a2_opcode.specs.Names.{name_of}
+use Rattle.a2_opcode.specs.Encoding.{can_have, encoded}
+use Rattle.a2_opcode.specs.Listing.{operand_text, operand_column}
+use Rattle.a2_syntax.specs.Pieces.{Spells}
+use Rattle.a2_syntax.specs.Grammar.{IsOperand, IsLine}
+use Rattle.a2_syntax.specs.declared.source.Term.TheVariants.{Number}
+use Rattle.a2_syntax.specs.declared.source.Part.TheVariants.{Whole}
+use Rattle.a2_syntax.specs.declared.source.Expr.{Expr}
+use Rattle.a2_syntax.specs.declared.source.Operand.{Operand}
+use Rattle.a2_syntax.specs.declared.source.Operand.TheVariants as form
+use Rattle.a2_syntax.specs.declared.source.Body.TheVariants.{Instr}
+use Rattle.a2_syntax.specs.declared.source.Line.{Line}
+
+-- the expression that is one number
+abbrev pub one_number : {A : Type 0} → ℕ → Expr A
+one_number n = record { part = Whole; terms = record { minus = false; term = Number n } ∷ [] }
+
+-- the operand that is listed for a mode and a value
+abbrev pub listed_operand : {A : Type 0} → Mode → ℕ → Operand A
+listed_operand Implied value = form.Nothing
+listed_operand Accumulator value = form.Accumulator
+listed_operand Immediate value = form.Immediate (one_number value)
+listed_operand ZeroPage value = form.Plain (one_number value)
+listed_operand ZeroPageX value = form.WithX (one_number value)
+listed_operand ZeroPageY value = form.WithY (one_number value)
+listed_operand Absolute value = form.Plain (one_number value)
+listed_operand AbsoluteX value = form.WithX (one_number value)
+listed_operand AbsoluteY value = form.WithY (one_number value)
+listed_operand IndexedIndirect value = form.InParenthesesX (one_number value)
+listed_operand IndirectIndexed value = form.ParenthesesY (one_number value)
+listed_operand Indirect value = form.InParentheses (one_number value)
+listed_operand Relative value = form.Plain (one_number value)
+
+-- a text whose pieces are an operand
+abbrev pub SpellsOperand : {A : Type 0} → List ℕ → Operand A → Type 0
+SpellsOperand text operand = (pieces : List (List ℕ)) × Spells text pieces × IsOperand pieces operand
+
+-- the operand's text, for each value that the mode can have
+abbrev pub ListedOperandIsOperand : Type 0 → Type 0
+ListedOperandIsOperand A =
+    (mode : Mode) (at value : ℕ) → value < 65536 → IsTrue (can_have mode at value)
+    → SpellsOperand {A = A} (operand_text mode value) (listed_operand mode value)
+
+-- a blank, and the mnemonic and the operand as a listing has them
+abbrev pub listed_text : opcode.Instr → List ℕ
+listed_text i = codes " " ++ name_of i.mnemonic ++ operand_column i.mode i.value
+
+-- the line of an instruction without a label
+abbrev pub listed_line : {A : Type 0} → opcode.Instr → Line A
+listed_line i = record { label = None; body = Instr i.mnemonic (listed_operand i.mode i.value) }
+
+-- the listed text of each instruction that has bytes
+abbrev pub ListedTextIsLine : Type 0 → Type 0
+ListedTextIsLine A =
+    (i : opcode.Instr) (at : ℕ) (bytes : List ℕ) → i.value < 65536 → encoded i at ≡ Some bytes
+    → IsLine {A = A} (listed_text i) (listed_line i)
