@@ -1,20 +1,18 @@
 -- What a listing shows is read as what it lists.
-use Rattle.std.proofs.Common.{◌≡◌, ℕ, ◌+◌, ◌/◌, ◌%◌, ◌<◌, true, false, eqb, ltb, ◌&&◌, List, [], ◌∷◌, ◌++◌, length, map, refl, sym, ap, ◌∙◌, subst, inl, inr, arith, Some, None}
+use Rattle.std.proofs.Common.{◌≡◌, ℕ, ◌/◌, ◌%◌, ◌<◌, true, eqb, ltb, ◌&&◌, List, [], ◌∷◌, ◌++◌, length, map, refl, ap, ◌∙◌, subst, inl, inr, arith, Some, None}
 use Rattle.std.specs.List.{AllPass, list_all}
 use Rattle.std.proofs.lemmas.Bool.{agree_below_at, eqb-true, false≢true, and_from, cond-true, lt-ltb}
 use Rattle.std.proofs.lemmas.List.Sums.{AllPass-from_list_all}
 use Rattle.std.proofs.lemmas.List.Elements.{All-nil, All-cons}
-use Rattle.a2_text.specs.Bytes.{is_blank, capital, digit, value, is_digit_in, number_in}
+use Rattle.a2_text.specs.Bytes.{is_blank, capital, digit, value, is_digit_in}
 use Rattle.a2_text.specs.Digits.{hex_digit, hex_pair, hex_word}
 use Rattle.a2_opcode.specs.declared.Mnemonic.{Mnemonic}
 use Rattle.a2_opcode.specs.declared.Mnemonic.TheVariants.{Adc, Asl, Lsr, Rol, Ror}
 use Rattle.a2_opcode.specs.declared.Mode.{Mode}
 use Rattle.a2_opcode.specs.declared.Mode.TheVariants.{Implied, Accumulator, Immediate, ZeroPage, ZeroPageX, ZeroPageY, Absolute, AbsoluteX, AbsoluteY, IndexedIndirect, IndirectIndexed, Indirect, Relative}
 use Rattle.a2_opcode.specs.declared.Row.{Row}
-use Rattle.a2_opcode.specs.declared.Instr as opcode
 use Rattle.a2_opcode.specs.Table.{row, table}
 use Rattle.a2_opcode.specs.Names.{name_of}
-use Rattle.a2_opcode.specs.Encoding.{can_have, encoded}
 use Rattle.a2_opcode.specs.Listing.{operand_text, operand_column}
 use Rattle.a2_opcode.proofs.Comparing.{lt-from}
 use Rattle.a2_opcode.proofs.Lookup.{row-only}
@@ -22,8 +20,8 @@ use Rattle.a2_opcode.proofs.RoundTrip.{coded}
 use Rattle.a2_syntax.specs.Names.{is_name_byte}
 use Rattle.a2_syntax.specs.Numbers.{number}
 use Rattle.a2_syntax.specs.Pieces.{is_sign, EndsRun, is_gap, Spells}
-use Rattle.a2_syntax.specs.Grammar.{IsExpr, IsOperand, is_shift, IsLine}
-use Rattle.a2_syntax.specs.Listed.{one_number, listed_operand, SpellsOperand, ListedOperandIsOperand, listed_text, listed_line, ListedTextIsLine}
+use Rattle.a2_syntax.specs.Grammar.{IsExpr, IsOperand, is_shift}
+use Rattle.a2_syntax.specs.Listed.{one_number, listed_operand, SpellsOperand, ListedOperandIsOperand, ListedTextIsLine}
 use Rattle.a2_syntax.specs.declared.source.Operand.{Operand}
 use Rattle.a2_syntax.specs.declared.source.Operand.TheVariants as form
 use Rattle.a2_syntax.specs.declared.operation.Operation.TheVariants as operations
@@ -215,9 +213,24 @@ listed-line A i at bytes small e =
     let implied = only-implied A i.mode i.value (IsOperand-one operand.0 _ form.Nothing operand.2 none) in
     let P : Mode → Type 0 = λ k. row i.mnemonic k ≡ Some is.row in
     shift-row i.mnemonic is.row s (subst P implied (row-only i.mnemonic i.mode is.row is.row_is)) in
-    inr (32 ∷ rest, refl, refl,
-    inr (operations.Instr i.mnemonic, operand.0,
-    (rest, name_of i.mnemonic, column, (32 ∷ [], All-cons (λ c. is_blank c ≡ true) 32 [] refl (All-nil (λ c. is_blank c ≡ true)), refl), refl,
-    name-capitals i.mnemonic, column-gap i.mode i.value, column-spells i.mode i.value operand.0 operand.1),
-    (refl, operand_of-to i.mnemonic operand.0 never (listed_operand i.mode i.value) operand.2)),
-    refl)
+    inr (
+      32 ∷ rest,
+      refl,
+      refl,
+      inr (
+        operations.Instr i.mnemonic,
+        operand.0,
+        (
+          rest,
+          name_of i.mnemonic,
+          column,
+          (32 ∷ [], All-cons (λ c. is_blank c ≡ true) 32 [] refl (All-nil (λ c. is_blank c ≡ true)), refl),
+          refl,
+          name-capitals i.mnemonic,
+          column-gap i.mode i.value,
+          column-spells i.mode i.value operand.0 operand.1,
+        ),
+        (refl, operand_of-to i.mnemonic operand.0 never (listed_operand i.mode i.value) operand.2),
+      ),
+      refl,
+    )
