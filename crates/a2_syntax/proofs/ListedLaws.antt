@@ -1,7 +1,9 @@
 -- What a listing shows is read as what it lists.
-use Rattle.std.proofs.Common.{◌≡◌, ℕ, ◌/◌, ◌%◌, ◌<◌, true, eqb, ltb, ◌&&◌, List, [], ◌∷◌, ◌++◌, length, map, refl, ap, ◌∙◌, subst, inl, inr, arith, Some, None}
-use Rattle.std.specs.List.{AllPass, list_all}
-use Rattle.std.proofs.lemmas.Bool.{agree_below_at, eqb-true, false≢true, and_from, cond-true, lt-ltb}
+use Rattle.std.proofs.Common.{◌≡◌, ℕ, ◌-◌, ◌*◌, ◌/◌, ◌%◌, ◌<◌, ◌≤◌, Bool, true, false, eqb, ltb, leb, cond, ◌&&◌, List, [], ◌∷◌, ◌++◌, length, map, take, drop, refl, sym, ap, ◌∙◌, subst, inl, inr, arith, Option, Some, None, length-append}
+use Rattle.std.specs.Prelude.{codes, replicate, slice_index}
+use Rattle.std.specs.List.{AllPass, list_all, All}
+use Rattle.std.proofs.lemmas.Bool.{agree_below_at, eqb-true, false≢true, and_from, cases_lt, cond-true, lt-ltb}
+use Rattle.std.proofs.lemmas.List.{append_assoc, drop_at, get_or_past, length-replicate, length-take, take_all}
 use Rattle.std.proofs.lemmas.List.Sums.{AllPass-from_list_all}
 use Rattle.std.proofs.lemmas.List.Elements.{All-nil, All-cons}
 use Rattle.a2_text.specs.Bytes.{is_blank, capital, digit, value, is_digit_in}
@@ -11,17 +13,20 @@ use Rattle.a2_opcode.specs.declared.Mnemonic.TheVariants.{Adc, Asl, Lsr, Rol, Ro
 use Rattle.a2_opcode.specs.declared.Mode.{Mode}
 use Rattle.a2_opcode.specs.declared.Mode.TheVariants.{Implied, Accumulator, Immediate, ZeroPage, ZeroPageX, ZeroPageY, Absolute, AbsoluteX, AbsoluteY, IndexedIndirect, IndirectIndexed, Indirect, Relative}
 use Rattle.a2_opcode.specs.declared.Row.{Row}
-use Rattle.a2_opcode.specs.Table.{row, table}
+use Rattle.a2_opcode.specs.declared.Instr as opcode
+use Rattle.a2_opcode.specs.Encoding.{value_of, encoded, decoded}
+use Rattle.a2_opcode.specs.Table.{row, row_of, table, length_of}
 use Rattle.a2_opcode.specs.Names.{name_of}
-use Rattle.a2_opcode.specs.Listing.{operand_text, operand_column}
+use Rattle.a2_opcode.specs.Listing.{operand_text, operand_column, bytes_column, columns_before, line_text, listing}
 use Rattle.a2_opcode.proofs.Comparing.{lt-from}
 use Rattle.a2_opcode.proofs.Lookup.{row-only}
-use Rattle.a2_opcode.proofs.RoundTrip.{coded}
+use Rattle.a2_opcode.proofs.RoundTrip.{coded, decoded_by, encodes-back}
+use Rattle.a2_opcode.proofs.Spacing.{spaced, length-so-far}
 use Rattle.a2_syntax.specs.Names.{is_name_byte}
 use Rattle.a2_syntax.specs.Numbers.{number}
 use Rattle.a2_syntax.specs.Pieces.{is_sign, EndsRun, is_gap, Spells}
-use Rattle.a2_syntax.specs.Grammar.{IsExpr, IsOperand, is_shift}
-use Rattle.a2_syntax.specs.Listed.{one_number, listed_operand, SpellsOperand, ListedOperandIsOperand, ListedTextIsLine}
+use Rattle.a2_syntax.specs.Grammar.{IsExpr, IsOperand, is_shift, IsLine}
+use Rattle.a2_syntax.specs.Listed.{one_number, listed_operand, SpellsOperand, ListedOperandIsOperand, listed_line, ListingIsLine}
 use Rattle.a2_syntax.specs.declared.source.Operand.{Operand}
 use Rattle.a2_syntax.specs.declared.source.Operand.TheVariants as form
 use Rattle.a2_syntax.specs.declared.operation.Operation.TheVariants as operations
@@ -203,8 +208,10 @@ name-capitals : (m : Mnemonic) → map capital (name_of m) ≡ name_of m
 name-capitals Adc = refl
 name-capitals _ = refl
 
-pub listed-line : (A : Type 0) → ListedTextIsLine A
-listed-line A i at bytes small e =
+-- an instruction that has bytes, behind a blank
+line-reads : (A : Type 0) (i : opcode.Instr) (at : ℕ) (bytes : List ℕ) → i.value < 65536 → encoded i at ≡ Some bytes
+    → IsLine {A = A} (32 ∷ (name_of i.mnemonic ++ operand_column i.mode i.value)) (listed_line i)
+line-reads A i at bytes small e =
     let is = coded i at bytes e in
     let operand = listed-operand A i.mode at i.value small is.fits in
     let column = operand_column i.mode i.value in
@@ -224,7 +231,7 @@ listed-line A i at bytes small e =
           rest,
           name_of i.mnemonic,
           column,
-          (32 ∷ [], All-cons (λ c. is_blank c ≡ true) 32 [] refl (All-nil (λ c. is_blank c ≡ true)), refl),
+          (32 ∷ [], All-cons (λ c. is_blank c ≡ true) 32 [] refl no-blanks, refl),
           refl,
           name-capitals i.mnemonic,
           column-gap i.mode i.value,
@@ -234,3 +241,88 @@ listed-line A i at bytes small e =
       ),
       refl,
     )
+
+-- a value that is decoded is one of two bytes
+cond-below : (b : Bool) (m n k : ℕ) → m < k → n < k → cond b m n < k
+cond-below true m n k h l = h
+cond-below false m n k h l = l
+
+value-small : (mode : Mode) (at : ℕ) (operand : List ℕ) → slice_index operand 0 < 256 → slice_index operand 1 < 256 → value_of mode at operand < 65536
+value-small Relative at operand a b = cond-below (ltb (slice_index operand 0) 128) _ _ 65536 (omega arith) (omega arith)
+value-small _ at operand a b = omega (arith, a, b)
+
+value-by : (mnemonic : Mnemonic) (mode : Mode) (operand : List ℕ) (at : ℕ) (i : opcode.Instr) (b : Bool)
+    → cond b (Some (record { mnemonic = mnemonic; mode = mode; value = value_of mode at operand })) None ≡ Some i
+    → (m : Mode) × (i.value ≡ value_of m at operand)
+value-by mnemonic mode operand at i true e =
+    let made : opcode.Instr = record { mnemonic = mnemonic; mode = mode; value = value_of mode at operand } in
+    let same : made ≡ i = cc in
+    (mode, ap (λ (j : opcode.Instr). j.value) (sym same))
+value-by mnemonic mode operand at i false e = cc
+
+value-row : (op : ℕ) (operand : List ℕ) (at : ℕ) (i : opcode.Instr) (found : Option Row) → decoded_by op operand at found ≡ Some i
+    → (m : Mode) × (i.value ≡ value_of m at operand)
+value-row op operand at i None e = cc
+value-row op operand at i (Some r) e = value-by r.mnemonic r.mode operand at i (leb (length_of r.mode) (length (op ∷ operand))) e
+
+decoded-small : (bytes : List ℕ) (at : ℕ) (i : opcode.Instr) → ((k : ℕ) → slice_index bytes k < 256) → decoded bytes at ≡ Some i → i.value < 65536
+unfolding decoded
+decoded-small [] at i small e = cc
+decoded-small (op ∷ operand) at i small e =
+    let v = value-row op operand at i (row_of op) e in
+    omega (arith, v.1, value-small v.0 at operand (small 1) (small 2))
+
+-- what stands before the mnemonic
+abbrev before : ℕ → List ℕ → List ℕ
+before at xs = hex_word at ++ codes "-   " ++ bytes_column xs
+
+before-cut : (at : ℕ) (xs name column : List ℕ) → columns_before at xs ++ name ++ column ≡ (before at xs ++ codes "  ") ++ (32 ∷ (name ++ column))
+before-cut at xs name column =
+    append_assoc (columns_before at xs) name column
+    ∙ append_assoc (before at xs) (codes "   ") (name ++ column)
+    ∙ sym (append_assoc (before at xs) (codes "  ") (32 ∷ (name ++ column)))
+
+spaced-length : (xs : List ℕ) → length (spaced xs) ≡ 3 * length xs - 1
+spaced-length xs =
+    let so_far = length-so-far (spaced xs) [] xs (length xs) (omega arith) (ap spaced (sym (take_all (length xs) xs (omega arith)))) in
+    omega (arith, so_far)
+
+before-length : (at : ℕ) (xs : List ℕ) → length xs ≤ 3 → length (before at xs ++ codes "  ") ≡ 18
+before-length at xs few =
+    let first : length (hex_word at ++ codes "-   ") ≡ 8 = refl in
+    omega (
+      arith,
+      few,
+      first,
+      length-append (before at xs) (codes "  "),
+      length-append (hex_word at ++ codes "-   ") (bytes_column xs),
+      length-append (spaced xs) (replicate (8 - length (spaced xs)) 32),
+      length-replicate {A = ℕ} (8 - length (spaced xs)) 32,
+      spaced-length xs,
+    )
+
+length-few : (mode : Mode) → length_of mode ≤ 3
+length-few Implied = omega arith
+length-few _ = omega arith
+
+listing-cut : (bytes : List ℕ) (at : ℕ) (i : opcode.Instr) → decoded bytes at ≡ Some i
+    → drop 18 (listing bytes at) ≡ 32 ∷ (name_of i.mnemonic ++ operand_column i.mode i.value)
+unfolding listing
+listing-cut bytes at i e =
+    let xs : List ℕ = take (length_of i.mode) bytes in
+    let few : length xs ≤ 3 = omega (arith, length-take (length_of i.mode) bytes, length-few i.mode) in
+    let rest : List ℕ = 32 ∷ (name_of i.mnemonic ++ operand_column i.mode i.value) in
+    ap (drop 18) (ap (line_text bytes at) e ∙ before-cut at xs (name_of i.mnemonic) (operand_column i.mode i.value))
+    ∙ drop_at (before at xs ++ codes "  ") rest 18 (before-length at xs few)
+
+each-small : (bytes : List ℕ) → All (λ byte. byte < 256) bytes → (k : ℕ) → slice_index bytes k < 256
+each-small bytes all k = elim (cases_lt k (length bytes)) [
+  | inl lt ↦ all k 0 lt
+  | inr ge ↦ omega (arith, get_or_past bytes k 0 ge)
+]
+
+pub listing-line : (A : Type 0) → ListingIsLine A
+listing-line A bytes at i all low e =
+    let small = each-small bytes all in
+    let P : List ℕ → Type 0 = λ text. IsLine {A = A} text (listed_line i) in
+    subst P (sym (listing-cut bytes at i e)) (line-reads A i at (take (length_of i.mode) bytes) (decoded-small bytes at i small e) (encodes-back bytes at i low small e))

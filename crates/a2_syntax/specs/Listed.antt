@@ -1,11 +1,11 @@
 -- Listed instructions, as the source language reads them.
-use Rattle.std.specs.Prelude.{◌≡◌, ℕ, ◌<◌, false, IsTrue, List, [], ◌∷◌, ◌++◌, Some, None, codes}
+use Rattle.std.specs.Prelude.{◌≡◌, ℕ, ◌<◌, false, IsTrue, List, [], ◌∷◌, drop, Some, None}
+use Rattle.std.specs.List.{All}
 use Rattle.a2_opcode.specs.declared.Mode.{Mode}
 use Rattle.a2_opcode.specs.declared.Mode.TheVariants.{Implied, Accumulator, Immediate, ZeroPage, ZeroPageX, ZeroPageY, Absolute, AbsoluteX, AbsoluteY, IndexedIndirect, IndirectIndexed, Indirect, Relative}
 use Rattle.a2_opcode.specs.declared.Instr as opcode
-use Rattle.a2_opcode.specs.Names.{name_of}
-use Rattle.a2_opcode.specs.Encoding.{can_have, encoded}
-use Rattle.a2_opcode.specs.Listing.{operand_text, operand_column}
+use Rattle.a2_opcode.specs.Encoding.{can_have, decoded}
+use Rattle.a2_opcode.specs.Listing.{operand_text, listing}
 use Rattle.a2_syntax.specs.Pieces.{Spells}
 use Rattle.a2_syntax.specs.Grammar.{IsOperand, IsLine}
 use Rattle.a2_syntax.specs.declared.source.Term.TheVariants.{Number}
@@ -46,16 +46,12 @@ ListedOperandIsOperand A =
     (mode : Mode) (at value : ℕ) → value < 65536 → IsTrue (can_have mode at value)
     → SpellsOperand {A = A} (operand_text mode value) (listed_operand mode value)
 
--- a blank, and the mnemonic and the operand as a listing has them
-abbrev pub listed_text : opcode.Instr → List ℕ
-listed_text i = codes " " ++ name_of i.mnemonic ++ operand_column i.mode i.value
-
 -- the line of an instruction without a label
 abbrev pub listed_line : {A : Type 0} → opcode.Instr → Line A
 listed_line i = record { label = None; body = Instr i.mnemonic (listed_operand i.mode i.value) }
 
--- the listed text of each instruction that has bytes
-abbrev pub ListedTextIsLine : Type 0 → Type 0
-ListedTextIsLine A =
-    (i : opcode.Instr) (at : ℕ) (bytes : List ℕ) → i.value < 65536 → encoded i at ≡ Some bytes
-    → IsLine {A = A} (listed_text i) (listed_line i)
+-- a line of a listing that shows an instruction, from its 19th place on: a blank, the mnemonic and the operand
+abbrev pub ListingIsLine : Type 0 → Type 0
+ListingIsLine A =
+    (bytes : List ℕ) (at : ℕ) (i : opcode.Instr) → All (λ byte. byte < 256) bytes → at < 65536 → decoded bytes at ≡ Some i
+    → IsLine {A = A} (drop 18 (listing bytes at)) (listed_line i)

@@ -1,6 +1,6 @@
 //! What a listing shows, as source text.
 
-ghost use Rattle.a2_syntax.specs.Listed.{ListedOperandIsOperand, ListedTextIsLine};
+ghost use Rattle.a2_syntax.specs.Listed.{ListedOperandIsOperand, ListingIsLine};
 
 use std::alloc::Allocator;
 
@@ -9,7 +9,8 @@ pub fn a_listed_operand_is_its_operand<A: Allocator>()
     ensures { ListedOperandIsOperand A }
 {}
 
-/// A mnemonic and an operand as a listing has them are, behind a blank, the line of the instruction that is listed.
-pub fn a_listed_instruction_is_its_line<A: Allocator>()
-    ensures { ListedTextIsLine A }
+/// A line of a listing that shows an instruction is, from its 19th place on, the line of that instruction, without a
+/// label: a blank, the mnemonic and the operand.
+pub fn a_listing_is_its_line<A: Allocator>()
+    ensures { ListingIsLine A }
 {}

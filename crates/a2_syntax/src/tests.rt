@@ -1,9 +1,8 @@
 //! Worked texts.
 
 use crate::{
-    Body, Expr, Fault, Operand, Part, Term, a_listed_instruction_is_its_line,
-    a_listed_operand_is_its_operand, a_refused_text_is_no_source, a_text_is_one_source, is_name,
-    lines, parse,
+    Body, Expr, Fault, Operand, Part, Term, a_listed_operand_is_its_operand, a_listing_is_its_line,
+    a_refused_text_is_no_source, a_text_is_one_source, is_name, lines, parse,
 };
 use a2_opcode::Mnemonic;
 use std::alloc::Global;
@@ -196,8 +195,8 @@ fn texts(rt: HostRuntime) -> Result<(), std::test::Fail> {
 
 #[test]
 fn laws(_rt: HostRuntime) {
-    a_listed_instruction_is_its_line::<Global>();
     a_listed_operand_is_its_operand::<Global>();
+    a_listing_is_its_line::<Global>();
     a_refused_text_is_no_source::<Global>();
     a_text_is_one_source::<Global>();
 }
