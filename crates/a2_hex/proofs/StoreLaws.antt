@@ -1,11 +1,12 @@
 -- What the words of a text and the parts of a line say.
-use Rattle.std.proofs.Common.{◌≡◌, ℕ, ◌+◌, ◌<◌, Bool, false, eqb, List, [], ◌∷◌, length, map, take, drop, Option, Some, None, refl, sym, ap, ◌∙◌, arith}
-use Rattle.std.specs.Option.{option_map}
-use Rattle.std.specs.List.{list_any, position_or_len}
-use Rattle.std.proofs.lemmas.Bool.{cond-true, cond-false}
+use Rattle.std.proofs.Common.{◌≡◌, ℕ, ◌+◌, ◌<◌, ◌≤◌, Bool, true, false, cond, nat_lt, eqb, List, [], ◌∷◌, length, map, take, drop, Option, Some, None, refl, sym, ap, ◌∙◌, arith}
+use Rattle.std.specs.Option.{option_map, unwrap_or}
+use Rattle.std.specs.List.{list_any, position, position_or_len}
+use Rattle.std.proofs.lemmas.Bool.{cond-true, cond-false, ltb-false}
 use Rattle.std.proofs.lemmas.List.{nil_from_length}
 use Rattle.std.proofs.lemmas.List.Elements.{All-from_get_or}
 use Rattle.std.proofs.lemmas.List.Folds.{list_any_none, list_any_at}
+use Rattle.std.proofs.lemmas.List.Quantifiers.{position-Some}
 use Rattle.std.proofs.lemmas.List.Sums.{fails_before_first, passes_at_first}
 use Rattle.a2_text.specs.Words.{behind_blanks, words}
 use Rattle.a2_hex.specs.ObjectLines.{address_of, byte_of, each, bytes_of, given, given_before, both, store_of}
@@ -49,9 +50,22 @@ given_before-some front here r e h is = ap (option_map Some) is ∙ sym (given-s
 abbrev pub is_colon : ℕ → Bool
 is_colon c = eqb c 58
 
-pub store_of-no_colon : (line : List ℕ) → position_or_len is_colon line ≡ length line → store_of line ≡ None
+-- a place that was looked for: found, or nowhere
+found : (b : Bool) (i n : ℕ) → Some i ≡ cond b (Some n) None → i ≡ n
+found true i n h = ap (λ (o : Option ℕ). unwrap_or o 0) h
+found false i n h = cc
+
+not_found : (b : Bool) (n : ℕ) → None ≡ cond b (Some n) None → b ≡ false
+not_found true n h = cc
+not_found false n h = refl
+
+pub colon_at : (line : List ℕ) (end : ℕ) → Some end ≡ position is_colon line → (end ≡ position_or_len is_colon line) × (end < length line)
+colon_at line end h = (found (nat_lt (position_or_len is_colon line) (length line)) end _ h, (position-Some is_colon line end 0 (sym h)).0)
+
+pub store_of-no_colon : (line : List ℕ) → None ≡ position is_colon line → store_of line ≡ None
 unfolding store_of
-store_of-no_colon line e =
+store_of-no_colon line h =
+    let e : length line ≤ position_or_len is_colon line = ltb-false _ _ (not_found (nat_lt (position_or_len is_colon line) (length line)) _ h) in
     cond-false (list_any is_colon line) _ None (list_any_none is_colon line (All-from_get_or (λ x. is_colon x ≡ false) line 0 (λ i lt. fails_before_first is_colon line i 0 (omega arith))))
 
 pub store_of-colon : (line : List ℕ) (end : ℕ) → end ≡ position_or_len is_colon line → end < length line → store_of line ≡ both (given_before (take end line)) (bytes_of (drop (end + 1) line))

@@ -1,3 +1,4 @@
 pub mod Images
 pub mod ObjectText
 pub mod ObjectLines
+pub mod Texts

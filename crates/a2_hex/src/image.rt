@@ -7,10 +7,10 @@ use crate::fault::HexFault;
 use std::alloc::{Allocator, Global};
 use std::marker::Model;
 
-/// The end of RAM.
+// The end of RAM. Apple II Reference Manual (1979), the memory map.
 pub(crate) const RAM_END: u16 = 0xC000;
 
-/// Bytes at addresses below $C000, at each address one or none.
+/// Bytes at addresses of RAM, which are those below $C000: at each address one or none.
 #[derive(Drop)]
 pub struct Image<A: Allocator = Global> {
     cells: Vec<Option<u8>, A>,
@@ -28,7 +28,7 @@ impl<A: Allocator> Model for Image<A> {
 }
 
 impl<A: Allocator> Image<A> {
-    /// No bytes. Refused only for want of memory.
+    /// An image with no byte at any address, whose cells lie in memory of `alloc`. Refused only for want of memory.
     pub fn new(alloc: A) -> Result<Image<A>, HexFault>
         ensures empty { IfOk result (λ image. (a : ℕ) → held image a ≡ None) }
         ensures refused { OnErr result (result ≡ Err HexFault.Memory) }
@@ -40,7 +40,7 @@ impl<A: Allocator> Image<A> {
         Ok(Image { cells })
     }
 
-    /// The byte at an address, if there is one; no byte stands at or above $C000.
+    /// The byte at `address`, or none where none was put; at or above $C000 there is none.
     pub fn get(&self, address: u16) -> Option<u8>
         ensures held { result ≡ held self.now address }
         ensures image { IsImage (held self.now) }
@@ -53,7 +53,8 @@ impl<A: Allocator> Image<A> {
         }
     }
 
-    /// Puts a byte at an address below $C000, in place of any that was there.
+    /// Puts `byte` at `address`, which is below $C000, in place of any that was there, and leaves all other addresses as
+    /// they were.
     pub fn set(&mut self, address: u16, byte: u8)
         requires { address < 49152 }
         ensures { (a : ℕ) → held self.new a ≡ put (held self.old) address byte a }

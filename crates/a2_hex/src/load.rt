@@ -53,12 +53,15 @@ fn load_line<A: Allocator>(
     Ok(Some(lay(image, address, store.bytes)))
 }
 
-/// The image that a text of object lines loads.
+/// The image that the object lines in `text` load, in memory of `alloc`.
 ///
 /// A line is blank, or an address of 1 to 4 hexadecimal digits or nothing, `:`, and bytes of 1 or 2 digits with blanks
 /// between; without an address it goes on behind the last byte loaded, or at the last address given where it had no
-/// byte. A later byte replaces an earlier one. Refused with the first line that has another form, or gives no address
-/// where no line before it does, or has a byte at or above $C000; and for want of memory.
+/// byte. A later byte replaces an earlier one. This project's profile of the Monitor's lines that change memory, Apple
+/// II Reference Manual (1979), chapter 3.
+///
+/// Refused with the first line that has another form (`Digit`), or gives no address where no line before it does
+/// (`NoAddress`), or has a byte at or above $C000 (`Outside`); and for want of memory (`Memory`).
 pub fn load_lines<A: Allocator + Copy>(alloc: A, text: &[u8]) -> Result<Image<A>, HexFault>
     ensures loaded { IfOk result (λ image. image_of text.now ≡ Ok (held image)) }
     ensures refused { IfErr result (λ fault. fault ≢ HexFault.Memory → image_of text.now ≡ Err fault) }

@@ -1,13 +1,14 @@
 //! Lines that store bytes.
 
 ghost use Rattle.std.specs.Prelude.{◌≡◌, ◌<◌, ◌≤◌, ◌==◌, ℕ, List, [], ◌∷◌, length, option_map, MatchOption, IfSome, IsNone, Some, None};
-ghost use Rattle.std.specs.List.{position_or_len};
+ghost use Rattle.std.specs.List.{position};
 ghost use Rattle.a2_hex.specs.ObjectLines.{bytes_of, given_before, store_of};
 
 use crate::numbers::{address_of, byte_of};
 use a2_text::{behind_blanks, first_word};
 
-/// A line that stores bytes, as in `300:A9 C1` and `:20 ED`.
+/// A line that stores bytes, as in `300:A9 C1` and `:20 ED`. This project's profile of the Monitor's lines that change
+/// memory, Apple II Reference Manual (1979), chapter 3.
 #[derive(Clone, Copy, Debug, PartialEq, Eq)]
 pub struct StoreLine<'a> {
     /// The address of the first byte, where the line gives it.
@@ -18,8 +19,8 @@ pub struct StoreLine<'a> {
     pub count: usize,
 }
 
-/// The first byte of a text of bytes and what stands behind it; none where the text is blank or its first word is no
-/// byte.
+/// The first byte of `text`, bytes of 1 or 2 hexadecimal digits with blanks between, and what stands behind it, which is
+/// shorter; none where the text is blank or its first word is no byte.
 pub fn first_byte(text: &[u8]) -> Option<(u8, &[u8])>
     ensures bytes { MatchOption result (IfSome (bytes_of text.now) (λ bytes. bytes ≡ [])) (λ (byte, behind). bytes_of text.now ≡ option_map (λ others. byte ∷ others) (bytes_of behind.now)) }
     ensures shorter { IfSome result (λ (_, behind). length behind.now < length text.now) }
@@ -29,7 +30,8 @@ pub fn first_byte(text: &[u8]) -> Option<(u8, &[u8])>
     Some((byte, behind))
 }
 
-/// How many bytes a text of bytes has; none where one of its words, which blanks part, is no byte of 1 or 2 digits.
+/// How many bytes `text` has, 0 where it is blank; none where one of its words, which blanks part, is no byte of 1 or 2
+/// hexadecimal digits.
 pub fn count_bytes(text: &[u8]) -> Option<usize>
     ensures { result ≡ option_map length (bytes_of text.now) }
 {
@@ -43,17 +45,12 @@ pub fn count_bytes(text: &[u8]) -> Option<usize>
     Some(count)
 }
 
-// Where the first `:` is, or the end.
-fn colon(text: &[u8]) -> usize
-    ensures is { result ≡ position_or_len (λ c. c == 58) text.now }
-    ensures within { result ≤ length text.now }
+// Where the first `:` is.
+fn colon(text: &[u8]) -> Option<usize>
+    ensures is { result ≡ position (λ c. c == 58) text.now }
+    ensures within { IfSome result (λ i. i < length text.now) }
 {
-    for (i, c) in text.iter().enumerate() {
-        if *c == b':' {
-            return i;
-        }
-    }
-    text.len()
+    text.iter().position(|c| *c == b':')
 }
 
 // The address before `:`, or none where nothing stands there; or neither.
@@ -64,21 +61,18 @@ fn given_before(front: &[u8]) -> Option<Option<u16>>
     if digits.is_empty() {
         return Some(None);
     }
-    let address = address_of(digits)?;
-    Some(Some(address))
+    address_of(digits).map(Some)
 }
 
-/// What a line stores: an address of 1 to 4 hexadecimal digits or none, `:`, and bytes of 1 or 2 digits with blanks
-/// between. Blanks may also stand at both ends and behind `:`, and nowhere else. None where the line has another form.
+/// What the line in `text` stores: an address of 1 to 4 hexadecimal digits or none, `:`, and bytes of 1 or 2 digits with
+/// blanks between. Blanks may also stand at both ends and behind `:`, and nowhere else. None where the line has another
+/// form.
 pub fn store_line(text: &[u8]) -> Option<StoreLine<'_>>
     ensures none { IsNone result → store_of text.now ≡ None }
     ensures line { IfSome result (λ line. store_of text.now ≡ option_map (λ bytes. record { address = line.address; bytes = bytes }) (bytes_of line.bytes.now)) }
     ensures count { IfSome result (λ line. option_map length (bytes_of line.bytes.now) ≡ Some line.count) }
 {
-    let end = colon(text);
-    if end == text.len() {
-        return None;
-    }
+    let end = colon(text)?;
     let bytes = &text[end + 1..];
     let address = given_before(&text[..end])?;
     let count = count_bytes(bytes)?;

@@ -73,9 +73,10 @@ fn line_at<A: Allocator>(image: &Image<A>, address: u16, first: u8) -> ArrayVec<
     line
 }
 
-/// Writes the object lines of an image: addresses upwards; a line is four digits, `:`, and one to eight bytes of two
-/// digits with one blank between; a new line begins at each address divisible by 8 and after each gap. Refused where
-/// the writer fails, and a front of the text was written then.
+/// Writes the object lines of `image` to `writer`: addresses upwards; a line is four capital hexadecimal digits, `:`, and
+/// one to eight bytes of two digits with one blank between, and ends in LF; a new line begins at each address divisible
+/// by 8 and after each gap. This project's profile of the Monitor's lines that change memory, Apple II Reference Manual
+/// (1979), chapter 3. Refused where a write fails, and a front of the text was written then.
 pub fn write_lines<A: Allocator, W: Output>(
     image: &Image<A>,
     writer: &mut W,
@@ -90,7 +91,7 @@ pub fn write_lines<A: Allocator, W: Output>(
     Ok(())
 }
 
-/// What is written loads to the image again: a law about the object lines of an image and what object lines load.
+/// A law: for every image of RAM, the text that `write_lines` writes of it is one that loads to it.
 pub fn written_lines_load()
     ensures { (image : ℕ → Option ℕ) → IsImage image → image_of (text.object_text image) ≡ Ok image }
 {}

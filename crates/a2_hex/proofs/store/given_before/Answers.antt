@@ -1,4 +1,4 @@
-use Rattle.std.proofs.Common.{length, sym, ◌∙◌, arith, Some, None}
+use Rattle.std.proofs.Common.{length, sym, ◌∙◌, arith, rules}
 use Rattle.std.proofs.lemmas.Bool.{eqb-true, eqb-false}
 use Rattle.a2_hex.proofs.StoreLaws.{given_before-none, given_before-some}
 use Rattle.a2_hex.proofs.store.given_before.Goals as goal
@@ -7,13 +7,7 @@ pub returns-then-is_empty : goal.returns-then-is_empty
 returns-then-is_empty c =
     given_before-none c.args.front.now c.behind_blanks-digits.result.now c.behind_blanks-digits.ensures (eqb-true (length c.behind_blanks-digits.result.now) 0 (sym c.is_empty.ensures ∙ c.if-is_empty.true))
 
-pub returns-in_err-address : goal.returns-in_err-address
-returns-in_err-address c =
-    let none = eqb-false (length c.behind_blanks-digits.result.now) 0 (sym c.is_empty.ensures ∙ c.if-is_empty.false) in
-    c.from_residual.ensures
-    ∙ given_before-some c.args.front.now c.behind_blanks-digits.result.now None c.behind_blanks-digits.ensures (omega arith) (sym c.in_err-address.was ∙ c.address_of.ensures)
-
 pub returns : goal.returns
 returns c =
     let none = eqb-false (length c.behind_blanks-digits.result.now) 0 (sym c.is_empty.ensures ∙ c.if-is_empty.false) in
-    given_before-some c.args.front.now c.behind_blanks-digits.result.now (Some c.in_ok-address.address) c.behind_blanks-digits.ensures (omega arith) (sym c.in_ok-address.was ∙ c.address_of.ensures)
+    search rules ∙ given_before-some c.args.front.now c.behind_blanks-digits.result.now c.address_of.result c.behind_blanks-digits.ensures (omega arith) c.address_of.ensures
