@@ -1,11 +1,20 @@
 //! The cells of the text pages and their addresses.
 
-ghost use Rattle.std.specs.Prelude.{◌≡◌, ◌+◌, ◌<◌, option_map};
+ghost use Rattle.std.specs.Prelude.{◌≡◌, ◌+◌, ◌*◌, ◌/◌, ◌%◌, ◌<◌, option_map};
 ghost use Rattle.a2_page.specs.Cells.{address_of, base_of, cell_at, FindsEachCell, FindsOnlyCells};
 
 use crate::Page;
 
-/// The address of a cell: of row 0 to 23 and column 0 to 39 of a page. Apple II Reference Manual (1979), page 16.
+// How far behind its page's start a row begins.
+pub(crate) fn row_offset(row: u8) -> u16
+    requires { row < 24 }
+    ensures { result ≡ 128 * (row % 8) + 40 * (row / 8) }
+{
+    128 * u16::from(row % 8) + 40 * u16::from(row / 8)
+}
+
+/// The address, from $0400 to $0BF7, of the cell of `page` in `row`, 0 to 23 from the top, and `column`, 0 to 39 from the
+/// left. Apple II Reference Manual (1979), page 16.
 pub fn address(page: Page, row: u8, column: u8) -> u16
     requires row { row < 24 }
     requires column { column < 40 }
@@ -15,11 +24,11 @@ pub fn address(page: Page, row: u8, column: u8) -> u16
         Page::One => 0x400,
         Page::Two => 0x800,
     };
-    base + 128 * u16::from(row % 8) + 40 * u16::from(row / 8) + u16::from(column)
+    base + row_offset(row) + u16::from(column)
 }
 
-/// The page, the row and the column of the cell at an address, or `None` where no cell is: outside both pages, and at
-/// the last eight bytes of each 128 in them.
+/// The page, the row from 0 to 23 and the column from 0 to 39 of the cell at `address`, or `None` where no cell is:
+/// outside both pages, and at the last eight bytes of each 128 in them. Apple II Reference Manual (1979), page 16.
 #[tactic(auto, using(crate::proofs::CellAt::nothing_before, crate::proofs::CellAt::nothing_after))]
 pub fn cell(address: u16) -> Option<(Page, u8, u8)>
     ensures { result ≡ option_map (λ cell. (cell.page, cell.row, cell.column)) (cell_at address) }
@@ -46,7 +55,7 @@ fn cell_behind(page: Page, offset: u16) -> Option<(Page, u8, u8)>
     Some((page, row as u8, (place % 40) as u8))
 }
 
-/// Each cell is found at its own address, and whatever is found is a cell that has this address.
+/// A law: `cell` finds each cell at its own address, and whatever it finds is a cell that has this address.
 pub fn cell_and_address_are_inverse()
     ensures each { FindsEachCell }
     ensures only { FindsOnlyCells }

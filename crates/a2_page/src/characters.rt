@@ -5,7 +5,7 @@ ghost use Rattle.a2_page.specs.Text as text;
 
 use crate::{Attribute, Half};
 
-/// The ASCII code of the character that a byte shows, from $20 to $5F. Apple II Reference Manual (1979), page 15.
+/// The ASCII code, from $20 to $5F, of the character that `byte` shows. Apple II Reference Manual (1979), page 15.
 pub fn glyph(byte: u8) -> u8
     ensures { result ≡ text.glyph byte }
 {
@@ -13,7 +13,7 @@ pub fn glyph(byte: u8) -> u8
     if low < 32 { low + 64 } else { low }
 }
 
-/// How a byte shows its character. Apple II Reference Manual (1979), page 15.
+/// How `byte` shows its character. Apple II Reference Manual (1979), page 15.
 pub fn attribute_of(byte: u8) -> Attribute
     ensures { result ≡ text.attribute byte }
 {
@@ -24,7 +24,7 @@ pub fn attribute_of(byte: u8) -> Attribute
     }
 }
 
-/// The colour, from 0 to 15, of one of the two lo-res blocks of a byte. Apple II Reference Manual (1979), page 17.
+/// The colour, from 0 to 15, of the lo-res block that `half` of `byte` is. Apple II Reference Manual (1979), page 17.
 pub fn block(byte: u8, half: Half) -> u8
     ensures { result ≡ text.block byte half }
 {

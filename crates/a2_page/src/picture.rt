@@ -7,15 +7,17 @@ ghost use Rattle.a2_page.specs.Picture as screen;
 ghost use Rattle.a2_page.specs.Picture.{page_grid, graphics_lines, picture, attribute_rows};
 ghost use Rattle.a2_page.specs.Marks as marks;
 
+use crate::cells::row_offset;
 use crate::{Attribute, Half, Switches, View, attribute_of, glyph};
 use a2_stream::{Output, WriteFault, put};
 use a2_text::hex_pair;
 use arrayvec::ArrayVec;
 
-/// Writes what the screen shows, each line ended by LF: in text mode 24 lines of 40 characters, in lo-res 48 lines of
-/// 40 hexadecimal digits, in hi-res the one line `HI-RES NOT SHOWN`. In the mixed modes the last four rows of cells
-/// are lines of characters, after 40 lines of digits or the one line. Where a write fails, what went out is a front of
-/// these lines. Apple II Reference Manual (1979), pages 12 to 20, and this project's profile.
+/// Writes to `writer` what the screen of `view` shows, each line ended by LF: in text mode 24 lines of 40 characters, in
+/// lo-res 48 lines of 40 hexadecimal digits, in hi-res the one line `HI-RES NOT SHOWN`. In the mixed modes the last four
+/// rows of cells are lines of characters, after 40 lines of digits or the one line. Refused where a write fails, and
+/// what went out then is a front of these lines. Apple II Reference Manual (1979), pages 12 to 20, and this project's
+/// profile.
 #[tactic(auto, using(a2_stream::proofs::Joined::broke_off, a2_stream::proofs::Joined::went_on))]
 pub fn print<W: Output>(view: &View, writer: &mut W) -> Result<(), WriteFault>
     ensures { SendsOrBreaks (W.taker writer.old) (W.taker writer.new) result
@@ -28,8 +30,9 @@ pub fn print<W: Output>(view: &View, writer: &mut W) -> Result<(), WriteFault>
     put_text_rows(page, view.switches, Mark::Glyph, writer)
 }
 
-/// Writes how each cell shows its character, for the rows that `print` writes as characters and in lines as there: `.`
-/// for normal, `I` for inverse, `F` for flashing. Where a write fails, what went out is a front of these lines.
+/// Writes to `writer` how each cell of `view` shows its character, for the rows that `print` writes as characters and in
+/// lines as there: `.` for normal, `I` for inverse, `F` for flashing. Refused where a write fails, and what went out then
+/// is a front of these lines. This project's profile.
 pub fn print_attributes<W: Output>(view: &View, writer: &mut W) -> Result<(), WriteFault>
     ensures { SendsOrBreaks (W.taker writer.old) (W.taker writer.new) result
         (attribute_rows view.now.switches (page_grid view.now.page1.now) (page_grid view.now.page2.now)) }
@@ -119,7 +122,7 @@ fn cells_in_row(page: &[u8; 1024], row: u8) -> &[u8]
     ensures cells { result.now ≡ slice_index_or (page_grid page.now) row [] }
     ensures width { length result.now ≡ 40 }
 {
-    let start = 128 * usize::from(row % 8) + 40 * usize::from(row / 8);
+    let start = usize::from(row_offset(row));
     &page[start..start + 40]
 }
 
