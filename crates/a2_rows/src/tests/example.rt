@@ -1,0 +1,244 @@
+//! How an example is run, and compared whole.
+
+use a2_bus::Keys;
+use a2_machine::Cause;
+use a2_run::{Options, RunFault, asm_text, run_text, status};
+use a2_stream::{FromRead, Input, Output, ToWrite};
+use std::alloc::{AllocError, Global};
+use std::process::Abort;
+use std::test::Fail;
+
+/// Prints an A.
+pub const FIVE_LINES: &str = "COUT EQU $FDED
+ ORG $300
+ LDA #$C1
+ JSR COUT
+ RTS
+";
+
+/// What the five lines leave in the registers.
+pub const FIVE_LINES_LEAVE: &str = "A=C1 X=00 Y=00 P=B0 S=FF PC=FF69 STEPS=4 CYCLES=20";
+
+pub const GUARDED: Options = Options {
+    free: false,
+    attr: false,
+};
+
+pub const FREE: Options = Options {
+    free: true,
+    attr: false,
+};
+
+/// How many characters a row has.
+const WIDTH: usize = 40;
+
+/// Rows that have a name: their number, from 0 on, and what they begin with.
+pub type Rows = &'static [(usize, &'static str)];
+
+/// Rows filled with one character behind what they begin with; a row without a name is nothing else.
+#[derive(Clone, Copy)]
+pub struct Grid {
+    pub count: usize,
+    pub fill: u8,
+    pub rows: Rows,
+}
+
+/// What a run shows above its last two lines.
+#[derive(Clone, Copy)]
+pub enum Screen {
+    /// The text page.
+    Text(Rows),
+    /// The text page, and its attribute rows, which are filled with dots.
+    Attributes(Rows, Rows),
+    /// A heading, and grids.
+    Grids(&'static str, &'static [Grid]),
+}
+
+/// A run, and what it gives.
+#[derive(Clone, Copy)]
+pub struct Run {
+    pub source: &'static str,
+    /// The keys that wait at the start, as they are spelt on the command line.
+    pub keys: &'static str,
+    pub limit: u32,
+    pub options: Options,
+    pub screen: Screen,
+    /// The register line.
+    pub registers: &'static str,
+    pub cause: Cause,
+}
+
+/// A guarded run without keys, which returns and leaves the screen blank.
+pub const RETURNS: Run = Run {
+    source: "",
+    keys: "",
+    limit: 1_000_000,
+    options: GUARDED,
+    screen: Screen::Text(&[]),
+    registers: "",
+    cause: Cause::Returned,
+};
+
+/// Runs what the reader gives, with the keys, limit and options of an example.
+pub fn answer_of<R: Input, W: Output>(
+    alloc: Global,
+    run: Run,
+    reader: &mut R,
+    writer: &mut W,
+) -> Result<Cause, RunFault> {
+    let keys = Keys::parse(run.keys).unwrap_or(Keys::new());
+    run_text(alloc, reader, &keys, run.limit, run.options, writer)
+}
+
+/// What `asm` tells of a text: its object lines; or its refusal, and then nothing was written.
+pub fn told(rt: &(impl Abort + AllocGlobal), text: &[u8]) -> Result<String, Fail> {
+    let mut output = Vec::new(rt.alloc());
+    let mut reader = FromRead::new(text);
+    match asm_text(rt.alloc(), &mut reader, &mut ToWrite::new(&mut output)) {
+        Ok(()) => Ok(String::from_utf8(output)?),
+        Err(fault) => {
+            assert!(rt; output.is_empty());
+            Ok(format!(in rt.alloc(); "{fault}\n")?)
+        }
+    }
+}
+
+/// A run's cause in words, and its status.
+fn words_of(cause: Cause) -> (&'static str, u8) {
+    match cause {
+        Cause::Returned => ("RETURNED", 0),
+        Cause::CodeWrite => ("CODE WRITE", 3),
+        Cause::Window => ("WINDOW", 3),
+        Cause::Keys => ("KEYS", 3),
+        Cause::OffStatement => ("OFF STATEMENT", 3),
+        Cause::Rom => ("ROM", 3),
+        Cause::Opcode => ("OPCODE", 3),
+        Cause::Brk => ("BRK", 0),
+        Cause::Decimal => ("DECIMAL", 3),
+        Cause::Limit => ("LIMIT", 3),
+    }
+}
+
+/// What a row begins with.
+fn named(rows: Rows, number: usize) -> &'static str {
+    for (row, text) in rows {
+        if *row == number {
+            return *text;
+        }
+    }
+    ""
+}
+
+/// Adds the rows of a grid.
+fn put_grid(text: &mut Vec<u8>, grid: Grid) -> Result<(), AllocError> {
+    for number in 0..grid.count {
+        let begins = named(grid.rows, number);
+        text.extend_from_slice(begins.as_bytes())?;
+        for _ in begins.len()..WIDTH {
+            text.push(grid.fill)?;
+        }
+        text.push(b'\n')?;
+    }
+    Ok(())
+}
+
+/// Adds the 24 rows of a text page.
+fn put_page(text: &mut Vec<u8>, rows: Rows, fill: u8) -> Result<(), AllocError> {
+    let count = 24;
+    put_grid(text, Grid { count, fill, rows })
+}
+
+fn put_screen(text: &mut Vec<u8>, screen: Screen) -> Result<(), AllocError> {
+    match screen {
+        Screen::Text(rows) => put_page(text, rows, b' '),
+        Screen::Attributes(rows, attributes) => {
+            put_page(text, rows, b' ')?;
+            put_page(text, attributes, b'.')
+        }
+        Screen::Grids(heading, grids) => {
+            text.extend_from_slice(heading.as_bytes())?;
+            for grid in grids {
+                put_grid(text, *grid)?;
+            }
+            Ok(())
+        }
+    }
+}
+
+/// The whole output that an example gives.
+pub fn output_of(alloc: Global, run: Run) -> Result<String, Fail> {
+    let mut text = Vec::new(alloc);
+    put_screen(&mut text, run.screen)?;
+    let (cause, _) = words_of(run.cause);
+    let lines = format!(in alloc; "{}\nSTOP {cause}\n", run.registers)?;
+    text.extend_from_slice(lines.as_bytes())?;
+    Ok(String::from_utf8(text)?)
+}
+
+// The run under these options writes this text and nothing else, and answers the cause with its status.
+fn shows_under(
+    rt: &(impl Abort + AllocGlobal),
+    run: Run,
+    options: Options,
+    text: &str,
+) -> Result<(), Fail> {
+    let mut output = Vec::new(rt.alloc());
+    let answer = answer_of(
+        rt.alloc(),
+        Run { options, ..run },
+        &mut FromRead::new(run.source.as_bytes()),
+        &mut ToWrite::new(&mut output),
+    );
+    assert_eq!(rt; answer, Ok(run.cause), "{}", run.source);
+    let (_, code) = words_of(run.cause);
+    assert_eq!(rt; status(&answer), code, "{}", run.source);
+    let output = String::from_utf8(output)?;
+    assert_eq!(rt; output.as_str(), text, "{}", run.source);
+    Ok(())
+}
+
+/// The run gives what the example says; and where its guard stopped nothing, the free run gives the same.
+pub fn shows(rt: &(impl Abort + AllocGlobal), run: Run) -> Result<(), Fail> {
+    let text = output_of(rt.alloc(), run)?;
+    shows_under(rt, run, run.options, text.as_str())?;
+    if run.options.free || matches!(run.cause, Cause::CodeWrite | Cause::OffStatement) {
+        return Ok(());
+    }
+    let free = Options {
+        free: true,
+        ..run.options
+    };
+    shows_under(rt, run, free, text.as_str())
+}
+
+/// `asm` tells this of the text.
+pub fn tells(rt: &(impl Abort + AllocGlobal), text: &[u8], wanted: &str) -> Result<(), Fail> {
+    let found = told(rt, text)?;
+    let shown = String::from_utf8_lossy(rt.alloc(), text)?;
+    assert_eq!(rt; found.as_str(), wanted, "{shown}");
+    Ok(())
+}
+
+/// The text is refused alike by `asm`, by the guarded and by the free run, and nothing is written.
+pub fn is_refused(rt: &(impl Abort + AllocGlobal), text: &[u8], wanted: &str) -> Result<(), Fail> {
+    tells(rt, text, wanted)?;
+    for options in [GUARDED, FREE] {
+        let mut output = Vec::new(rt.alloc());
+        let answer = answer_of(
+            rt.alloc(),
+            Run { options, ..RETURNS },
+            &mut FromRead::new(text),
+            &mut ToWrite::new(&mut output),
+        );
+        assert!(rt; output.is_empty(), "{wanted}");
+        assert_eq!(rt; status(&answer), 1, "{wanted}");
+        match answer {
+            Ok(cause) => return Err(Fail::from(words_of(cause).0)),
+            Err(fault) => {
+                let found = format!(in rt.alloc(); "{fault}\n")?;
+                assert_eq!(rt; found.as_str(), wanted);
+            }
+        }
+    }
+    Ok(())
+}
