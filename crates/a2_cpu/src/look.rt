@@ -1,13 +1,13 @@
-// Why a guarded step would not be made.
+//! Why a guarded step would not be made.
 
 ghost use Rattle.std.specs.Prelude.{◌≡◌, ℕ, Some, None, slice_get};
 ghost use Rattle.std.specs.List.{list_any};
 ghost use Rattle.a2_cpu.specs.GuardedBusStep.{guarded_bus_step};
-ghost use Rattle.a2_cpu.specs.View.{registers_of, state_of, guarded_answer_of, why_not};
-ghost use Rattle.a2_cpu.specs.Code.{place_for, refused_at};
+ghost use Rattle.a2_cpu.specs.View.{registers_of, before_step, guarded_answer_of, why_not};
+ghost use Rattle.a2_cpu.specs.Code.{place_for, acting_stores, refused_at};
 
-use crate::run::{mnemonic_at, way_at};
 use crate::site::{Kind, fault, locate, no_site};
+use crate::table::{mnemonic_at, way_at};
 use crate::writes::addresses;
 use crate::{GuardedStep, Protection, Regs};
 use a2_bus::Bus;
@@ -21,7 +21,9 @@ fn stores_at_protected<G: Protection>(
     regs: &Regs,
     guard: &G,
 ) -> bool
-    ensures { result ≡ list_any (G.is_protected guard.now) (Rattle.a2_cpu.specs.Code.acting_stores mnemonic (place_for kind number) (registers_of regs.now)) }
+    ensures { result
+        ≡ list_any (G.is_protected guard.now)
+        (acting_stores mnemonic (place_for kind number) (registers_of regs.now)) }
 {
     addresses(mnemonic, kind, number, regs)
         .iter()
@@ -37,7 +39,9 @@ fn refusal<G: Protection>(
     regs: &Regs,
     guard: &G,
 ) -> Option<GuardedStep>
-    ensures { result ≡ refused_at (G.is_protected guard.now) mnemonic (place_for kind number) (registers_of regs.now) }
+    ensures { result
+        ≡ refused_at (G.is_protected guard.now) mnemonic (place_for kind number)
+        (registers_of regs.now) }
 {
     match mnemonic {
         Mnemonic::Brk => Some(GuardedStep::Brk),
@@ -52,13 +56,18 @@ fn refusal<G: Protection>(
     }
 }
 
-/// What a guarded step here would answer in place of its cycles; none where it would be made. Nothing changes.
+/// Why [`guarded_step`](crate::run::guarded_step) would refuse the instruction at `regs.pc`, with
+/// these registers, this bus and this guard: what it would answer in place of the cycles. `None`
+/// where it would be done. Nothing changes, and no device sees an access.
 pub fn guarded_refusal<B: Bus, G: Protection>(
     regs: &Regs,
     bus: &B,
     guard: &G,
 ) -> Option<GuardedStep>
-    ensures { result ≡ why_not (guarded_answer_of (guarded_bus_step (G.is_protected guard.now) B.access (state_of (registers_of regs.now) (B.state bus.now)))) }
+    ensures { result
+        ≡ why_not (guarded_answer_of
+        (guarded_bus_step (G.is_protected guard.now) B.access
+        (before_step regs.now (B.state bus.now)))) }
 {
     match bus.peek(regs.pc) {
         Some(opcode) => {

@@ -1,10 +1,10 @@
-// Worked runs, with values from the manual and from other machines.
+//! Worked runs, with values from the manual and from other machines.
 
 ghost use Rattle.std.specs.Prelude.{◌≡◌, ◌==◌};
 
 use crate::run::{guarded_step, step};
 use crate::writes::writes;
-use crate::{GuardedStep, NoProtection, Protection, Regs, Status, Step};
+use crate::{GuardedStep, NoProtection, Protection, Regs, Status, Step, guarded_refusal};
 use a2_bus::{Bus, Flat};
 use std::test::Fail;
 
@@ -98,6 +98,9 @@ fn a_guarded_step(rt: HostRuntime) -> Result<(), Fail> {
         ([0x20, 0, 4], 0x1FC, GuardedStep::Protected),
     ] {
         put(&mut bus, 0x300, &code);
+        let refusal = guarded_refusal(&start, &bus, &Only(guard));
+        assert_eq!(rt; refusal.is_some(), answer == GuardedStep::Protected);
+        assert_eq!(rt; refusal.unwrap_or(answer), answer);
         let mut regs = start;
         assert_eq!(rt; guarded_step(&mut regs, &mut bus, &Only(guard)), answer);
         assert_eq!(rt; regs == start, answer == GuardedStep::Protected);
@@ -117,4 +120,18 @@ fn a_guarded_step(rt: HostRuntime) -> Result<(), Fail> {
     );
     assert_eq!(rt; (bus.peek(0x1FD), bus.peek(0x1FC)), (Some(3), Some(2)));
     Ok(())
+}
+
+// PHP's byte has N V 1 B D I Z C from the left, and PLP leaves 1 and B out.
+#[test]
+fn flags_pushed_and_pulled(rt: HostRuntime) {
+    let p = Status::pack(true, false, true, false, false, true);
+    assert_eq!(rt; p.pushed(), 0xB9);
+    let p = Status::pulled(0x56);
+    assert_eq!(rt;
+        (p.negative(), p.overflow(), p.decimal()),
+        (false, true, false)
+    );
+    assert_eq!(rt; (p.interrupt(), p.zero(), p.carry()), (true, true, false));
+    assert_eq!(rt; p.pushed(), 0x76);
 }

@@ -1,9 +1,9 @@
-use Rattle.std.proofs.Common.{sym, ap, ap₂, ◌∙◌, refl, arith, ◌+◌, ◌<◌, ◌≡◌}
-use Rattle.std.specs.Prelude.{slice_get, Some, None, Option}
+use Rattle.std.proofs.Common.{sym, ap, ◌∙◌, refl, arith, ◌<◌}
+use Rattle.std.specs.Prelude.{slice_get, Some, None}
 use Rattle.a2_bus.specs.BusState.{BusState}
 use Rattle.a2_cpu.specs.Instruction.{State}
 use Rattle.a2_cpu.specs.View.{registers_of, state_of, why_not}
-use Rattle.a2_cpu.specs.Code.{place_for, site_for, refused_at, acting_answer}
+use Rattle.a2_cpu.specs.Code.{place_for, site_for, refused_at}
 use Rattle.a2_cpu.proofs.Finding.{told-none, told-site}
 use Rattle.a2_cpu.proofs.Looking.{why_not-acting, why_not-fault}
 use Rattle.a2_cpu.proofs.look.guarded_refusal.Goals as goal
