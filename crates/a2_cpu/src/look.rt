@@ -7,7 +7,7 @@ ghost use Rattle.a2_cpu.specs.View.{registers_of, before_step, guarded_answer_of
 ghost use Rattle.a2_cpu.specs.Code.{place_for, acting_stores, refused_at};
 
 use crate::site::{Kind, fault, locate, no_site};
-use crate::table::{mnemonic_at, way_at};
+use crate::table::{cycles_at, mnemonic_at, way_at};
 use crate::writes::addresses;
 use crate::{GuardedStep, Protection, Regs};
 use a2_bus::Bus;
@@ -72,7 +72,7 @@ pub fn guarded_refusal<B: Bus, G: Protection>(
     match bus.peek(regs.pc) {
         Some(opcode) => {
             let mut site = no_site();
-            locate(way_at(opcode), regs, bus, &mut site);
+            locate(way_at(opcode), cycles_at(opcode), regs, bus, &mut site);
             match fault(site.kind) {
                 Some(why) => Some(why),
                 None => refusal(mnemonic_at(opcode), site.kind, site.number, regs, guard),

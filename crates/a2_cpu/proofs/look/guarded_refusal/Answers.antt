@@ -16,11 +16,11 @@ returns-in-None-fault g c =
     let registers = registers_of c.args.regs.now in
     let state : State BusState = state_of registers memory in
     let byte : c.in-Some.opcode < 256 = omega arith in
-    let all = told-site is_protected access state refl (slice_get memory.bytes) c.in-Some.opcode c.way_at.result c.locate.new.site None
-    (sym c.in-Some.ensures.value) byte c.way_at.ensures c.locate.ensures.found (sym c.in-None-fault.ensures) in
+    let all = told-site is_protected access state refl (slice_get memory.bytes) c.in-Some.opcode c.way_at.result c.cycles_at.result c.locate.new.site None
+    (sym c.in-Some.ensures.value) byte c.way_at.ensures c.cycles_at.ensures c.locate.ensures.found (sym c.in-None-fault.ensures) in
     c.refusal.ensures
     ∙ ap (λ mnemonic. refused_at is_protected mnemonic (place_for c.locate.new.site.kind c.locate.new.site.number) registers) c.mnemonic_at.ensures
-    ∙ sym (ap why_not all.answer ∙ why_not-acting is_protected _ _ (site_for c.locate.new.site) registers)
+    ∙ sym (ap why_not all.answer ∙ why_not-acting is_protected _ (site_for c.locate.new.site) registers)
 
 pub returns-in-Some-fault : goal.returns-in-Some-fault
 returns-in-Some-fault g c =
@@ -30,8 +30,8 @@ returns-in-Some-fault g c =
     let registers = registers_of c.args.regs.now in
     let state : State BusState = state_of registers memory in
     let byte : c.in-Some.opcode < 256 = omega arith in
-    let all = told-site is_protected access state refl (slice_get memory.bytes) c.in-Some.opcode c.way_at.result c.locate.new.site (Some c.in-Some-fault.why)
-    (sym c.in-Some.ensures.value) byte c.way_at.ensures c.locate.ensures.found (sym c.in-Some-fault.ensures) in
+    let all = told-site is_protected access state refl (slice_get memory.bytes) c.in-Some.opcode c.way_at.result c.cycles_at.result c.locate.new.site (Some c.in-Some-fault.why)
+    (sym c.in-Some.ensures.value) byte c.way_at.ensures c.cycles_at.ensures c.locate.ensures.found (sym c.in-Some-fault.ensures) in
     sym (ap why_not all.answer ∙ why_not-fault c.locate.new.site.kind c.in-Some-fault.why (sym c.in-Some-fault.ensures))
 
 pub returns-in-None : goal.returns-in-None
