@@ -1,0 +1,27 @@
+; Shows its own bytes in the form in which ./a2 asm examples/dump.s writes them.
+COUT EQU $FDED
+CROUT EQU $FD8E
+PRBYTE EQU $FDDA
+ ORG $300
+START LDX #0      ; how many bytes were shown
+LINE LDA #>START
+ JSR PRBYTE
+ TXA              ; the address's low byte too, for START's is 0
+ JSR PRBYTE
+ LDA #":"
+ JSR COUT
+BYTE LDA START,X
+ JSR PRBYTE
+ INX
+ CPX #END-START
+ BEQ DONE
+ TXA
+ AND #7           ; 0 behind each eight bytes
+ BEQ RETURN
+ LDA #" "
+ JSR COUT
+ BNE BYTE         ; always: COUT keeps the flags, and a blank is not 0
+RETURN JSR CROUT
+ JMP LINE
+DONE RTS
+END               ; the address behind the last byte

@@ -1,0 +1,78 @@
+//! Runs the examples of the folder that it is started in, and writes each one's name and what it shows.
+#![tactic(auto)]
+
+mod list;
+mod show;
+
+use a2_bus::Keys;
+use a2_machine::Cause;
+use a2_run::{Options, RunFault};
+use a2_stream::{FromRead, Output, ToWrite};
+use list::{Example, examples};
+use show::show;
+use std::fs;
+use std::process::ExitCode;
+use thiserror::Error;
+
+/// Why an example shows nothing, or not all.
+#[derive(Clone, Copy, Debug, PartialEq, Eq, Error)]
+enum ExampleFault {
+    /// The list spells its keys badly.
+    #[error("BAD KEYS")]
+    Keys,
+    /// Its file has no answer.
+    #[error("{0}")]
+    Run(RunFault),
+}
+
+// A guarded run, with the attribute rows where the example wants them.
+fn options_of(example: &Example) -> Options {
+    Options {
+        free: false,
+        attr: example.attr,
+    }
+}
+
+// Shows the example whose file lies in the folder.
+fn show_file<W: Output>(
+    rt: &HostRuntime,
+    example: &Example,
+    output: &mut W,
+) -> Result<Cause, ExampleFault> {
+    let keys = Keys::parse(example.keys).ok_or(ExampleFault::Keys)?;
+    let Ok(file) = fs::open(rt, example.name) else {
+        return Err(ExampleFault::Run(RunFault::Read));
+    };
+    let source = &mut FromRead::new(file);
+    let answer = show(
+        rt.alloc(),
+        example.name,
+        source,
+        &keys,
+        options_of(example),
+        output,
+    );
+    answer.map_err(|fault| ExampleFault::Run(fault))
+}
+
+// Whether the example was shown and came to its good end; a fault is told on standard error.
+fn is_well<W: Output>(rt: &HostRuntime, example: &Example, output: &mut W) -> bool {
+    match show_file(rt, example, output) {
+        Ok(cause) => matches!(cause, Cause::Returned),
+        Err(fault) => {
+            let _ = eprintln!(rt; "{}: {fault}", example.name);
+            false
+        }
+    }
+}
+
+fn main(rt: HostRuntime) -> ExitCode {
+    let mut output = ToWrite::new(rt.stdout());
+    let mut status = 0;
+    for example in &examples() {
+        if !is_well(&rt, example, &mut output) {
+            status = 1;
+        }
+    }
+    ExitCode::from(status)
+}

@@ -1,0 +1,38 @@
+//! One example's name, and what its run shows.
+
+ghost use Rattle.std.specs.Prelude.{IfOk, IfErr, IfSome};
+ghost use Rattle.a2_stream.specs.Stream.{SendsOrBreaks};
+ghost use Rattle.a2_examples.specs.Shown.{title, Shows};
+
+use a2_bus::Keys;
+use a2_machine::Cause;
+use a2_run::{Options, RunFault, run_text};
+use a2_stream::{Input, Output, WriteFault, put_all};
+use std::alloc::Global;
+
+/// The most steps of a run: what the program `a2` takes without `--limit`.
+const MOST_STEPS: u32 = 1_000_000;
+
+// Writes a line with the name.
+fn put_title<W: Output>(name: &str, output: &mut W) -> Result<(), WriteFault>
+    ensures { SendsOrBreaks (W.taker output.old) (W.taker output.new) result (title name.now) }
+{
+    put_all(&[name.as_bytes(), b"\n"], output)
+}
+
+/// Writes a line with the name, and behind it what a run of the source shows with these keys waiting; the cause of the
+/// run's end. Where there is a fault, a front of this may have gone out.
+pub fn show<R: Input, W: Output>(
+    alloc: Global,
+    name: &str,
+    source: &mut R,
+    keys: &Keys,
+    options: Options,
+    output: &mut W,
+) -> Result<Cause, RunFault>
+    ensures { IfOk result (λ cause. IfSome (R.giver source.old).bytes (λ text.
+        Shows name.now text keys.now options cause (W.taker output.old) (W.taker output.new))) }
+{
+    put_title(name, output)?;
+    run_text(alloc, source, keys, MOST_STEPS, options, output)
+}
