@@ -1,5 +1,7 @@
 //! The examples, in the order of the manual.
 
+ghost use Rattle.std.specs.Prelude.{◌≡◌, [], false};
+
 /// An example.
 #[derive(Clone, Copy, Debug, PartialEq, Eq)]
 pub struct Example {
@@ -12,7 +14,11 @@ pub struct Example {
 }
 
 // An example without keys, as the program runs it without options.
-fn plain(name: &'static str) -> Example {
+fn plain(name: &'static str) -> Example
+    ensures name { result.name.now ≡ name.now }
+    ensures keys { result.keys.now ≡ [] }
+    ensures attributes { result.attr ≡ false }
+{
     Example {
         name,
         keys: "",
@@ -21,7 +27,11 @@ fn plain(name: &'static str) -> Example {
 }
 
 // An example with keys.
-fn typed(name: &'static str, keys: &'static str) -> Example {
+fn typed(name: &'static str, keys: &'static str) -> Example
+    ensures name { result.name.now ≡ name.now }
+    ensures keys { result.keys.now ≡ keys.now }
+    ensures attributes { result.attr ≡ false }
+{
     Example {
         name,
         keys,

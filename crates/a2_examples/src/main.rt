@@ -4,6 +4,8 @@
 mod list;
 mod show;
 
+ghost use Rattle.std.specs.Prelude.{◌≡◌, false};
+
 use a2_bus::Keys;
 use a2_machine::Cause;
 use a2_run::{Options, RunFault};
@@ -26,7 +28,10 @@ enum ExampleFault {
 }
 
 // A guarded run, with the attribute rows where the example wants them.
-fn options_of(example: &Example) -> Options {
+fn options_of(example: &Example) -> Options
+    ensures guarded { result.free ≡ false }
+    ensures attributes { result.attr ≡ example.now.attr }
+{
     Options {
         free: false,
         attr: example.attr,
