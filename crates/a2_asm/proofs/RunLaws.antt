@@ -12,15 +12,12 @@ use Rattle.a2_opcode.specs.Table.{length_of}
 use Rattle.a2_opcode.specs.Encoding.{encoded}
 use Rattle.a2_opcode.proofs.Fetching.{fetched-back, shows-below}
 use Rattle.a2_syntax.specs.declared.source.Line.{Line}
-use Rattle.a2_syntax.specs.declared.source.Operand.{Operand}
 use Rattle.a2_syntax.specs.declared.source.Body.{Body}
 use Rattle.a2_syntax.specs.declared.source.Body.TheVariants as bodies
-use Rattle.a2_hex.specs.Images.{held}
 use Rattle.a2_asm.specs.declared.program.Statement.{Statement}
 use Rattle.a2_asm.specs.Values.{Names}
 use Rattle.a2_asm.specs.Laying.{meets}
 use Rattle.a2_asm.specs.Assembled.{Assembled}
-use Rattle.a2_asm.specs.Modes.{greatest}
 use Rattle.a2_asm.specs.Layout.{Row, rows, names}
 use Rattle.a2_asm.specs.Bytes.{image, bytes_of, stated, is_instruction, instr_in, instr_of, statement_of, statements, entry}
 use Rattle.a2_asm.specs.Refusals.{refuse_operand}
@@ -28,7 +25,7 @@ use Rattle.a2_asm.specs.Programs.{IsProgram, begins_at, covers, is_code, Stateme
 use Rattle.a2_asm.proofs.LayingLaws.{meets-free}
 use Rattle.a2_asm.proofs.BytesLaws.{operand-most, greatest-word}
 use Rattle.a2_asm.proofs.SeatLaws.{Keeps, get_or-same, encoded-length, place-room, length-some}
-use Rattle.a2_asm.proofs.StateLaws.{Fits, Comes, Says, says, fits-is, accepted-is, row-held, row-split, instr-encoded}
+use Rattle.a2_asm.proofs.StateLaws.{Fits, Comes, says, fits-is, accepted-is, row-held, row-split, instr-encoded}
 
 fits-of : {A : Type 0} (source : List (Line A)) (p : Assembled) (s : Statement) → IsProgram source p → Contains p.statements s → Fits source s
 fits-of source p s is among =

@@ -26,6 +26,32 @@ fn assembler_values(rt: HostRuntime) -> Result<(), Fail> {
     Ok(())
 }
 
+// Each operand form and directive.
+#[test]
+fn forms_and_data(rt: HostRuntime) -> Result<(), Fail> {
+    for (source, wanted) in [
+        (" LDA #<$1234\n LDX #>$1234-$1235", "0300:A9 34 A2 FF\n"),
+        (
+            "L JMP L+3\n DW L,*\n DFB 1,2\n DS 2\n ASC 'A'",
+            "0300:4C 03 03 00 03 03 03 01\n0308:02 00 00 41\n",
+        ),
+        (
+            " STX $10,Y\n LDA $10,Y\n LDA ($10,X)\n LDA ($10),Y\n JMP ($10)",
+            "0300:96 10 B9 10 00 A1 10 B1\n0308:10 6C 10 00\n",
+        ),
+        (
+            " ASL\n ASL A\n ASL $10\n ASL $100,X",
+            "0300:0A 0A 06 10 1E 00 01\n",
+        ),
+        ("X1 ORG *+16\n JMP X1", "0310:4C 10 03\n"),
+        (" ORG 0\n BEQ $FFF0", "0000:F0 EE\n"),
+        (" ORG $FFFF\nL EQU 5\n ORG $300\n LDA #L", "0300:A9 05\n"),
+    ] {
+        tells(&rt, source.as_bytes(), wanted)?;
+    }
+    Ok(())
+}
+
 // How a text is cut: at LF, with one CR dropped before it or the end; and which bytes a line may hold.
 #[test]
 fn text_and_lines(rt: HostRuntime) -> Result<(), Fail> {

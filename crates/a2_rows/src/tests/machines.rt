@@ -1,12 +1,13 @@
 //! Each call that allocates answers where there is memory; a machine step by step.
 
 use super::example::FIVE_LINES;
-use a2_asm::assemble;
+use a2_asm::{a_source_has_one_layout, assemble};
 use a2_bus::{Board, Bus, Flat, Keys};
 use a2_cpu::Regs;
 use a2_hex::{Image, load_lines};
 use a2_machine::{Cause, Machine};
 use a2_syntax::{lines, parse};
+use std::alloc::Global;
 use std::test::Fail;
 
 // `run_text` and `asm_text` are called by every other example.
@@ -29,6 +30,23 @@ fn always_no_memory(rt: HostRuntime) -> Result<(), Fail> {
     let mut machine = Machine::new(alloc)?;
     assert_eq!(rt; machine.regs(), Regs::start(0x300));
     assert_eq!(rt; machine.run(1), Cause::Brk);
+    Ok(())
+}
+
+#[test]
+fn parts_of_a_program(rt: HostRuntime) -> Result<(), Fail> {
+    let source = parse(rt.alloc(), FIVE_LINES.as_bytes())?;
+    let program = assemble(rt.alloc(), &source)?;
+    assert_eq!(rt; program.entry(), 0x300);
+    assert_eq!(rt; program.statements().len(), 3);
+    assert!(rt; program.is_code(0x304));
+    assert!(rt; !program.is_code(0x306));
+    assert!(rt; program.instr_at(0x302).is_some());
+    assert!(rt; program.instr_at(0x303).is_none());
+    assert_eq!(rt; program.name("COUT"), Some(0xFDED));
+    assert_eq!(rt; program.name("cout"), None);
+    assert_eq!(rt; program.names().len(), 1);
+    a_source_has_one_layout::<Global>();
     Ok(())
 }
 

@@ -96,6 +96,10 @@ fn kinds_in_one_line(rt: HostRuntime) -> Result<(), Fail> {
         (" ORG $BFFF\n LDA #256", "LINE 2 E10 OUTSIDE RAM\n"),
         (" RTS\n ORG $300\n JMP NOWHERE", "LINE 3 E5 UNKNOWN NAME\n"),
         (" BEQ 0-1", "LINE 1 E8 VALUE OUT OF RANGE\n"),
+        (" DFB 256,NOWHERE\n RTS", "LINE 1 E5 UNKNOWN NAME\n"),
+        (" DW NOWHERE,0-1\n RTS", "LINE 1 E5 UNKNOWN NAME\n"),
+        (" DW 0-1,NOWHERE\n RTS", "LINE 1 E5 UNKNOWN NAME\n"),
+        (" JSR 1\n ORG $302\n RTS", "LINE 3 E11 OVERLAP\n"),
         (
             " RTS\n ORG $300\n LDA #256",
             "LINE 3 E8 VALUE OUT OF RANGE\n",

@@ -1,7 +1,6 @@
-use Rattle.std.proofs.Common.{◌≡◌, List, Some, None, ap, sym, ◌∙◌, subst}
+use Rattle.std.proofs.Common.{List, Some, None, ap, sym, ◌∙◌, subst}
 use Rattle.std.proofs.lemmas.Result.{err_from_is_err_and}
 use Rattle.a2_syntax.specs.declared.source.Line.{Line}
-use Rattle.a2_syntax.specs.declared.fault.Fault.TheVariants.{NoCode}
 use Rattle.a2_asm.specs.Entries.{entries}
 use Rattle.a2_asm.specs.Layout.{rows}
 use Rattle.a2_asm.specs.Bytes.{image, statements}
