@@ -1,5 +1,5 @@
 -- Reading a line, key by key.
-use Rattle.std.specs.Prelude.{◌≡◌, ◌≢◌, ℕ, zero, suc, ◌+◌, ◌-◌, ◌<◌, ◌==◌, Bool, true, false, ◌&&◌, nat_lt, nat_le, if◌then◌else◌, List, [], ◌∷◌, length, Option, Some, None, unwrap_or, slice_index, refl}
+use Rattle.std.specs.Prelude.{◌≡◌, ◌≢◌, ℕ, zero, suc, ◌+◌, ◌-◌, ◌<◌, ◌==◌, Bool, true, false, not, ◌&&◌, nat_lt, nat_le, if◌then◌else◌, List, [], ◌∷◌, length, Option, Some, None, is_some, unwrap_or, slice_index, refl}
 use Rattle.std.proofs.Common.{sym, ap, ◌∙◌, arith, true≢false}
 use Rattle.std.proofs.lemmas.Bool.Decides.{nat_tests}
 use Rattle.a2_page.specs.Cells.{Cell, cell_at}
@@ -198,19 +198,16 @@ line_from_prompt m n mark is step =
     ap (λ x. rest_of x 0) whole
     ∙ ap (λ (d : Devices). line_read d.keys (reading (after_put (prompt m) m) 0)) (put_devices (prompt m) m)
 
-pub lacks_some : (m : Memory) (key : ℕ) → first_of m.devices.keys ≡ Some key → lacks_keys Rdkey m ≡ false
-lacks_some m key first = go m.devices.keys first
+-- no key is there exactly where there is no first one
+pub lacks_unless : (m : Memory) (lacking : Bool) → is_some (first_of m.devices.keys) ≡ not lacking → lacking ≡ lacks_keys Rdkey m
+lacks_unless m lacking e = go m.devices.keys lacking e
   where
-    go : (keys : List ℕ) → first_of keys ≡ Some key → elim keys [ [] ↦ true | k ∷ rest ↦ false ] ≡ false
-    go [] h = cc
-    go (k ∷ keys) h = refl
-
-pub lacks_none : (m : Memory) → first_of m.devices.keys ≡ None → lacks_keys Rdkey m ≡ true
-lacks_none m first = go m.devices.keys first
-  where
-    go : (keys : List ℕ) → first_of keys ≡ None → elim keys [ [] ↦ true | k ∷ rest ↦ false ] ≡ true
-    go [] h = refl
-    go (k ∷ keys) h = cc
+    go : (keys : List ℕ) (lacking : Bool) → is_some (first_of keys) ≡ not lacking
+        → lacking ≡ elim keys [ [] ↦ true | k ∷ rest ↦ false ]
+    go [] true e = refl
+    go [] false e = cc
+    go (k ∷ keys) true e = cc
+    go (k ∷ keys) false e = refl
 
 pub served_key : (w : World) (key : ℕ) → first_of w.memory.devices.keys ≡ Some key
     → served Rdkey w ≡ ended 6 (with_a (0x80 + key) (with_memory (with_key_taken w.memory) w))

@@ -1,4 +1,5 @@
--- Bytes and keys that the Monitor gives a meaning of their own. Apple II Reference Manual (1979), pages 30 to 35.
+-- Bytes and keys that the Monitor gives a meaning of their own. Apple II Reference Manual (1979), chapter 2, on
+-- standard output, standard input and GETLN.
 use Rattle.std.specs.Prelude.{ℕ}
 
 abbrev pub carriage_return : ℕ

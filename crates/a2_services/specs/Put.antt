@@ -1,5 +1,6 @@
 -- Putting a byte on the screen: a character, a return, a line feed or a backspace. Apple II Reference Manual (1979),
--- pages 30 to 33, says what each is for; the exact effects are this project's profile.
+-- chapter 2, on standard output and the text window, says what each is for; the exact effects are this project's
+-- profile.
 use Rattle.std.specs.Prelude.{ℕ, ◌+◌, ◌-◌, ◌/◌, ◌%◌, ◌&&◌, ◌==◌, nat_lt, nat_le, if◌then◌else◌}
 use Rattle.a2_page.specs.declared.Page.TheVariants.{One}
 use Rattle.a2_page.specs.Cells.{row_start}

@@ -1,5 +1,6 @@
--- The Monitor's services. Apple II Reference Manual (1979), pages 61 to 64, has their names, addresses and purposes; the
--- exact effects and the cycles are this project's profile.
+-- The Monitor's services. Apple II Reference Manual (1979), chapter 3, "The System Monitor", has their names, addresses
+-- and purposes, and chapter 2, on standard input and GETLN, how a line is read; the exact effects and the cycles are
+-- this project's profile.
 use Rattle.std.specs.Prelude.{ℕ, zero, suc, ◌+◌, ◌-◌, ◌*◌, ◌/◌, ◌%◌, Bool, true, false, not, ◌&&◌, ◌||◌, List, [], ◌∷◌, ◌==◌, nat_lt, nat_le, if◌then◌else◌, Option, find, replicate}
 use Rattle.std.specs.List.{list_any}
 use Rattle.a2_page.specs.Grid.{cleared, byte_in, with_row_part}
@@ -83,7 +84,7 @@ reach Crout address = output_reach address
 reach Home address = output_reach address
 reach Prbyte address = output_reach address
 
--- Reading a line
+-- Reading a line. Apple II Reference Manual (1979), chapter 2, GETLN
 
 -- a line being read: the memory, and how many bytes the line has
 pub record Reading : Type 0 where

@@ -1,4 +1,4 @@
-// The services.
+//! The services.
 
 ghost use Rattle.std.specs.Prelude.{◌≡◌, ◌<◌, ◌≤◌, ◌+◌, ℕ, true, false, length};
 ghost use Rattle.a2_page.specs.Window.{IsWindow};
@@ -23,16 +23,17 @@ use a2_bus::Board;
 use a2_cpu::Regs;
 use std::alloc::Allocator;
 
-/// One call of a service, as `Service` says: the registers and the board become what it leaves, and PC is pulled as RTS
-/// does. Apple II Reference Manual (1979), pages 61 to 64; the exact effects are this project's profile.
+/// One call of a service, as [`Service`] says of each: the registers and the board become what it leaves, and PC is
+/// pulled as RTS does. The answer is `Served::Next` with the cycles that it took. Apple II Reference Manual (1979),
+/// chapters 2 and 3; the exact effects are this project's profile.
 ///
-/// The answer is `Served::Window` where the window is empty or not on the screen ($20 + $21 > 40, or not $22 < $23 <= 24),
-/// or the cursor is not ($25 >= 24, or $20 + $24 >= 40); HOME needs no cursor, RDKEY and WAIT need neither. It is
-/// `Served::Keys` where RDKEY finds no waiting key, or GETLN no return ($0D) among the waiting keys. Both change nothing.
+/// The answer is `Served::Window` where the window or the cursor does not lie on the screen as the service needs it,
+/// which [`fits`] tells, else `Served::Keys` where keys that it needs are not waiting, which [`lacks_keys`] tells. Both
+/// change nothing. No byte of RAM changes outside the service's [`reach`].
 pub fn call<A: Allocator>(service: Service, regs: &mut Regs, board: &mut Board<A>) -> Served
     ensures called { IsCalled service regs.old board.old regs.new board.new result }
 
-    // A store is where `reach` says.
+    // No byte changes but where `reach` says.
     ensures unreached { IsUnreached service board.old board.new }
 
     // RAM stays as long as it is, and no key is added.

@@ -1,4 +1,4 @@
-// Where services are called, and where they may store.
+//! Where services are called, and where they may store.
 
 ghost use Rattle.std.specs.Prelude.{◌≡◌};
 ghost use Rattle.a2_services.specs.Services.{service_at as service_at_of, reach as reach_of, output_reach as output_reach_of};
@@ -6,7 +6,8 @@ ghost use Rattle.a2_services.specs.Services.{service_at as service_at_of, reach 
 use crate::Service;
 use crate::locations::{BASH, BASL, CH, CV, LINE_BUFFER, LINE_BUFFER_LAST, PAGE1, PAGE1_LAST};
 
-/// The service that is called at an address, if there is one. Apple II Reference Manual (1979), pages 61 to 64.
+/// The service that is called at an address, from 0 to $FFFF, or `None` where none of the seven is. Apple II Reference
+/// Manual (1979), chapter 3, "Some useful Monitor subroutines".
 #[tactic(auto, unfolding(crate::specs::Services::service_at))]
 pub fn service_at(address: u16) -> Option<Service>
     ensures { result ≡ service_at_of address }
@@ -23,8 +24,9 @@ pub fn service_at(address: u16) -> Option<Service>
     }
 }
 
-/// Whether a service may store at an address, whatever the window: the output services at $24, $25, $28, $29 and $0400 to
-/// $07FF, GETLN at $0200 to $02FF too, RDKEY and WAIT nowhere. `call` stores nowhere else.
+/// Whether a service may store at an address, from 0 to $FFFF, whatever the window: the output services at $24, $25,
+/// $28, $29 and $0400 to $07FF, GETLN at $0200 to $02FF too, RDKEY and WAIT nowhere. [`call`](crate::call) stores
+/// nowhere else. This project's profile.
 #[tactic(auto, unfolding(crate::specs::Services::reach))]
 pub fn reach(service: Service, address: u16) -> bool
     ensures { result ≡ reach_of service address }

@@ -1,4 +1,4 @@
-// Reading a line.
+//! Reading a line.
 
 ghost use Rattle.std.specs.Prelude.{◌≡◌, ◌<◌, ◌≤◌, ◌+◌, ◌==◌, Some, None, true, IfSome, All};
 ghost use Rattle.a2_bus.specs.View.{memory_of};
@@ -26,7 +26,7 @@ fn first(keys: &[u8]) -> Option<u8>
 }
 
 /// The first waiting key.
-pub fn first_key<A: Allocator>(board: &Board<A>) -> Option<u8>
+pub(crate) fn first_key<A: Allocator>(board: &Board<A>) -> Option<u8>
     ensures key { result ≡ first_of (memory_of board.now).devices.keys }
     ensures code { IfSome result (λ key. key < 128) }
 {
@@ -34,7 +34,7 @@ pub fn first_key<A: Allocator>(board: &Board<A>) -> Option<u8>
 }
 
 /// The first waiting key is taken.
-pub fn take_key<A: Allocator>(board: &mut Board<A>)
+pub(crate) fn take_key<A: Allocator>(board: &mut Board<A>)
     ensures { memory_of board.new ≡ with_key_taken (memory_of board.old) }
 {
     let _ = board.read(KEYBOARD_STROBE);
@@ -118,7 +118,7 @@ fn after_byte<A: Allocator>(board: &mut Board<A>, byte: u8, length: u8) -> u8
 }
 
 /// The line that the waiting keys make: its length.
-pub fn read_line<A: Allocator>(board: &mut Board<A>) -> u8
+pub(crate) fn read_line<A: Allocator>(board: &mut Board<A>) -> u8
     requires { Fits (memory_of board.old) }
     ensures line { reading (memory_of board.new) result ≡ rest_of (memory_of board.old) 0 }
     ensures fits { Fits (memory_of board.new) }

@@ -1,4 +1,4 @@
-// What a service needs of window, cursor and keys.
+//! What a service needs of window, cursor and keys.
 
 ghost use Rattle.std.specs.Prelude.{◌≡◌, length, not};
 ghost use Rattle.a2_bus.specs.View.{memory_of};
@@ -13,7 +13,10 @@ use crate::screen::{load, window};
 use a2_bus::Board;
 use std::alloc::Allocator;
 
-/// Window and cursor lie where the service needs them.
+/// Whether window and cursor lie where a service needs them, as the bytes of RAM say. The window fits where it has a
+/// column and a row and lies on the screen: $21 >= 1, $20 + $21 <= 40 and $22 < $23 <= 24; the cursor where it is on
+/// the screen, inside the window or not: $25 < 24 and $20 + $24 < 40. HOME needs the window alone, RDKEY and WAIT need
+/// neither, the others both. This project's profile.
 pub fn fits<A: Allocator>(service: Service, board: &Board<A>) -> bool
     ensures answer { result ≡ fits_of service (memory_of board.now) }
     ensures size { length board.now.bytes ≡ 49152 }
@@ -47,7 +50,8 @@ fn cursor_fits<A: Allocator>(board: &Board<A>) -> bool
     load(board, CV) < 24 && u16::from(left) + u16::from(load(board, CH)) < 40
 }
 
-/// The keys that the service needs are not there.
+/// Whether the keys that a service needs are not waiting: for RDKEY a key, for GETLN a return ($0D), which need not be
+/// the first key. No other service needs any. This project's profile.
 pub fn lacks_keys<A: Allocator>(service: Service, board: &Board<A>) -> bool
     ensures { result ≡ lacks_keys_of service (memory_of board.now) }
 {
@@ -62,10 +66,7 @@ pub fn lacks_keys<A: Allocator>(service: Service, board: &Board<A>) -> bool
 fn lacks_key<A: Allocator>(board: &Board<A>) -> bool
     ensures { result ≡ lacks_keys_of Rdkey (memory_of board.now) }
 {
-    match first_key(board) {
-        Some(_) => false,
-        None => true,
-    }
+    first_key(board).is_none()
 }
 
 // No RETURN is among the waiting keys.

@@ -1,4 +1,4 @@
-// Putting a byte: a character, a return, a line feed or a backspace.
+//! Putting a byte: a character, a return, a line feed or a backspace.
 
 ghost use Rattle.std.specs.Prelude.{◌≡◌, ◌<◌, ◌≤◌, ◌+◌, ◌&&◌};
 ghost use Rattle.a2_cpu.specs.Arithmetic.{by_digits};
@@ -75,7 +75,7 @@ fn show<A: Allocator>(board: &mut Board<A>, byte: u8)
 
 /// A byte is put as it is.
 #[tactic(auto, unfolding(crate::specs::Put::after_put_unmasked))]
-pub fn put_unmasked<A: Allocator>(board: &mut Board<A>, byte: u8)
+pub(crate) fn put_unmasked<A: Allocator>(board: &mut Board<A>, byte: u8)
     requires { Fits (memory_of board.old) }
     ensures memory { memory_of board.new ≡ after_put_unmasked byte (memory_of board.old) }
     ensures fits { Fits (memory_of board.new) }
@@ -98,7 +98,7 @@ fn masked(byte: u8, mask: u8) -> u8
 
 /// A byte from $A0 on is put under the mask.
 #[tactic(auto, unfolding(crate::specs::Put::after_put))]
-pub fn put<A: Allocator>(board: &mut Board<A>, byte: u8)
+pub(crate) fn put<A: Allocator>(board: &mut Board<A>, byte: u8)
     requires { Fits (memory_of board.old) }
     ensures memory { memory_of board.new ≡ after_put byte (memory_of board.old) }
     ensures fits { Fits (memory_of board.new) }
@@ -114,7 +114,7 @@ pub fn put<A: Allocator>(board: &mut Board<A>, byte: u8)
 
 /// BASL and BASH hold the address of the window's left edge in the cursor's row.
 #[tactic(auto, unfolding(crate::specs::Put::with_base_address))]
-pub fn set_base<A: Allocator>(board: &mut Board<A>)
+pub(crate) fn set_base<A: Allocator>(board: &mut Board<A>)
     requires { LineFits (memory_of board.old) }
     ensures { memory_of board.new ≡ with_base_address (memory_of board.old) }
 {

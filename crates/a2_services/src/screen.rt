@@ -1,4 +1,4 @@
-// RAM, the cells of page 1, and the window.
+//! RAM, the cells of page 1, and the window.
 
 ghost use Rattle.std.specs.Prelude.{◌≡◌, ◌<◌, ◌≤◌, ◌+◌, ◌*◌, ◌%◌, ◌/◌, ℕ, slice_range, slice_index_or, length, replicate, []};
 ghost use Rattle.a2_page.specs.declared.Page.TheVariants.{One};
@@ -18,7 +18,7 @@ use std::alloc::Allocator;
 
 /// The window's edges: its first column, how many columns it has, its first row, and the row below its last.
 #[derive(Clone, Copy)]
-pub struct Edges {
+pub(crate) struct Edges {
     pub left: u8,
     pub width: u8,
     pub top: u8,
@@ -26,7 +26,7 @@ pub struct Edges {
 }
 
 /// The byte at an address of RAM.
-pub fn load<A: Allocator>(board: &Board<A>, address: u16) -> u8
+pub(crate) fn load<A: Allocator>(board: &Board<A>, address: u16) -> u8
     requires { address < 49152 }
     ensures byte { result ≡ ram_byte (memory_of board.now) address }
     ensures size { length board.now.bytes ≡ 49152 }
@@ -35,7 +35,7 @@ pub fn load<A: Allocator>(board: &Board<A>, address: u16) -> u8
 }
 
 /// The byte at an address of RAM becomes another.
-pub fn store<A: Allocator>(board: &mut Board<A>, address: u16, byte: u8)
+pub(crate) fn store<A: Allocator>(board: &mut Board<A>, address: u16, byte: u8)
     requires { address < 49152 }
     ensures { memory_of board.new ≡ with_ram (memory_of board.old) address byte }
 {
@@ -43,7 +43,7 @@ pub fn store<A: Allocator>(board: &mut Board<A>, address: u16, byte: u8)
 }
 
 /// The address of a cell of page 1.
-pub fn cell_address(row: u8, column: u8) -> u16
+pub(crate) fn cell_address(row: u8, column: u8) -> u16
     requires row { row < 24 }
     requires column { column < 40 }
     ensures address { result ≡ address_of One row column }
@@ -54,7 +54,7 @@ pub fn cell_address(row: u8, column: u8) -> u16
 }
 
 /// The byte of a cell of page 1.
-pub fn cell<A: Allocator>(board: &Board<A>, row: u8, column: u8) -> u8
+pub(crate) fn cell<A: Allocator>(board: &Board<A>, row: u8, column: u8) -> u8
     requires row { row < 24 }
     requires column { column < 40 }
     ensures { result ≡ byte_in (memory_of board.now).page1 row column }
@@ -63,7 +63,7 @@ pub fn cell<A: Allocator>(board: &Board<A>, row: u8, column: u8) -> u8
 }
 
 /// The byte of a cell of page 1 becomes another.
-pub fn set_cell<A: Allocator>(board: &mut Board<A>, row: u8, column: u8, byte: u8)
+pub(crate) fn set_cell<A: Allocator>(board: &mut Board<A>, row: u8, column: u8, byte: u8)
     requires row { row < 24 }
     requires column { column < 40 }
     ensures { let memory = memory_of board.old in
@@ -73,7 +73,7 @@ pub fn set_cell<A: Allocator>(board: &mut Board<A>, row: u8, column: u8, byte: u
 }
 
 /// The window's edges, as its four locations say them.
-pub fn window<A: Allocator>(board: &Board<A>) -> Edges
+pub(crate) fn window<A: Allocator>(board: &Board<A>) -> Edges
     ensures edges { window_at result ≡ window_of (memory_of board.now) }
     ensures size { length board.now.bytes ≡ 49152 }
 {
@@ -86,7 +86,7 @@ pub fn window<A: Allocator>(board: &Board<A>) -> Edges
 }
 
 /// A part of a row becomes blank.
-pub fn blank_part<A: Allocator>(board: &mut Board<A>, row: u8, left: u8, width: u8)
+pub(crate) fn blank_part<A: Allocator>(board: &mut Board<A>, row: u8, left: u8, width: u8)
     requires row { row < 24 }
     requires right { left + width ≤ 40 }
     ensures { let memory = memory_of board.old in
@@ -98,7 +98,7 @@ pub fn blank_part<A: Allocator>(board: &mut Board<A>, row: u8, left: u8, width: 
 }
 
 /// A part of a row takes the bytes of the row below.
-pub fn copy_up<A: Allocator>(board: &mut Board<A>, row: u8, left: u8, width: u8)
+pub(crate) fn copy_up<A: Allocator>(board: &mut Board<A>, row: u8, left: u8, width: u8)
     requires row { row + 1 < 24 }
     requires right { left + width ≤ 40 }
     ensures { let memory = memory_of board.old in
@@ -112,7 +112,7 @@ pub fn copy_up<A: Allocator>(board: &mut Board<A>, row: u8, left: u8, width: u8)
 }
 
 /// The window scrolls.
-pub fn scroll<A: Allocator>(board: &mut Board<A>, edges: Edges)
+pub(crate) fn scroll<A: Allocator>(board: &mut Board<A>, edges: Edges)
     requires { IsWindow (window_at edges) }
     ensures { let memory = memory_of board.old in
         memory_of board.new ≡ with_page1 (scrolled (window_at edges) memory.page1) memory }
@@ -124,7 +124,7 @@ pub fn scroll<A: Allocator>(board: &mut Board<A>, edges: Edges)
 }
 
 /// The window becomes blank.
-pub fn clear<A: Allocator>(board: &mut Board<A>, edges: Edges)
+pub(crate) fn clear<A: Allocator>(board: &mut Board<A>, edges: Edges)
     requires { IsWindow (window_at edges) }
     ensures { let memory = memory_of board.old in
         memory_of board.new ≡ with_page1 (cleared (window_at edges) memory.page1) memory }

@@ -1,6 +1,6 @@
-// Worked calls on a board as it starts: what they leave on the screen, in the registers and in the line.
+//! Worked calls on a board as it starts: what they leave on the screen, in the registers and in the line.
 
-use crate::{Served, Service, call, reach, service_at};
+use crate::{Served, Service, call, fits, lacks_keys, reach, service_at};
 use a2_bus::{Board, Bus, Keys};
 use a2_cpu::Regs;
 use std::test::Fail;
@@ -205,6 +205,17 @@ fn tells_window_service_and_reach(rt: HostRuntime) -> Result<(), Fail> {
     let mut board = start(&rt, b"")?;
     board.write(0x21, 0);
     assert_eq!(rt; called(Service::Cout, 0, &mut board).1, Served::Window);
+    assert_eq!(rt;
+        (fits(Service::Home, &board), fits(Service::Rdkey, &board)),
+        (false, true)
+    );
+    assert_eq!(rt;
+        (
+            lacks_keys(Service::Rdkey, &board),
+            lacks_keys(Service::Cout, &board)
+        ),
+        (true, false)
+    );
     assert_eq!(rt; called(Service::Wait, 1, &mut board).1, Served::Next(23));
     assert_eq!(rt; service_at(0xFDED), Some(Service::Cout));
     assert_eq!(rt; service_at(0xFDEE), None);
