@@ -1,5 +1,5 @@
 -- What contracts see of a machine, and the world that it stands for.
-use Rattle.std.specs.Prelude.{◌≡◌, ℕ, ◌+◌, ◌-◌, ◌<◌, ◌≤◌, min, nat_le, Option, Some, None, if◌then◌else◌}
+use Rattle.std.specs.Prelude.{◌≡◌, ℕ, ◌+◌, ◌-◌, ◌<◌, ◌≤◌, min, nat_le, Option, Some, None}
 use Rattle.a2_text.specs.Refusals.{◌otherwise◌, refuse_if}
 use Rattle.a2_bus.specs.BusState.{BusState}
 use Rattle.a2_cpu.specs.declared.Regs.{Regs}
@@ -7,7 +7,7 @@ use Rattle.a2_services.specs.World.{World}
 use Rattle.a2_services.specs.World as call
 use Rattle.a2_machine.specs.declared.Cause.{Cause}
 use Rattle.a2_machine.specs.declared.Cause.TheVariants.{Limit}
-use Rattle.a2_machine.specs.Meaning.{Code, End, stuck, next, world_at, IsEnd}
+use Rattle.a2_machine.specs.Meaning.{Code, stuck, next, world_at, IsEnd}
 use Rattle.a2_machine.specs.ByteRun.{Guard, bytes}
 
 -- registers, board, the cycles and steps since the start, and the guard

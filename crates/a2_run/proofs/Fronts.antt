@@ -1,5 +1,5 @@
 -- A front of a text that shows that it is too long means what the whole text means.
-use Rattle.std.specs.Prelude.{◌≡◌, ◌⊎◌, ℕ, ◌<◌, ◌≤◌, nat_lt, Bool, true, List, length, take, Option, Some, None, is_some}
+use Rattle.std.specs.Prelude.{◌≡◌, ◌⊎◌, ℕ, ◌<◌, ◌≤◌, nat_lt, List, length, take, Some, None, is_some}
 use Rattle.std.proofs.Common.{sym, ap, ◌∙◌, subst, arith, inl, inr, length-take, true≢false}
 use Rattle.std.proofs.lemmas.Bool.{cases_lt, lt-ltb}
 use Rattle.std.proofs.lemmas.List.{take_all}
@@ -10,9 +10,8 @@ use Rattle.a2_syntax.specs.declared.fault.Fault.{Fault}
 use Rattle.a2_syntax.specs.declared.fault.Fault.TheVariants.{TooLarge}
 use Rattle.a2_syntax.specs.declared.source.Line.{Line}
 use Rattle.a2_syntax.specs.Limits.{size_refusal}
-use Rattle.a2_syntax.specs.Sources.{IsSource, IsTextRefusal}
+use Rattle.a2_syntax.specs.Sources.{IsSource}
 use Rattle.a2_asm.specs.Assembled.{Assembled}
-use Rattle.a2_asm.specs.Refusals.{layout_refusal}
 use Rattle.a2_machine.specs.declared.Cause.{Cause}
 use Rattle.a2_run.specs.declared.Options.{Options}
 use Rattle.a2_run.specs.Meaning.{IsProgramOf, IsRefused, IsRun, AreObjectLines}

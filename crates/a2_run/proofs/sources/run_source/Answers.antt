@@ -1,4 +1,3 @@
-use Rattle.std.proofs.Common.{sym, ap, ◌∙◌}
 use Rattle.a2_run.proofs.Runs.{is_run, shown}
 use Rattle.a2_run.proofs.sources.run_source.Goals as goal
 
