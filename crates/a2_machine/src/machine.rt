@@ -35,8 +35,9 @@ fn keeps_count(count: u64)
     let _ = count;
 }
 
-/// A modelled Apple II with 48K of RAM. Contracts see its registers, its board, the cycles and steps since its start, its
-/// guard, and how many steps it ever made.
+/// A modelled Apple II: the NMOS 6502 with 48K of RAM, keyboard, display switches and the Monitor's services. Apple II
+/// Reference Manual (1979); guard, counts and limits are this project's profile. Contracts see its registers, its board,
+/// the cycles and steps since its start, its guard, and how many steps it ever made.
 #[derive(Drop)]
 pub struct Machine<A: Allocator = Global> {
     board: Board<A>,
@@ -63,7 +64,8 @@ impl<A: Allocator> Model for Machine<A> {
 }
 
 impl<A: Allocator + Copy> Machine<A> {
-    /// The machine as it is switched on, with nothing loaded, PC $0300, and free. Refused only for want of memory.
+    /// The machine as it is switched on, in memory of `alloc`: nothing loaded, no keys, PC $0300, no guard, no steps and
+    /// no cycles. This project's profile. Refused only for want of memory.
     pub fn new(alloc: A) -> Result<Machine<A>, AllocError>
         ensures world { IfOk result (λ m. world_of m.state ≡ start_world (λ _. None) 768 []) }
         ensures steps { IfOk result (λ m. m.state.steps ≡ 0) }
@@ -84,7 +86,9 @@ impl<A: Allocator + Copy> Machine<A> {
 }
 
 impl<A: Allocator> Machine<A> {
-    /// The machine as it is switched on, with an image laid over RAM and PC at the entry; and free.
+    /// Makes this the machine as it is switched on, whatever it was, with `image` laid over its RAM and PC at `entry`
+    /// ($0000 to $FFFF): no keys, no guard, no steps and no cycles. Only `made` goes on counting. This project's
+    /// profile.
     pub fn boot<C: Allocator>(&mut self, image: &Image<C>, entry: u16)
         ensures world { world_of self.new.state ≡ start_world (held image.now) entry [] }
         ensures steps { self.new.state.steps ≡ 0 }
@@ -98,22 +102,23 @@ impl<A: Allocator> Machine<A> {
         self.steps = 0;
     }
 
-    /// Guards a program: an instruction begins only where one of its instruction statements does, and nothing is stored
-    /// at the addresses of their bytes.
+    /// Guards `program` from the next step on, in place of any earlier guard: an instruction begins only where one of
+    /// its instruction statements does, and nothing is stored at the addresses of their bytes. This project's profile.
     pub fn guard(&mut self, program: &Program)
         ensures { self.new ≡ (let s = self.old.state in record self.old { state = record s { guard = Some (guard_of_program program.now) } }) }
     {
         self.watch.set(program);
     }
 
-    /// Guards nothing any more.
+    /// Takes the guard away, if there is one: an instruction may begin anywhere, and code may be stored to.
     pub fn free(&mut self)
         ensures { self.new ≡ (let s = self.old.state in record self.old { state = record s { guard = None } }) }
     {
         self.watch.free();
     }
 
-    /// Types keys, behind those that wait; refused exactly where more than 4,096 would wait, and then nothing changes.
+    /// Types `keys`, in order, behind those that wait. Refused exactly where more than 4,096 would wait, and then
+    /// nothing changes. This project's profile.
     pub fn type_keys(&mut self, keys: &Keys) -> Result<(), KeysFull>
         ensures room { IsOk result ↔ (length self.old.state.bus.devices.keys + length keys.now ≤ 4096) }
         ensures typed { OnOk result (self.new ≡ (let s = self.old.state in let b = s.bus in
@@ -123,35 +128,36 @@ impl<A: Allocator> Machine<A> {
         self.board.type_keys(keys)
     }
 
-    /// The registers.
+    /// The registers as they stand before the next step.
     pub fn regs(&self) -> Regs
         ensures { result ≡ self.now.state.regs }
     {
         self.regs
     }
 
-    /// The steps made since the start, at most 1,000,000,000,000.
+    /// The steps made since the start, 0 to 1,000,000,000,000: an instruction or the call of a service is one.
     pub fn steps(&self) -> u64
         ensures { result ≡ self.now.state.steps }
     {
         self.steps
     }
 
-    /// The cycles since the start.
+    /// The cycles of the processor that these steps took: for an instruction those of the *MCS6500 Microcomputer Family
+    /// Programming Manual* (1976), for a service those of [`a2_services::Service`]; at most 167,293 a step.
     pub fn cycles(&self) -> u64
         ensures { result ≡ self.now.state.cycles }
     {
         self.cycles
     }
 
-    /// The steps that this machine ever made, up to the greatest value of 64 bits.
+    /// The steps that this machine ever made, those before a `boot` too. At 2^64 - 1 the count stays.
     pub fn made(&self) -> u64
         ensures { result ≡ self.now.made }
     {
         self.made
     }
 
-    /// What a screen shows.
+    /// What a screen shows now: the bytes of both text pages and the switches.
     pub fn view(&self) -> View<'_>
         ensures page1 { page_grid result.page1.now ≡ (memory_of self.now.state.bus).page1 }
         ensures page2 { page_grid result.page2.now ≡ (memory_of self.now.state.bus).page2 }
@@ -181,7 +187,9 @@ impl<A: Allocator> Machine<A> {
         cause_at(&self.regs, &self.board, &self.watch)
     }
 
-    /// Makes one step; or answers why there is none, and changes nothing.
+    /// Makes one step, of an instruction or a service, and answers `None`; or answers the first of [`Cause`] that holds,
+    /// and changes nothing. `Cause::Limit` is the answer only where 1,000,000,000,000 steps are made. This project's
+    /// profile.
     pub fn step(&mut self) -> Option<Cause>
         ensures cause { result ≡ cause_of self.old.state }
         ensures made { IfNone result (IsStep self.old self.new) }
@@ -196,8 +204,9 @@ impl<A: Allocator> Machine<A> {
         }
     }
 
-    /// Makes steps until the machine is stuck or so many are made, and answers the cause: at the limit a stuck cause
-    /// comes before LIMIT.
+    /// Makes steps until a cause holds or `limit` steps are made in this call (0 to 2^32 - 1, and no more than are left
+    /// to 1,000,000,000,000 since the start), and answers the first of [`Cause`] that then holds: `Cause::Limit` only
+    /// where no other does. This project's profile.
     pub fn run(&mut self, limit: u32) -> Cause
         ensures { IsRun limit self.old self.new result }
     {
