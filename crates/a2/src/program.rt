@@ -1,5 +1,12 @@
 //! What the program does, over any files and streams.
 
+ghost use Rattle.std.specs.Prelude.{◌≡◌, ◌≤◌, [], ◌++◌, None, Result, IfSome, codes, length};
+ghost use Rattle.a2_machine.specs.declared.Cause.{Cause as Stop};
+ghost use Rattle.a2_run.specs.declared.fault.RunFault.{RunFault as Fault};
+ghost use Rattle.a2_run.specs.Status.{status_of};
+ghost use Rattle.a2.specs.Program.{RunsInput, TellsOrNot};
+ghost use Rattle.a2.specs.Words.{plain, status_of_words};
+
 use crate::words::{Order, RunOrder, WordsFault, order_of};
 use a2_machine::Cause;
 use a2_run::{RunFault, asm_text, fault_status, run_text, status};
@@ -12,19 +19,26 @@ use std::fmt::{Display, Write};
 pub trait Shelf {
     type Reader: Input + Drop;
 
-    /// Opens a file for reading.
+    /// Opens the file of this name for reading from its first byte on. Refused where it cannot be opened.
     fn open(&mut self, name: &str) -> Result<Self::Reader, ReadFault>;
 }
 
-/// Writes a fault's text and LF. A line that can't be written is left out.
-pub fn complain<F: Display + Drop, E: Output>(fault: F, complaints: &mut E) {
+/// Writes the text of `fault` and LF to `complaints`. A text of more than 63 bytes is left out; where a write fails, a
+/// front of the line went out, and nothing tells of it.
+pub fn complain<F: Display + Drop, E: Output>(fault: F, complaints: &mut E)
+    // Where the type says what it writes: the line, or a front of it and a call failed, or nothing.
+    ensures { IfSome (F.output fault) (λ text. TellsOrNot (E.taker complaints.old) (E.taker complaints.new) (text ++ codes "\n")) }
+{
     let mut line = ArrayString::<64>::new();
-    let _ = writeln!(line, "{fault}");
-    let _ = put(line.as_str().as_bytes(), complaints);
+    if writeln!(line, "{fault}").is_ok() {
+        let _ = put(line.as_str().as_bytes(), complaints);
+    }
 }
 
-/// The status of words that ask for nothing.
-pub fn words_status(fault: WordsFault) -> u8 {
+/// The status of words that ask for nothing: 2 for bad words and bad keys, 5 for want of memory.
+pub fn words_status(fault: WordsFault) -> u8
+    ensures { result ≡ status_of_words fault }
+{
     match fault {
         WordsFault::Words | WordsFault::Keys => 2,
         WordsFault::Memory => 5,
@@ -38,7 +52,10 @@ fn run_file<S: Shelf, R: Input, W: Output>(
     input: &mut R,
     order: &RunOrder,
     output: &mut W,
-) -> Result<Cause, RunFault> {
+) -> Result<Cause, RunFault>
+    ensures { order.now.source ≡ None → RunsInput order.now.keys order.now.limit order.now.options
+        (R.giver input.old) (R.giver input.new) (W.taker output.old) (W.taker output.new) result }
+{
     let Some(name) = order.source else {
         return run_text(
             alloc,
@@ -75,19 +92,17 @@ fn assemble_file<S: Shelf, W: Output>(
     }
 }
 
-// The status of an answer; a fault is told first.
-fn told<E: Output>(answer: Result<u8, RunFault>, complaints: &mut E) -> u8 {
-    match answer {
-        Ok(status) => status,
-        Err(fault) => {
-            complain(fault, complaints);
-            fault_status(&fault)
-        }
+// Tells the fault of an answer, if it has one.
+fn tell_fault<T, E: Output>(answer: &Result<T, RunFault>, complaints: &mut E) {
+    if let Err(fault) = answer {
+        complain(*fault, complaints);
     }
 }
 
-/// Does what the words ask for, and answers the status. The first word is the program's name. Faults are told to
-/// `complaints`, each by its text and LF.
+/// Does what `words` ask for, and answers the exit status, 0 to 5. The first word is the program's name; without
+/// another the text that `input` gives is run. Files are opened in `shelf`, and what is asked for goes to `output`. A
+/// fault, of the words, the source, a read, a write or memory, is told to `complaints` by its text and LF. This
+/// project's profile.
 pub fn obey<S: Shelf, R: Input, W: Output, E: Output>(
     alloc: Global,
     words: &[String],
@@ -95,7 +110,11 @@ pub fn obey<S: Shelf, R: Input, W: Output, E: Output>(
     input: &mut R,
     output: &mut W,
     complaints: &mut E,
-) -> u8 {
+) -> u8
+    // Without words the input is run, guarded, with no keys and at most 1,000,000 steps.
+    ensures { length words.now ≤ 1 → (answer : Result Stop Fault) × (result ≡ status_of answer)
+        × RunsInput [] 1000000 plain (R.giver input.old) (R.giver input.new) (W.taker output.old) (W.taker output.new) answer }
+{
     let order = match order_of(alloc, words) {
         Ok(order) => order,
         Err(fault) => {
@@ -103,12 +122,19 @@ pub fn obey<S: Shelf, R: Input, W: Output, E: Output>(
             return words_status(fault);
         }
     };
-    let answer = match order {
-        Order::Asm { source } => assemble_file(alloc, shelf, source, output).map(|()| 0),
-        Order::Run(order) => {
-            let stopped = run_file(alloc, shelf, input, &order, output);
-            stopped.map(|cause| status(&Ok(cause)))
+    match order {
+        Order::Asm { source } => {
+            let answer = assemble_file(alloc, shelf, source, output);
+            tell_fault(&answer, complaints);
+            match answer {
+                Ok(()) => 0,
+                Err(fault) => fault_status(&fault),
+            }
         }
-    };
-    told(answer, complaints)
+        Order::Run(order) => {
+            let answer = run_file(alloc, shelf, input, &order, output);
+            tell_fault(&answer, complaints);
+            status(&answer)
+        }
+    }
 }

@@ -1,8 +1,9 @@
 //! The words of the command line.
 
-ghost use Rattle.std.specs.Prelude.{SomeIff};
+ghost use Rattle.std.specs.Prelude.{◌≡◌, ◌≤◌, [], None, Ok, SomeIff, length};
 ghost use Rattle.std.specs.Str.Parse.{digits_value};
-ghost use Rattle.a2.specs.Words.{IsStepLimit};
+ghost use Rattle.a2.specs.declared.words.Order.TheVariants.{Run};
+ghost use Rattle.a2.specs.Words.{IsStepLimit, plain};
 
 use a2_bus::Keys;
 use a2_run::Options;
@@ -16,8 +17,9 @@ use thiserror::Error;
 pub struct RunOrder<'a> {
     /// The file, or none for the standard input.
     pub source: Option<&'a str>,
+    /// The keys that wait at the start.
     pub keys: Keys,
-    /// The most steps.
+    /// The most steps, 0 to 100,000,000.
     pub limit: u32,
     pub options: Options,
 }
@@ -27,6 +29,7 @@ pub struct RunOrder<'a> {
 pub enum Order<'a> {
     /// Writes the object lines of a file.
     Asm { source: &'a str },
+    /// Runs a file, or the standard input.
     Run(RunOrder<'a>),
 }
 
@@ -42,6 +45,10 @@ pub enum WordsFault {
 }
 
 impl From<AllocError> for WordsFault {
+    ghost use Rattle.a2.specs.declared.words.WordsFault.TheVariants.{Memory};
+
+    ghost from_gives = { λ _ e. e ≡ Memory };
+
     fn from(_error: AllocError) -> WordsFault {
         WordsFault::Memory
     }
@@ -174,7 +181,9 @@ fn run_order<'a>(found: &ArgMatches<'a>) -> Result<RunOrder<'a>, WordsFault> {
 }
 
 // What the program does without words.
-fn plain_order<'a>() -> RunOrder<'a> {
+fn plain_order<'a>() -> RunOrder<'a>
+    ensures { result ≡ record { source = None; keys = []; limit = 1000000; options = plain } }
+{
     RunOrder {
         source: None,
         keys: Keys::new(),
@@ -201,8 +210,12 @@ fn inner_order<'a>(
     }
 }
 
-/// What the words ask for. The first word is the program's name.
-pub fn order_of<'a>(alloc: Global, words: &'a [String]) -> Result<Order<'a>, WordsFault> {
+/// What `words` ask for. The first is the program's name, and is not looked at. Refused are words that are no form of
+/// the command line, keys that are badly spelt, and want of memory. This project's profile.
+pub fn order_of<'a>(alloc: Global, words: &'a [String]) -> Result<Order<'a>, WordsFault>
+    // Without words: the standard input, no keys, at most 1,000,000 steps, and no option.
+    ensures { length words.now ≤ 1 → result ≡ Ok (Run (record { source = None; keys = []; limit = 1000000; options = plain })) }
+{
     if words.len() <= 1 {
         return Ok(Order::Run(plain_order()));
     }
