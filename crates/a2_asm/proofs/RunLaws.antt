@@ -22,12 +22,13 @@ use Rattle.a2_asm.specs.Layout.{Row, rows, names}
 use Rattle.a2_asm.specs.Bytes.{image, bytes_of, stated, is_instruction, instr_in, instr_of, statement_of, statements, entry}
 use Rattle.a2_asm.specs.Refusals.{refuse_operand}
 use Rattle.a2_asm.specs.Programs.{IsProgram, begins_at, covers, is_code, StatementsDecode, StatementsBegin, StatementsApart, CodeInRam, CodeIsHeld, EntryBegins, instr_at, Holds}
+use Rattle.a2_asm.proofs.MadeLaws.{IsMade, made-of}
 use Rattle.a2_asm.proofs.LayingLaws.{meets-free}
 use Rattle.a2_asm.proofs.BytesLaws.{operand-most, greatest-word}
 use Rattle.a2_asm.proofs.SeatLaws.{Keeps, get_or-same, encoded-length, place-room, length-some}
 use Rattle.a2_asm.proofs.StateLaws.{Fits, Comes, says, fits-is, accepted-is, row-held, row-split, instr-encoded}
 
-fits-of : {A : Type 0} (source : List (Line A)) (p : Assembled) (s : Statement) → IsProgram source p → Contains p.statements s → Fits source s
+fits-of : {A : Type 0} (source : List (Line A)) (p : Assembled) (s : Statement) → IsMade source p → Contains p.statements s → Fits source s
 fits-of source p s is among =
     let Q : List Statement → Type 0 = λ x. Contains x s in
     fits-is source s (accepted-is source is.accepted) (subst Q is.stated among)
@@ -74,8 +75,8 @@ code-there all s i k (j, lt, e) is h =
     let here : P s = grind (arith, nat_tests) in
     list_any_at (covers (s.addr + k)) all j s lt (subst P (sym e) here)
 
-pub program-decodes : {A : Type 0} (source : List (Line A)) (p : Assembled) → IsProgram source p → StatementsDecode p
-program-decodes source p is peek shows s i among of-s =
+pub made-decodes : {A : Type 0} (source : List (Line A)) (p : Assembled) → IsMade source p → StatementsDecode p
+made-decodes source p is peek shows s i among of-s =
     let all = names (rows source) in
     let f = fits-of source p s is among in
     let k = codes-is source s i f of-s in
@@ -135,8 +136,8 @@ same-index all places s t c d e =
     let rows-same : c.row ≡ d.row = sym c.at ∙ get_or-same places c.index c.row d.row c.within ∙ ap (λ i. get_or places i d.row) e ∙ d.at in
     c.is ∙ ap (λ r. record { line = r.place.number; addr = r.place.address; length = r.place.length; instr = instr_in all r.place r.line.body }) rows-same ∙ sym d.is
 
-pub program-apart : {A : Type 0} (source : List (Line A)) (p : Assembled) → IsProgram source p → StatementsApart p
-program-apart source p is s t a in-s in-t holds-s holds-t =
+pub made-apart : {A : Type 0} (source : List (Line A)) (p : Assembled) → IsMade source p → StatementsApart p
+made-apart source p is s t a in-s in-t holds-s holds-t =
     let f = fits-of source p s is in-s in
     let g = fits-of source p t is in-t in
     ⊎_elim
@@ -173,7 +174,7 @@ covers-below : (a : ℕ) (s : Statement) → covers a s ≡ true → a < s.addr 
 covers-below a s h = grind (arith, nat_tests)
 
 -- an address at which an instruction begins is one that it holds
-begins-holds : {A : Type 0} (source : List (Line A)) (p : Assembled) (is : IsProgram source p) (t : Statement) → Contains p.statements t → (o : Option Instr) → t.instr ≡ o → is_some o ≡ true → Holds t t.addr
+begins-holds : {A : Type 0} (source : List (Line A)) (p : Assembled) (is : IsMade source p) (t : Statement) → Contains p.statements t → (o : Option Instr) → t.instr ≡ o → is_some o ≡ true → Holds t t.addr
 begins-holds source p is t among None e h = cc
 begins-holds source p is t among (Some i) e h =
     (omega arith, omega (arith, code-length source t i (fits-of source p t is among) e, length-some i.mode))
@@ -181,8 +182,8 @@ begins-holds source p is t among (Some i) e h =
 begins-some : (a : ℕ) (t : Statement) → begins_at a t ≡ true → is_some t.instr ≡ true
 begins-some a t h = (and_parts (eqb t.addr a) (is_some t.instr) h).1
 
-pub program-begins : {A : Type 0} (source : List (Line A)) (p : Assembled) → IsProgram source p → StatementsBegin p
-program-begins source p is s i among of-s =
+pub made-begins : {A : Type 0} (source : List (Line A)) (p : Assembled) → IsMade source p → StatementsBegin p
+made-begins source p is s i among of-s =
     let f = fits-of source p s is among in
     let long = code-length source s i f of-s in
     let some : is_some s.instr ≡ true = ap is_some of-s in
@@ -191,22 +192,22 @@ program-begins source p is s i among of-s =
     let there = begins-holds source p is s among s.instr refl some in
     let found = find-one (begins_at s.addr) p.statements s among (begins-there s some) (λ t in-t h.
     (let Q : ℕ → Type 0 = λ a. Holds t a in
-    program-apart source p is t s s.addr in-t among (subst Q (begins-addr s.addr t h) (begins-holds source p is t in-t t.instr refl (begins-some s.addr t h))) there)) in (
+    made-apart source p is t s s.addr in-t among (subst Q (begins-addr s.addr t h) (begins-holds source p is t in-t t.instr refl (begins-some s.addr t h))) there)) in (
       ap (λ o. option_map_or (λ x. x.instr) o None) found ∙ of-s,
       subst P zero-more (code-there p.statements s i 0 among of-s (omega (arith, long, length-some i.mode))),
       long,
     )
 
-pub program-room : {A : Type 0} (source : List (Line A)) (p : Assembled) → IsProgram source p → CodeInRam p
-program-room source p is a code =
+pub made-room : {A : Type 0} (source : List (Line A)) (p : Assembled) → IsMade source p → CodeInRam p
+made-room source p is a code =
     let any = Any-from_list_any (covers a) p.statements code in
     let below = covers-below a any.1 any.4 in
     let f = fits-of source p any.1 is (any.0, any.2, any.3) in
     omega (arith, below, statement-room source any.1 f (omega (arith, below, covers-from a any.1 any.4)))
 
 -- each byte of code is in the image
-pub program-stored : {A : Type 0} (source : List (Line A)) (p : Assembled) → IsProgram source p → CodeIsHeld p
-program-stored source p is a code =
+pub made-stored : {A : Type 0} (source : List (Line A)) (p : Assembled) → IsMade source p → CodeIsHeld p
+made-stored source p is a code =
     let all = names (rows source) in
     let any = Any-from_list_any (covers a) p.statements code in
     let s = any.1 in
@@ -267,9 +268,29 @@ entry-stated {A = A} all (row ∷ more) e h = by row.line.body refl (λ k. entry
     by (bodies.Asc bytes) is rest = later (bodies.Asc bytes) is refl rest
     by (bodies.Ds n) is rest = later (bodies.Ds n) is refl rest
 
-pub program-enters : {A : Type 0} (source : List (Line A)) (p : Assembled) → IsProgram source p → EntryBegins p
-program-enters source p is =
+pub made-enters : {A : Type 0} (source : List (Line A)) (p : Assembled) → IsMade source p → EntryBegins p
+made-enters source p is =
     let r = entry-stated (names (rows source)) (rows source) p.entry is.begins in
     let P : List Statement → Type 0 = λ x. Contains x r.statement in
-    let begins = program-begins source p is r.statement r.instr (subst P (sym is.stated) r.among) r.of_instr in
+    let begins = made-begins source p is r.statement r.instr (subst P (sym is.stated) r.among) r.of_instr in
     (r.instr, ap (instr_at p.statements) (sym r.there) ∙ begins.0)
+
+-- the same of a program by any layout
+
+pub program-decodes : {A : Type 0} (source : List (Line A)) (p : Assembled) → IsProgram source p → StatementsDecode p
+program-decodes source p is = made-decodes source p (made-of source p is)
+
+pub program-apart : {A : Type 0} (source : List (Line A)) (p : Assembled) → IsProgram source p → StatementsApart p
+program-apart source p is = made-apart source p (made-of source p is)
+
+pub program-begins : {A : Type 0} (source : List (Line A)) (p : Assembled) → IsProgram source p → StatementsBegin p
+program-begins source p is = made-begins source p (made-of source p is)
+
+pub program-room : {A : Type 0} (source : List (Line A)) (p : Assembled) → IsProgram source p → CodeInRam p
+program-room source p is = made-room source p (made-of source p is)
+
+pub program-stored : {A : Type 0} (source : List (Line A)) (p : Assembled) → IsProgram source p → CodeIsHeld p
+program-stored source p is = made-stored source p (made-of source p is)
+
+pub program-enters : {A : Type 0} (source : List (Line A)) (p : Assembled) → IsProgram source p → EntryBegins p
+program-enters source p is = made-enters source p (made-of source p is)

@@ -10,9 +10,9 @@ use Rattle.a2_syntax.specs.declared.source.Line.{Line}
 use Rattle.a2_hex.specs.Images.{held}
 use Rattle.a2_asm.specs.declared.program.Statement.{Statement}
 use Rattle.a2_asm.specs.Assembled.{Assembled}
-use Rattle.a2_asm.specs.Layout.{names, rows}
+use Rattle.a2_asm.specs.Layout.{Row as PlacedLine, IsLayout, names}
 use Rattle.a2_asm.specs.Bytes.{image, statements, entry}
-use Rattle.a2_asm.specs.Refusals.{layout_refusal}
+use Rattle.a2_asm.specs.Refusals.{refusal_in}
 
 -- an instruction that begins at an address
 abbrev pub begins_at : ℕ → Statement → Bool
@@ -32,11 +32,13 @@ is_code all a = list_any (covers a) all
 
 -- the program of a source that is not refused
 pub record IsProgram {A : Type 0} (source : List (Line A)) (p : Assembled) : Type 0 where
-  pub accepted : layout_refusal source ≡ None
-  pub named : p.names ≡ names (rows source)
-  pub laid : (a : ℕ) → held p.image a ≡ image (names (rows source)) (rows source) a
-  pub stated : p.statements ≡ statements (names (rows source)) (rows source)
-  pub begins : entry (rows source) ≡ Some p.entry
+  pub layout : List (PlacedLine A)
+  pub is_layout : IsLayout source layout
+  pub accepted : refusal_in source layout ≡ None
+  pub named : p.names ≡ names layout
+  pub laid : (a : ℕ) → held p.image a ≡ image (names layout) layout a
+  pub stated : p.statements ≡ statements (names layout) layout
+  pub begins : entry layout ≡ Some p.entry
 
 -- a memory shows the bytes of code as they were laid
 abbrev pub ShowsCode : Assembled → (ℕ → Option ℕ) → Type 0

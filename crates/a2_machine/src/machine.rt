@@ -104,7 +104,7 @@ impl<A: Allocator> Machine<A> {
 
     /// Guards `program` from the next step on, in place of any earlier guard: an instruction begins only where one of
     /// its instruction statements does, and nothing is stored at the addresses of their bytes. This project's profile.
-    pub fn guard(&mut self, program: &Program)
+    pub fn guard<C: Allocator>(&mut self, program: &Program<C>)
         ensures { self.new ≡ (let s = self.old.state in record self.old { state = record s { guard = Some (guard_of_program program.now) } }) }
     {
         self.watch.set(program);

@@ -208,7 +208,7 @@ impl<A: Allocator> Watch<A> {
     }
 
     /// The guard of a program.
-    pub fn set(&mut self, program: &Program)
+    pub fn set<C: Allocator>(&mut self, program: &Program<C>)
         ensures { self.new ≡ Some (guard_of_program program.now) }
     {
         mark_all(&mut self.marks, program.statements());

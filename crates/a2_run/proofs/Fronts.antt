@@ -3,12 +3,11 @@ use Rattle.std.specs.Prelude.{◌≡◌, ◌⊎◌, ℕ, ◌<◌, ◌≤◌, nat
 use Rattle.std.proofs.Common.{sym, ap, ◌∙◌, subst, arith, inl, inr, length-take, true≢false}
 use Rattle.std.proofs.lemmas.Bool.{cases_lt, lt-ltb}
 use Rattle.std.proofs.lemmas.List.{take_all}
-use Rattle.std.specs.declared.alloc.Global.{Global}
 use Rattle.a2_text.specs.Lines.{lines}
 use Rattle.a2_text.specs.Refusals.{◌otherwise◌, refuse_if, first_line}
 use Rattle.a2_syntax.specs.declared.fault.Fault.{Fault}
 use Rattle.a2_syntax.specs.declared.fault.Fault.TheVariants.{TooLarge}
-use Rattle.a2_syntax.specs.declared.source.Line.{Line}
+use Rattle.a2_syntax.specs.Bare.{BareLine}
 use Rattle.a2_syntax.specs.Limits.{size_refusal}
 use Rattle.a2_syntax.specs.Sources.{IsSource}
 use Rattle.a2_asm.specs.Assembled.{Assembled}
@@ -33,7 +32,7 @@ fronts n xs above = go (cases_lt n (length xs))
     go (inl longer) = inr (too_long (take n xs) (omega (arith, length-take n xs, longer, above)), too_long xs (omega (arith, longer, above)))
     go (inr short) = inl (take_all n xs short)
 
-no_source : (text : List ℕ) (source : List (Line Global)) → size_refusal text ≡ Some (TooLarge 0) → IsSource text source → ⊥
+no_source : (text : List ℕ) (source : List BareLine) → size_refusal text ≡ Some (TooLarge 0) → IsSource text source → ⊥
 no_source text source long is = none≢some (TooLarge 0) (sym is.0 ∙ long)
 
 pub refused-front : (n : ℕ) (xs : List ℕ) (fault : Fault) → 65536 < n → IsRefused (take n xs) fault → IsRefused xs fault

@@ -4,3 +4,7 @@ pub mod Laid
 pub mod Screens
 pub mod Runs
 pub mod Booting
+pub mod OneText
+pub mod FreeText
+pub mod EachText
+pub mod Refusing

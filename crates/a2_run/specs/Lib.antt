@@ -2,3 +2,4 @@ pub mod Meaning
 pub mod Answers
 pub mod Status
 pub mod Started
+pub mod Laws

@@ -2,10 +2,12 @@
 #![tactic(auto)]
 
 mod fault;
+mod laws;
 mod run;
 mod sources;
 
 pub use fault::{ReadingFault, RunFault};
+pub use laws::{a_free_run_is_the_guarded_run, a_text_is_refused_or_means_a_program, a_text_means_one_output};
 pub use run::{asm_text, fault_status, run_text, status};
 
 /// What a run may do, and what it shows.

@@ -1,7 +1,7 @@
 //! A text in, a text out.
 
 ghost use Rattle.std.specs.Prelude.{◌≡◌, IfOk, IfSome, take};
-ghost use Rattle.a2_stream.specs.Stream.{count_after};
+ghost use Rattle.a2_stream.specs.Stream.{count_after, TakesAtMost};
 ghost use Rattle.a2_run.specs.Answers.{read_of, Answers, is_read_fault, is_unread, is_write_fault, NothingSent};
 ghost use Rattle.a2_run.specs.Meaning.{IsRefused, IsRun, AreObjectLines};
 ghost use Rattle.a2_run.specs.Status.{status_of, fault_status as status_of_fault, refusal_status as status_of_refusal};
@@ -12,7 +12,7 @@ use a2_bus::Keys;
 use a2_machine::Cause;
 use a2_stream::{Input, Output, fill};
 use a2_syntax::Fault;
-use std::alloc::{Allocator, Global};
+use std::alloc::Allocator;
 
 /// The most bytes that are read: one more than a text may have.
 const MOST_READ: usize = 65_537;
@@ -24,6 +24,7 @@ fn read_front<A: Allocator + Copy, R: Input>(
     most: usize,
 ) -> Result<Vec<u8, A>, ReadingFault>
     ensures text { IfOk result (λ text. IfSome (R.giver reader.old).bytes (λ input. text.items ≡ take most input)) }
+    ensures front { TakesAtMost most (R.giver reader.old) (R.giver reader.new) }
     ensures counted { (R.giver reader.new).failures ≡ count_after (is_unread result) (R.giver reader.old).failures }
 {
     let mut text = Vec::from_elem(alloc, 0u8, most)?;
@@ -38,6 +39,8 @@ pub fn read_text<A: Allocator + Copy, R: Input>(
     reader: &mut R,
 ) -> Result<Vec<u8, A>, ReadingFault>
     ensures text { IfOk result (λ text. IfSome (R.giver reader.old).bytes (λ input. text.items ≡ read_of input)) }
+    // Nothing is read past the byte that shows that the text is too long.
+    ensures front { TakesAtMost 65537 (R.giver reader.old) (R.giver reader.new) }
     // A read failed exactly where that is the fault.
     ensures counted { (R.giver reader.new).failures ≡ count_after (is_unread result) (R.giver reader.old).failures }
 {
@@ -47,8 +50,7 @@ pub fn read_text<A: Allocator + Copy, R: Input>(
 /// Assembles and runs the source that the reader gives, with these keys waiting, and writes the picture, the register
 /// line and the cause line. `limit` is the most steps. Refused where the source is, where a read or write fails, and for
 /// want of memory.
-pub fn run_text<R: Input, W: Output>(
-    alloc: Global,
+pub fn run_text<A: Allocator + Copy, R: Input, W: Output>(alloc: A,
     reader: &mut R,
     keys: &Keys,
     limit: u32,
@@ -58,6 +60,8 @@ pub fn run_text<R: Input, W: Output>(
     // What is written is the meaning of what is read.
     ensures meaning { IfSome (R.giver reader.old).bytes (λ input.
         Answers (IsRefused input) (IsRun input keys.now limit options) (W.taker writer.old) (W.taker writer.new) result) }
+    // Nothing is read past the 65,537th byte.
+    ensures front { TakesAtMost 65537 (R.giver reader.old) (R.giver reader.new) }
     // Whatever the reader gives, a fault other than of the writer means that nothing was written.
     ensures silent { NothingSent (W.taker writer.old) (W.taker writer.new) result }
     // A fault of the reader or writer comes exactly where one of its calls failed.
@@ -70,14 +74,15 @@ pub fn run_text<R: Input, W: Output>(
 
 /// Assembles the source that the reader gives and writes its object lines. Refused where the source is, where a read or
 /// write fails, and for want of memory.
-pub fn asm_text<R: Input, W: Output>(
-    alloc: Global,
+pub fn asm_text<A: Allocator + Copy, R: Input, W: Output>(alloc: A,
     reader: &mut R,
     writer: &mut W,
 ) -> Result<(), RunFault>
     // What is written is the meaning of what is read.
     ensures meaning { IfSome (R.giver reader.old).bytes (λ input.
         Answers (IsRefused input) (λ _. AreObjectLines input) (W.taker writer.old) (W.taker writer.new) result) }
+    // Nothing is read past the 65,537th byte.
+    ensures front { TakesAtMost 65537 (R.giver reader.old) (R.giver reader.new) }
     // Whatever the reader gives, a fault other than of the writer means that nothing was written.
     ensures silent { NothingSent (W.taker writer.old) (W.taker writer.new) result }
     // A fault of the reader or writer comes exactly where one of its calls failed.

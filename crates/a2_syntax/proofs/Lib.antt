@@ -4,6 +4,8 @@ pub mod ExprLaws
 pub mod OperandLaws
 pub mod BodyLaws
 pub mod LineLaws
+pub mod BareLaws
 pub mod ParseLaws
 pub mod OneReading
 pub mod ListedLaws
+pub mod EachReading

@@ -11,6 +11,7 @@ use Rattle.a2_syntax.specs.Pieces.{is_over, is_gap}
 use Rattle.a2_text.specs.Words.{behind_blanks}
 use Rattle.a2_syntax.specs.Reading.{has_comma}
 use Rattle.a2_syntax.specs.Grammar.{IsTerm, IsSign, AreMoreTerms, AreTerms, IsPart, IsExpr, AreExprs, IsIndexed, IsEnclosed, IsOperand, is_shift, IsOperandOf, IsText, IsOperation, IsBody, IsLabelled, IsLine}
+use Rattle.a2_syntax.specs.Bare.{BareLine}
 use Rattle.a2_syntax.specs.Sources.{AreLines, FirstUnread, IsSource, IsTextRefusal}
 use Rattle.a2_syntax.specs.declared.fault.Fault.{Fault}
 use Rattle.a2_syntax.specs.declared.source.Term.{Term}
@@ -42,14 +43,14 @@ read-first : {A : Type 0} → (text : List ℕ) (after : List (List ℕ)) (lines
 read-first text after [] h = absurd h
 read-first text after (line ∷ lines) h = (line, h.0)
 
-unread : {A : Type 0} → (texts : List (List ℕ)) (n : ℕ) (source : List (Line A)) → FirstUnread A texts n → AreLines texts source → ⊥
-unread {A} texts n source (before, text, after, whole, number, read, fails) h =
+unread : (texts : List (List ℕ)) (n : ℕ) (source : List BareLine) → FirstUnread texts n → AreLines texts source → ⊥
+unread texts n source (before, text, after, whole, number, read, fails) h =
     let P : List (List ℕ) → Type 0 = λ x. AreLines x source in
-    let rest = AllZip-back (IsLine {A = A}) before (text ∷ after) source (subst P whole h) in
+    let rest = AllZip-back (IsLine {A = Unit {0}}) before (text ∷ after) source (subst P whole h) in
     let line = read-first text after rest.0 rest.1 in
     fails line.0 line.1
 
-pub refused-none : {A : Type 0} → (text : List ℕ) (fault : Fault) (source : List (Line A)) → IsTextRefusal A text fault → IsSource text source → ⊥
+pub refused-none : (text : List ℕ) (fault : Fault) (source : List BareLine) → IsTextRefusal text fault → IsSource text source → ⊥
 refused-none text fault source (inl e) (fits, lines) = let never : Some fault ≡ None = sym e ∙ fits in cc
 refused-none text fault source (inr (fits, n, is, first)) (_, lines) = unread _ n source first lines
 
@@ -297,7 +298,7 @@ IsLine-one text a b (inr h) (inr k) =
     let y = IsLine-parts text b plain (inr k) in
     same-line a b (LabelIs-one _ a.label b.label x.label y.label) (IsBody-one _ a.body b.body x.body y.body)
 
-AreLines-one : {A : Type 0} → (texts : List (List ℕ)) (a b : List (Line A)) → AreLines texts a → AreLines texts b → a ≡ b
+pub AreLines-one : {A : Type 0} → (texts : List (List ℕ)) (a b : List (Line A)) → AreLines texts a → AreLines texts b → a ≡ b
 AreLines-one [] [] [] h k = refl
 AreLines-one [] [] (y ∷ ys) h k = absurd k
 AreLines-one [] (x ∷ xs) b h k = absurd h
@@ -306,5 +307,5 @@ AreLines-one (t ∷ ts) (x ∷ xs) [] h k = absurd k
 AreLines-one (t ∷ ts) (x ∷ xs) (y ∷ ys) h k =
     ap (λ l. l ∷ xs) (IsLine-one t x y h.0 k.0) ∙ ap (λ l. y ∷ l) (AreLines-one ts xs ys h.1 k.1)
 
-pub one-source : {A : Type 0} → (text : List ℕ) (a b : List (Line A)) → IsSource text a → IsSource text b → a ≡ b
+pub one-source : (text : List ℕ) (a b : List BareLine) → IsSource text a → IsSource text b → a ≡ b
 one-source text a b h k = AreLines-one _ a b h.1 k.1

@@ -11,8 +11,11 @@ use Rattle.a2_syntax.specs.declared.fault.Fault.{Fault}
 use Rattle.a2_syntax.specs.declared.fault.Fault.TheVariants.{TooLarge}
 use Rattle.a2_syntax.specs.Relations.{TheOne}
 use Rattle.a2_syntax.specs.Grammar.{IsLine}
+use Rattle.a2_syntax.specs.Bare.{BareLine, bare, bare_line}
 use Rattle.a2_syntax.specs.Sources.{AreLines, FirstUnread}
 use Rattle.a2_syntax.specs.declared.source.Line.{Line}
+use Rattle.a2_syntax.proofs.BareLaws.{IsLine-bare, AreLines-bare}
+use Rattle.a2_syntax.proofs.OneReading.{AreLines-one}
 
 -- the lines so far are read, as they have to be
 pub record Parses {A : Type 0} (texts rest : List (List ℕ)) (n : ℕ) (parsed : List (Line A)) : Type 0 where
@@ -48,24 +51,21 @@ Parses-more {A} texts rest here text n parsed line p e one = record {
       (f.1, f.3, m.2 ∙ ap (λ x. parsed ++ x) (f.4 ∙ ap (λ x. x ∷ f.1) (one.1 f.0 f.2)) ∙ sym (append_assoc parsed (line ∷ []) f.1));
 }
 
-pub Parses-fail : {A : Type 0} → (texts rest here : List (List ℕ)) (text : List ℕ) (n : ℕ) (parsed : List (Line A)) → Parses texts here n parsed → here ≡ text ∷ rest → TheOne (IsLine {A = A} text) None → FirstUnread A texts n
+pub Parses-fail : {A : Type 0} → (texts rest here : List (List ℕ)) (text : List ℕ) (n : ℕ) (parsed : List (Line A)) → Parses texts here n parsed → here ≡ text ∷ rest → TheOne (IsLine {A = A} text) None → FirstUnread texts n
 Parses-fail texts rest here text n parsed p e none =
-    (p.before, text, rest, p.whole ∙ ap (λ x. p.before ++ x) e, p.number, (parsed, p.read), none)
+    (p.before, text, rest, p.whole ∙ ap (λ x. p.before ++ x) e, p.number, (bare parsed, AreLines-bare (Unit {0}) p.before parsed p.read), λ line is. none (bare_line line) (IsLine-bare _ text line is))
 
-pub Parses-read : {A : Type 0} → (texts here : List (List ℕ)) (n : ℕ) (parsed : List (Line A)) → Parses texts here n parsed → here ≡ [] → AreLines texts parsed
+pub Parses-read : {A : Type 0} → (texts here : List (List ℕ)) (n : ℕ) (parsed : List (Line A)) → Parses texts here n parsed → here ≡ [] → AreLines texts (bare parsed)
 Parses-read {A} texts here n parsed p e =
     let P : List (List ℕ) → Type 0 = λ x. AreLines x parsed in
-    subst P (sym (p.whole ∙ ap (λ x. p.before ++ x) e ∙ append-nil p.before)) p.read
+    AreLines-bare (Unit {0}) texts parsed (subst P (sym (p.whole ∙ ap (λ x. p.before ++ x) e ∙ append-nil p.before)) p.read)
 
 none-left : {A : Type 0} → (lines : List (Line A)) → AreLines [] lines → lines ≡ []
 none-left [] h = refl
 none-left (line ∷ lines) h = absurd h
 
-pub Parses-only : {A : Type 0} → (texts here : List (List ℕ)) (n : ℕ) (parsed : List (Line A)) → Parses texts here n parsed → here ≡ [] → (others : List (Line A)) → AreLines texts others → others ≡ parsed
-Parses-only {A} texts here n parsed p e others h =
-    let m = p.only others h in
-    let P : List (List ℕ) → Type 0 = λ x. AreLines x m.0 in
-    m.2 ∙ ap (λ x. parsed ++ x) (none-left m.0 (subst P e m.1)) ∙ append-nil parsed
+pub Parses-only : {A : Type 0} → (texts here : List (List ℕ)) (n : ℕ) (parsed : List (Line A)) → Parses texts here n parsed → here ≡ [] → (others : List BareLine) → AreLines texts others → others ≡ bare parsed
+Parses-only texts here n parsed p e others h = AreLines-one texts others (bare parsed) h (Parses-read texts here n parsed p e)
 
 otherwise-none : {F : Type 0} → (a b : Option F) → (a otherwise b) ≡ None → (a ≡ None) × (b ≡ None)
 otherwise-none None b h = (refl, h)

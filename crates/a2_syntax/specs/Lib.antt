@@ -4,6 +4,7 @@ pub mod Pieces
 pub mod Words
 pub mod Relations
 pub mod Grammar
+pub mod Bare
 pub mod Listed
 pub mod Limits
 pub mod Sources

@@ -4,6 +4,7 @@ use Rattle.std.specs.List.{AllZip}
 use Rattle.a2_text.specs.Lines.{lines}
 use Rattle.a2_syntax.specs.Limits.{size_refusal}
 use Rattle.a2_syntax.specs.Grammar.{IsLine}
+use Rattle.a2_syntax.specs.Bare.{BareLine}
 use Rattle.a2_syntax.specs.declared.source.Line.{Line}
 use Rattle.a2_syntax.specs.declared.fault.Fault.{Fault}
 use Rattle.a2_syntax.specs.declared.fault.Fault.TheVariants.{Syntax}
@@ -13,17 +14,17 @@ abbrev pub AreLines : {A : Type 0} → List (List ℕ) → List (Line A) → Typ
 AreLines {A} = AllZip (IsLine {A = A})
 
 -- a text within the limits, and its lines
-abbrev pub IsSource : {A : Type 0} → List ℕ → List (Line A) → Type 0
+abbrev pub IsSource : List ℕ → List BareLine → Type 0
 IsSource text source = (size_refusal text ≡ None) × AreLines (lines text) source
 
 -- the line of this number is the first that is not in the grammar
-abbrev pub FirstUnread : Type 0 → List (List ℕ) → ℕ → Type 0
-FirstUnread A texts n =
+abbrev pub FirstUnread : List (List ℕ) → ℕ → Type 0
+FirstUnread texts n =
     (before : List (List ℕ)) × (text : List ℕ) × (after : List (List ℕ)) × (texts ≡ before ++ text ∷ after) × (n ≡ length before + 1) ×
-    ((read : List (Line A)) × AreLines before read) × ((line : Line A) → IsLine text line → ⊥)
+    ((read : List BareLine) × AreLines before read) × ((line : BareLine) → IsLine text line → ⊥)
 
 -- the first refusal of a text that is no source
-abbrev pub IsTextRefusal : Type 0 → List ℕ → Fault → Type 0
-IsTextRefusal A text fault =
+abbrev pub IsTextRefusal : List ℕ → Fault → Type 0
+IsTextRefusal text fault =
     (size_refusal text ≡ Some fault) ⊎
-    ((size_refusal text ≡ None) × (n : ℕ) × (fault ≡ Syntax n) × FirstUnread A (lines text) n)
+    ((size_refusal text ≡ None) × (n : ℕ) × (fault ≡ Syntax n) × FirstUnread (lines text) n)

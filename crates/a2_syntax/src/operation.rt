@@ -9,9 +9,9 @@ ghost use Rattle.a2_syntax.specs.declared.operation.Operation.{Operation as Decl
 use a2_opcode::Mnemonic;
 use a2_text::capital;
 
-// What a word makes a line do.
+/// What a word makes a line do.
 #[derive(Clone, Copy, Drop)]
-pub(crate) enum Operation {
+pub enum Operation {
     Instr(Mnemonic),
     Org,
     Equ,

@@ -3,7 +3,7 @@
 ghost use Rattle.std.specs.Prelude.{◌≡◌, ◌≢◌, ◌≤◌, List, ℕ, map, length, IfOk, IfErr};
 ghost use Rattle.std.specs.List.{All};
 ghost use Rattle.a2_syntax.specs.Sources.{AreLines, FirstUnread, IsSource, IsTextRefusal};
-ghost use Rattle.a2_syntax.specs.declared.source.Line.{Line};
+ghost use Rattle.a2_syntax.specs.Bare.{BareLine};
 ghost use Rattle.a2_syntax.specs.declared.fault.Fault.{Fault};
 
 use crate::fault::Fault;
@@ -17,8 +17,8 @@ fn parse_lines<A: Allocator + Copy>(alloc: A, texts: &[&[u8]]) -> Result<Source<
     requires few { length texts.now ≤ 4096 }
     requires short { All (λ text. length text.now ≤ 255) texts.now }
     ensures read { IfOk result (λ source. AreLines (map (λ x. x.now) texts.now) source) }
-    ensures only { IfOk result (λ source. (others : List (Line A)) → AreLines (map (λ x. x.now) texts.now) others → others ≡ source) }
-    ensures refused { IfErr result (λ fault. fault ≢ Fault.Memory → (n : ℕ) × (fault ≡ Fault.Syntax n) × FirstUnread A (map (λ x. x.now) texts.now) n) }
+    ensures only { IfOk result (λ source. (others : List BareLine) → AreLines (map (λ x. x.now) texts.now) others → others ≡ source) }
+    ensures refused { IfErr result (λ fault. fault ≢ Fault.Memory → (n : ℕ) × (fault ≡ Fault.Syntax n) × FirstUnread (map (λ x. x.now) texts.now) n) }
 {
     let mut parsed = Vec::new(alloc);
     let mut n: u16 = 1;
@@ -39,19 +39,25 @@ fn parse_lines<A: Allocator + Copy>(alloc: A, texts: &[&[u8]]) -> Result<Source<
 /// not in the grammar; and for want of memory.
 pub fn parse<A: Allocator + Copy>(alloc: A, text: &[u8]) -> Result<Source<A>, Fault>
     ensures read { IfOk result (λ source. IsSource text.now source) }
-    ensures only { IfOk result (λ source. (others : List (Line A)) → IsSource text.now others → others ≡ source) }
-    ensures refused { IfErr result (λ fault. fault ≢ Fault.Memory → IsTextRefusal A text.now fault) }
+    ensures only { IfOk result (λ source. (others : List BareLine) → IsSource text.now others → others ≡ source) }
+    ensures refused { IfErr result (λ fault. fault ≢ Fault.Memory → IsTextRefusal text.now fault) }
 {
     let texts = lines(alloc, text)?;
     parse_lines(alloc, texts.as_slice())
 }
 
 /// A text that has a refusal is no source.
-pub fn a_refused_text_is_no_source<A: Allocator>()
-    ensures { (text : List ℕ) (fault : Fault) (source : List (Line A)) → IsTextRefusal A text fault → IsSource text source → ⊥ }
+pub fn a_refused_text_is_no_source()
+    ensures { (text : List ℕ) (fault : Fault) (source : List BareLine) → IsTextRefusal text fault → IsSource text source → ⊥ }
 {}
 
 /// A text is one source at most.
-pub fn a_text_is_one_source<A: Allocator>()
-    ensures { (text : List ℕ) (a b : List (Line A)) → IsSource text a → IsSource text b → a ≡ b }
+pub fn a_text_is_one_source()
+    ensures { (text : List ℕ) (a b : List BareLine) → IsSource text a → IsSource text b → a ≡ b }
+{}
+
+/// A text has one refusal at most, and no text is without one and without lines.
+pub fn a_text_has_one_refusal()
+    ensures one { (text : List ℕ) (fault other : Fault) → IsTextRefusal text fault → IsTextRefusal text other → fault ≡ other }
+    ensures either { (text : List ℕ) → ((source : List BareLine) → IsSource text source → ⊥) → ((fault : Fault) → IsTextRefusal text fault → ⊥) → ⊥ }
 {}

@@ -2,6 +2,7 @@
 
 ghost use Rattle.std.specs.Prelude.{◌≡◌, ◌≤◌, true, length, string_bytes};
 ghost use Rattle.a2_syntax.specs.Names.{is_name};
+ghost use Rattle.a2_syntax.specs.Bare.{bare};
 
 use a2_opcode::Mnemonic;
 use std::alloc::{Allocator, Global};
@@ -243,11 +244,11 @@ pub struct Source<A: Allocator = Global> {
 
 impl<A: Allocator> Model for Source<A> {
     ghost use Rattle.std.specs.Prelude.{◌≤◌, List, length};
-    ghost use Rattle.a2_syntax.specs.declared.source.Line.{Line};
+    ghost use Rattle.a2_syntax.specs.Bare.{BareLine, bare};
 
-    ghost Value = { List (Line A) };
+    ghost Value = { List BareLine };
 
-    ghost view = { λ a. a.lines.items };
+    ghost view = { λ a. bare a.lines.items };
 
     ghost invariant = { λ a. length a.lines.items ≤ 4096 };
 }
@@ -255,14 +256,14 @@ impl<A: Allocator> Model for Source<A> {
 impl<A: Allocator> Source<A> {
     pub(crate) fn of(lines: Vec<Line<A>, A>) -> Source<A>
         requires { length lines.items ≤ 4096 }
-        ensures { result ≡ lines.items }
+        ensures { result ≡ bare lines.items }
     {
         Source { lines }
     }
 
     /// The lines in order, one for each line of the text.
     pub fn lines(&self) -> &[Line<A>]
-        ensures is { result.now ≡ self.now }
+        ensures is { bare result.now ≡ self.now }
         ensures few { length result.now ≤ 4096 }
     {
         self.lines.as_slice()

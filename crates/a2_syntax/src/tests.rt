@@ -197,6 +197,6 @@ fn texts(rt: HostRuntime) -> Result<(), std::test::Fail> {
 fn laws(_rt: HostRuntime) {
     a_listed_operand_is_its_operand::<Global>();
     a_listing_is_its_line::<Global>();
-    a_refused_text_is_no_source::<Global>();
-    a_text_is_one_source::<Global>();
+    a_refused_text_is_no_source();
+    a_text_is_one_source();
 }

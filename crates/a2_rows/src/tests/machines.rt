@@ -46,7 +46,7 @@ fn parts_of_a_program(rt: HostRuntime) -> Result<(), Fail> {
     assert_eq!(rt; program.name("COUT"), Some(0xFDED));
     assert_eq!(rt; program.name("cout"), None);
     assert_eq!(rt; program.names().len(), 1);
-    a_source_has_one_layout::<Global>();
+    a_source_has_one_layout();
     Ok(())
 }
 

@@ -2,4 +2,4 @@ use Rattle.a2_syntax.proofs.OneReading.{one-source}
 use Rattle.a2_syntax.proofs.parser.a_text_is_one_source.Goals as goal
 
 pub returns : goal.returns
-returns g c = one-source
+returns c = one-source

@@ -1,6 +1,6 @@
 use Rattle.std.proofs.Common.{◌+◌, List, ℕ, Bor, map, drop, length, arith, ap, refl}
 use Rattle.std.proofs.lemmas.List.{at_drop_more, length_push, drop_all}
-use Rattle.a2_syntax.proofs.ParseLaws.{Parses-more, Parses-fail, Parses-only}
+use Rattle.a2_syntax.proofs.ParseLaws.{Parses-more, Parses-fail, Parses-read, Parses-only}
 use Rattle.a2_syntax.proofs.parser.parse_lines.Goals as goal
 
 abbrev now : List (Bor (List ℕ)) → List (List ℕ)
@@ -30,3 +30,9 @@ loop-text-preserved g c =
       number = omega arith;
       parses = rw (c.in_ok-push.ensures.items) (Parses-more (now texts) (now (drop (i + 1) texts)) (now (drop i texts)) _ c.loop-text.n c.loop-text.parsed.items c.in-Some.line c.loop-text.invariant.parses (at_drop_more now texts i _ (omega arith)) (rw c.in-Some.is at c.in_ok-read.ensures));
     }
+
+pub returns-clause-read : goal.returns-clause-read
+returns-clause-read g c =
+    let texts = c.args.texts.now in
+    let i = c.loop-text.text-index in
+    rw c.of.ensures (Parses-read (now texts) (now (drop i texts)) c.loop-text.n c.loop-text.parsed.items c.loop-text.invariant.parses (ap now (drop_all i texts c.loop-text-test.false)))

@@ -1,0 +1,88 @@
+-- Lines that are not refused are a program.
+use Rattle.std.specs.Prelude.{◌≡◌, ◌⊎◌, ℕ, zero, suc, ◌+◌, ◌-◌, ◌<◌, ◌≤◌, nat_le, not, true, false, List, [], ◌∷◌, length, Bool, Option, Some, None, is_some, slice_get, if◌then◌else◌}
+use Rattle.std.proofs.Common.{refl, sym, ap, ◌∙◌, subst, inl, inr, arith, true≢false}
+use Rattle.std.proofs.lemmas.Bool.{cases_lt}
+use Rattle.std.proofs.lemmas.Option.{slice_get_past}
+use Rattle.a2_text.specs.Refusals.{◌otherwise◌, refuse_if}
+use Rattle.a2_hex.specs.Images.{Cells, held}
+use Rattle.a2_syntax.specs.declared.fault.Fault.{Fault}
+use Rattle.a2_syntax.specs.declared.fault.Fault.TheVariants.{NoCode}
+use Rattle.a2_syntax.specs.declared.source.Line.{Line}
+use Rattle.a2_asm.specs.Assembled.{Assembled}
+use Rattle.a2_asm.specs.Values.{Names}
+use Rattle.a2_asm.specs.Layout.{Row, rows, names}
+use Rattle.a2_asm.specs.Laying.{byte_from}
+use Rattle.a2_asm.specs.Bytes.{bytes_of, image, statements, entry}
+use Rattle.a2_asm.specs.Refusals.{layout_refusal, first_behind, refuse_names, refuse_place, refuse_bytes}
+use Rattle.a2_asm.specs.Programs.{IsProgram}
+use Rattle.a2_asm.proofs.MadeLaws.{program-of}
+
+-- the cells of a map below an end
+abbrev cells_of : (ℕ → Option ℕ) → ℕ → Cells
+cells_of map zero = []
+cells_of map (suc n) = map 0 ∷ cells_of (λ a. map (a + 1)) n
+
+held-cells : (map : ℕ → Option ℕ) (n : ℕ) → ((a : ℕ) → n ≤ a → map a ≡ None) → (a : ℕ) → held (cells_of map n) a ≡ map a
+held-cells map zero none a = sym (none a (omega arith))
+held-cells map (suc n) none zero = refl
+held-cells map (suc n) none (suc a) =
+    held-cells (λ b. map (b + 1)) n (λ b le. none (b + 1) (omega (arith, le))) a ∙ ap map (let e : a + 1 ≡ suc a = omega arith in e)
+
+-- behind these addresses rows hold nothing
+abbrev end_of_bytes : {A : Type 0} → Names → List (Row A) → ℕ
+end_of_bytes all [] = 0
+end_of_bytes all (row ∷ more) = row.place.address + length (bytes_of all row.place row.line.body) + end_of_bytes all more
+
+nothing-from : (at : ℕ) (bytes : List ℕ) (a : ℕ) → at + length bytes ≤ a → byte_from at bytes a ≡ None
+nothing-from at bytes a le = go (nat_le at a)
+  where
+    past : slice_get bytes (a - at) ≡ None
+    past = slice_get_past bytes (a - at) (omega (arith, le))
+
+    go : (b : Bool) → (if b then slice_get bytes (a - at) else None) ≡ None
+    go true = past
+    go false = refl
+
+nothing-behind : {A : Type 0} (all : Names) (rows : List (Row A)) (a : ℕ) → end_of_bytes all rows ≤ a → image all rows a ≡ None
+nothing-behind all [] a le = refl
+nothing-behind all (row ∷ more) a le =
+    ap (λ o. o otherwise image all more a) (nothing-from row.place.address (bytes_of all row.place row.line.body) a (omega (arith, le)))
+    ∙ nothing-behind all more a (omega (arith, le))
+
+some-of : (o : Option ℕ) → is_some o ≡ true → (n : ℕ) × (o ≡ Some n)
+some-of (Some n) e = (n, refl)
+some-of None e = absurd (true≢false (sym e))
+
+-- what is not refused has an entry
+entered : {A : Type 0} (source : List (Line A)) → layout_refusal source ≡ None → is_some (entry (rows source)) ≡ true
+entered source e =
+    go (first_behind refuse_names [] source) (first_behind (refuse_place (names (rows source))) [] (rows source)) (is_some (entry (rows source))) e
+  where
+    some≢none : {X : Type 0} (x : X) → Some x ≡ None → ⊥
+    some≢none x e = true≢false (ap is_some e)
+
+    go : (a b : Option Fault) (c : Bool)
+        → (a otherwise b otherwise refuse_if (not c) NoCode otherwise first_behind (refuse_bytes (names (rows source))) [] (rows source)) ≡ None → c ≡ true
+    go (Some f) b c e = absurd (some≢none f e)
+    go None (Some f) c e = absurd (some≢none f e)
+    go None None true e = refl
+    go None None false e = absurd (some≢none NoCode e)
+
+-- lines that are not refused are a program
+pub program-of-source : {A : Type 0} (source : List (Line A)) → layout_refusal source ≡ None → (p : Assembled) × IsProgram source p
+program-of-source source e =
+    let all = names (rows source) in
+    let first = some-of (entry (rows source)) (entered source e) in
+    let made : Assembled = record {
+      image = cells_of (image all (rows source)) (end_of_bytes all (rows source));
+      statements = statements all (rows source);
+      names = all;
+      entry = first.0;
+    } in
+    (made, program-of source made (record {
+      accepted = e;
+      named = refl;
+      laid = held-cells (image all (rows source)) (end_of_bytes all (rows source)) (nothing-behind all (rows source));
+      stated = refl;
+      begins = first.1;
+    }))

@@ -1,0 +1,112 @@
+-- Where nothing is refused, what lines say has values.
+use Rattle.std.specs.Prelude.{◌≡◌, ℕ, Bool, true, false, not, List, [], ◌∷◌, ◌++◌, Option, Some, None, IfSome, is_some}
+use Rattle.std.specs.List.{list_all}
+use Rattle.std.proofs.Common.{refl, sym, ap, ◌∙◌, subst}
+use Rattle.std.proofs.lemmas.List.{append_assoc, append-nil}
+use Rattle.a2_text.specs.Refusals.{◌otherwise◌, refuse_if}
+use Rattle.a2_syntax.specs.declared.fault.Fault.{Fault}
+use Rattle.a2_syntax.specs.declared.fault.Fault.TheVariants as faults
+use Rattle.a2_syntax.specs.declared.source.Expr.{Expr}
+use Rattle.a2_syntax.specs.declared.source.Operand.{Operand}
+use Rattle.a2_syntax.specs.declared.source.Operand.TheVariants as forms
+use Rattle.a2_syntax.specs.declared.source.Body.{Body}
+use Rattle.a2_syntax.specs.declared.source.Body.TheVariants.{Empty, Instr, Org, Equ, Dfb, Dw, Asc, Ds}
+use Rattle.a2_asm.specs.declared.place.Place.{Place}
+use Rattle.a2_asm.specs.Values.{Names, is_known, number}
+use Rattle.a2_asm.specs.Modes.{greatest, expr_of}
+use Rattle.a2_asm.specs.Layout.{Row, rows, names, IsPlaced}
+use Rattle.a2_asm.specs.Bytes.{counted, image, bytes_of}
+use Rattle.a2_asm.specs.Laying.{meets}
+use Rattle.a2_asm.specs.Refusals.{first_behind, is_taken, is_outside, is_far, refuse_now, refuse_body, refuse_instr, refuse_value, refuse_values, refuse_operand, refuse_place, refuse_bytes}
+use Rattle.a2_asm.specs.Valued.{HasValue, HasItsValues, AcceptedHaveTheirValues}
+use Rattle.a2_asm.proofs.FirstLaws.{otherwise-left, otherwise-right, if-none}
+use Rattle.a2_asm.proofs.SeatLaws.{Keeps, keeps-line}
+use Rattle.a2_asm.proofs.StateLaws.{accepted-is, instr-encoded}
+use Rattle.a2_asm.proofs.OneLayout.{rows-fit}
+
+-- a check that refuses nothing does not refuse an element behind those before it
+at-split : {X : Type 0} (check : List X → X → Option Fault) (done before after : List X) (x : X) → first_behind check done (before ++ x ∷ after) ≡ None → check (done ++ before) x ≡ None
+at-split check done [] after x h = ap (λ xs. check xs x) (append-nil done) ∙ otherwise-left (check done x) (first_behind check (done ++ x ∷ []) after) h
+at-split check done (b ∷ bs) after x h =
+    ap (λ xs. check xs x) (sym (append_assoc done (b ∷ []) bs))
+    ∙ at-split check (done ++ b ∷ []) bs after x (otherwise-right (check done b) (first_behind check (done ++ b ∷ []) (bs ++ x ∷ after)) h)
+
+not-true : (b : Bool) → not b ≡ false → b ≡ true
+not-true true h = refl
+not-true false h = sym h
+
+valued : {A : Type 0} (known : Names) (most : ℕ) (place : Place) (e : Expr A) → refuse_value known most place e ≡ None → HasValue known most place.address e
+valued known most place e h =
+    let unknown = refuse_if (not (is_known known e)) (faults.Unknown place.number) in
+    let range = refuse_if (not (is_some (number known most place.address e))) (faults.Range place.number) in
+    (not-true _ (if-none (not (is_known known e)) (faults.Unknown place.number) (otherwise-left unknown range h)),
+    not-true _ (if-none (not (is_some (number known most place.address e))) (faults.Range place.number) (otherwise-right unknown range h)))
+
+valued-now : {A : Type 0} (all earlier : Names) (place : Place) (e : Expr A) → refuse_now all earlier place e ≡ None → HasValue earlier 65535 place.address e
+valued-now all earlier place e h =
+    let unknown = refuse_if (not (is_known all e)) (faults.Unknown place.number) in
+    let later = refuse_if (not (is_known earlier e)) (faults.Forward place.number) in
+    let range = refuse_if (not (is_some (number earlier 65535 place.address e))) (faults.Range place.number) in
+    let behind : (later otherwise range) ≡ None = otherwise-right unknown (later otherwise range) h in
+    (not-true _ (if-none (not (is_known earlier e)) (faults.Forward place.number) (otherwise-left later range behind)),
+    not-true _ (if-none (not (is_some (number earlier 65535 place.address e))) (faults.Range place.number) (otherwise-right later range behind)))
+
+valued-list : {A : Type 0} (all : Names) (most : ℕ) (place : Place) (es : List (Expr A)) → refuse_values all most place es ≡ None
+    → (list_all (is_known all) es ≡ true) × (list_all (λ e. is_some (number all most place.address e)) es ≡ true)
+valued-list all most place es h =
+    let known = list_all (is_known all) es in
+    let within = list_all (λ e. is_some (number all most place.address e)) es in
+    let unknown = refuse_if (not known) (faults.Unknown place.number) in
+    let range = refuse_if (not within) (faults.Range place.number) in
+    (not-true known (if-none (not known) (faults.Unknown place.number) (otherwise-left unknown range h)),
+    not-true within (if-none (not within) (faults.Range place.number) (otherwise-right unknown range h)))
+
+valued-instr : {A : Type 0} (all : Names) (place : Place) (e : Expr A) → refuse_instr all place e ≡ None → HasValue all (greatest place.mode) place.address e
+valued-instr all place e h =
+    valued all (greatest place.mode) place e
+    (otherwise-left (refuse_value all (greatest place.mode) place e)
+    (refuse_if (is_far place.mode place.address (counted all (greatest place.mode) place.address e)) (faults.Branch place.number)) h)
+
+valued-operand : {A : Type 0} (all : Names) (place : Place) (m : Rattle.a2_opcode.specs.declared.Mnemonic.Mnemonic) (o : Operand A) → refuse_operand all place (Instr m o) ≡ None
+    → IfSome (expr_of o) (HasValue all (greatest place.mode) place.address)
+valued-operand all place m forms.Nothing h = tt
+valued-operand all place m forms.Accumulator h = tt
+valued-operand all place m (forms.Immediate e) h = valued-instr all place e h
+valued-operand all place m (forms.Plain e) h = valued-instr all place e h
+valued-operand all place m (forms.WithX e) h = valued-instr all place e h
+valued-operand all place m (forms.WithY e) h = valued-instr all place e h
+valued-operand all place m (forms.InParenthesesX e) h = valued-instr all place e h
+valued-operand all place m (forms.ParenthesesY e) h = valued-instr all place e h
+valued-operand all place m (forms.InParentheses e) h = valued-instr all place e h
+
+valued-body : {A : Type 0} (all earlier : Names) (place : Place) (body : Body A) → Keeps earlier place body → refuse_body all earlier place body ≡ None → refuse_operand all place body ≡ None
+    → HasItsValues all earlier place body
+valued-body all earlier place (Instr m o) k now later =
+    let e = instr-encoded all earlier place m o k later in
+    (valued-operand all place m o later, e.0, e.1)
+valued-body all earlier place (Org e) k now later = valued-now all earlier place e now
+valued-body all earlier place (Equ e) k now later = valued-now all earlier place e now
+valued-body all earlier place (Ds e) k now later = valued-now all earlier place e now
+valued-body all earlier place (Dfb es) k now later = valued-list all 255 place es later
+valued-body all earlier place (Dw es) k now later = valued-list all 65535 place es later
+valued-body all earlier place (Asc bytes) k now later = tt
+valued-body all earlier place Empty k now later = tt
+
+pub accepted-valued : AcceptedHaveTheirValues
+accepted-valued source before after row e is =
+    let all = names (rows source) in
+    let earlier = names before in
+    let place = row.place in
+    let body = row.line.body in
+    let passed = accepted-is source e in
+    let P : List (Row (Unit {0})) → Type 0 = λ xs. first_behind (refuse_place all) [] xs ≡ None in
+    let Q : List (Row (Unit {0})) → Type 0 = λ xs. first_behind (refuse_bytes all) [] xs ≡ None in
+    let placed : refuse_place all before row ≡ None = at-split (refuse_place all) [] before after row (subst P is passed.place) in
+    let laid : refuse_bytes all before row ≡ None = at-split (refuse_bytes all) [] before after row (subst Q is passed.bytes) in
+    let taken = refuse_if (is_taken earlier row.line.label) (faults.Duplicate place.number) in
+    let outside = refuse_if (is_outside place) (faults.Outside place.number) in
+    let now : refuse_body all earlier place body ≡ None = otherwise-left (refuse_body all earlier place body) outside (otherwise-right taken (refuse_body all earlier place body otherwise outside) placed) in
+    let later : refuse_operand all place body ≡ None = otherwise-left (refuse_operand all place body) (refuse_if (meets (image all before) place.address (bytes_of all place body)) (faults.Overlap place.number)) laid in
+    let k = keeps-line all earlier place row.line placed in
+    let lies : IsPlaced before row = (rows-fit source).placed before row after is in
+    valued-body all earlier place body (record { has_row = k.0; form = lies.mode; long = lies.size; inside = k.1 }) now later
