@@ -21,7 +21,7 @@ use Rattle.a2_asm.specs.Assembled.{Assembled}
 use Rattle.a2_asm.specs.Layout.{Row, rows, names}
 use Rattle.a2_asm.specs.Bytes.{image, bytes_of, stated, is_instruction, instr_in, instr_of, statement_of, statements, entry}
 use Rattle.a2_asm.specs.Refusals.{refuse_operand}
-use Rattle.a2_asm.specs.Programs.{IsProgram, begins_at, covers, is_code, StatementsDecode, StatementsBegin, StatementsApart, CodeInRam, CodeIsHeld, EntryBegins, instr_at, Holds}
+use Rattle.a2_asm.specs.Programs.{IsProgram, begins_at, covers, is_code, StatementsDecode, StatementsBegin, StatementsApart, CodeInRam, CodeIsHeld, EntryBegins, IsSound, instr_at, Holds}
 use Rattle.a2_asm.proofs.MadeLaws.{IsMade, made-of}
 use Rattle.a2_asm.proofs.LayingLaws.{meets-free}
 use Rattle.a2_asm.proofs.BytesLaws.{operand-most, greatest-word}
@@ -274,6 +274,14 @@ made-enters source p is =
     let P : List Statement → Type 0 = λ x. Contains x r.statement in
     let begins = made-begins source p is r.statement r.instr (subst P (sym is.stated) r.among) r.of_instr in
     (r.instr, ap (instr_at p.statements) (sym r.there) ∙ begins.0)
+
+pub made-sound : {A : Type 0} (source : List (Line A)) (p : Assembled) → IsMade source p → IsSound p
+made-sound source p is = record {
+  decodes = made-decodes source p is;
+  begins = made-begins source p is;
+  in_ram = made-room source p is;
+  is_held = made-stored source p is;
+}
 
 -- the same of a program by any layout
 

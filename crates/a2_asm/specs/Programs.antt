@@ -82,3 +82,10 @@ EntryBegins p = (i : Instr) × (instr_at p.statements p.entry ≡ Some i)
 -- nothing is held at or above $C000
 abbrev pub ImageInRam : Assembled → Type 0
 ImageInRam p = (a : ℕ) → 49152 ≤ a → held p.image a ≡ None
+
+-- what a run and a debugger rest on, of whatever program
+pub record IsSound (p : Assembled) : Type 0 where
+  pub decodes : StatementsDecode p
+  pub begins : StatementsBegin p
+  pub in_ram : CodeInRam p
+  pub is_held : CodeIsHeld p

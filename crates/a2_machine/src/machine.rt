@@ -3,11 +3,13 @@
 ghost use Rattle.std.specs.Prelude.{◌≡◌, ◌+◌, ◌^◌, ◌<◌, ◌≤◌, ◌↔◌, ℕ, [], None, Some, Ok, IfOk, IfNone, IfSome, OnOk, OnErr, OnSome, IsOk, length};
 ghost use Rattle.a2_page.specs.Picture.{page_grid};
 ghost use Rattle.a2_bus.specs.Devices.{keys_typed};
+ghost use Rattle.a2_bus.specs.Memory.{ram_end, with_ram, peek as peek_of};
 ghost use Rattle.a2_bus.specs.View.{memory_of};
 ghost use Rattle.a2_hex.specs.Images.{held};
 ghost use Rattle.a2_machine.specs.Meaning.{stuck};
 ghost use Rattle.a2_machine.specs.ProgramGuard.{guard_of_program};
 ghost use Rattle.a2_machine.specs.Start.{start_world};
+ghost use Rattle.a2_machine.specs.Start.{called_at};
 ghost use Rattle.a2_machine.specs.State.{world_of, code_of, cause_of, most_steps, steps_left, IsStep, IsRun};
 
 use crate::Cause;
@@ -15,7 +17,7 @@ use crate::advance::advance_by;
 use crate::turn::cause_at;
 use crate::watch::Watch;
 use a2_asm::Program;
-use a2_bus::{Board, Keys, KeysFull};
+use a2_bus::{Board, Bus, Keys, KeysFull};
 use a2_cpu::Regs;
 use a2_hex::Image;
 use a2_page::View;
@@ -164,6 +166,46 @@ impl<A: Allocator> Machine<A> {
         ensures switches { result.switches ≡ self.now.state.bus.devices.switches }
     {
         self.board.view()
+    }
+
+    /// Makes this machine equal to `other` in all but `made`: registers, board, cycles and steps since the start, guard.
+    pub fn copy_from<C: Allocator>(&mut self, other: &Machine<C>)
+        ensures { self.new ≡ record self.old { state = other.now.state } }
+    {
+        self.board.copy_from(&other.board);
+        self.watch.copy_from(&other.watch);
+        self.regs = other.regs;
+        self.cycles = other.cycles;
+        self.steps = other.steps;
+    }
+
+    /// The byte of RAM at `address`, with no effect on anything; none at or above $C000.
+    pub fn peek(&self, address: u16) -> Option<u8>
+        ensures value { result ≡ peek_of (memory_of self.now.state.bus) address }
+        ensures size { length self.now.state.bus.bytes ≡ ram_end }
+    {
+        self.board.peek(address)
+    }
+
+    /// Stores `byte` at `address`, below $C000, whatever the guard. No step is made.
+    pub fn poke(&mut self, address: u16, byte: u8)
+        requires { address < ram_end }
+        ensures memory { memory_of self.new.state.bus ≡ with_ram (memory_of self.old.state.bus) address byte }
+        ensures left { self.new ≡ (let s = self.old.state in record self.old { state = record s { bus = self.new.state.bus } }) }
+    {
+        self.board.write(address, byte);
+    }
+
+    /// Puts PC at `address` and the stack as it is at the start: S = $FD, and at $01FE and $01FF the bytes that send a last
+    /// RTS to $FF69. No step is made. This project's profile.
+    pub fn set_pc(&mut self, address: u16)
+        ensures world { world_of self.new.state ≡ called_at address (world_of self.old.state) }
+        ensures left { self.new ≡ (let s = self.old.state in record self.old { state = record s { regs = self.new.state.regs; bus = self.new.state.bus } }) }
+    {
+        self.regs.pc = address;
+        self.regs.s = 0xFD;
+        self.board.write(0x01FE, 0x68);
+        self.board.write(0x01FF, 0xFF);
     }
 
     // Makes at most so many steps, fewer only where the machine is stuck: the cause then.

@@ -225,6 +225,17 @@ impl<A: Allocator> Watch<A> {
         self.on = false;
     }
 
+    /// Makes this guard equal to another.
+    pub fn copy_from<C: Allocator>(&mut self, other: &Watch<C>)
+        ensures { self.new ≡ other.now }
+    {
+        self.marks
+            .as_mut_slice()
+            .copy_from_slice(other.marks.as_slice());
+        self.blocked = other.blocked;
+        self.on = other.on;
+    }
+
     /// Whether an instruction may begin at an address.
     #[inline(always)]
     pub fn admits(&self, address: u16) -> bool

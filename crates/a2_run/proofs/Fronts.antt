@@ -20,11 +20,11 @@ too_long text long =
     ap (λ v. refuse_if v (TooLarge 0) otherwise refuse_if (nat_lt 4096 (length (lines text))) (TooLarge 4097) otherwise
     first_line (λ n line. refuse_if (nat_lt 255 (length line)) (TooLarge n)) 1 (lines text)) (lt-ltb 65536 (length text) long)
 
-none≢some : {X : Type 0} (x : X) → None ≡ Some x → ⊥
+pub none≢some : {X : Type 0} (x : X) → None ≡ Some x → ⊥
 none≢some x e = true≢false (sym (ap is_some e))
 
 -- the front is the whole, or both are too long
-fronts : (n : ℕ) (xs : List ℕ) → 65536 < n
+pub fronts : (n : ℕ) (xs : List ℕ) → 65536 < n
     → (take n xs ≡ xs) ⊎ ((size_refusal (take n xs) ≡ Some (TooLarge 0)) × (size_refusal xs ≡ Some (TooLarge 0)))
 fronts n xs above = go (cases_lt n (length xs))
   where

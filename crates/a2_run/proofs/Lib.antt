@@ -8,3 +8,5 @@ pub mod OneText
 pub mod FreeText
 pub mod EachText
 pub mod Refusing
+pub mod Scripting
+pub mod ScriptReading

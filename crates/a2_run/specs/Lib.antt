@@ -3,3 +3,4 @@ pub mod Answers
 pub mod Status
 pub mod Started
 pub mod Laws
+pub mod Scripts

@@ -4,11 +4,12 @@
 mod fault;
 mod laws;
 mod run;
+mod scripts;
 mod sources;
 
 pub use fault::{ReadingFault, RunFault};
 pub use laws::{a_free_run_is_the_guarded_run, a_text_is_refused_or_means_a_program, a_text_means_one_output};
-pub use run::{asm_text, fault_status, run_text, status};
+pub use run::{asm_text, fault_status, mon_text, run_text, status};
 
 /// What a run may do, and what it shows.
 #[derive(Clone, Copy, Debug, PartialEq, Eq)]

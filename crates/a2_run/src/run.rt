@@ -4,8 +4,10 @@ ghost use Rattle.std.specs.Prelude.{◌≡◌, IfOk, IfSome, take};
 ghost use Rattle.a2_stream.specs.Stream.{count_after, TakesAtMost};
 ghost use Rattle.a2_run.specs.Answers.{read_of, Answers, is_read_fault, is_unread, is_write_fault, NothingSent};
 ghost use Rattle.a2_run.specs.Meaning.{IsRefused, IsRun, AreObjectLines};
+ghost use Rattle.a2_run.specs.Scripts.{ScriptAnswers, is_mon_text, is_refused_script};
 ghost use Rattle.a2_run.specs.Status.{status_of, fault_status as status_of_fault, refusal_status as status_of_refusal};
 
+use crate::scripts::answer_script;
 use crate::sources::{assemble_source, run_source};
 use crate::{Options, ReadingFault, RunFault};
 use a2_bus::Keys;
@@ -91,6 +93,27 @@ pub fn asm_text<A: Allocator + Copy, R: Input, W: Output>(alloc: A,
 {
     let text = read_text(alloc, reader)?;
     assemble_source(alloc, text.as_slice(), writer)
+}
+
+/// Answers the Monitor lines of the script that the reader gives: for each `*`, the line, LF, and its answer or its refusal.
+/// Refused where the script is over the limits, where a read or write fails, and for want of memory.
+pub fn mon_text<A: Allocator + Copy, R: Input, W: Output>(alloc: A,
+    reader: &mut R,
+    writer: &mut W,
+) -> Result<(), RunFault>
+    // What is written is the meaning of what is read.
+    ensures meaning { IfSome (R.giver reader.old).bytes (λ input.
+        ScriptAnswers (is_refused_script input) (is_mon_text input) (W.taker writer.old) (W.taker writer.new) result) }
+    // Nothing is read past the 65,537th byte.
+    ensures front { TakesAtMost 65537 (R.giver reader.old) (R.giver reader.new) }
+    // Whatever the reader gives, a fault other than of the writer means that nothing was written.
+    ensures silent { NothingSent (W.taker writer.old) (W.taker writer.new) result }
+    // A fault of the reader or writer comes exactly where one of its calls failed.
+    ensures reader { (R.giver reader.new).failures ≡ count_after (is_read_fault result) (R.giver reader.old).failures }
+    ensures writer { (W.taker writer.new).failures ≡ count_after (is_write_fault result) (W.taker writer.old).failures }
+{
+    let text = read_text(alloc, reader)?;
+    answer_script(alloc, text.as_slice(), writer)
 }
 
 // The status where a text is refused: 1, but 5 for want of memory.

@@ -6,11 +6,11 @@ use Rattle.a2_asm.specs.Layout.{rows}
 use Rattle.a2_asm.specs.Bytes.{image, statements}
 use Rattle.a2_asm.specs.Refusals.{layout_refusal}
 use Rattle.a2_asm.specs.Programs.{IsProgram}
-use Rattle.a2_asm.proofs.MadeLaws.{program-of, refused-of}
+use Rattle.a2_asm.proofs.MadeLaws.{IsMade, program-of, refused-of}
 use Rattle.a2_asm.proofs.BareLaws.{refusal-bare, program-bare}
 use Rattle.a2_asm.proofs.FirstLaws.{otherwise-some, otherwise-none}
 use Rattle.a2_asm.proofs.AssembleLaws.{layout-by, layout-no_code}
-use Rattle.a2_asm.proofs.RunLaws.{program-decodes, program-begins, program-apart, program-room, program-stored, program-enters}
+use Rattle.a2_asm.proofs.RunLaws.{program-decodes, program-begins, program-apart, program-room, program-stored, program-enters, made-sound}
 use Rattle.a2_asm.proofs.assembling.assemble.Goals as goal
 
 pub returns-in-Some-clause-refused : goal.returns-in-Some-clause-refused
@@ -33,6 +33,20 @@ returns-in_err-image-clause-refused g c =
     let lines = c.lines-lines.result.now in
     let f = c.in_err-image.field-0.0 in
     rw (p.1, p.2) (λ ne. refused-of c.args.source.now f (ap layout_refusal (sym c.lines-lines.ensures.is) ∙ refusal-bare lines ∙ layout-by lines (entries c.in_ok-places.names) c.in-Some-entry.entry (Some f) (sym c.refuse_names.ensures ∙ c.in_default.is) c.in_ok-places.ensures.placed (sym c.in-Some-entry.ensures) c.in_ok-places.ensures.names (c.in_err-image.ensures.refused ne)))
+
+pub of-requires : goal.of-requires
+of-requires g c =
+    let lines = c.lines-lines.result.now in
+    let known = entries c.in_ok-places.names in
+    let are = c.in_ok-places.ensures.names in
+    let made : IsMade lines (record { image = c.in_ok-image.image; statements = c.in_ok-image.statements.items; names = known; entry = c.in-Some-entry.entry }) = record {
+      accepted = layout-by lines known c.in-Some-entry.entry None (sym c.refuse_names.ensures ∙ c.in_default.is) c.in_ok-places.ensures.placed (sym c.in-Some-entry.ensures) are c.in_ok-image.ensures.laid;
+      named = are;
+      laid = λ a. c.in_ok-image.ensures.image a ∙ ap (λ k. image k (rows lines) a) are;
+      stated = c.in_ok-image.ensures.statements ∙ ap (λ k. statements k (rows lines)) are;
+      begins = sym c.in-Some-entry.ensures;
+    } in
+    made-sound lines _ made
 
 pub returns-clause-made : goal.returns-clause-made
 returns-clause-made g c =

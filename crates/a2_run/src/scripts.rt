@@ -1,0 +1,76 @@
+//! A script of Monitor lines in, its answers out.
+
+ghost use Rattle.std.specs.Prelude.{◌≡◌, ◌≢◌, false, IfOk, IfErr, List, ℕ, length, map};
+ghost use Rattle.a2_text.specs.Lines as cut;
+ghost use Rattle.a2_syntax.specs.Limits.{size_refusal};
+ghost use Rattle.a2_monitor.specs.Sittings.{sitting_of};
+ghost use Rattle.a2_run.specs.Answers.{is_read_fault};
+ghost use Rattle.a2_run.specs.Scripts as scripts;
+ghost use Rattle.a2_run.specs.Scripts.{ScriptAnswers, AnswersLine, AnswersLines, is_refused_script, is_mon_text, start_sitting};
+
+use crate::RunFault;
+use a2_machine::Machine;
+use a2_monitor::{MonFault, Session};
+use a2_stream::{Output, WriteFault, put, put_all};
+use a2_syntax::{Fault, lines};
+use std::alloc::{AllocError, Allocator};
+
+// A fault of the script, but want of memory by itself.
+fn refusal(fault: Fault) -> RunFault
+    ensures { result ≡ scripts.refusal_of fault }
+{
+    match fault {
+        Fault::Memory => RunFault::Memory,
+        fault => RunFault::Script(fault),
+    }
+}
+
+// Writes a line's answer or its refusal.
+fn answer<A: Allocator, W: Output>(session: &mut Session<A>, line: &[u8], writer: &mut W) -> Result<(), WriteFault>
+    ensures { AnswersLine line.now (sitting_of session.old) (sitting_of session.new) (W.taker writer.old) (W.taker writer.new) result }
+{
+    match session.line(line, writer) {
+        Ok(()) => Ok(()),
+        Err(MonFault::Write) => Err(WriteFault),
+        Err(MonFault::Syntax) => put(b"M1 SYNTAX\n", writer),
+        Err(MonFault::Backward) => put(b"M2 BACKWARD\n", writer),
+        Err(MonFault::Outside) => put(b"M3 OUTSIDE RAM\n", writer),
+    }
+}
+
+// Writes each line and its answer.
+fn answer_all<A: Allocator, W: Output>(session: &mut Session<A>, lines: &[&[u8]], writer: &mut W) -> Result<(), WriteFault>
+    ensures { AnswersLines (map (λ x. x.now) lines.now) (sitting_of session.old) (W.taker writer.old) (W.taker writer.new) result }
+{
+    for line in lines {
+        put_all(&[b"*", line, b"\n"], writer)?;
+        answer(session, line, writer)?;
+    }
+    Ok(())
+}
+
+// A session at its start.
+fn opened<A: Allocator + Copy>(alloc: A) -> Result<Session<A>, AllocError>
+    ensures { IfOk result (λ session. sitting_of session ≡ start_sitting) }
+{
+    let machine = Machine::new(alloc)?;
+    Ok(Session::new(machine))
+}
+
+/// Answers the lines of a script.
+pub fn answer_script<A: Allocator + Copy, W: Output>(
+    alloc: A,
+    script: &[u8],
+    writer: &mut W,
+) -> Result<(), RunFault>
+    ensures meaning { ScriptAnswers (is_refused_script script.now) (is_mon_text script.now) (W.taker writer.old) (W.taker writer.new) result }
+    ensures no_reader { is_read_fault result ≡ false }
+{
+    let lines = match lines(alloc, script) {
+        Ok(lines) => lines,
+        Err(fault) => return Err(refusal(fault)),
+    };
+    let mut session = opened(alloc)?;
+    answer_all(&mut session, lines.as_slice(), writer)?;
+    Ok(())
+}
