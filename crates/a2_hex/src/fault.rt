@@ -1,13 +1,14 @@
 //! Why object lines are refused.
 
-ghost use Rattle.std.specs.Prelude.{Some};
-ghost use Rattle.a2_hex.specs.Texts.{shown};
+ghost use Rattle.std.specs.Prelude.{◌≡◌, Some};
+ghost use Rattle.a2_hex.specs.Texts.{line_of, text_of, shown};
 
+use a2_text::Refusal;
 use std::alloc::{AllocError, AllocFailed};
 use std::error::Error;
 use std::fmt;
 
-/// Why object lines are refused. Lines are counted from 1. This project's profile.
+/// Why object lines are refused. A line counts from 1, and 0 is no line. This project's profile.
 #[derive(Clone, Copy, Debug, PartialEq, Eq, Drop)]
 pub enum HexFault {
     /// H1: the line with this number is neither blank nor an address or none, `:`, and bytes.
@@ -20,17 +21,40 @@ pub enum HexFault {
     Memory,
 }
 
-/// `LINE `, the line's number and the refusal, where it is of a line.
+impl HexFault {
+    // The line of a refusal, or 0 where it is of no line.
+    fn line(&self) -> usize
+        ensures { result ≡ line_of self.now }
+    {
+        match self {
+            HexFault::Digit(line) | HexFault::NoAddress(line) | HexFault::Outside(line) => *line,
+            HexFault::Memory => 0,
+        }
+    }
+
+    // The text of a refusal, behind its line.
+    fn text(&self) -> &'static str
+        ensures { result.now ≡ text_of self.now }
+    {
+        match self {
+            HexFault::Digit(_) => "H1 NOT HEX",
+            HexFault::NoAddress(_) => "H2 NO ADDRESS",
+            HexFault::Outside(_) => "H3 OUTSIDE RAM",
+            HexFault::Memory => "NO MEMORY",
+        }
+    }
+}
+
+/// `LINE `, the line and a blank, where the refusal is of a line, and its text.
 impl fmt::Display for HexFault {
     ghost output = { λ fault. Some (shown fault) };
 
     fn fmt<W: fmt::Write>(&self, f: &mut fmt::Formatter<W>) -> fmt::Result {
-        match self {
-            HexFault::Digit(line) => write!(f, "LINE {line} H1 NOT HEX"),
-            HexFault::NoAddress(line) => write!(f, "LINE {line} H2 NO ADDRESS"),
-            HexFault::Outside(line) => write!(f, "LINE {line} H3 OUTSIDE RAM"),
-            HexFault::Memory => f.write_str("NO MEMORY"),
+        Refusal {
+            line: self.line(),
+            text: self.text(),
         }
+        .fmt(f)
     }
 }
 

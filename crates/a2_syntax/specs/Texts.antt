@@ -1,6 +1,6 @@
 -- The texts of refusals. This project's profile.
-use Rattle.std.specs.Prelude.{ℕ, ◌==◌, List, ◌++◌, codes, if◌then◌else◌}
-use Rattle.std.specs.Fmt.{decimal}
+use Rattle.std.specs.Prelude.{ℕ, List, codes}
+use Rattle.a2_text.specs.Refusals.{of_line}
 use Rattle.a2_syntax.specs.declared.fault.Fault.{Fault}
 use Rattle.a2_syntax.specs.declared.fault.Fault.TheVariants.{TooLarge, Syntax, TooManyNames, Duplicate, Unknown, Forward, NoMode, Range, Branch, Outside, Overlap, NoCode, Memory}
 
@@ -36,6 +36,5 @@ text_of (Overlap n) = codes "E11 OVERLAP"
 text_of NoCode = codes "E12 NO INSTRUCTION"
 text_of Memory = codes "NO MEMORY"
 
--- `LINE `, the line and a blank, where the refusal is of a line, and its text
 abbrev pub shown : Fault → List ℕ
-shown fault = if line_of fault == 0 then text_of fault else codes "LINE " ++ (decimal (line_of fault) ++ (codes " " ++ text_of fault))
+shown fault = of_line (line_of fault) (text_of fault)

@@ -3,6 +3,7 @@
 ghost use Rattle.std.specs.Prelude.{◌≡◌, Some};
 ghost use Rattle.a2_syntax.specs.Texts.{line_of, text_of, shown};
 
+use a2_text::Refusal;
 use std::alloc::{AllocError, AllocFailed};
 use std::error::Error;
 use std::fmt;
@@ -87,13 +88,11 @@ impl fmt::Display for Fault {
     ghost output = { λ fault. Some (shown fault) };
 
     fn fmt<W: fmt::Write>(&self, f: &mut fmt::Formatter<W>) -> fmt::Result {
-        let n = self.line();
-        let text = self.text();
-        if n == 0 {
-            f.write_str(text)
-        } else {
-            write!(f, "LINE {n} {text}")
+        Refusal {
+            line: usize::from(self.line()),
+            text: self.text(),
         }
+        .fmt(f)
     }
 }
 

@@ -1,5 +1,6 @@
--- The first of several refusals.
-use Rattle.std.specs.Prelude.{ℕ, ◌+◌, Bool, List, [], ◌∷◌, Option, Some, None, if◌then◌else◌}
+-- The first of several refusals, and how one is shown. This project's profile.
+use Rattle.std.specs.Prelude.{ℕ, ◌+◌, ◌==◌, Bool, List, [], ◌∷◌, ◌++◌, codes, Option, Some, None, if◌then◌else◌}
+use Rattle.std.specs.Fmt.{decimal}
 
 -- the first where there is one, and else the second
 infixr 20 ◌otherwise◌
@@ -14,3 +15,7 @@ refuse_if b f = if b then Some f else None
 abbrev pub first_line : {X F : Type 0} → (ℕ → X → Option F) → ℕ → List X → Option F
 first_line check n [] = None
 first_line check n (x ∷ xs) = check n x otherwise first_line check (n + 1) xs
+
+-- a refusal's text, behind `LINE `, its line and a blank where it is of a line; 0 is no line
+abbrev pub of_line : ℕ → List ℕ → List ℕ
+of_line line text = if line == 0 then text else codes "LINE " ++ (decimal line ++ (codes " " ++ text))

@@ -1,12 +1,14 @@
-//! Texts as bytes: their lines, blanks and digits.
+//! Texts as bytes: their lines, blanks and digits, and how a refusal is shown.
 #![tactic(auto)]
 
 mod digits;
 mod lines;
 mod numbers;
+mod refusal;
 mod words;
 
 pub use digits::{decimal, hex_pair, hex_word};
 pub use lines::cut;
 pub use numbers::{capital, is_blank, number_in};
+pub use refusal::Refusal;
 pub use words::{behind_blanks, first_word, front_len};
