@@ -1,7 +1,7 @@
 //! Command lines over files in memory: what they show, what they complain of, and the status.
 
 use crate::program::{Shelf, obey};
-use a2_stream::{FromRead, Pinched, ReadFault, ToWrite};
+use a2_stream::{Failing, FromRead, Pinched, ReadFault, ToWrite};
 use std::alloc::{AllocError, Global};
 use std::test::Fail;
 
@@ -26,7 +26,7 @@ impl Shelf for Memory {
         };
         let calls = if name == "torn" { 1 } else { 1000 };
         let reader = FromRead::new(text.as_bytes());
-        Ok(Pinched::new(reader, 10, calls, false))
+        Ok(Pinched::new(reader, 10, calls, Failing::Refuses))
     }
 }
 
@@ -61,7 +61,7 @@ fn left_by(alloc: Global, line: &str, calls: u64) -> Result<Left, AllocError> {
         words.as_slice(),
         &mut Memory,
         &mut input,
-        &mut Pinched::new(ToWrite::new(&mut shown), 4096, calls, false),
+        &mut Pinched::new(ToWrite::new(&mut shown), 4096, calls, Failing::Refuses),
         &mut ToWrite::new(&mut complaint),
     );
     Ok(Left {

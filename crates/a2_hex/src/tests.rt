@@ -1,7 +1,7 @@
 //! Worked examples of object lines.
 
 use crate::{HexFault, Image, address_of, byte_of, load_lines, write_lines};
-use a2_stream::{Pinched, ToWrite, WriteFault};
+use a2_stream::{Failing, Pinched, ToWrite, WriteFault};
 
 #[test]
 fn an_image_holds_what_was_set(rt: HostRuntime) -> Result<(), std::test::Fail> {
@@ -85,6 +85,7 @@ fn a_refusal_names_its_line(rt: HostRuntime) -> Result<(), std::test::Fail> {
         (HexFault::Digit(1), "LINE 1 H1 NOT HEX"),
         (HexFault::NoAddress(2), "LINE 2 H2 NO ADDRESS"),
         (HexFault::Outside(30), "LINE 30 H3 OUTSIDE RAM"),
+        (HexFault::Digit(0), "H1 NOT HEX"),
         (HexFault::Memory, "NO MEMORY"),
     ];
     for (fault, want) in cases {
@@ -101,7 +102,7 @@ fn a_failed_write_is_told(rt: HostRuntime) -> Result<(), std::test::Fail> {
     assert_eq!(rt;
         write_lines(
             &image,
-            &mut Pinched::new(ToWrite::new(&mut bytes), 5, 3, false)
+            &mut Pinched::new(ToWrite::new(&mut bytes), 5, 3, Failing::Refuses)
         ),
         Err(WriteFault)
     );

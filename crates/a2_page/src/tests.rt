@@ -1,7 +1,7 @@
 //! Worked examples of cells and pictures.
 
 use super::*;
-use a2_stream::{Pinched, ToWrite, WriteFault};
+use a2_stream::{Failing, Pinched, ToWrite, WriteFault};
 use std::test::Fail;
 
 // The switches that these words name are on.
@@ -135,7 +135,7 @@ fn broken_writer(rt: HostRuntime) -> Result<(), Fail> {
         switches: switches("mixed"),
     };
     let mut text = Vec::new(rt.alloc());
-    let mut writer = Pinched::new(ToWrite::new(&mut text), 10, 6, false);
+    let mut writer = Pinched::new(ToWrite::new(&mut text), 10, 6, Failing::Refuses);
     assert_eq!(rt; print(&view, &mut writer), Err(WriteFault));
     assert_eq!(rt; print_attributes(&view, &mut writer), Err(WriteFault));
     drop(writer);

@@ -1,19 +1,25 @@
--- What a `Pinched` shows: what it stands before, how it pinches, and how many of its calls failed.
-use Rattle.std.specs.Prelude.{ℕ, Bool}
-use Rattle.a2_stream.specs.declared.pinched.Pinched.{Pinched}
+-- What a `Pinched` shows, and what one call of it does.
+use Rattle.std.specs.Prelude.{◌≡◌, ℕ, ◌-◌, Result, Ok, IsErr}
+use Rattle.a2_stream.specs.declared.pinched.Failing.{Failing}
+use Rattle.a2_stream.specs.declared.pinched.Failing.TheVariants.{Refuses, TakesNothing}
 
--- the most bytes that go through in a call, how many more calls go through, and whether a write behind them takes
--- nothing in place of an error
+-- the most bytes that go through in a call, how many more calls go through, and how those behind them fail
 pub record Pinch : Type 0 where
   pub per_call : ℕ
   pub calls : ℕ
-  pub zero : Bool
+  pub failing : Failing
 
-abbrev pub inner_of : {T : Type 0} → Pinched T → T
-inner_of pinched = pinched.inner
+-- what it stands before, how it pinches, and how many of its calls failed
+pub record Pinching (T : Type 0) : Type 0 where
+  pub inner : T
+  pub pinch : Pinch
+  pub failures : ℕ
 
-abbrev pub pinch_of : {T : Type 0} → Pinched T → Pinch
-pinch_of pinched = record { per_call = pinched.per_call; calls = pinched.calls; zero = pinched.zero }
+-- a call was made: one fewer goes through
+abbrev pub after_call : Pinch → Pinch
+after_call pinch = record pinch { calls = pinch.calls - 1 }
 
-abbrev pub failures_of : {T : Type 0} → Pinched T → ℕ
-failures_of pinched = pinched.failed
+-- the answer of a write behind the calls that go through
+abbrev pub FailsAs : {E : Type 0} → Failing → Result ℕ E → Type 0
+FailsAs Refuses result = IsErr result
+FailsAs TakesNothing result = result ≡ Ok 0

@@ -3,7 +3,7 @@
 use super::example::{FIVE_LINES, FIVE_LINES_LEAVE, RETURNS, Run, Screen, answer_of, output_of};
 use a2_machine::Cause;
 use a2_run::{RunFault, asm_text, status};
-use a2_stream::{Endless, FromRead, Pinched, ToWrite};
+use a2_stream::{Endless, Failing, FromRead, Pinched, ToWrite};
 use a2_syntax::Fault;
 use std::process::Abort;
 use std::test::Fail;
@@ -18,7 +18,7 @@ const PRINTS_AN_A: Run = Run {
 const OBJECT_LINES: &[u8] = b"0300:A9 C1 20 ED FD 60\n";
 
 /// A run's writer takes one byte a call, and after so many calls fails, or takes nothing more.
-fn breaks_after_each_byte(rt: &(impl Abort + AllocGlobal), zero: bool) -> Result<(), Fail> {
+fn breaks_after_each_byte(rt: &(impl Abort + AllocGlobal), failing: Failing) -> Result<(), Fail> {
     let whole = output_of(rt.alloc(), PRINTS_AN_A)?;
     assert_eq!(rt; whole.len(), 1049);
     for calls in 0..1050u16 {
@@ -27,7 +27,7 @@ fn breaks_after_each_byte(rt: &(impl Abort + AllocGlobal), zero: bool) -> Result
             rt.alloc(),
             PRINTS_AN_A,
             &mut FromRead::new(FIVE_LINES.as_bytes()),
-            &mut Pinched::new(ToWrite::new(&mut output), 1, u64::from(calls), zero),
+            &mut Pinched::new(ToWrite::new(&mut output), 1, u64::from(calls), failing),
         );
         let front = whole.as_bytes().get(..usize::from(calls));
         assert_eq!(rt; output.as_slice(), front.unwrap_or(whole.as_bytes()));
@@ -43,23 +43,23 @@ fn breaks_after_each_byte(rt: &(impl Abort + AllocGlobal), zero: bool) -> Result
 
 #[test]
 fn each_write_of_a_run_fails(rt: HostRuntime) -> Result<(), Fail> {
-    breaks_after_each_byte(&rt, false)
+    breaks_after_each_byte(&rt, Failing::Refuses)
 }
 
 #[test]
 fn each_write_of_a_run_takes_nothing(rt: HostRuntime) -> Result<(), Fail> {
-    breaks_after_each_byte(&rt, true)
+    breaks_after_each_byte(&rt, Failing::TakesNothing)
 }
 
 #[test]
 fn each_write_of_object_lines_fails(rt: HostRuntime) -> Result<(), Fail> {
-    for zero in [false, true] {
+    for failing in [Failing::Refuses, Failing::TakesNothing] {
         for calls in 0..24u16 {
             let mut output = Vec::new(rt.alloc());
             let answer = asm_text(
                 rt.alloc(),
                 &mut FromRead::new(FIVE_LINES.as_bytes()),
-                &mut Pinched::new(ToWrite::new(&mut output), 1, u64::from(calls), zero),
+                &mut Pinched::new(ToWrite::new(&mut output), 1, u64::from(calls), failing),
             );
             let front = OBJECT_LINES.get(..usize::from(calls));
             assert_eq!(rt; output.as_slice(), front.unwrap_or(OBJECT_LINES));
@@ -82,13 +82,23 @@ fn each_read_fails(rt: HostRuntime) -> Result<(), Fail> {
         let ran = answer_of(
             rt.alloc(),
             PRINTS_AN_A,
-            &mut Pinched::new(FromRead::new(FIVE_LINES.as_bytes()), 1, calls, false),
+            &mut Pinched::new(
+                FromRead::new(FIVE_LINES.as_bytes()),
+                1,
+                calls,
+                Failing::Refuses,
+            ),
             &mut ToWrite::new(&mut output),
         );
         let mut lines = Vec::new(rt.alloc());
         let assembled = asm_text(
             rt.alloc(),
-            &mut Pinched::new(FromRead::new(FIVE_LINES.as_bytes()), 1, calls, false),
+            &mut Pinched::new(
+                FromRead::new(FIVE_LINES.as_bytes()),
+                1,
+                calls,
+                Failing::Refuses,
+            ),
             &mut ToWrite::new(&mut lines),
         );
         if calls < 51 {
@@ -113,7 +123,12 @@ fn read_of_a_bad_source_fails(rt: HostRuntime) -> Result<(), Fail> {
     let answer = answer_of(
         rt.alloc(),
         RETURNS,
-        &mut Pinched::new(FromRead::new(b" FOO 1\n".as_slice()), 7, 1, false),
+        &mut Pinched::new(
+            FromRead::new(b" FOO 1\n".as_slice()),
+            7,
+            1,
+            Failing::Refuses,
+        ),
         &mut ToWrite::new(&mut output),
     );
     assert_eq!(rt; answer, Err(RunFault::Read));
@@ -134,7 +149,7 @@ fn reader_without_end(rt: HostRuntime) -> Result<(), Fail> {
         );
         assert_eq!(rt; answer, refused);
         assert_eq!(rt; status(&answer), 1);
-        let mut slow = Pinched::new(Endless(byte), 1000, 1000, false);
+        let mut slow = Pinched::new(Endless(byte), 1000, 1000, Failing::Refuses);
         let answer = asm_text(rt.alloc(), &mut slow, &mut ToWrite::new(&mut output));
         assert_eq!(rt; answer, Err(RunFault::Source(Fault::TooLarge(0))));
         assert!(rt; output.is_empty());
