@@ -26,6 +26,7 @@ use Rattle.a2_syntax.specs.Names.{is_name_byte}
 use Rattle.a2_syntax.specs.Numbers.{number}
 use Rattle.a2_syntax.specs.Pieces.{is_sign, EndsRun, is_gap, Spells}
 use Rattle.a2_syntax.specs.Grammar.{IsExpr, IsOperand, is_shift, IsLine}
+use Rattle.a2_syntax.specs.Bare.{NoAllocator}
 use Rattle.a2_syntax.specs.Listed.{one_number, listed_operand, SpellsOperand, ListedOperandIsOperand, listed_line, ListingIsLine}
 use Rattle.a2_syntax.specs.declared.source.Operand.{Operand}
 use Rattle.a2_syntax.specs.declared.source.Operand.TheVariants as form
@@ -113,74 +114,71 @@ blank-first text (p ∷ ps) (rest, after, (gap, blank, whole), is, piece, more) 
     (rest, after, (32 ∷ gap, All-cons (λ c. is_blank c ≡ true) 32 gap refl blank, ap (λ x. 32 ∷ x) whole), is, piece, more)
 
 -- a number alone
-number-expr : (A : Type 0) (digits : List ℕ) (n : ℕ) → Digits digits n → IsExpr {A = A} ((36 ∷ digits) ∷ []) (one_number n)
-number-expr A digits n d = ((36 ∷ digits) ∷ [], refl, (36 ∷ digits, [], refl, refl, d.is, refl))
+number-expr : (digits : List ℕ) (n : ℕ) → Digits digits n → IsExpr ((36 ∷ digits) ∷ []) (one_number n)
+number-expr digits n d = ((36 ∷ digits) ∷ [], refl, (36 ∷ digits, [], refl, refl, d.is, refl))
 
-abbrev Form : (A : Type 0) → List ℕ → Operand A → Type 0
-Form A text operand = SpellsOperand {A = A} text operand
-
-formed : (A : Type 0) (text : List ℕ) (pieces : List (List ℕ)) (operand : Operand A) → Reads text pieces → IsOperand pieces operand → SpellsOperand text operand
-formed A text pieces operand h is = (pieces, h.spells, is)
+formed : (text : List ℕ) (pieces : List (List ℕ)) (operand : Operand NoAllocator) → Reads text pieces → IsOperand pieces operand → SpellsOperand text operand
+formed text pieces operand h is = (pieces, h.spells, is)
 
 -- the forms of operands
-immediate : (A : Type 0) (digits : List ℕ) (n : ℕ) → Digits digits n → Form A (35 ∷ 36 ∷ digits ++ []) (form.Immediate (one_number n))
-immediate A digits n d =
-    formed A _ ((35 ∷ []) ∷ (36 ∷ digits) ∷ []) (form.Immediate (one_number n)) (sign-first 35 refl (number-first digits n d tt nothing))
-    ((36 ∷ digits) ∷ [], refl, number-expr A digits n d)
+immediate : (digits : List ℕ) (n : ℕ) → Digits digits n → SpellsOperand (35 ∷ 36 ∷ digits ++ []) (form.Immediate (one_number n))
+immediate digits n d =
+    formed _ ((35 ∷ []) ∷ (36 ∷ digits) ∷ []) (form.Immediate (one_number n)) (sign-first 35 refl (number-first digits n d tt nothing))
+    ((36 ∷ digits) ∷ [], refl, number-expr digits n d)
 
-plain : (A : Type 0) (digits : List ℕ) (n : ℕ) → Digits digits n → Form A (36 ∷ digits ++ []) (form.Plain (one_number n))
-plain A digits n d =
-    formed A _ ((36 ∷ digits) ∷ []) (form.Plain (one_number n)) (number-first digits n d tt nothing) (number-expr A digits n d)
+plain : (digits : List ℕ) (n : ℕ) → Digits digits n → SpellsOperand (36 ∷ digits ++ []) (form.Plain (one_number n))
+plain digits n d =
+    formed _ ((36 ∷ digits) ∷ []) (form.Plain (one_number n)) (number-first digits n d tt nothing) (number-expr digits n d)
 
-with_x : (A : Type 0) (digits : List ℕ) (n : ℕ) → Digits digits n → Form A (36 ∷ digits ++ 44 ∷ 88 ∷ []) (form.WithX (one_number n))
-with_x A digits n d =
-    formed A _ ((36 ∷ digits) ∷ (44 ∷ []) ∷ (88 ∷ []) ∷ []) (form.WithX (one_number n))
+with_x : (digits : List ℕ) (n : ℕ) → Digits digits n → SpellsOperand (36 ∷ digits ++ 44 ∷ 88 ∷ []) (form.WithX (one_number n))
+with_x digits n d =
+    formed _ ((36 ∷ digits) ∷ (44 ∷ []) ∷ (88 ∷ []) ∷ []) (form.WithX (one_number n))
     (number-first digits n d refl (sign-first 44 refl (letter-first 88 refl tt nothing)))
-    ((36 ∷ digits) ∷ [], (88 ∷ [], refl, refl), number-expr A digits n d)
+    ((36 ∷ digits) ∷ [], (88 ∷ [], refl, refl), number-expr digits n d)
 
-with_y : (A : Type 0) (digits : List ℕ) (n : ℕ) → Digits digits n → Form A (36 ∷ digits ++ 44 ∷ 89 ∷ []) (form.WithY (one_number n))
-with_y A digits n d =
-    formed A _ ((36 ∷ digits) ∷ (44 ∷ []) ∷ (89 ∷ []) ∷ []) (form.WithY (one_number n))
+with_y : (digits : List ℕ) (n : ℕ) → Digits digits n → SpellsOperand (36 ∷ digits ++ 44 ∷ 89 ∷ []) (form.WithY (one_number n))
+with_y digits n d =
+    formed _ ((36 ∷ digits) ∷ (44 ∷ []) ∷ (89 ∷ []) ∷ []) (form.WithY (one_number n))
     (number-first digits n d refl (sign-first 44 refl (letter-first 89 refl tt nothing)))
-    ((36 ∷ digits) ∷ [], (89 ∷ [], refl, refl), number-expr A digits n d)
+    ((36 ∷ digits) ∷ [], (89 ∷ [], refl, refl), number-expr digits n d)
 
-in_parentheses_x : (A : Type 0) (digits : List ℕ) (n : ℕ) → Digits digits n
-    → Form A (40 ∷ 36 ∷ digits ++ 44 ∷ 88 ∷ 41 ∷ []) (form.InParenthesesX (one_number n))
-in_parentheses_x A digits n d =
-    formed A _ ((40 ∷ []) ∷ (36 ∷ digits) ∷ (44 ∷ []) ∷ (88 ∷ []) ∷ (41 ∷ []) ∷ []) (form.InParenthesesX (one_number n))
+in_parentheses_x : (digits : List ℕ) (n : ℕ) → Digits digits n
+    → SpellsOperand (40 ∷ 36 ∷ digits ++ 44 ∷ 88 ∷ 41 ∷ []) (form.InParenthesesX (one_number n))
+in_parentheses_x digits n d =
+    formed _ ((40 ∷ []) ∷ (36 ∷ digits) ∷ (44 ∷ []) ∷ (88 ∷ []) ∷ (41 ∷ []) ∷ []) (form.InParenthesesX (one_number n))
     (sign-first 40 refl (number-first digits n d refl (sign-first 44 refl (letter-first 88 refl refl (sign-first 41 refl nothing)))))
-    ((36 ∷ digits) ∷ (44 ∷ []) ∷ (88 ∷ []) ∷ [], (36 ∷ digits) ∷ [], refl, (88 ∷ [], refl, refl), number-expr A digits n d)
+    ((36 ∷ digits) ∷ (44 ∷ []) ∷ (88 ∷ []) ∷ [], (36 ∷ digits) ∷ [], refl, (88 ∷ [], refl, refl), number-expr digits n d)
 
-parentheses_y : (A : Type 0) (digits : List ℕ) (n : ℕ) → Digits digits n
-    → Form A (40 ∷ 36 ∷ digits ++ 41 ∷ 44 ∷ 89 ∷ []) (form.ParenthesesY (one_number n))
-parentheses_y A digits n d =
-    formed A _ ((40 ∷ []) ∷ (36 ∷ digits) ∷ (41 ∷ []) ∷ (44 ∷ []) ∷ (89 ∷ []) ∷ []) (form.ParenthesesY (one_number n))
+parentheses_y : (digits : List ℕ) (n : ℕ) → Digits digits n
+    → SpellsOperand (40 ∷ 36 ∷ digits ++ 41 ∷ 44 ∷ 89 ∷ []) (form.ParenthesesY (one_number n))
+parentheses_y digits n d =
+    formed _ ((40 ∷ []) ∷ (36 ∷ digits) ∷ (41 ∷ []) ∷ (44 ∷ []) ∷ (89 ∷ []) ∷ []) (form.ParenthesesY (one_number n))
     (sign-first 40 refl (number-first digits n d refl (sign-first 41 refl (sign-first 44 refl (letter-first 89 refl tt nothing)))))
-    ((40 ∷ []) ∷ (36 ∷ digits) ∷ (41 ∷ []) ∷ [], (36 ∷ digits) ∷ [], (89 ∷ [], refl, refl), refl, number-expr A digits n d)
+    ((40 ∷ []) ∷ (36 ∷ digits) ∷ (41 ∷ []) ∷ [], (36 ∷ digits) ∷ [], (89 ∷ [], refl, refl), refl, number-expr digits n d)
 
-in_parentheses : (A : Type 0) (digits : List ℕ) (n : ℕ) → Digits digits n → Form A (40 ∷ 36 ∷ digits ++ 41 ∷ []) (form.InParentheses (one_number n))
-in_parentheses A digits n d =
-    formed A _ ((40 ∷ []) ∷ (36 ∷ digits) ∷ (41 ∷ []) ∷ []) (form.InParentheses (one_number n))
+in_parentheses : (digits : List ℕ) (n : ℕ) → Digits digits n → SpellsOperand (40 ∷ 36 ∷ digits ++ 41 ∷ []) (form.InParentheses (one_number n))
+in_parentheses digits n d =
+    formed _ ((40 ∷ []) ∷ (36 ∷ digits) ∷ (41 ∷ []) ∷ []) (form.InParentheses (one_number n))
     (sign-first 40 refl (number-first digits n d refl (sign-first 41 refl nothing)))
-    ((36 ∷ digits) ∷ [], refl, number-expr A digits n d)
+    ((36 ∷ digits) ∷ [], refl, number-expr digits n d)
 
 byte-digits : (n : ℕ) → ltb n 256 ≡ true → Digits (hex_pair n) n
 byte-digits n h = pair-digits n (lt-from n 256 h)
 
-pub listed-operand : (A : Type 0) → ListedOperandIsOperand A
-listed-operand A Implied at n h k = ([], nothing.spells, refl)
-listed-operand A Accumulator at n h k = formed A _ ((65 ∷ []) ∷ []) form.Accumulator (letter-first 65 refl tt nothing) (65 ∷ [], refl, refl)
-listed-operand A Immediate at n h k = immediate A (hex_pair n) n (byte-digits n k)
-listed-operand A ZeroPage at n h k = plain A (hex_pair n) n (byte-digits n k)
-listed-operand A ZeroPageX at n h k = with_x A (hex_pair n) n (byte-digits n k)
-listed-operand A ZeroPageY at n h k = with_y A (hex_pair n) n (byte-digits n k)
-listed-operand A Absolute at n h k = plain A (hex_word n) n (word-digits n h)
-listed-operand A AbsoluteX at n h k = with_x A (hex_word n) n (word-digits n h)
-listed-operand A AbsoluteY at n h k = with_y A (hex_word n) n (word-digits n h)
-listed-operand A IndexedIndirect at n h k = in_parentheses_x A (hex_pair n) n (byte-digits n k)
-listed-operand A IndirectIndexed at n h k = parentheses_y A (hex_pair n) n (byte-digits n k)
-listed-operand A Indirect at n h k = in_parentheses A (hex_word n) n (word-digits n h)
-listed-operand A Relative at n h k = plain A (hex_word n) n (word-digits n h)
+pub listed-operand : ListedOperandIsOperand
+listed-operand Implied at n h k = ([], nothing.spells, refl)
+listed-operand Accumulator at n h k = formed _ ((65 ∷ []) ∷ []) form.Accumulator (letter-first 65 refl tt nothing) (65 ∷ [], refl, refl)
+listed-operand Immediate at n h k = immediate (hex_pair n) n (byte-digits n k)
+listed-operand ZeroPage at n h k = plain (hex_pair n) n (byte-digits n k)
+listed-operand ZeroPageX at n h k = with_x (hex_pair n) n (byte-digits n k)
+listed-operand ZeroPageY at n h k = with_y (hex_pair n) n (byte-digits n k)
+listed-operand Absolute at n h k = plain (hex_word n) n (word-digits n h)
+listed-operand AbsoluteX at n h k = with_x (hex_word n) n (word-digits n h)
+listed-operand AbsoluteY at n h k = with_y (hex_word n) n (word-digits n h)
+listed-operand IndexedIndirect at n h k = in_parentheses_x (hex_pair n) n (byte-digits n k)
+listed-operand IndirectIndexed at n h k = parentheses_y (hex_pair n) n (byte-digits n k)
+listed-operand Indirect at n h k = in_parentheses (hex_word n) n (word-digits n h)
+listed-operand Relative at n h k = plain (hex_word n) n (word-digits n h)
 
 -- the operand's column
 column-gap : (mode : Mode) (n : ℕ) → is_gap (operand_column mode n) ≡ true
@@ -200,24 +198,24 @@ shift-row Rol r s e = let never : None ≡ Some r = e in cc
 shift-row Ror r s e = let never : None ≡ Some r = e in cc
 shift-row _ r s e = false≢true s
 
-only-implied : (A : Type 0) (mode : Mode) (n : ℕ) → listed_operand {A = A} mode n ≡ form.Nothing → mode ≡ Implied
-only-implied A Implied n e = refl
-only-implied A _ n e = cc
+only-implied : (mode : Mode) (n : ℕ) → listed_operand mode n ≡ form.Nothing → mode ≡ Implied
+only-implied Implied n e = refl
+only-implied _ n e = cc
 
 name-capitals : (m : Mnemonic) → map capital (name_of m) ≡ name_of m
 name-capitals Adc = refl
 name-capitals _ = refl
 
 -- an instruction that has bytes, behind a blank
-line-reads : (A : Type 0) (i : opcode.Instr) (at : ℕ) (bytes : List ℕ) → i.value < 65536 → encoded i at ≡ Some bytes
-    → IsLine {A = A} (32 ∷ (name_of i.mnemonic ++ operand_column i.mode i.value)) (listed_line i)
-line-reads A i at bytes small e =
+line-reads : (i : opcode.Instr) (at : ℕ) (bytes : List ℕ) → i.value < 65536 → encoded i at ≡ Some bytes
+    → IsLine (32 ∷ (name_of i.mnemonic ++ operand_column i.mode i.value)) (listed_line i)
+line-reads i at bytes small e =
     let is = coded i at bytes e in
-    let operand = listed-operand A i.mode at i.value small is.fits in
+    let operand = listed-operand i.mode at i.value small is.fits in
     let column = operand_column i.mode i.value in
     let rest = name_of i.mnemonic ++ column in
     let never : is_shift i.mnemonic ≡ true → operand.0 ≡ [] → ⊥ = λ s none.
-    let implied = only-implied A i.mode i.value (IsOperand-one operand.0 _ form.Nothing operand.2 none) in
+    let implied = only-implied i.mode i.value (IsOperand-one operand.0 _ form.Nothing operand.2 none) in
     let P : Mode → Type 0 = λ k. row i.mnemonic k ≡ Some is.row in
     shift-row i.mnemonic is.row s (subst P implied (row-only i.mnemonic i.mode is.row is.row_is)) in
     inr (
@@ -321,8 +319,8 @@ each-small bytes all k = elim (cases_lt k (length bytes)) [
   | inr ge ↦ omega (arith, get_or_past bytes k 0 ge)
 ]
 
-pub listing-line : (A : Type 0) → ListingIsLine A
-listing-line A bytes at i all low e =
+pub listing-line : ListingIsLine
+listing-line bytes at i all low e =
     let small = each-small bytes all in
-    let P : List ℕ → Type 0 = λ text. IsLine {A = A} text (listed_line i) in
-    subst P (sym (listing-cut bytes at i e)) (line-reads A i at (take (length_of i.mode) bytes) (decoded-small bytes at i small e) (encodes-back bytes at i low small e))
+    let P : List ℕ → Type 0 = λ text. IsLine text (listed_line i) in
+    subst P (sym (listing-cut bytes at i e)) (line-reads i at (take (length_of i.mode) bytes) (decoded-small bytes at i small e) (encodes-back bytes at i low small e))

@@ -1,4 +1,5 @@
--- Lines as they are said, whatever allocator their texts lie in: what a source text means speaks of these.
+-- Source lines without their allocator. A line's type names the allocator that holds its parts, and what a text means
+-- depends on none: so meanings speak of these. This project's own.
 use Rattle.std.specs.Prelude.{List, map}
 use Rattle.a2_syntax.specs.declared.source.Term.{Term}
 use Rattle.a2_syntax.specs.declared.source.Term.TheVariants.{Number, Named, Here}
@@ -10,9 +11,13 @@ use Rattle.a2_syntax.specs.declared.source.Body.{Body}
 use Rattle.a2_syntax.specs.declared.source.Body.TheVariants.{Empty, Instr, Org, Equ, Dfb, Dw, Asc, Ds}
 use Rattle.a2_syntax.specs.declared.source.Line.{Line}
 
+-- stands in a type where an allocator would
+abbrev pub NoAllocator : Type 0
+NoAllocator = Unit {0}
+
 -- a line without an allocator
 abbrev pub BareLine : Type 0
-BareLine = Line (Unit {0})
+BareLine = Line NoAllocator
 
 -- the same term, beside another allocator
 abbrev pub bare_term : {A B : Type 0} → Term A → Term B

@@ -1,4 +1,4 @@
--- Listed instructions, as the source language reads them.
+-- Listed instructions, as the source language reads them. This project's profile.
 use Rattle.std.specs.Prelude.{◌≡◌, ℕ, ◌<◌, false, IsTrue, List, [], ◌∷◌, drop, Some, None}
 use Rattle.std.specs.List.{All}
 use Rattle.a2_opcode.specs.declared.Mode.{Mode}
@@ -8,20 +8,20 @@ use Rattle.a2_opcode.specs.Encoding.{can_have, decoded}
 use Rattle.a2_opcode.specs.Listing.{operand_text, listing}
 use Rattle.a2_syntax.specs.Pieces.{Spells}
 use Rattle.a2_syntax.specs.Grammar.{IsOperand, IsLine}
+use Rattle.a2_syntax.specs.Bare.{NoAllocator, BareLine}
 use Rattle.a2_syntax.specs.declared.source.Term.TheVariants.{Number}
 use Rattle.a2_syntax.specs.declared.source.Part.TheVariants.{Whole}
 use Rattle.a2_syntax.specs.declared.source.Expr.{Expr}
 use Rattle.a2_syntax.specs.declared.source.Operand.{Operand}
 use Rattle.a2_syntax.specs.declared.source.Operand.TheVariants as form
 use Rattle.a2_syntax.specs.declared.source.Body.TheVariants.{Instr}
-use Rattle.a2_syntax.specs.declared.source.Line.{Line}
 
 -- the expression that is one number
-abbrev pub one_number : {A : Type 0} → ℕ → Expr A
+abbrev pub one_number : ℕ → Expr NoAllocator
 one_number n = record { part = Whole; terms = record { minus = false; term = Number n } ∷ [] }
 
 -- the operand that is listed for a mode and a value
-abbrev pub listed_operand : {A : Type 0} → Mode → ℕ → Operand A
+abbrev pub listed_operand : Mode → ℕ → Operand NoAllocator
 listed_operand Implied value = form.Nothing
 listed_operand Accumulator value = form.Accumulator
 listed_operand Immediate value = form.Immediate (one_number value)
@@ -37,21 +37,21 @@ listed_operand Indirect value = form.InParentheses (one_number value)
 listed_operand Relative value = form.Plain (one_number value)
 
 -- a text whose pieces are an operand
-abbrev pub SpellsOperand : {A : Type 0} → List ℕ → Operand A → Type 0
+abbrev pub SpellsOperand : List ℕ → Operand NoAllocator → Type 0
 SpellsOperand text operand = (pieces : List (List ℕ)) × Spells text pieces × IsOperand pieces operand
 
 -- the operand's text, for each value that the mode can have
-abbrev pub ListedOperandIsOperand : Type 0 → Type 0
-ListedOperandIsOperand A =
+abbrev pub ListedOperandIsOperand : Type 0
+ListedOperandIsOperand =
     (mode : Mode) (at value : ℕ) → value < 65536 → IsTrue (can_have mode at value)
-    → SpellsOperand {A = A} (operand_text mode value) (listed_operand mode value)
+    → SpellsOperand (operand_text mode value) (listed_operand mode value)
 
 -- the line of an instruction without a label
-abbrev pub listed_line : {A : Type 0} → opcode.Instr → Line A
+abbrev pub listed_line : opcode.Instr → BareLine
 listed_line i = record { label = None; body = Instr i.mnemonic (listed_operand i.mode i.value) }
 
 -- a line of a listing that shows an instruction, from its 19th place on: a blank, the mnemonic and the operand
-abbrev pub ListingIsLine : Type 0 → Type 0
-ListingIsLine A =
+abbrev pub ListingIsLine : Type 0
+ListingIsLine =
     (bytes : List ℕ) (at : ℕ) (i : opcode.Instr) → All (λ byte. byte < 256) bytes → at < 65536 → decoded bytes at ≡ Some i
-    → IsLine {A = A} (drop 18 (listing bytes at)) (listed_line i)
+    → IsLine (drop 18 (listing bytes at)) (listed_line i)

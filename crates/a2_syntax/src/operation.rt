@@ -9,15 +9,23 @@ ghost use Rattle.a2_syntax.specs.declared.operation.Operation.{Operation as Decl
 use a2_opcode::Mnemonic;
 use a2_text::capital;
 
-/// What a word makes a line do.
+/// What the word behind a line's label says: an instruction's mnemonic, or a directive. The grammar tells by it what
+/// `Body` a line may have.
 #[derive(Clone, Copy, Drop)]
 pub enum Operation {
+    /// An instruction of the processor.
     Instr(Mnemonic),
+    /// `ORG`, which sets the address.
     Org,
+    /// `EQU`, which gives the label a value.
     Equ,
+    /// `DFB`, bytes.
     Dfb,
+    /// `DW`, words of two bytes.
     Dw,
+    /// `ASC`, the codes of a text.
     Asc,
+    /// `DS`, so many zero bytes.
     Ds,
 }
 

@@ -46,17 +46,19 @@ pub fn parse<A: Allocator + Copy>(alloc: A, text: &[u8]) -> Result<Source<A>, Fa
     parse_lines(alloc, texts.as_slice())
 }
 
-/// A text that has a refusal is no source.
+/// A law, and no code: a text that has a refusal has no lines.
 pub fn a_refused_text_is_no_source()
     ensures { (text : List ℕ) (fault : Fault) (source : List BareLine) → IsTextRefusal text fault → IsSource text source → ⊥ }
 {}
 
-/// A text is one source at most.
+/// A law, and no code: a text has one list of lines at most, by the grammar and not only by what `parse` finds.
 pub fn a_text_is_one_source()
     ensures { (text : List ℕ) (a b : List BareLine) → IsSource text a → IsSource text b → a ≡ b }
 {}
 
-/// A text has one refusal at most, and no text is without one and without lines.
+/// A law, and no code: a text, of any bytes, has one refusal at most, and no text is without both a refusal and lines. So
+/// a text is a source exactly where nothing refuses it, and what refuses it is one: its size, or its first line that is
+/// not in the grammar.
 pub fn a_text_has_one_refusal()
     ensures one { (text : List ℕ) (fault other : Fault) → IsTextRefusal text fault → IsTextRefusal text other → fault ≡ other }
     ensures either { (text : List ℕ) → ((source : List BareLine) → IsSource text source → ⊥) → ((fault : Fault) → IsTextRefusal text fault → ⊥) → ⊥ }
