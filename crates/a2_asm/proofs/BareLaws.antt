@@ -24,61 +24,58 @@ use Rattle.a2_syntax.specs.declared.source.Operand.TheVariants as forms
 use Rattle.a2_syntax.specs.declared.source.Body.{Body}
 use Rattle.a2_syntax.specs.declared.source.Body.TheVariants.{Empty, Instr, Org, Equ, Dfb, Dw, Asc, Ds}
 use Rattle.a2_syntax.specs.declared.source.Line.{Line}
-use Rattle.a2_syntax.specs.Bare.{BareLine, bare_term, bare_signed, bare_expr, bare_operand, bare_body, bare_line, bare}
+use Rattle.a2_syntax.specs.Bare.{NoAllocator, BareLine, bare_term, bare_signed, bare_expr, bare_operand, bare_body, bare_line, bare}
 use Rattle.a2_asm.specs.declared.place.Place.{Place}
 use Rattle.a2_asm.specs.declared.program.Statement.{Statement}
 use Rattle.a2_asm.specs.Assembled.{Assembled}
 use Rattle.a2_asm.specs.Values.{Names, is_known_term, is_known, term_value, signed_value, sum_of, part_of, value, within, number}
 use Rattle.a2_asm.specs.Modes.{has, is_early_byte, short_or_long, mode_of, greatest, expr_of}
-use Rattle.a2_asm.specs.Layout.{mode_in, word, size, next_of, label_of, Row, defined_by, names, end_of, place_of, row_behind, rows_behind, rows}
+use Rattle.a2_asm.specs.Layout.{mode_in, word, size, next_of, label_of, Row, defined_by, names, end_of}
 use Rattle.a2_asm.specs.Laying.{byte_from, meets}
 use Rattle.a2_asm.specs.Bytes.{counted, operand_value, instr_of, word_bytes, bytes_of, image, stated, is_statement, instr_in, statement_of, statements, is_instruction, entry}
-use Rattle.a2_asm.specs.Refusals.{first_behind, refuse_names, is_taken, refuse_now, lacks_row, refuse_body, is_outside, refuse_line, refuse_place, refuse_value, is_far, refuse_instr, refuse_values, refuse_operand, refuse_bytes, layout_refusal}
+use Rattle.a2_asm.specs.Refusals.{first_behind, refuse_names, is_taken, refuse_now, lacks_row, refuse_body, is_outside, refuse_line, refuse_place, refuse_value, is_far, refuse_instr, refuse_values, refuse_operand, refuse_bytes}
+use Rattle.a2_asm.specs.Pass.{place_of, row_behind, rows_behind, rows, layout_refusal}
 use Rattle.a2_asm.proofs.MadeLaws.{IsMade}
-
--- no allocator
-abbrev No : Type 0
-No = Unit {0}
 
 -- Values
 
-known_term-bare : {A : Type 0} (all : Names) (t : Term A) → is_known_term all (bare_term {B = No} t) ≡ is_known_term all t
+known_term-bare : {A : Type 0} (all : Names) (t : Term A) → is_known_term all (bare_term {B = NoAllocator} t) ≡ is_known_term all t
 known_term-bare all (Number n) = refl
 known_term-bare all (Named name) = refl
 known_term-bare all Here = refl
 
-known-bare : {A : Type 0} (all : Names) (e : Expr A) → is_known all (bare_expr {B = No} e) ≡ is_known all e
+known-bare : {A : Type 0} (all : Names) (e : Expr A) → is_known all (bare_expr {B = NoAllocator} e) ≡ is_known all e
 known-bare all e =
-    list_all-map (λ t. is_known_term all t.term) (bare_signed {B = No}) e.terms ∙ (λ i. list_all (λ t. known_term-bare all t.term i) e.terms)
+    list_all-map (λ t. is_known_term all t.term) (bare_signed {B = NoAllocator}) e.terms ∙ (λ i. list_all (λ t. known_term-bare all t.term i) e.terms)
 
-term_value-bare : {A : Type 0} (all : Names) (here : ℕ) (t : Term A) → term_value all here (bare_term {B = No} t) ≡ term_value all here t
+term_value-bare : {A : Type 0} (all : Names) (here : ℕ) (t : Term A) → term_value all here (bare_term {B = NoAllocator} t) ≡ term_value all here t
 term_value-bare all here (Number n) = refl
 term_value-bare all here (Named name) = refl
 term_value-bare all here Here = refl
 
-signed-bare : {A : Type 0} (all : Names) (here : ℕ) (t : Signed A) → signed_value all here (bare_signed {B = No} t) ≡ signed_value all here t
+signed-bare : {A : Type 0} (all : Names) (here : ℕ) (t : Signed A) → signed_value all here (bare_signed {B = NoAllocator} t) ≡ signed_value all here t
 signed-bare all here t = ap (λ n. if t.minus then neg_ℤ (pos n) else pos n) (term_value-bare all here t.term)
 
-sum-bare : {A : Type 0} (all : Names) (here : ℕ) (ts : List (Signed A)) → sum_of all here (map (bare_signed {B = No}) ts) ≡ sum_of all here ts
+sum-bare : {A : Type 0} (all : Names) (here : ℕ) (ts : List (Signed A)) → sum_of all here (map (bare_signed {B = NoAllocator}) ts) ≡ sum_of all here ts
 sum-bare all here ts =
-    fold-map (λ n t. n +ℤ signed_value all here t) (bare_signed {B = No}) (pos 0) ts ∙ (λ i. fold (λ n t. n +ℤ signed-bare all here t i) (pos 0) ts)
+    fold-map (λ n t. n +ℤ signed_value all here t) (bare_signed {B = NoAllocator}) (pos 0) ts ∙ (λ i. fold (λ n t. n +ℤ signed-bare all here t i) (pos 0) ts)
 
-number-bare : {A : Type 0} (all : Names) (most here : ℕ) (e : Expr A) → number all most here (bare_expr {B = No} e) ≡ number all most here e
+number-bare : {A : Type 0} (all : Names) (most here : ℕ) (e : Expr A) → number all most here (bare_expr {B = NoAllocator} e) ≡ number all most here e
 number-bare all most here e = ap (λ n. within most (part_of e.part n)) (sum-bare all here e.terms)
 
-counted-bare : {A : Type 0} (all : Names) (most here : ℕ) (e : Expr A) → counted all most here (bare_expr {B = No} e) ≡ counted all most here e
+counted-bare : {A : Type 0} (all : Names) (most here : ℕ) (e : Expr A) → counted all most here (bare_expr {B = NoAllocator} e) ≡ counted all most here e
 counted-bare all most here e = ap (λ o. unwrap_or o 0) (number-bare all most here e)
 
 -- Modes
 
-early-bare : {A : Type 0} (all : Names) (here : ℕ) (e : Expr A) → is_early_byte all here (bare_expr {B = No} e) ≡ is_early_byte all here e
+early-bare : {A : Type 0} (all : Names) (here : ℕ) (e : Expr A) → is_early_byte all here (bare_expr {B = NoAllocator} e) ≡ is_early_byte all here e
 early-bare all here e = λ i. known-bare all e i && is_some (number-bare all 255 here e i)
 
 short-bare : {A : Type 0} (all : Names) (here : ℕ) (m : Mnemonic) (short long : Mode) (e : Expr A)
-    → short_or_long all here m short long (bare_expr {B = No} e) ≡ short_or_long all here m short long e
+    → short_or_long all here m short long (bare_expr {B = NoAllocator} e) ≡ short_or_long all here m short long e
 short-bare all here m short long e = ap (λ b. if has m short && (not (has m long) || b) then short else long) (early-bare all here e)
 
-mode-bare : {A : Type 0} (all : Names) (here : ℕ) (m : Mnemonic) (o : Operand A) → mode_of all here m (bare_operand {B = No} o) ≡ mode_of all here m o
+mode-bare : {A : Type 0} (all : Names) (here : ℕ) (m : Mnemonic) (o : Operand A) → mode_of all here m (bare_operand {B = NoAllocator} o) ≡ mode_of all here m o
 mode-bare all here m forms.Nothing = refl
 mode-bare all here m forms.Accumulator = refl
 mode-bare all here m (forms.Immediate e) = refl
@@ -91,7 +88,7 @@ mode-bare all here m (forms.InParentheses e) = refl
 
 -- Layout
 
-mode_in-bare : {A : Type 0} (all : Names) (here : ℕ) (body : Body A) → mode_in all here (bare_body {B = No} body) ≡ mode_in all here body
+mode_in-bare : {A : Type 0} (all : Names) (here : ℕ) (body : Body A) → mode_in all here (bare_body {B = NoAllocator} body) ≡ mode_in all here body
 mode_in-bare all here (Instr m o) = mode-bare all here m o
 mode_in-bare all here Empty = refl
 mode_in-bare all here (Org e) = refl
@@ -101,7 +98,7 @@ mode_in-bare all here (Dw es) = refl
 mode_in-bare all here (Asc bytes) = refl
 mode_in-bare all here (Ds e) = refl
 
-word-bare : {A : Type 0} (all : Names) (here : ℕ) (body : Body A) → word all here (bare_body {B = No} body) ≡ word all here body
+word-bare : {A : Type 0} (all : Names) (here : ℕ) (body : Body A) → word all here (bare_body {B = NoAllocator} body) ≡ word all here body
 word-bare all here (Instr m o) = refl
 word-bare all here Empty = refl
 word-bare all here (Org e) = counted-bare all 65535 here e
@@ -111,7 +108,7 @@ word-bare all here (Dw es) = refl
 word-bare all here (Asc bytes) = refl
 word-bare all here (Ds e) = counted-bare all 65535 here e
 
-size-bare : {A : Type 0} (all : Names) (here : ℕ) (body : Body A) → size all here (bare_body {B = No} body) ≡ size all here body
+size-bare : {A : Type 0} (all : Names) (here : ℕ) (body : Body A) → size all here (bare_body {B = NoAllocator} body) ≡ size all here body
 size-bare all here (Instr m o) = ap length_of (mode-bare all here m o)
 size-bare all here Empty = refl
 size-bare all here (Org e) = refl
@@ -121,7 +118,7 @@ size-bare all here (Dw es) = ap (λ n. 2 * n) (length-map es bare_expr)
 size-bare all here (Asc bytes) = refl
 size-bare all here (Ds e) = counted-bare all 65535 here e
 
-next-bare : {A : Type 0} (all : Names) (here : ℕ) (body : Body A) → next_of all here (bare_body {B = No} body) ≡ next_of all here body
+next-bare : {A : Type 0} (all : Names) (here : ℕ) (body : Body A) → next_of all here (bare_body {B = NoAllocator} body) ≡ next_of all here body
 next-bare all here (Org e) = counted-bare all 65535 here e
 next-bare all here (Instr m o) = ap (λ n. here + n) (size-bare all here (Instr m o))
 next-bare all here Empty = refl
@@ -131,7 +128,7 @@ next-bare all here (Dw es) = ap (λ n. here + n) (size-bare all here (Dw es))
 next-bare all here (Asc bytes) = refl
 next-bare all here (Ds e) = ap (λ n. here + n) (size-bare all here (Ds e))
 
-label-bare : {A : Type 0} (all : Names) (here : ℕ) (body : Body A) → label_of all here (bare_body {B = No} body) ≡ label_of all here body
+label-bare : {A : Type 0} (all : Names) (here : ℕ) (body : Body A) → label_of all here (bare_body {B = NoAllocator} body) ≡ label_of all here body
 label-bare all here (Org e) = counted-bare all 65535 here e
 label-bare all here (Equ e) = counted-bare all 65535 here e
 label-bare all here (Instr m o) = refl
@@ -141,7 +138,7 @@ label-bare all here (Dw es) = refl
 label-bare all here (Asc bytes) = refl
 label-bare all here (Ds e) = refl
 
-abbrev bare_row : {A : Type 0} → Row A → Row No
+abbrev bare_row : {A : Type 0} → Row A → Row NoAllocator
 bare_row row = record { line = bare_line row.line; place = row.place; next = row.next; label = row.label }
 
 names-bare : {A : Type 0} (before : List (Row A)) → names (map bare_row before) ≡ names before
@@ -153,13 +150,13 @@ end-bare before = fold-map (λ _ row. row.next) bare_row 768 before
 row-bare : {A : Type 0} (before : List (Row A)) (line : Line A) → row_behind (map bare_row before) (bare_line line) ≡ bare_row (row_behind before line)
 row-bare before line =
     (λ i. record {
-      line = bare_line {B = No} line;
-      place = place_of (names-bare before i) (length-map before bare_row i + 1) (end-bare before i) (bare_body {B = No} line.body);
-      next = next_of (names-bare before i) (end-bare before i) (bare_body {B = No} line.body);
-      label = label_of (names-bare before i) (end-bare before i) (bare_body {B = No} line.body);
+      line = bare_line {B = NoAllocator} line;
+      place = place_of (names-bare before i) (length-map before bare_row i + 1) (end-bare before i) (bare_body {B = NoAllocator} line.body);
+      next = next_of (names-bare before i) (end-bare before i) (bare_body {B = NoAllocator} line.body);
+      label = label_of (names-bare before i) (end-bare before i) (bare_body {B = NoAllocator} line.body);
     })
     ∙ (λ i. record {
-      line = bare_line {B = No} line;
+      line = bare_line {B = NoAllocator} line;
       place = record {
         number = length before + 1;
         address = end_of before;
@@ -186,7 +183,7 @@ names-rows lines = ap names (rows-bare lines) ∙ names-bare (rows lines)
 
 -- Bytes
 
-operand-bare : {A : Type 0} (all : Names) (place : Place) (o : Operand A) → operand_value all place (bare_operand {B = No} o) ≡ operand_value all place o
+operand-bare : {A : Type 0} (all : Names) (place : Place) (o : Operand A) → operand_value all place (bare_operand {B = NoAllocator} o) ≡ operand_value all place o
 operand-bare all place forms.Nothing = refl
 operand-bare all place forms.Accumulator = refl
 operand-bare all place (forms.Immediate e) = counted-bare all (greatest place.mode) place.address e
@@ -197,21 +194,21 @@ operand-bare all place (forms.InParenthesesX e) = counted-bare all (greatest pla
 operand-bare all place (forms.ParenthesesY e) = counted-bare all (greatest place.mode) place.address e
 operand-bare all place (forms.InParentheses e) = counted-bare all (greatest place.mode) place.address e
 
-instr-bare : {A : Type 0} (all : Names) (place : Place) (m : Mnemonic) (o : Operand A) → instr_of all place m (bare_operand {B = No} o) ≡ instr_of all place m o
+instr-bare : {A : Type 0} (all : Names) (place : Place) (m : Mnemonic) (o : Operand A) → instr_of all place m (bare_operand {B = NoAllocator} o) ≡ instr_of all place m o
 instr-bare all place m o = λ i. record { mnemonic = m; mode = place.mode; value = operand-bare all place o i }
 
 map-bare : {X Y Z : Type 0} (v : X → Y) (f : Y → Z) (g : X → Z) (xs : List X) → ((x : X) → f (v x) ≡ g x) → map f (map v xs) ≡ map g xs
 map-bare v f g [] h = refl
 map-bare v f g (x ∷ xs) h = λ i. h x i ∷ map-bare v f g xs h i
 
-bytes-bare : {A : Type 0} (all : Names) (place : Place) (body : Body A) → bytes_of all place (bare_body {B = No} body) ≡ bytes_of all place body
+bytes-bare : {A : Type 0} (all : Names) (place : Place) (body : Body A) → bytes_of all place (bare_body {B = NoAllocator} body) ≡ bytes_of all place body
 bytes-bare all place (Instr m o) = ap (λ x. unwrap_or (encoded x place.address) []) (instr-bare all place m o)
 bytes-bare all place Empty = refl
 bytes-bare all place (Org e) = refl
 bytes-bare all place (Equ e) = refl
-bytes-bare all place (Dfb es) = map-bare (bare_expr {B = No}) _ _ es (λ e. counted-bare all 255 place.address e)
+bytes-bare all place (Dfb es) = map-bare (bare_expr {B = NoAllocator}) _ _ es (λ e. counted-bare all 255 place.address e)
 bytes-bare all place (Dw es) =
-    flat_map-map (λ e. word_bytes (counted all 65535 place.address e)) (bare_expr {B = No}) es
+    flat_map-map (λ e. word_bytes (counted all 65535 place.address e)) (bare_expr {B = NoAllocator}) es
     ∙ (λ i. flat_map (λ e. word_bytes (counted-bare all 65535 place.address e i)) es)
 bytes-bare all place (Asc bytes) = refl
 bytes-bare all place (Ds e) = refl
@@ -221,7 +218,7 @@ image-bare all [] a = refl
 image-bare all (row ∷ more) a =
     λ i. byte_from row.place.address (bytes-bare all row.place row.line.body i) a otherwise image-bare all more a i
 
-statement-bare : {A : Type 0} (all : Names) (place : Place) (body : Body A) → statement_of all place (bare_body {B = No} body) ≡ statement_of all place body
+statement-bare : {A : Type 0} (all : Names) (place : Place) (body : Body A) → statement_of all place (bare_body {B = NoAllocator} body) ≡ statement_of all place body
 statement-bare all place (Instr m o) = ap (λ x. stated place (Some x) ∷ []) (instr-bare all place m o)
 statement-bare all place Empty = refl
 statement-bare all place (Org e) = refl
@@ -235,7 +232,7 @@ statements-bare : {A : Type 0} (all : Names) (rows : List (Row A)) → statement
 statements-bare all rows =
     flat_map-map (λ row. statement_of all row.place row.line.body) bare_row rows ∙ (λ i. flat_map (λ row. statement-bare all row.place row.line.body i) rows)
 
-instruction-bare : {A : Type 0} (body : Body A) → is_instruction (bare_body {B = No} body) ≡ is_instruction body
+instruction-bare : {A : Type 0} (body : Body A) → is_instruction (bare_body {B = NoAllocator} body) ≡ is_instruction body
 instruction-bare (Instr m o) = refl
 instruction-bare Empty = refl
 instruction-bare (Org e) = refl
@@ -265,15 +262,15 @@ count-map v p xs = fold-map (λ n x. n + (if p x then 1 else 0)) v 0 xs
 
 refuse_names-bare : {A : Type 0} (before : List (Line A)) (line : Line A) → refuse_names (bare before) (bare_line line) ≡ refuse_names before line
 refuse_names-bare before line =
-    λ i. refuse_if (is_some line.label && nat_le 1024 (count-map (bare_line {B = No}) (λ other. is_some other.label) before i)) (faults.TooManyNames (length-map before (bare_line {B = No}) i + 1))
+    λ i. refuse_if (is_some line.label && nat_le 1024 (count-map (bare_line {B = NoAllocator}) (λ other. is_some other.label) before i)) (faults.TooManyNames (length-map before (bare_line {B = NoAllocator}) i + 1))
 
-now-bare : {A : Type 0} (all earlier : Names) (place : Place) (e : Expr A) → refuse_now all earlier place (bare_expr {B = No} e) ≡ refuse_now all earlier place e
+now-bare : {A : Type 0} (all earlier : Names) (place : Place) (e : Expr A) → refuse_now all earlier place (bare_expr {B = NoAllocator} e) ≡ refuse_now all earlier place e
 now-bare all earlier place e = λ i.
     refuse_if (not (known-bare all e i)) (faults.Unknown place.number) otherwise
     refuse_if (not (known-bare earlier e i)) (faults.Forward place.number) otherwise
     refuse_if (not (is_some (number-bare earlier 65535 place.address e i))) (faults.Range place.number)
 
-body-bare : {A : Type 0} (all earlier : Names) (place : Place) (body : Body A) → refuse_body all earlier place (bare_body {B = No} body) ≡ refuse_body all earlier place body
+body-bare : {A : Type 0} (all earlier : Names) (place : Place) (body : Body A) → refuse_body all earlier place (bare_body {B = NoAllocator} body) ≡ refuse_body all earlier place body
 body-bare all earlier place (Org e) = now-bare all earlier place e
 body-bare all earlier place (Equ e) = now-bare all earlier place e
 body-bare all earlier place (Ds e) = now-bare all earlier place e
@@ -285,24 +282,24 @@ body-bare all earlier place (Asc bytes) = refl
 
 place-bare : {A : Type 0} (all : Names) (before : List (Row A)) (row : Row A) → refuse_place all (map bare_row before) (bare_row row) ≡ refuse_place all before row
 place-bare all before row =
-    ap (λ earlier. refuse_line all earlier row.place (bare_line {B = No} row.line)) (names-bare before)
+    ap (λ earlier. refuse_line all earlier row.place (bare_line {B = NoAllocator} row.line)) (names-bare before)
     ∙ ap (λ o. refuse_if (is_taken (names before) row.line.label) (faults.Duplicate row.place.number) otherwise o otherwise refuse_if (is_outside row.place) (faults.Outside row.place.number))
       (body-bare all (names before) row.place row.line.body)
 
-instr_refusal-bare : {A : Type 0} (all : Names) (place : Place) (e : Expr A) → refuse_instr all place (bare_expr {B = No} e) ≡ refuse_instr all place e
+instr_refusal-bare : {A : Type 0} (all : Names) (place : Place) (e : Expr A) → refuse_instr all place (bare_expr {B = NoAllocator} e) ≡ refuse_instr all place e
 instr_refusal-bare all place e = λ i.
     (refuse_if (not (known-bare all e i)) (faults.Unknown place.number) otherwise
     refuse_if (not (is_some (number-bare all (greatest place.mode) place.address e i))) (faults.Range place.number)) otherwise
     refuse_if (is_far place.mode place.address (counted-bare all (greatest place.mode) place.address e i)) (faults.Branch place.number)
 
-values-bare : {A : Type 0} (all : Names) (most : ℕ) (place : Place) (es : List (Expr A)) → refuse_values all most place (map (bare_expr {B = No}) es) ≡ refuse_values all most place es
+values-bare : {A : Type 0} (all : Names) (most : ℕ) (place : Place) (es : List (Expr A)) → refuse_values all most place (map (bare_expr {B = NoAllocator}) es) ≡ refuse_values all most place es
 values-bare all most place es =
-    (λ i. refuse_if (not (list_all-map (is_known all) (bare_expr {B = No}) es i)) (faults.Unknown place.number) otherwise
-    refuse_if (not (list_all-map (λ e. is_some (number all most place.address e)) (bare_expr {B = No}) es i)) (faults.Range place.number))
+    (λ i. refuse_if (not (list_all-map (is_known all) (bare_expr {B = NoAllocator}) es i)) (faults.Unknown place.number) otherwise
+    refuse_if (not (list_all-map (λ e. is_some (number all most place.address e)) (bare_expr {B = NoAllocator}) es i)) (faults.Range place.number))
     ∙ (λ i. refuse_if (not (list_all (λ e. known-bare all e i) es)) (faults.Unknown place.number) otherwise
     refuse_if (not (list_all (λ e. is_some (number-bare all most place.address e i)) es)) (faults.Range place.number))
 
-operand_refusal-bare : {A : Type 0} (all : Names) (place : Place) (body : Body A) → refuse_operand all place (bare_body {B = No} body) ≡ refuse_operand all place body
+operand_refusal-bare : {A : Type 0} (all : Names) (place : Place) (body : Body A) → refuse_operand all place (bare_body {B = NoAllocator} body) ≡ refuse_operand all place body
 operand_refusal-bare all place (Instr m forms.Nothing) = refl
 operand_refusal-bare all place (Instr m forms.Accumulator) = refl
 operand_refusal-bare all place (Instr m (forms.Immediate e)) = instr_refusal-bare all place e
@@ -328,7 +325,7 @@ bytes_refusal-bare all before row = λ i.
 -- the bare lines are refused as the lines are
 pub refusal-bare : {A : Type 0} (lines : List (Line A)) → layout_refusal (bare lines) ≡ layout_refusal lines
 refusal-bare lines = λ i.
-    first_behind-map (bare_line {B = No}) refuse_names refuse_names refuse_names-bare [] lines i otherwise
+    first_behind-map (bare_line {B = NoAllocator}) refuse_names refuse_names refuse_names-bare [] lines i otherwise
     placed i otherwise
     refuse_if (not (is_some (entered i))) faults.NoCode otherwise
     laid i

@@ -10,12 +10,14 @@ use Rattle.a2_syntax.specs.declared.fault.Fault.TheVariants.{NoCode}
 use Rattle.a2_syntax.specs.declared.source.Line.{Line}
 use Rattle.a2_asm.specs.Assembled.{Assembled}
 use Rattle.a2_asm.specs.Values.{Names}
-use Rattle.a2_asm.specs.Layout.{Row, rows, names}
+use Rattle.a2_asm.specs.Layout.{Row, names}
 use Rattle.a2_asm.specs.Laying.{byte_from}
 use Rattle.a2_asm.specs.Bytes.{bytes_of, image, statements, entry}
-use Rattle.a2_asm.specs.Refusals.{layout_refusal, first_behind, refuse_names, refuse_place, refuse_bytes}
+use Rattle.a2_asm.specs.Refusals.{first_behind, refuse_names, refuse_place, refuse_bytes, IsLayoutRefusal}
+use Rattle.a2_asm.specs.Pass.{rows, layout_refusal}
 use Rattle.a2_asm.specs.Programs.{IsProgram}
-use Rattle.a2_asm.proofs.MadeLaws.{program-of}
+use Rattle.a2_asm.proofs.MadeLaws.{program-of, refused-of}
+use Rattle.a2_asm.proofs.PassedLaws.{none-past}
 
 -- the cells of a map below an end
 abbrev cells_of : (ℕ → Option ℕ) → ℕ → Cells
@@ -33,20 +35,10 @@ abbrev end_of_bytes : {A : Type 0} → Names → List (Row A) → ℕ
 end_of_bytes all [] = 0
 end_of_bytes all (row ∷ more) = row.place.address + length (bytes_of all row.place row.line.body) + end_of_bytes all more
 
-nothing-from : (at : ℕ) (bytes : List ℕ) (a : ℕ) → at + length bytes ≤ a → byte_from at bytes a ≡ None
-nothing-from at bytes a le = go (nat_le at a)
-  where
-    past : slice_get bytes (a - at) ≡ None
-    past = slice_get_past bytes (a - at) (omega (arith, le))
-
-    go : (b : Bool) → (if b then slice_get bytes (a - at) else None) ≡ None
-    go true = past
-    go false = refl
-
 nothing-behind : {A : Type 0} (all : Names) (rows : List (Row A)) (a : ℕ) → end_of_bytes all rows ≤ a → image all rows a ≡ None
 nothing-behind all [] a le = refl
 nothing-behind all (row ∷ more) a le =
-    ap (λ o. o otherwise image all more a) (nothing-from row.place.address (bytes_of all row.place row.line.body) a (omega (arith, le)))
+    ap (λ o. o otherwise image all more a) (none-past row.place.address (bytes_of all row.place row.line.body) a (omega (arith, le)))
     ∙ nothing-behind all more a (omega (arith, le))
 
 some-of : (o : Option ℕ) → is_some o ≡ true → (n : ℕ) × (o ≡ Some n)
@@ -86,3 +78,11 @@ program-of-source source e =
       stated = refl;
       begins = first.1;
     }))
+
+-- lines that have no refusal are a program
+pub refused-or-program : {A : Type 0} (source : List (Line A)) → ((fault : Fault) → IsLayoutRefusal source fault → ⊥) → (p : Assembled) × IsProgram source p
+refused-or-program source unrefused = by (layout_refusal source) refl
+  where
+    by : (o : Option Fault) → layout_refusal source ≡ o → (p : Assembled) × IsProgram source p
+    by (Some fault) e = absurd (unrefused fault (refused-of source fault e))
+    by None e = program-of-source source e

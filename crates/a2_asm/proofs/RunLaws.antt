@@ -18,14 +18,16 @@ use Rattle.a2_asm.specs.declared.program.Statement.{Statement}
 use Rattle.a2_asm.specs.Values.{Names}
 use Rattle.a2_asm.specs.Laying.{meets}
 use Rattle.a2_asm.specs.Assembled.{Assembled}
-use Rattle.a2_asm.specs.Layout.{Row, rows, names}
+use Rattle.a2_asm.specs.Layout.{Row, names}
+use Rattle.a2_asm.specs.Pass.{rows}
 use Rattle.a2_asm.specs.Bytes.{image, bytes_of, stated, is_instruction, instr_in, instr_of, statement_of, statements, entry}
 use Rattle.a2_asm.specs.Refusals.{refuse_operand}
-use Rattle.a2_asm.specs.Programs.{IsProgram, begins_at, covers, is_code, StatementsDecode, StatementsBegin, StatementsApart, CodeInRam, CodeIsHeld, EntryBegins, IsSound, instr_at, Holds}
+use Rattle.a2_asm.specs.Programs.{IsProgram, begins_at, covers, is_code, StatementsDecode, StatementsBegin, StatementsApart, CodeInRam, CodeIsHeld, EntryBegins, ImageInRam, IsSound, instr_at, Holds}
 use Rattle.a2_asm.proofs.MadeLaws.{IsMade, made-of}
 use Rattle.a2_asm.proofs.LayingLaws.{meets-free}
 use Rattle.a2_asm.proofs.BytesLaws.{operand-most, greatest-word}
 use Rattle.a2_asm.proofs.SeatLaws.{Keeps, get_or-same, encoded-length, place-room, length-some}
+use Rattle.a2_asm.proofs.PassedLaws.{none-outside}
 use Rattle.a2_asm.proofs.StateLaws.{Fits, Comes, says, fits-is, accepted-is, row-held, row-split, instr-encoded}
 
 fits-of : {A : Type 0} (source : List (Line A)) (p : Assembled) (s : Statement) → IsMade source p → Contains p.statements s → Fits source s
@@ -75,7 +77,7 @@ code-there all s i k (j, lt, e) is h =
     let here : P s = grind (arith, nat_tests) in
     list_any_at (covers (s.addr + k)) all j s lt (subst P (sym e) here)
 
-pub made-decodes : {A : Type 0} (source : List (Line A)) (p : Assembled) → IsMade source p → StatementsDecode p
+made-decodes : {A : Type 0} (source : List (Line A)) (p : Assembled) → IsMade source p → StatementsDecode p
 made-decodes source p is peek shows s i among of-s =
     let all = names (rows source) in
     let f = fits-of source p s is among in
@@ -136,7 +138,7 @@ same-index all places s t c d e =
     let rows-same : c.row ≡ d.row = sym c.at ∙ get_or-same places c.index c.row d.row c.within ∙ ap (λ i. get_or places i d.row) e ∙ d.at in
     c.is ∙ ap (λ r. record { line = r.place.number; addr = r.place.address; length = r.place.length; instr = instr_in all r.place r.line.body }) rows-same ∙ sym d.is
 
-pub made-apart : {A : Type 0} (source : List (Line A)) (p : Assembled) → IsMade source p → StatementsApart p
+made-apart : {A : Type 0} (source : List (Line A)) (p : Assembled) → IsMade source p → StatementsApart p
 made-apart source p is s t a in-s in-t holds-s holds-t =
     let f = fits-of source p s is in-s in
     let g = fits-of source p t is in-t in
@@ -182,7 +184,7 @@ begins-holds source p is t among (Some i) e h =
 begins-some : (a : ℕ) (t : Statement) → begins_at a t ≡ true → is_some t.instr ≡ true
 begins-some a t h = (and_parts (eqb t.addr a) (is_some t.instr) h).1
 
-pub made-begins : {A : Type 0} (source : List (Line A)) (p : Assembled) → IsMade source p → StatementsBegin p
+made-begins : {A : Type 0} (source : List (Line A)) (p : Assembled) → IsMade source p → StatementsBegin p
 made-begins source p is s i among of-s =
     let f = fits-of source p s is among in
     let long = code-length source s i f of-s in
@@ -198,7 +200,7 @@ made-begins source p is s i among of-s =
       long,
     )
 
-pub made-room : {A : Type 0} (source : List (Line A)) (p : Assembled) → IsMade source p → CodeInRam p
+made-room : {A : Type 0} (source : List (Line A)) (p : Assembled) → IsMade source p → CodeInRam p
 made-room source p is a code =
     let any = Any-from_list_any (covers a) p.statements code in
     let below = covers-below a any.1 any.4 in
@@ -206,7 +208,7 @@ made-room source p is a code =
     omega (arith, below, statement-room source any.1 f (omega (arith, below, covers-from a any.1 any.4)))
 
 -- each byte of code is in the image
-pub made-stored : {A : Type 0} (source : List (Line A)) (p : Assembled) → IsMade source p → CodeIsHeld p
+made-stored : {A : Type 0} (source : List (Line A)) (p : Assembled) → IsMade source p → CodeIsHeld p
 made-stored source p is a code =
     let all = names (rows source) in
     let any = Any-from_list_any (covers a) p.statements code in
@@ -268,37 +270,27 @@ entry-stated {A = A} all (row ∷ more) e h = by row.line.body refl (λ k. entry
     by (bodies.Asc bytes) is rest = later (bodies.Asc bytes) is refl rest
     by (bodies.Ds n) is rest = later (bodies.Ds n) is refl rest
 
-pub made-enters : {A : Type 0} (source : List (Line A)) (p : Assembled) → IsMade source p → EntryBegins p
+made-enters : {A : Type 0} (source : List (Line A)) (p : Assembled) → IsMade source p → EntryBegins p
 made-enters source p is =
     let r = entry-stated (names (rows source)) (rows source) p.entry is.begins in
     let P : List Statement → Type 0 = λ x. Contains x r.statement in
     let begins = made-begins source p is r.statement r.instr (subst P (sym is.stated) r.among) r.of_instr in
     (r.instr, ap (instr_at p.statements) (sym r.there) ∙ begins.0)
 
+made-outside : {A : Type 0} (source : List (Line A)) (p : Assembled) → IsMade source p → ImageInRam p
+made-outside source p is a le = is.laid a ∙ none-outside source [] (rows source) a is.accepted refl le
+
 pub made-sound : {A : Type 0} (source : List (Line A)) (p : Assembled) → IsMade source p → IsSound p
 made-sound source p is = record {
   decodes = made-decodes source p is;
   begins = made-begins source p is;
+  apart = made-apart source p is;
   in_ram = made-room source p is;
   is_held = made-stored source p is;
+  enters = made-enters source p is;
+  outside = made-outside source p is;
 }
 
 -- the same of a program by any layout
-
-pub program-decodes : {A : Type 0} (source : List (Line A)) (p : Assembled) → IsProgram source p → StatementsDecode p
-program-decodes source p is = made-decodes source p (made-of source p is)
-
-pub program-apart : {A : Type 0} (source : List (Line A)) (p : Assembled) → IsProgram source p → StatementsApart p
-program-apart source p is = made-apart source p (made-of source p is)
-
-pub program-begins : {A : Type 0} (source : List (Line A)) (p : Assembled) → IsProgram source p → StatementsBegin p
-program-begins source p is = made-begins source p (made-of source p is)
-
-pub program-room : {A : Type 0} (source : List (Line A)) (p : Assembled) → IsProgram source p → CodeInRam p
-program-room source p is = made-room source p (made-of source p is)
-
-pub program-stored : {A : Type 0} (source : List (Line A)) (p : Assembled) → IsProgram source p → CodeIsHeld p
-program-stored source p is = made-stored source p (made-of source p is)
-
-pub program-enters : {A : Type 0} (source : List (Line A)) (p : Assembled) → IsProgram source p → EntryBegins p
-program-enters source p is = made-enters source p (made-of source p is)
+pub program-sound : {A : Type 0} (source : List (Line A)) (p : Assembled) → IsProgram source p → IsSound p
+program-sound source p is = made-sound source p (made-of source p is)

@@ -2,8 +2,8 @@
 use Rattle.std.specs.Prelude.{◌≡◌, ℕ, Bool, true, false, not, List, [], ◌∷◌, ◌++◌, Option, Some, None, IfSome, is_some}
 use Rattle.std.specs.List.{list_all}
 use Rattle.std.proofs.Common.{refl, sym, ap, ◌∙◌, subst}
-use Rattle.std.proofs.lemmas.List.{append_assoc, append-nil}
 use Rattle.a2_text.specs.Refusals.{◌otherwise◌, refuse_if}
+use Rattle.a2_syntax.specs.Bare.{NoAllocator, BareLine}
 use Rattle.a2_syntax.specs.declared.fault.Fault.{Fault}
 use Rattle.a2_syntax.specs.declared.fault.Fault.TheVariants as faults
 use Rattle.a2_syntax.specs.declared.source.Expr.{Expr}
@@ -14,22 +14,16 @@ use Rattle.a2_syntax.specs.declared.source.Body.TheVariants.{Empty, Instr, Org, 
 use Rattle.a2_asm.specs.declared.place.Place.{Place}
 use Rattle.a2_asm.specs.Values.{Names, is_known, number}
 use Rattle.a2_asm.specs.Modes.{greatest, expr_of}
-use Rattle.a2_asm.specs.Layout.{Row, rows, names, IsPlaced}
-use Rattle.a2_asm.specs.Bytes.{counted, image, bytes_of}
-use Rattle.a2_asm.specs.Laying.{meets}
-use Rattle.a2_asm.specs.Refusals.{first_behind, is_taken, is_outside, is_far, refuse_now, refuse_body, refuse_instr, refuse_value, refuse_values, refuse_operand, refuse_place, refuse_bytes}
-use Rattle.a2_asm.specs.Valued.{HasValue, HasItsValues, AcceptedHaveTheirValues}
+use Rattle.a2_asm.specs.Layout.{Row, names}
+use Rattle.a2_asm.specs.Pass.{rows, layout_refusal}
+use Rattle.a2_asm.specs.Bytes.{counted}
+use Rattle.a2_asm.specs.Refusals.{is_far, refuse_now, refuse_body, refuse_instr, refuse_value, refuse_values, refuse_operand, refusal_in}
+use Rattle.a2_asm.specs.Valued.{HasValue, HaveValues, HasItsValues, AcceptedHaveTheirValues}
 use Rattle.a2_asm.proofs.FirstLaws.{otherwise-left, otherwise-right, if-none}
-use Rattle.a2_asm.proofs.SeatLaws.{Keeps, keeps-line}
-use Rattle.a2_asm.proofs.StateLaws.{accepted-is, instr-encoded}
-use Rattle.a2_asm.proofs.OneLayout.{rows-fit}
-
--- a check that refuses nothing does not refuse an element behind those before it
-at-split : {X : Type 0} (check : List X → X → Option Fault) (done before after : List X) (x : X) → first_behind check done (before ++ x ∷ after) ≡ None → check (done ++ before) x ≡ None
-at-split check done [] after x h = ap (λ xs. check xs x) (append-nil done) ∙ otherwise-left (check done x) (first_behind check (done ++ x ∷ []) after) h
-at-split check done (b ∷ bs) after x h =
-    ap (λ xs. check xs x) (sym (append_assoc done (b ∷ []) bs))
-    ∙ at-split check (done ++ b ∷ []) bs after x (otherwise-right (check done b) (first_behind check (done ++ b ∷ []) (bs ++ x ∷ after)) h)
+use Rattle.a2_asm.proofs.SeatLaws.{Keeps}
+use Rattle.a2_asm.proofs.StateLaws.{instr-encoded}
+use Rattle.a2_asm.proofs.PassedLaws.{passed-is}
+use Rattle.a2_asm.proofs.OneLayout.{rows-fit, one-layout}
 
 not-true : (b : Bool) → not b ≡ false → b ≡ true
 not-true true h = refl
@@ -52,7 +46,7 @@ valued-now all earlier place e h =
     not-true _ (if-none (not (is_some (number earlier 65535 place.address e))) (faults.Range place.number) (otherwise-right later range behind)))
 
 valued-list : {A : Type 0} (all : Names) (most : ℕ) (place : Place) (es : List (Expr A)) → refuse_values all most place es ≡ None
-    → (list_all (is_known all) es ≡ true) × (list_all (λ e. is_some (number all most place.address e)) es ≡ true)
+    → HaveValues all most place.address es
 valued-list all most place es h =
     let known = list_all (is_known all) es in
     let within = list_all (λ e. is_some (number all most place.address e)) es in
@@ -92,21 +86,18 @@ valued-body all earlier place (Dw es) k now later = valued-list all 65535 place 
 valued-body all earlier place (Asc bytes) k now later = tt
 valued-body all earlier place Empty k now later = tt
 
+abbrev Rows : Type 0
+Rows = List (Row NoAllocator)
+
+-- each line has its values in the rows that the first pass finds
+rows-valued : (source : List BareLine) (before after : Rows) (row : Row NoAllocator) → layout_refusal source ≡ None → rows source ≡ before ++ row ∷ after
+    → HasItsValues (names (rows source)) (names before) row.place row.line.body
+rows-valued source before after row e is =
+    let passed = passed-is source before after row e is in
+    valued-body (names (rows source)) (names before) row.place row.line.body passed.keeps passed.now passed.later
+
 pub accepted-valued : AcceptedHaveTheirValues
-accepted-valued source before after row e is =
-    let all = names (rows source) in
-    let earlier = names before in
-    let place = row.place in
-    let body = row.line.body in
-    let passed = accepted-is source e in
-    let P : List (Row (Unit {0})) → Type 0 = λ xs. first_behind (refuse_place all) [] xs ≡ None in
-    let Q : List (Row (Unit {0})) → Type 0 = λ xs. first_behind (refuse_bytes all) [] xs ≡ None in
-    let placed : refuse_place all before row ≡ None = at-split (refuse_place all) [] before after row (subst P is passed.place) in
-    let laid : refuse_bytes all before row ≡ None = at-split (refuse_bytes all) [] before after row (subst Q is passed.bytes) in
-    let taken = refuse_if (is_taken earlier row.line.label) (faults.Duplicate place.number) in
-    let outside = refuse_if (is_outside place) (faults.Outside place.number) in
-    let now : refuse_body all earlier place body ≡ None = otherwise-left (refuse_body all earlier place body) outside (otherwise-right taken (refuse_body all earlier place body otherwise outside) placed) in
-    let later : refuse_operand all place body ≡ None = otherwise-left (refuse_operand all place body) (refuse_if (meets (image all before) place.address (bytes_of all place body)) (faults.Overlap place.number)) laid in
-    let k = keeps-line all earlier place row.line placed in
-    let lies : IsPlaced before row = (rows-fit source).placed before row after is in
-    valued-body all earlier place body (record { has_row = k.0; form = lies.mode; long = lies.size; inside = k.1 }) now later
+accepted-valued source layout before after row is accepted split =
+    let Valued : Rows → Type 0 = λ xs. refusal_in source xs ≡ None → xs ≡ before ++ row ∷ after → HasItsValues (names xs) (names before) row.place row.line.body in
+    let same : rows source ≡ layout = one-layout source (rows source) layout (rows-fit source) is in
+    subst Valued same (rows-valued source before after row) accepted split

@@ -1,4 +1,4 @@
--- What the assembler makes of a source, and what a run rests on.
+-- What the assembler makes of a source, and what holds of every program. This project's profile.
 use Rattle.std.specs.Prelude.{◌≡◌, ℕ, ◌+◌, ◌<◌, ◌≤◌, Bool, ◌&&◌, ◌==◌, nat_lt, nat_le, IsTrue, List, find, Option, Some, None, is_some, Contains}
 use Rattle.std.specs.List.{list_any}
 use Rattle.std.specs.Option.{option_map_or}
@@ -83,9 +83,19 @@ EntryBegins p = (i : Instr) × (instr_at p.statements p.entry ≡ Some i)
 abbrev pub ImageInRam : Assembled → Type 0
 ImageInRam p = (a : ℕ) → 49152 ≤ a → held p.image a ≡ None
 
--- what a run and a debugger rest on, of whatever program
+-- what holds of every program, of whatever source; a run and a debugger rest on it
 pub record IsSound (p : Assembled) : Type 0 where
   pub decodes : StatementsDecode p
   pub begins : StatementsBegin p
+  pub apart : StatementsApart p
   pub in_ram : CodeInRam p
   pub is_held : CodeIsHeld p
+  pub enters : EntryBegins p
+  pub outside : ImageInRam p
+
+-- the same names, statements and entry, and the same byte or none at each address
+pub record AreAlike (p q : Assembled) : Type 0 where
+  pub names_are : p.names ≡ q.names
+  pub statements_are : p.statements ≡ q.statements
+  pub entry_is : p.entry ≡ q.entry
+  pub held_is : (a : ℕ) → held p.image a ≡ held q.image a

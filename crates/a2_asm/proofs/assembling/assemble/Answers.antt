@@ -1,16 +1,15 @@
-use Rattle.std.proofs.Common.{List, Some, None, ap, sym, ◌∙◌, subst}
+use Rattle.std.proofs.Common.{List, Some, ap, sym, ◌∙◌, subst}
 use Rattle.std.proofs.lemmas.Result.{err_from_is_err_and}
 use Rattle.a2_syntax.specs.Bare.{BareLine, bare}
+use Rattle.a2_asm.specs.Assembled.{of_parts}
 use Rattle.a2_asm.specs.Entries.{entries}
-use Rattle.a2_asm.specs.Layout.{rows}
-use Rattle.a2_asm.specs.Bytes.{image, statements}
-use Rattle.a2_asm.specs.Refusals.{layout_refusal}
+use Rattle.a2_asm.specs.Pass.{layout_refusal}
 use Rattle.a2_asm.specs.Programs.{IsProgram}
-use Rattle.a2_asm.proofs.MadeLaws.{IsMade, program-of, refused-of}
+use Rattle.a2_asm.proofs.MadeLaws.{made-by, program-of, refused-of}
 use Rattle.a2_asm.proofs.BareLaws.{refusal-bare, program-bare}
 use Rattle.a2_asm.proofs.FirstLaws.{otherwise-some, otherwise-none}
 use Rattle.a2_asm.proofs.AssembleLaws.{layout-by, layout-no_code}
-use Rattle.a2_asm.proofs.RunLaws.{program-decodes, program-begins, program-apart, program-room, program-stored, program-enters, made-sound}
+use Rattle.a2_asm.proofs.RunLaws.{made-sound, program-sound}
 use Rattle.a2_asm.proofs.assembling.assemble.Goals as goal
 
 pub returns-in-Some-clause-refused : goal.returns-in-Some-clause-refused
@@ -36,46 +35,17 @@ returns-in_err-image-clause-refused g c =
 
 pub of-requires : goal.of-requires
 of-requires g c =
-    let lines = c.lines-lines.result.now in
-    let known = entries c.in_ok-places.names in
-    let are = c.in_ok-places.ensures.names in
-    let made : IsMade lines (record { image = c.in_ok-image.image; statements = c.in_ok-image.statements.items; names = known; entry = c.in-Some-entry.entry }) = record {
-      accepted = layout-by lines known c.in-Some-entry.entry None (sym c.refuse_names.ensures ∙ c.in_default.is) c.in_ok-places.ensures.placed (sym c.in-Some-entry.ensures) are c.in_ok-image.ensures.laid;
-      named = are;
-      laid = λ a. c.in_ok-image.ensures.image a ∙ ap (λ k. image k (rows lines) a) are;
-      stated = c.in_ok-image.ensures.statements ∙ ap (λ k. statements k (rows lines)) are;
-      begins = sym c.in-Some-entry.ensures;
-    } in
-    made-sound lines _ made
+    let made = made-by c.lines-lines.result.now (of_parts c.in_ok-image.image c.in_ok-image.statements.items (entries c.in_ok-places.names) c.in-Some-entry.entry)
+        (sym c.refuse_names.ensures ∙ c.in_default.is) c.in_ok-places.ensures.placed c.in_ok-image.ensures.laid c.in_ok-places.ensures.names c.in_ok-image.ensures.image c.in_ok-image.ensures.statements (sym c.in-Some-entry.ensures) in
+    made-sound c.lines-lines.result.now _ made
 
 pub returns-clause-made : goal.returns-clause-made
 returns-clause-made g c =
     let lines = c.lines-lines.result.now in
-    let known = entries c.in_ok-places.names in
-    let are = c.in_ok-places.ensures.names in
     let P : List BareLine → Type 0 = λ x. IsProgram x c.of.result in
-    subst P c.lines-lines.ensures.is (program-of (bare lines) c.of.result (program-bare lines c.of.result (rw c.of.ensures (record {
-      accepted = layout-by lines known c.in-Some-entry.entry None (sym c.refuse_names.ensures ∙ c.in_default.is) c.in_ok-places.ensures.placed (sym c.in-Some-entry.ensures) are c.in_ok-image.ensures.laid;
-      named = are;
-      laid = λ a. c.in_ok-image.ensures.image a ∙ ap (λ k. image k (rows lines) a) are;
-      stated = c.in_ok-image.ensures.statements ∙ ap (λ k. statements k (rows lines)) are;
-      begins = sym c.in-Some-entry.ensures;
-    }))))
+    let made = made-by lines (of_parts c.in_ok-image.image c.in_ok-image.statements.items (entries c.in_ok-places.names) c.in-Some-entry.entry)
+        (sym c.refuse_names.ensures ∙ c.in_default.is) c.in_ok-places.ensures.placed c.in_ok-image.ensures.laid c.in_ok-places.ensures.names c.in_ok-image.ensures.image c.in_ok-image.ensures.statements (sym c.in-Some-entry.ensures) in
+    subst P c.lines-lines.ensures.is (program-of (bare lines) c.of.result (program-bare lines c.of.result (rw c.of.ensures made)))
 
-pub returns-clause-decodes : goal.returns-clause-decodes
-returns-clause-decodes g c = program-decodes c.args.source.now c.of.result (returns-clause-made g c)
-
-pub returns-clause-begin : goal.returns-clause-begin
-returns-clause-begin g c = program-begins c.args.source.now c.of.result (returns-clause-made g c)
-
-pub returns-clause-apart : goal.returns-clause-apart
-returns-clause-apart g c = program-apart c.args.source.now c.of.result (returns-clause-made g c)
-
-pub returns-clause-room : goal.returns-clause-room
-returns-clause-room g c = program-room c.args.source.now c.of.result (returns-clause-made g c)
-
-pub returns-clause-stored : goal.returns-clause-stored
-returns-clause-stored g c = program-stored c.args.source.now c.of.result (returns-clause-made g c)
-
-pub returns-clause-enters : goal.returns-clause-enters
-returns-clause-enters g c = program-enters c.args.source.now c.of.result (returns-clause-made g c)
+pub returns-clause-sound : goal.returns-clause-sound
+returns-clause-sound g c = program-sound c.args.source.now c.of.result (returns-clause-made g c)
