@@ -1,15 +1,10 @@
 -- Each text has a refusal or a program, and each program its run and its object lines.
-use Rattle.std.specs.Prelude.{◌≡◌, ℕ, List, Option, Some, None}
+use Rattle.std.specs.Prelude.{ℕ, List}
 use Rattle.std.proofs.Common.{refl, inl, inr}
 use Rattle.a2_hex.specs.Images.{held}
 use Rattle.a2_hex.specs.ObjectText.{object_text}
-use Rattle.a2_syntax.specs.Bare.{BareLine}
-use Rattle.a2_syntax.specs.declared.fault.Fault.{Fault}
-use Rattle.a2_syntax.specs.Sources.{IsSource}
 use Rattle.a2_syntax.proofs.EachReading.{some-reading}
-use Rattle.a2_asm.specs.Refusals.{layout_refusal}
-use Rattle.a2_asm.proofs.MadeLaws.{refused-of}
-use Rattle.a2_asm.proofs.EachProgram.{program-of-source}
+use Rattle.a2_asm.proofs.EachProgram as asm
 use Rattle.a2_machine.proofs.RunFrom.{run_from}
 use Rattle.a2_machine.proofs.Runs.{run-is_end}
 use Rattle.a2_run.specs.Meaning.{code_of_run, start_of_run, output_of}
@@ -17,13 +12,9 @@ use Rattle.a2_run.specs.Laws.{RefusedOrProgram, EachProgramRuns, EachProgramHasO
 
 pub refused-or-program : RefusedOrProgram
 refused-or-program text unrefused nothing =
-    some-reading text (λ source is. by source is (layout_refusal source) refl) (λ f is. unrefused f (inl is))
-  where
-    by : (source : List BareLine) → IsSource text source → (o : Option Fault) → layout_refusal source ≡ o → ⊥
-    by source is (Some f) e = unrefused f (inr (source, is, refused-of source f e))
-    by source is None e =
-        let made = program-of-source source e in
-        nothing made.0 (record { source = source; is_source = is; is_program = made.1 })
+    some-reading text (λ source is.
+        let made = asm.refused-or-program source (λ fault refused. unrefused fault (inr (source, is, refused))) in
+        nothing made.0 (record { source = source; is_source = is; is_program = made.1 })) (λ fault is. unrefused fault (inl is))
 
 pub program-runs : EachProgramRuns
 program-runs text keys limit options program is =

@@ -1,4 +1,4 @@
--- Laws of what source texts mean.
+-- Laws of what source texts mean: statements about the definitions of `Meaning.antt` alone, by name. This project's own.
 use Rattle.std.specs.Prelude.{◌≡◌, ◌≢◌, ℕ, true, false, List, Some}
 use Rattle.a2_syntax.specs.declared.fault.Fault.{Fault}
 use Rattle.a2_asm.specs.Assembled.{Assembled}
@@ -19,17 +19,17 @@ FreeRunsAreGuardedRuns =
 abbrev pub OneRefusal : Type 0
 OneRefusal = (text : List ℕ) (fault other : Fault) → IsRefused text fault → IsRefused text other → fault ≡ other
 
--- a text that has one has no program
+-- a refused text has no program
 abbrev pub RefusedHasNoProgram : Type 0
 RefusedHasNoProgram = (text : List ℕ) (fault : Fault) (program : Assembled) → IsRefused text fault → IsProgramOf text program → ⊥
 
--- and no run
+-- a refused text has no run
 abbrev pub RefusedHasNoRun : Type 0
 RefusedHasNoRun =
     (text keys : List ℕ) (limit : ℕ) (options : Options) (fault : Fault) (cause : Cause) (output : List ℕ)
     → IsRefused text fault → IsRun text keys limit options cause output → ⊥
 
--- and no object lines
+-- a refused text has no object lines
 abbrev pub RefusedHasNoObjectLines : Type 0
 RefusedHasNoObjectLines = (text output : List ℕ) (fault : Fault) → IsRefused text fault → AreObjectLines text output → ⊥
 
@@ -44,7 +44,7 @@ OneCause =
     (text keys : List ℕ) (limit : ℕ) (options : Options) (cause other : Cause) (output another : List ℕ)
     → IsRun text keys limit options cause output → IsRun text keys limit options other another → cause ≡ other
 
--- and one output
+-- a text's run has one output
 abbrev pub OneOutput : Type 0
 OneOutput =
     (text keys : List ℕ) (limit : ℕ) (options : Options) (cause other : Cause) (output another : List ℕ)
@@ -60,6 +60,6 @@ EachProgramRuns =
     (text keys : List ℕ) (limit : ℕ) (options : Options) (program : Assembled) → IsProgramOf text program
     → (cause : Cause) × (output : List ℕ) × IsRun text keys limit options cause output
 
--- and object lines
+-- a text that has a program has object lines
 abbrev pub EachProgramHasObjectLines : Type 0
 EachProgramHasObjectLines = (text : List ℕ) (program : Assembled) → IsProgramOf text program → (output : List ℕ) × AreObjectLines text output
