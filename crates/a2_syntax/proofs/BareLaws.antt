@@ -1,8 +1,8 @@
 -- The grammar says of a line what it says of the same line beside another allocator.
-use Rattle.std.specs.Prelude.{◌≡◌, ◌⊎◌, ℕ, List, [], ◌∷◌, ◌++◌, map, Option, Some, None, IsTrue}
-use Rattle.std.proofs.Common.{refl, sym, ap, ◌∙◌, subst, inl, inr}
+use Rattle.std.specs.Prelude.{◌≡◌, ℕ, List, [], ◌∷◌, map, Option, Some, None, IsTrue}
+use Rattle.std.proofs.Common.{refl, sym, ap, subst, inl, inr}
 use Rattle.a2_opcode.specs.declared.Mnemonic.{Mnemonic}
-use Rattle.a2_syntax.specs.Bare.{BareLine, bare_term, bare_signed, bare_expr, bare_operand, bare_body, bare_line, bare}
+use Rattle.a2_syntax.specs.Bare.{bare_term, bare_signed, bare_expr, bare_operand, bare_body, bare_line}
 use Rattle.a2_syntax.specs.Grammar.{IsTerm, AreMoreTerms, AreTerms, IsExpr, AreExprs, IsOperand, IsOperandOf, IsOperation, IsBody, may_stand, IsLine}
 use Rattle.a2_syntax.specs.Sources.{AreLines}
 use Rattle.a2_syntax.specs.declared.source.Term.{Term}

@@ -1,5 +1,5 @@
 -- A text has one refusal at most, and none is without lines and without a refusal.
-use Rattle.std.specs.Prelude.{◌≡◌, ℕ, ◌+◌, List, [], ◌∷◌, ◌++◌, length, drop, slice_index_or, Option, Some, None, ◌⊎◌, unwrap_or, is_some, true, false}
+use Rattle.std.specs.Prelude.{◌≡◌, ℕ, ◌+◌, List, [], ◌∷◌, ◌++◌, length, drop, slice_index_or, Option, Some, None, unwrap_or, is_some}
 use Rattle.std.proofs.Common.{refl, sym, ap, ◌∙◌, subst, inl, inr, arith}
 use Rattle.std.proofs.lemmas.Bool.{false≢true}
 use Rattle.a2_syntax.specs.Grammar.{IsLine}
@@ -42,8 +42,8 @@ no-gap : (texts : List (List ℕ)) → ((source : List BareLine) → AreLines te
 no-gap [] none whole = none [] tt
 no-gap (t ∷ ts) none whole =
     let unread : (l : BareLine) → IsLine t l → ⊥ =
-        λ l is. no-gap ts (λ s ss. none (l ∷ s) (is, ss))
-            (λ n u. let (b, x, p, e, en, (r, br), nx) = u in whole (n + 1) (t ∷ b, x, p, ap (λ z. t ∷ z) e, omega (arith, en), (l ∷ r, (is, br)), nx)) in
+    λ l is. no-gap ts (λ s ss. none (l ∷ s) (is, ss))
+    (λ n u. let (b, x, p, e, en, (r, br), nx) = u in whole (n + 1) (t ∷ b, x, p, ap (λ z. t ∷ z) e, omega (arith, en), (l ∷ r, (is, br)), nx)) in
     whole 1 ([], t, ts, refl, refl, ([], tt), unread)
 
 -- no text is without both lines and a refusal

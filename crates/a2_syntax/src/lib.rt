@@ -17,9 +17,11 @@ mod word;
 
 pub use fault::Fault;
 pub use limits::lines;
-pub use operation::Operation;
 pub use listed::{a_listed_operand_is_its_operand, a_listing_is_its_line};
-pub use parser::{a_refused_text_is_no_source, a_text_has_one_refusal, a_text_is_one_source, parse};
+pub use operation::Operation;
+pub use parser::{
+    a_refused_text_is_no_source, a_text_has_one_refusal, a_text_is_one_source, parse,
+};
 pub use source::{
     Body, Bytes, Expr, Exprs, Line, Name, Operand, Part, Signed, Source, Term, Terms,
 };

@@ -2,7 +2,8 @@
 
 use crate::{
     Body, Expr, Fault, Operand, Part, Term, a_listed_operand_is_its_operand, a_listing_is_its_line,
-    a_refused_text_is_no_source, a_text_has_one_refusal, a_text_is_one_source, is_name, lines, parse,
+    a_refused_text_is_no_source, a_text_has_one_refusal, a_text_is_one_source, is_name, lines,
+    parse,
 };
 use a2_opcode::Mnemonic;
 use std::alloc::Global;
