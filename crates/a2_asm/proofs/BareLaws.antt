@@ -1,7 +1,6 @@
 -- What is made of lines is what is made of the same lines without their allocator.
-use Rattle.std.specs.Prelude.{◌≡◌, ℕ, ◌+◌, ◌*◌, ◌/◌, ◌%◌, zero, suc, Bool, true, false, ◌&&◌, ◌||◌, not, nat_lt, nat_le, List, [], ◌∷◌, ◌++◌, length, map, fold, flat_map, replicate, count_by, Option, Some, None, is_some, unwrap_or, if◌then◌else◌, ℤ, pos, neg_ℤ, ◌+ℤ◌}
+use Rattle.std.specs.Prelude.{◌≡◌, ℕ, ◌+◌, ◌*◌, Bool, ◌&&◌, ◌||◌, not, nat_le, List, [], ◌∷◌, ◌++◌, length, map, fold, flat_map, count_by, Option, Some, is_some, unwrap_or, if◌then◌else◌, pos, neg_ℤ, ◌+ℤ◌}
 use Rattle.std.specs.List.{list_all}
-use Rattle.std.specs.Option.{option_map_or}
 use Rattle.std.proofs.Common.{refl, sym, ap, ◌∙◌}
 use Rattle.std.proofs.lemmas.List.{length-map, map-append}
 use Rattle.std.proofs.lemmas.List.Folds.{list_all-map, fold-map, flat_map-map}
@@ -9,10 +8,8 @@ use Rattle.a2_text.specs.Refusals.{◌otherwise◌, refuse_if}
 use Rattle.a2_opcode.specs.declared.Mnemonic.{Mnemonic}
 use Rattle.a2_opcode.specs.declared.Mode.{Mode}
 use Rattle.a2_opcode.specs.declared.Mode.TheVariants.{Relative, ZeroPage, ZeroPageX, ZeroPageY, Absolute, AbsoluteX, AbsoluteY}
-use Rattle.a2_opcode.specs.declared.Instr as opcode
 use Rattle.a2_opcode.specs.Table.{length_of}
 use Rattle.a2_opcode.specs.Encoding.{encoded}
-use Rattle.a2_hex.specs.Images.{held}
 use Rattle.a2_syntax.specs.declared.fault.Fault.{Fault}
 use Rattle.a2_syntax.specs.declared.fault.Fault.TheVariants as faults
 use Rattle.a2_syntax.specs.declared.source.Term.{Term}
@@ -24,16 +21,15 @@ use Rattle.a2_syntax.specs.declared.source.Operand.TheVariants as forms
 use Rattle.a2_syntax.specs.declared.source.Body.{Body}
 use Rattle.a2_syntax.specs.declared.source.Body.TheVariants.{Empty, Instr, Org, Equ, Dfb, Dw, Asc, Ds}
 use Rattle.a2_syntax.specs.declared.source.Line.{Line}
-use Rattle.a2_syntax.specs.Bare.{NoAllocator, BareLine, bare_term, bare_signed, bare_expr, bare_operand, bare_body, bare_line, bare}
+use Rattle.a2_syntax.specs.Bare.{NoAllocator, bare_term, bare_signed, bare_expr, bare_operand, bare_body, bare_line, bare}
 use Rattle.a2_asm.specs.declared.place.Place.{Place}
-use Rattle.a2_asm.specs.declared.program.Statement.{Statement}
 use Rattle.a2_asm.specs.Assembled.{Assembled}
-use Rattle.a2_asm.specs.Values.{Names, is_known_term, is_known, term_value, signed_value, sum_of, part_of, value, within, number}
-use Rattle.a2_asm.specs.Modes.{has, is_early_byte, short_or_long, mode_of, greatest, expr_of}
+use Rattle.a2_asm.specs.Values.{Names, is_known_term, is_known, term_value, signed_value, sum_of, part_of, within, number}
+use Rattle.a2_asm.specs.Modes.{has, is_early_byte, short_or_long, mode_of, greatest}
 use Rattle.a2_asm.specs.Layout.{mode_in, word, size, next_of, label_of, Row, defined_by, names, end_of}
 use Rattle.a2_asm.specs.Laying.{byte_from, meets}
-use Rattle.a2_asm.specs.Bytes.{counted, operand_value, instr_of, word_bytes, bytes_of, image, stated, is_statement, instr_in, statement_of, statements, is_instruction, entry}
-use Rattle.a2_asm.specs.Refusals.{first_behind, refuse_names, is_taken, refuse_now, lacks_row, refuse_body, is_outside, refuse_line, refuse_place, refuse_value, is_far, refuse_instr, refuse_values, refuse_operand, refuse_bytes}
+use Rattle.a2_asm.specs.Bytes.{counted, operand_value, instr_of, word_bytes, bytes_of, image, stated, statement_of, statements, is_instruction, entry}
+use Rattle.a2_asm.specs.Refusals.{first_behind, refuse_names, is_taken, refuse_now, refuse_body, is_outside, refuse_line, refuse_place, is_far, refuse_instr, refuse_values, refuse_operand, refuse_bytes}
 use Rattle.a2_asm.specs.Pass.{place_of, row_behind, rows_behind, rows, layout_refusal}
 use Rattle.a2_asm.proofs.MadeLaws.{IsMade}
 
@@ -284,7 +280,7 @@ place-bare : {A : Type 0} (all : Names) (before : List (Row A)) (row : Row A) �
 place-bare all before row =
     ap (λ earlier. refuse_line all earlier row.place (bare_line {B = NoAllocator} row.line)) (names-bare before)
     ∙ ap (λ o. refuse_if (is_taken (names before) row.line.label) (faults.Duplicate row.place.number) otherwise o otherwise refuse_if (is_outside row.place) (faults.Outside row.place.number))
-      (body-bare all (names before) row.place row.line.body)
+    (body-bare all (names before) row.place row.line.body)
 
 instr_refusal-bare : {A : Type 0} (all : Names) (place : Place) (e : Expr A) → refuse_instr all place (bare_expr {B = NoAllocator} e) ≡ refuse_instr all place e
 instr_refusal-bare all place e = λ i.

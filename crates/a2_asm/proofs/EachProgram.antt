@@ -1,8 +1,6 @@
 -- Lines that are not refused are a program.
-use Rattle.std.specs.Prelude.{◌≡◌, ◌⊎◌, ℕ, zero, suc, ◌+◌, ◌-◌, ◌<◌, ◌≤◌, nat_le, not, true, false, List, [], ◌∷◌, length, Bool, Option, Some, None, is_some, slice_get, if◌then◌else◌}
-use Rattle.std.proofs.Common.{refl, sym, ap, ◌∙◌, subst, inl, inr, arith, true≢false}
-use Rattle.std.proofs.lemmas.Bool.{cases_lt}
-use Rattle.std.proofs.lemmas.Option.{slice_get_past}
+use Rattle.std.specs.Prelude.{◌≡◌, ℕ, zero, suc, ◌+◌, ◌≤◌, not, true, false, List, [], ◌∷◌, length, Bool, Option, Some, None, is_some}
+use Rattle.std.proofs.Common.{refl, sym, ap, ◌∙◌, arith, true≢false}
 use Rattle.a2_text.specs.Refusals.{◌otherwise◌, refuse_if}
 use Rattle.a2_hex.specs.Images.{Cells, held}
 use Rattle.a2_syntax.specs.declared.fault.Fault.{Fault}
@@ -11,7 +9,6 @@ use Rattle.a2_syntax.specs.declared.source.Line.{Line}
 use Rattle.a2_asm.specs.Assembled.{Assembled}
 use Rattle.a2_asm.specs.Values.{Names}
 use Rattle.a2_asm.specs.Layout.{Row, names}
-use Rattle.a2_asm.specs.Laying.{byte_from}
 use Rattle.a2_asm.specs.Bytes.{bytes_of, image, statements, entry}
 use Rattle.a2_asm.specs.Refusals.{first_behind, refuse_names, refuse_place, refuse_bytes, IsLayoutRefusal}
 use Rattle.a2_asm.specs.Pass.{rows, layout_refusal}
@@ -70,14 +67,16 @@ program-of-source source e =
       statements = statements all (rows source);
       names = all;
       entry = first.0;
-    } in
-    (made, program-of source made (record {
-      accepted = e;
-      named = refl;
-      laid = held-cells (image all (rows source)) (end_of_bytes all (rows source)) (nothing-behind all (rows source));
-      stated = refl;
-      begins = first.1;
-    }))
+    } in (
+      made,
+      program-of source made (record {
+        accepted = e;
+        named = refl;
+        laid = held-cells (image all (rows source)) (end_of_bytes all (rows source)) (nothing-behind all (rows source));
+        stated = refl;
+        begins = first.1;
+      }),
+    )
 
 -- lines that have no refusal are a program
 pub refused-or-program : {A : Type 0} (source : List (Line A)) → ((fault : Fault) → IsLayoutRefusal source fault → ⊥) → (p : Assembled) × IsProgram source p

@@ -6,7 +6,7 @@ use Rattle.a2_hex.specs.Images.{held}
 use Rattle.a2_syntax.specs.declared.fault.Fault.{Fault}
 use Rattle.a2_syntax.specs.declared.source.Line.{Line}
 use Rattle.a2_asm.specs.Assembled.{Assembled}
-use Rattle.a2_asm.specs.Layout.{Row, names}
+use Rattle.a2_asm.specs.Layout.{names}
 use Rattle.a2_asm.specs.Bytes.{image, statements, entry}
 use Rattle.a2_asm.specs.Refusals.{first_behind, refuse_names, refuse_place, refuse_bytes, refusal_in, IsLayoutRefusal}
 use Rattle.a2_asm.specs.Pass.{rows, layout_refusal}

@@ -1,10 +1,9 @@
 -- Where nothing is refused, what lines say has values.
-use Rattle.std.specs.Prelude.{◌≡◌, ℕ, Bool, true, false, not, List, [], ◌∷◌, ◌++◌, Option, Some, None, IfSome, is_some}
+use Rattle.std.specs.Prelude.{◌≡◌, ℕ, Bool, true, false, not, List, ◌∷◌, ◌++◌, None, IfSome, is_some}
 use Rattle.std.specs.List.{list_all}
-use Rattle.std.proofs.Common.{refl, sym, ap, ◌∙◌, subst}
+use Rattle.std.proofs.Common.{refl, sym, subst}
 use Rattle.a2_text.specs.Refusals.{◌otherwise◌, refuse_if}
 use Rattle.a2_syntax.specs.Bare.{NoAllocator, BareLine}
-use Rattle.a2_syntax.specs.declared.fault.Fault.{Fault}
 use Rattle.a2_syntax.specs.declared.fault.Fault.TheVariants as faults
 use Rattle.a2_syntax.specs.declared.source.Expr.{Expr}
 use Rattle.a2_syntax.specs.declared.source.Operand.{Operand}
@@ -32,18 +31,20 @@ not-true false h = sym h
 valued : {A : Type 0} (known : Names) (most : ℕ) (place : Place) (e : Expr A) → refuse_value known most place e ≡ None → HasValue known most place.address e
 valued known most place e h =
     let unknown = refuse_if (not (is_known known e)) (faults.Unknown place.number) in
-    let range = refuse_if (not (is_some (number known most place.address e))) (faults.Range place.number) in
-    (not-true _ (if-none (not (is_known known e)) (faults.Unknown place.number) (otherwise-left unknown range h)),
-    not-true _ (if-none (not (is_some (number known most place.address e))) (faults.Range place.number) (otherwise-right unknown range h)))
+    let range = refuse_if (not (is_some (number known most place.address e))) (faults.Range place.number) in (
+      not-true _ (if-none (not (is_known known e)) (faults.Unknown place.number) (otherwise-left unknown range h)),
+      not-true _ (if-none (not (is_some (number known most place.address e))) (faults.Range place.number) (otherwise-right unknown range h)),
+    )
 
 valued-now : {A : Type 0} (all earlier : Names) (place : Place) (e : Expr A) → refuse_now all earlier place e ≡ None → HasValue earlier 65535 place.address e
 valued-now all earlier place e h =
     let unknown = refuse_if (not (is_known all e)) (faults.Unknown place.number) in
     let later = refuse_if (not (is_known earlier e)) (faults.Forward place.number) in
     let range = refuse_if (not (is_some (number earlier 65535 place.address e))) (faults.Range place.number) in
-    let behind : (later otherwise range) ≡ None = otherwise-right unknown (later otherwise range) h in
-    (not-true _ (if-none (not (is_known earlier e)) (faults.Forward place.number) (otherwise-left later range behind)),
-    not-true _ (if-none (not (is_some (number earlier 65535 place.address e))) (faults.Range place.number) (otherwise-right later range behind)))
+    let behind : (later otherwise range) ≡ None = otherwise-right unknown (later otherwise range) h in (
+      not-true _ (if-none (not (is_known earlier e)) (faults.Forward place.number) (otherwise-left later range behind)),
+      not-true _ (if-none (not (is_some (number earlier 65535 place.address e))) (faults.Range place.number) (otherwise-right later range behind)),
+    )
 
 valued-list : {A : Type 0} (all : Names) (most : ℕ) (place : Place) (es : List (Expr A)) → refuse_values all most place es ≡ None
     → HaveValues all most place.address es
@@ -51,9 +52,10 @@ valued-list all most place es h =
     let known = list_all (is_known all) es in
     let within = list_all (λ e. is_some (number all most place.address e)) es in
     let unknown = refuse_if (not known) (faults.Unknown place.number) in
-    let range = refuse_if (not within) (faults.Range place.number) in
-    (not-true known (if-none (not known) (faults.Unknown place.number) (otherwise-left unknown range h)),
-    not-true within (if-none (not within) (faults.Range place.number) (otherwise-right unknown range h)))
+    let range = refuse_if (not within) (faults.Range place.number) in (
+      not-true known (if-none (not known) (faults.Unknown place.number) (otherwise-left unknown range h)),
+      not-true within (if-none (not within) (faults.Range place.number) (otherwise-right unknown range h)),
+    )
 
 valued-instr : {A : Type 0} (all : Names) (place : Place) (e : Expr A) → refuse_instr all place e ≡ None → HasValue all (greatest place.mode) place.address e
 valued-instr all place e h =

@@ -4,7 +4,7 @@ use Rattle.std.specs.List.{list_all}
 use Rattle.a2_opcode.specs.Encoding.{encoded}
 use Rattle.a2_syntax.specs.declared.source.Expr.{Expr}
 use Rattle.a2_syntax.specs.declared.source.Body.{Body}
-use Rattle.a2_syntax.specs.declared.source.Body.TheVariants.{Instr, Org, Equ, Dfb, Dw, Asc, Ds}
+use Rattle.a2_syntax.specs.declared.source.Body.TheVariants.{Instr, Org, Equ, Dfb, Dw, Ds}
 use Rattle.a2_syntax.specs.Bare.{NoAllocator, BareLine}
 use Rattle.a2_asm.specs.declared.place.Place.{Place}
 use Rattle.a2_asm.specs.Values.{Names, is_known, number}

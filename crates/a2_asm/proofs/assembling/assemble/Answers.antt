@@ -36,7 +36,7 @@ returns-in_err-image-clause-refused g c =
 pub of-requires : goal.of-requires
 of-requires g c =
     let made = made-by c.lines-lines.result.now (of_parts c.in_ok-image.image c.in_ok-image.statements.items (entries c.in_ok-places.names) c.in-Some-entry.entry)
-        (sym c.refuse_names.ensures ∙ c.in_default.is) c.in_ok-places.ensures.placed c.in_ok-image.ensures.laid c.in_ok-places.ensures.names c.in_ok-image.ensures.image c.in_ok-image.ensures.statements (sym c.in-Some-entry.ensures) in
+    (sym c.refuse_names.ensures ∙ c.in_default.is) c.in_ok-places.ensures.placed c.in_ok-image.ensures.laid c.in_ok-places.ensures.names c.in_ok-image.ensures.image c.in_ok-image.ensures.statements (sym c.in-Some-entry.ensures) in
     made-sound c.lines-lines.result.now _ made
 
 pub returns-clause-made : goal.returns-clause-made
@@ -44,7 +44,7 @@ returns-clause-made g c =
     let lines = c.lines-lines.result.now in
     let P : List BareLine → Type 0 = λ x. IsProgram x c.of.result in
     let made = made-by lines (of_parts c.in_ok-image.image c.in_ok-image.statements.items (entries c.in_ok-places.names) c.in-Some-entry.entry)
-        (sym c.refuse_names.ensures ∙ c.in_default.is) c.in_ok-places.ensures.placed c.in_ok-image.ensures.laid c.in_ok-places.ensures.names c.in_ok-image.ensures.image c.in_ok-image.ensures.statements (sym c.in-Some-entry.ensures) in
+    (sym c.refuse_names.ensures ∙ c.in_default.is) c.in_ok-places.ensures.placed c.in_ok-image.ensures.laid c.in_ok-places.ensures.names c.in_ok-image.ensures.image c.in_ok-image.ensures.statements (sym c.in-Some-entry.ensures) in
     subst P c.lines-lines.ensures.is (program-of (bare lines) c.of.result (program-bare lines c.of.result (rw c.of.ensures made)))
 
 pub returns-clause-sound : goal.returns-clause-sound
