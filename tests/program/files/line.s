@@ -1,0 +1,4 @@
+; reads a line
+ ORG $300
+ JSR $FD6A
+ RTS
