@@ -20,7 +20,7 @@ BYTE LDA START,X
  BEQ RETURN
  LDA #" "
  JSR COUT
- BNE BYTE         ; always: COUT keeps the flags, and a blank is not 0
+ JMP BYTE         ; no branch by the flags: a real COUT does not keep them
 RETURN JSR CROUT
  JMP LINE
 DONE RTS

@@ -41,5 +41,5 @@ SMALL DEX
 SHOW PLA
  BEQ DONE
  JSR COUT
- BNE SHOW         ; always: COUT keeps the flags, and no digit is 0
+ JMP SHOW         ; no branch by the flags: a real COUT does not keep them
 DONE RTS

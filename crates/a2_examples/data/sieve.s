@@ -2,8 +2,13 @@
 COUT EQU $FDED
 CROUT EQU $FD8E
 PRIME EQU $06
-SIEVE EQU $1000   ; a byte a number: 0 as long as no factor was found, as all of RAM is at the start
+SIEVE EQU $1000   ; a byte a number: 0 as long as no factor was found
  ORG $300
+ LDA #0
+ TAX
+CLEAR STA SIEVE,X ; RAM of a real machine holds anything at the start
+ INX
+ BNE CLEAR
  LDA #1
  STA SIEVE        ; 0 and 1 are no primes
  STA SIEVE+1
