@@ -7,8 +7,8 @@ use crate::fault::HexFault;
 use std::alloc::{Allocator, Global};
 use std::marker::Model;
 
-// The end of RAM. Apple II Reference Manual (1979), the memory map.
-pub(crate) const RAM_END: u16 = 0xC000;
+/// The end of RAM: the first address, $C000, that is none of it. Apple II Reference Manual (1979), the memory map.
+pub const RAM_END: u16 = 0xC000;
 
 /// Bytes at addresses of RAM, which are those below $C000: at each address one or none.
 #[derive(Drop)]

@@ -11,7 +11,7 @@ mod tests;
 mod write;
 
 pub use fault::HexFault;
-pub use image::Image;
+pub use image::{Image, RAM_END};
 pub use load::load_lines;
 pub use numbers::{address_of, byte_of};
 pub use store::{StoreLine, count_bytes, first_byte, store_line};

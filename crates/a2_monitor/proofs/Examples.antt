@@ -1,0 +1,84 @@
+-- Worked examples of the definitions, by computation.
+use Rattle.std.specs.Prelude.{◌≡◌, ℕ, ◌==◌, List, [], ◌∷◌, codes, Some, None, false, if◌then◌else◌, refl}
+use Rattle.a2_opcode.specs.Encoding.{fetched, decoded}
+use Rattle.a2_opcode.specs.Listing.{listing}
+use Rattle.a2_opcode.specs.Table.{row_of, table}
+use Rattle.a2_page.specs.Cells.{cell_at}
+use Rattle.a2_bus.specs.Devices.{Devices}
+use Rattle.a2_bus.specs.Memory.{Memory, ram_byte, with_ram}
+use Rattle.a2_monitor.specs.declared.fault.MonFault.TheVariants.{Backward, Outside}
+use Rattle.a2_monitor.specs.declared.parsing.Range.{Range}
+use Rattle.a2_monitor.specs.Commands.{examines, moves, verifies, lists, goes, stores}
+use Rattle.a2_monitor.specs.Sittings.{refusal_of, examined, differences, listed, stored, moved, bytes_at}
+
+abbrev range : ℕ → ℕ → Range
+range first last = record { first = first; last = last }
+
+-- three bytes at $0300, and else zeros
+abbrev memory_with : Devices → Memory
+memory_with devices = record {
+  page1 = [];
+  page2 = [];
+  plain = λ a. if a == 0x300 then 0x11 else if a == 0x301 then 0x22 else if a == 0x302 then 0x33 else 0;
+  devices = devices;
+}
+
+module _ (devices : Devices) where
+  examine_example : examined (memory_with devices) (range 0x300 0x304) ≡ codes "0300- 11 22 33 00 00\n"
+  unfolding examined ram_byte cell_at
+  examine_example = refl
+
+  -- a new line at each address that is divisible by 8
+  lines_example : examined (memory_with devices) (range 0x306 0x309) ≡ codes "0306- 00 00\n0308- 00 00\n"
+  unfolding examined ram_byte cell_at
+  lines_example = refl
+
+  -- the destination begins in the range
+  move_example : bytes_at (moved (memory_with devices) (range 0x300 0x303) 0x301) 0x300 6 ≡ 0x11 ∷ 0x11 ∷ 0x11 ∷ 0x11 ∷ 0x11 ∷ 0 ∷ []
+  unfolding moved stored with_ram ram_byte cell_at
+  move_example = refl
+
+  -- it ends in the range
+  down_example : bytes_at (moved (memory_with devices) (range 0x301 0x303) 0x300) 0x300 4 ≡ 0x22 ∷ 0x33 ∷ 0 ∷ 0 ∷ []
+  unfolding moved stored with_ram ram_byte cell_at
+  down_example = refl
+
+  verify_example : differences (memory_with devices) (range 0x300 0x301) 0x310 ≡ codes "0300- 11 (00)\n0301- 22 (00)\n"
+  unfolding differences ram_byte cell_at
+  verify_example = refl
+
+  list_example : listed (memory_with devices) 0x302 2 ≡ codes "0302-   33         ???\n0303-   00         BRK\n"
+  unfolding listed ram_byte cell_at fetched row_of table listing decoded
+  list_example = refl
+
+backward_example : refusal_of (examines (range 0x30F 0x300)) 0 ≡ Some Backward
+unfolding refusal_of
+backward_example = refl
+
+backward_first_example : refusal_of (moves 0xFFFF (range 0xC005 0xC000)) 0 ≡ Some Backward
+unfolding refusal_of
+backward_first_example = refl
+
+outside_example : refusal_of (moves 0xBFFF (range 0x300 0x301)) 0 ≡ Some Outside
+unfolding refusal_of
+outside_example = refl
+
+last_example : refusal_of (verifies 0xBFFF (range 0x300 0x300)) 0 ≡ None
+unfolding refusal_of
+last_example = refl
+
+next_example : refusal_of (stores (record { address = None; bytes = 1 ∷ [] })) 0xC000 ≡ Some Outside
+unfolding refusal_of
+next_example = refl
+
+empty_example : refusal_of (stores (record { address = Some 0xC000; bytes = [] })) 0 ≡ None
+unfolding refusal_of
+empty_example = refl
+
+list_outside_example : refusal_of (lists 0xC000) 0 ≡ Some Outside
+unfolding refusal_of
+list_outside_example = refl
+
+go_example : refusal_of (goes 0xFF69) 0 ≡ None
+unfolding refusal_of
+go_example = refl

@@ -1,0 +1,100 @@
+-- Each line has one reply.
+use Rattle.std.specs.Prelude.{codes}
+use Rattle.std.specs.Option.{unwrap_or}
+use Rattle.std.proofs.Common.{◌≡◌, ◌⊎◌, ℕ, ◌+◌, ◌-◌, min, List, [], ◌++◌, length, Option, Some, None, is_some, false, true, refl, sym, ap, ◌∙◌, subst, inl, inr}
+use Rattle.std.proofs.lemmas.Bool.{false≢true}
+use Rattle.a2_machine.specs.ByteRun.{bytes}
+use Rattle.a2_machine.specs.Meaning.{End}
+use Rattle.a2_machine.specs.Output.{register_line, cause_line}
+use Rattle.a2_machine.specs.Start.{called_at}
+use Rattle.a2_machine.specs.State.{most_steps}
+use Rattle.a2_machine.proofs.RunFrom.{run_from}
+use Rattle.a2_machine.proofs.Runs.{run-is_end, end-unique}
+use Rattle.a2_monitor.specs.declared.fault.MonFault.{MonFault}
+use Rattle.a2_monitor.specs.declared.fault.MonFault.TheVariants as fault
+use Rattle.a2_monitor.specs.Commands.{Command, command_of, nothing, examines, stores, moves, verifies, lists, goes}
+use Rattle.a2_monitor.specs.Sittings.{Sitting, Answers, IsFreeRun, refusal_of, with_memory, examined, differences, listed, stored, moved}
+use Rattle.a2_monitor.specs.Answers.{IsDone, IsAnswered, line_refusal}
+use Rattle.a2_monitor.specs.Replies.{IsTurnedDown, IsReply}
+use Rattle.a2_monitor.specs.Texts.{shown}
+use Rattle.a2_monitor.proofs.AnswerLaws.{refusal_is}
+
+-- each command has an answer
+answered : (command : Command) (old : Sitting) → (text : List ℕ) × (new : Sitting) × Answers command old text new
+answered nothing old = ([], old, (refl, refl))
+answered (examines range) old = (examined old.world.memory range, record old { next = range.first }, (refl, refl))
+answered (stores store) old =
+    let at = unwrap_or store.address old.next in
+    ([], record (with_memory old (stored old.world.memory at store.bytes)) { next = at + length store.bytes }, (refl, refl))
+answered (moves to range) old = ([], with_memory old (moved old.world.memory range to), (refl, refl))
+answered (verifies to range) old = (differences old.world.memory range to, old, (refl, refl))
+answered (lists at) old = (listed old.world.memory at 20, old, (refl, refl))
+answered (goes at) old =
+    let end : End = run_from (bytes None) (called_at at old.world) 0 (min 1_000_000 (most_steps - old.steps)) in (
+      register_line end.world.registers (old.steps + end.steps) end.world.cycles ++ cause_line end.cause,
+      record { world = end.world; steps = old.steps + end.steps; next = old.next },
+      record { end = end; runs = run-is_end (bytes None) (called_at at old.world) (min 1_000_000 (most_steps - old.steps)); left = refl; lines = refl },
+    )
+
+turned_down : (line : List ℕ) (old : Sitting) (why : MonFault) → line_refusal line old ≡ Some why → IsReply line old (shown why ++ codes "\n") old
+turned_down line old why h = inr (record { fault = why; refused = h; told = refl; kept = refl })
+
+-- and so has each line
+pub each-reply : (line : List ℕ) (old : Sitting) → (text : List ℕ) × (new : Sitting) × IsReply line old text new
+each-reply line old = go (command_of line) refl
+  where
+    done : (command : Command) → command_of line ≡ Some command → (o : Option MonFault) → refusal_of command old.next ≡ o
+        → (text : List ℕ) × (new : Sitting) × IsReply line old text new
+    done command says (Some why) h = (shown why ++ codes "\n", old, turned_down line old why (refusal_is line old (Some command) says ∙ h))
+    done command says None h =
+        let (text, new, answers) = answered command old in
+        (text, new, inl (record { command = command; says = says; done = record { allowed = h; answers = answers } }))
+
+    go : (o : Option Command) → command_of line ≡ o → (text : List ℕ) × (new : Sitting) × IsReply line old text new
+    go None h = (shown fault.Syntax ++ codes "\n", old, turned_down line old fault.Syntax (refusal_is line old None h))
+    go (Some command) h = done command h (refusal_of command old.next) refl
+
+-- a command has one answer
+abbrev Same : List ℕ → List ℕ → Sitting → Sitting → Type 0
+Same text words new other = (text ≡ words) × (new ≡ other)
+
+both : (text words t : List ℕ) (new other s : Sitting) → text ≡ t → words ≡ t → new ≡ s → other ≡ s → Same text words new other
+both text words t new other s a b c d = (a ∙ sym b, c ∙ sym d)
+
+one-run : (at : ℕ) (old new other : Sitting) (text words : List ℕ) → IsFreeRun at old text new → IsFreeRun at old words other → Same text words new other
+one-run at old new other text words a b =
+    let same : a.end ≡ b.end = end-unique (bytes None) (called_at at old.world) (min 1_000_000 (most_steps - old.steps)) a.end b.end a.runs b.runs in
+    both text words _ new other _
+    (a.lines ∙ ap (λ (e : End). register_line e.world.registers (old.steps + e.steps) e.world.cycles ++ cause_line e.cause) same) b.lines
+    (a.left ∙ ap (λ (e : End). let s : Sitting = record { world = e.world; steps = old.steps + e.steps; next = old.next } in s) same) b.left
+
+one-answer : (command : Command) (old new other : Sitting) (text words : List ℕ) → Answers command old text new → Answers command old words other
+    → Same text words new other
+one-answer nothing old new other text words (a, c) (b, d) = both text words _ new other _ a b c d
+one-answer (examines range) old new other text words (a, c) (b, d) = both text words _ new other _ a b c d
+one-answer (stores store) old new other text words (a, c) (b, d) = both text words _ new other _ a b c d
+one-answer (moves to range) old new other text words (a, c) (b, d) = both text words _ new other _ a b c d
+one-answer (verifies to range) old new other text words (a, c) (b, d) = both text words _ new other _ a b c d
+one-answer (lists at) old new other text words (a, c) (b, d) = both text words _ new other _ a b c d
+one-answer (goes at) old new other text words a b = one-run at old new other text words a b
+
+none-some : {X : Type 0} (x : X) → None ≡ Some x → ⊥
+none-some x e = false≢true (ap is_some e)
+
+some-one : {X : Type 0} (x y : X) → Some x ≡ Some y → x ≡ y
+some-one x y e = ap (λ o. unwrap_or o x) e
+
+-- a line that is answered is not refused
+answered-allowed : (line : List ℕ) (old new : Sitting) (text : List ℕ) → IsAnswered line old text new → line_refusal line old ≡ None
+answered-allowed line old new text a = refusal_is line old (Some a.command) a.says ∙ a.done.allowed
+
+pub one-reply : (line : List ℕ) (old new other : Sitting) (text words : List ℕ) → IsReply line old text new → IsReply line old words other
+    → (text ≡ words) × (new ≡ other)
+one-reply line old new other text words (inl a) (inl b) =
+    let same : a.command ≡ b.command = some-one a.command b.command (sym a.says ∙ b.says) in
+    one-answer b.command old new other text words (subst (λ (c : Command). Answers c old text new) same a.done.answers) b.done.answers
+one-reply line old new other text words (inl a) (inr b) = absurd (none-some b.fault (sym (answered-allowed line old new text a) ∙ b.refused))
+one-reply line old new other text words (inr a) (inl b) = absurd (none-some a.fault (sym (answered-allowed line old other words b) ∙ a.refused))
+one-reply line old new other text words (inr a) (inr b) =
+    let same : a.fault ≡ b.fault = some-one a.fault b.fault (sym a.refused ∙ b.refused) in
+    both text words _ new other _ (a.told ∙ ap (λ why. shown why ++ codes "\n") same) b.told a.kept b.kept
