@@ -18,15 +18,18 @@ refused-or-program text unrefused nothing =
 
 pub program-runs : EachProgramRuns
 program-runs text keys limit options program is =
-    let end = run_from (code_of_run options.free program) (start_of_run program keys) 0 limit in
-    (end.cause, output_of options.attr end, record {
-      program = program;
-      is_program = is;
-      end = end;
-      is_end = run-is_end _ _ limit;
-      cause_is = refl;
-      output_is = refl;
-    })
+    let end = run_from (code_of_run options.free program) (start_of_run program keys) 0 limit in (
+      end.cause,
+      output_of options.attr end,
+      record {
+        program = program;
+        is_program = is;
+        end = end;
+        is_end = run-is_end _ _ limit;
+        cause_is = refl;
+        output_is = refl;
+      },
+    )
 
 pub program-written : EachProgramHasObjectLines
 program-written text program is = (object_text (held program.image), record { program = program; is_program = is; output_is = refl })

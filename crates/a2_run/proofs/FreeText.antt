@@ -26,7 +26,7 @@ guarded-end text keys limit program end is ends =
     let run = run_from guarded start 0 limit in
     let reached : IsEnd guarded start limit run = run-is_end guarded start limit in
     let meant = guarded_run (instr_at program.statements) (guard_of_program program) (laid_by program) start limit run
-        (same-code program sound) (start-holds program keys sound) reached in
+    (same-code program sound) (start-holds program keys sound) reached in
     let P : End → Type 0 = λ e. IsEnd guarded start limit e in
     subst P (end-unique _ start limit run end meant ends) reached
 

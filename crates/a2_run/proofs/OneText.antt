@@ -39,9 +39,9 @@ one-end : (text keys : List ℕ) (limit : ℕ) (options : Options) (c d : Cause)
 one-end text keys limit options c d o u a b =
     let h = alike text a.program b.program a.is_program b.is_program in
     let moved : IsEnd (code_of_run options.free b.program) (start_of_run a.program keys) limit a.end =
-        subst (λ code. IsEnd code (start_of_run a.program keys) limit a.end) (same-code options.free a.program b.program h) a.is_end in
+    subst (λ code. IsEnd code (start_of_run a.program keys) limit a.end) (same-code options.free a.program b.program h) a.is_end in
     let both : IsEnd (code_of_run options.free b.program) (start_of_run b.program keys) limit a.end =
-        subst (λ start. IsEnd (code_of_run options.free b.program) start limit a.end) (same-start keys a.program b.program h) moved in
+    subst (λ start. IsEnd (code_of_run options.free b.program) start limit a.end) (same-start keys a.program b.program h) moved in
     end-unique _ _ limit a.end b.end both b.is_end
 
 pub one-cause : OneCause

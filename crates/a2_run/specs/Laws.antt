@@ -1,12 +1,15 @@
--- Laws of what source texts mean: statements about the definitions of `Meaning.antt` alone, by name. This project's own.
-use Rattle.std.specs.Prelude.{◌≡◌, ◌≢◌, ℕ, true, false, List, Some}
+-- Laws of what source texts and scripts mean: statements about the definitions of `Meaning.antt` and `Scripts.antt` alone, by
+-- name. This project's own.
+use Rattle.std.specs.Prelude.{◌≡◌, ◌≢◌, ℕ, true, false, List, Some, None}
 use Rattle.a2_syntax.specs.declared.fault.Fault.{Fault}
+use Rattle.a2_syntax.specs.Limits.{size_refusal}
 use Rattle.a2_asm.specs.Assembled.{Assembled}
 use Rattle.a2_machine.specs.declared.Cause.{Cause}
 use Rattle.a2_machine.specs.declared.Cause.TheVariants.{CodeWrite, OffStatement}
 use Rattle.a2_machine.specs.Meaning.{End}
 use Rattle.a2_run.specs.declared.Options.{Options}
 use Rattle.a2_run.specs.Meaning.{IsProgramOf, IsRefused, IsRun, AreObjectLines, output_of}
+use Rattle.a2_run.specs.Scripts.{is_refused_script, is_mon_text}
 
 -- where a text's guarded run ends by neither CODE WRITE nor OFF STATEMENT, its free run has the same cause and output
 abbrev pub FreeRunsAreGuardedRuns : Type 0
@@ -63,3 +66,19 @@ EachProgramRuns =
 -- a text that has a program has object lines
 abbrev pub EachProgramHasObjectLines : Type 0
 EachProgramHasObjectLines = (text : List ℕ) (program : Assembled) → IsProgramOf text program → (output : List ℕ) × AreObjectLines text output
+
+-- a script has one refusal at most
+abbrev pub OneScriptRefusal : Type 0
+OneScriptRefusal = (script : List ℕ) (fault other : Fault) → is_refused_script script fault → is_refused_script script other → fault ≡ other
+
+-- a script that has one has no output
+abbrev pub RefusedScriptHasNoOutput : Type 0
+RefusedScriptHasNoOutput = (script output : List ℕ) (fault : Fault) → is_refused_script script fault → is_mon_text script output → ⊥
+
+-- and a script that has none has an output
+abbrev pub EachScriptHasOutput : Type 0
+EachScriptHasOutput = (script : List ℕ) → size_refusal script ≡ None → (output : List ℕ) × is_mon_text script output
+
+-- and only one
+abbrev pub OneScriptOutput : Type 0
+OneScriptOutput = (script output other : List ℕ) → is_mon_text script output → is_mon_text script other → output ≡ other

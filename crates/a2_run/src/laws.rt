@@ -1,6 +1,6 @@
-//! Laws of what source texts mean. The calls do nothing: their contracts are the laws.
+//! Laws of what source texts and scripts mean. The calls do nothing: their contracts are the laws.
 
-ghost use Rattle.a2_run.specs.Laws.{FreeRunsAreGuardedRuns, OneRefusal, RefusedHasNoProgram, RefusedHasNoRun, RefusedHasNoObjectLines, RefusedOrProgram, OneCause, OneOutput, OneObjectText, EachProgramRuns, EachProgramHasObjectLines};
+ghost use Rattle.a2_run.specs.Laws.{FreeRunsAreGuardedRuns, OneRefusal, RefusedHasNoProgram, RefusedHasNoRun, RefusedHasNoObjectLines, RefusedOrProgram, OneCause, OneOutput, OneObjectText, EachProgramRuns, EachProgramHasObjectLines, OneScriptRefusal, RefusedScriptHasNoOutput, EachScriptHasOutput, OneScriptOutput};
 
 /// For every source text, list of keys, step limit and option: where the text's guarded run ends by a cause other than
 /// `CodeWrite` and `OffStatement`, its free run ends by the same cause and writes the same.
@@ -28,4 +28,12 @@ pub fn a_text_means_one_output()
     ensures output { OneOutput }
     ensures written { EachProgramHasObjectLines }
     ensures object_text { OneObjectText }
+{}
+
+/// A script of Monitor lines has one refusal, or one output.
+pub fn a_script_has_one_output()
+    ensures refusal { OneScriptRefusal }
+    ensures refused { RefusedScriptHasNoOutput }
+    ensures each { EachScriptHasOutput }
+    ensures one { OneScriptOutput }
 {}

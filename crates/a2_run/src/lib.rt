@@ -1,4 +1,4 @@
-//! A source text in, a screen or object lines out.
+//! A source text in, a screen or object lines out; and a script of Monitor lines in, its answers out.
 #![tactic(auto)]
 
 mod fault;
@@ -8,7 +8,10 @@ mod scripts;
 mod sources;
 
 pub use fault::{ReadingFault, RunFault};
-pub use laws::{a_free_run_is_the_guarded_run, a_text_is_refused_or_means_a_program, a_text_means_one_output};
+pub use laws::{
+    a_free_run_is_the_guarded_run, a_script_has_one_output, a_text_is_refused_or_means_a_program,
+    a_text_means_one_output,
+};
 pub use run::{asm_text, fault_status, mon_text, run_text, status};
 
 /// What a run may do, and what it shows.

@@ -52,7 +52,8 @@ pub fn read_text<A: Allocator + Copy, R: Input>(
 /// Assembles and runs the source that the reader gives, with these keys waiting, and writes the picture, the register
 /// line and the cause line. `limit` is the most steps. Refused where the source is, where a read or write fails, and for
 /// want of memory.
-pub fn run_text<A: Allocator + Copy, R: Input, W: Output>(alloc: A,
+pub fn run_text<A: Allocator + Copy, R: Input, W: Output>(
+    alloc: A,
     reader: &mut R,
     keys: &Keys,
     limit: u32,
@@ -76,7 +77,8 @@ pub fn run_text<A: Allocator + Copy, R: Input, W: Output>(alloc: A,
 
 /// Assembles the source that the reader gives and writes its object lines. Refused where the source is, where a read or
 /// write fails, and for want of memory.
-pub fn asm_text<A: Allocator + Copy, R: Input, W: Output>(alloc: A,
+pub fn asm_text<A: Allocator + Copy, R: Input, W: Output>(
+    alloc: A,
     reader: &mut R,
     writer: &mut W,
 ) -> Result<(), RunFault>
@@ -97,7 +99,8 @@ pub fn asm_text<A: Allocator + Copy, R: Input, W: Output>(alloc: A,
 
 /// Answers the Monitor lines of the script that the reader gives: for each `*`, the line, LF, and its answer or its refusal.
 /// Refused where the script is over the limits, where a read or write fails, and for want of memory.
-pub fn mon_text<A: Allocator + Copy, R: Input, W: Output>(alloc: A,
+pub fn mon_text<A: Allocator + Copy, R: Input, W: Output>(
+    alloc: A,
     reader: &mut R,
     writer: &mut W,
 ) -> Result<(), RunFault>

@@ -11,7 +11,7 @@ ghost use Rattle.a2_run.specs.Scripts.{ScriptAnswers, AnswersLine, AnswersLines,
 use crate::RunFault;
 use a2_machine::Machine;
 use a2_monitor::{MonFault, Session};
-use a2_stream::{Output, WriteFault, put, put_all};
+use a2_stream::{Output, WriteFault, put_all};
 use a2_syntax::{Fault, lines};
 use std::alloc::{AllocError, Allocator};
 
@@ -25,21 +25,29 @@ fn refusal(fault: Fault) -> RunFault
     }
 }
 
-// Writes a line's answer or its refusal.
-fn answer<A: Allocator, W: Output>(session: &mut Session<A>, line: &[u8], writer: &mut W) -> Result<(), WriteFault>
+// Does what a line says, and writes its answer or the text of its refusal.
+fn answer<A: Allocator, W: Output>(
+    session: &mut Session<A>,
+    line: &[u8],
+    writer: &mut W,
+) -> Result<(), WriteFault>
     ensures { AnswersLine line.now (sitting_of session.old) (sitting_of session.new) (W.taker writer.old) (W.taker writer.new) result }
 {
-    match session.line(line, writer) {
-        Ok(()) => Ok(()),
-        Err(MonFault::Write) => Err(WriteFault),
-        Err(MonFault::Syntax) => put(b"M1 SYNTAX\n", writer),
-        Err(MonFault::Backward) => put(b"M2 BACKWARD\n", writer),
-        Err(MonFault::Outside) => put(b"M3 OUTSIDE RAM\n", writer),
+    let Err(fault) = session.line(line, writer) else {
+        return Ok(());
+    };
+    if fault == MonFault::Write {
+        return Err(WriteFault);
     }
+    put_all(&[fault.text().as_bytes(), b"\n"], writer)
 }
 
 // Writes each line and its answer.
-fn answer_all<A: Allocator, W: Output>(session: &mut Session<A>, lines: &[&[u8]], writer: &mut W) -> Result<(), WriteFault>
+fn answer_all<A: Allocator, W: Output>(
+    session: &mut Session<A>,
+    lines: &[&[u8]],
+    writer: &mut W,
+) -> Result<(), WriteFault>
     ensures { AnswersLines (map (λ x. x.now) lines.now) (sitting_of session.old) (W.taker writer.old) (W.taker writer.new) result }
 {
     for line in lines {
