@@ -1,0 +1,16 @@
+# Completion of a2's words for bash: . editors/a2.bash
+_a2() {
+    local word="${COMP_WORDS[COMP_CWORD]}" before="${COMP_WORDS[COMP_CWORD - 1]}"
+    COMPREPLY=()
+    if ((COMP_CWORD == 1)); then
+        mapfile -t COMPREPLY < <(compgen -W 'run asm' -- "$word")
+    elif [[ "$before" == --keys || "$before" == --limit || "$before" == = ]]; then
+        return
+    elif [[ "${COMP_WORDS[1]}" == run && "$word" == -* ]]; then
+        mapfile -t COMPREPLY < <(compgen -W '--keys --limit --free --attr' -- "$word")
+    else
+        mapfile -t COMPREPLY < <(compgen -f -X '!*.s' -- "$word"; compgen -d -S / -- "$word")
+        [[ "${COMPREPLY[0]:-}" == */ ]] && compopt -o nospace
+    fi
+}
+complete -o filenames -F _a2 a2
