@@ -4,13 +4,20 @@ use Rattle.a2_stream.specs.Stream.{Taker, Sends}
 use Rattle.a2_machine.specs.declared.Cause.{Cause}
 use Rattle.a2_run.specs.declared.Options.{Options}
 use Rattle.a2_run.specs.Meaning.{IsRun}
+use Rattle.a2_run.specs.Scripts.{is_mon_text}
 
 -- a name and LF
 abbrev pub title : List ℕ → List ℕ
 title name = name ++ 10 ∷ []
 
 -- the title went out, and then the output of the text's run, of at most 1,000,000 steps, which ended by this cause
-pub record Shows (name text keys : List ℕ) (options : Options) (cause : Cause) (old new : Taker) : Type 0 where
+pub record ShowsRun (name text keys : List ℕ) (options : Options) (cause : Cause) (old new : Taker) : Type 0 where
   pub output : List ℕ
   pub is_run : IsRun text keys 1000000 options cause output
+  pub sent : Sends old new (title name ++ output)
+
+-- the title went out, and then the output of the script of Monitor lines
+pub record ShowsSession (name script : List ℕ) (old new : Taker) : Type 0 where
+  pub output : List ℕ
+  pub is_text : is_mon_text script output
   pub sent : Sends old new (title name ++ output)

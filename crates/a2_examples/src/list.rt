@@ -1,63 +1,72 @@
 //! The examples, in the order of the manual.
 
-ghost use Rattle.std.specs.Prelude.{◌≡◌, [], false};
+ghost use Rattle.std.specs.Prelude.{◌≡◌, false};
+ghost use Rattle.a2_examples.specs.declared.list.Kind.TheVariants.{Run, Monitor};
+
+/// What an example's file is, and so how it is shown.
+#[derive(Clone, Copy, Debug, PartialEq, Eq)]
+pub enum Kind {
+    /// A source, which is run.
+    Run {
+        /// The keys that wait at the start, as `--keys` spells them.
+        keys: &'static str,
+        /// Whether the attribute rows are shown.
+        attr: bool,
+    },
+    /// A script of Monitor lines, which are answered.
+    Monitor,
+}
 
 /// An example.
 #[derive(Clone, Copy, Debug, PartialEq, Eq)]
 pub struct Example {
     /// Its file.
     pub name: &'static str,
-    /// The keys that wait at the start, as `--keys` spells them.
-    pub keys: &'static str,
-    /// Whether the attribute rows are shown.
-    pub attr: bool,
+    pub kind: Kind,
 }
 
-// An example without keys, as the program runs it without options.
-fn plain(name: &'static str) -> Example
+// A source, run with these keys as the program runs it without options.
+fn run(name: &'static str, keys: &'static str) -> Example
     ensures name { result.name.now ≡ name.now }
-    ensures keys { result.keys.now ≡ [] }
-    ensures attributes { result.attr ≡ false }
+    ensures kind { result.kind ≡ Run keys.entry false }
 {
-    Example {
-        name,
-        keys: "",
-        attr: false,
-    }
+    let kind = Kind::Run { keys, attr: false };
+    Example { name, kind }
 }
 
-// An example with keys.
-fn typed(name: &'static str, keys: &'static str) -> Example
+// A script of Monitor lines.
+fn session(name: &'static str) -> Example
     ensures name { result.name.now ≡ name.now }
-    ensures keys { result.keys.now ≡ keys.now }
-    ensures attributes { result.attr ≡ false }
+    ensures kind { result.kind ≡ Monitor }
 {
-    Example {
-        name,
-        keys,
-        attr: false,
-    }
+    let kind = Kind::Monitor;
+    Example { name, kind }
 }
 
 /// Each example of the folder once.
-pub fn examples() -> [Example; 13] {
+pub fn examples() -> [Example; 16] {
     [
-        plain("hello.s"),
-        plain("row.s"),
-        plain("count.s"),
-        plain("times.s"),
-        plain("primes.s"),
-        plain("sieve.s"),
-        plain("powers.s"),
-        plain("dump.s"),
-        typed("echo.s", "HELLO\\rAPPLX\\bE\\r\\r"),
-        typed("keys.s", "A1?\\r"),
+        run("hello.s", ""),
+        run("row.s", ""),
+        run("count.s", ""),
+        run("times.s", ""),
+        run("primes.s", ""),
+        run("sieve.s", ""),
+        run("powers.s", ""),
+        run("dump.s", ""),
+        run("echo.s", "HELLO\\rAPPLX\\bE\\r\\r"),
+        run("keys.s", "A1?\\r"),
         Example {
             name: "styles.s",
-            keys: "",
-            attr: true,
+            kind: Kind::Run {
+                keys: "",
+                attr: true,
+            },
         },
-        plain("bounce.s"),
-        plain("lores.s"),
+        run("bounce.s", ""),
+        run("lores.s", ""),
+        session("letters.mon"),
+        session("memory.mon"),
+        session("commands.mon"),
     ]
 }

@@ -10,8 +10,8 @@ use a2_bus::Keys;
 use a2_machine::Cause;
 use a2_run::{Options, RunFault};
 use a2_stream::{FromRead, Output, ToWrite};
-use list::{Example, examples};
-use show::show;
+use list::{Example, Kind, examples};
+use show::{show_run, show_session};
 use std::fs;
 use std::process::ExitCode;
 use thiserror::Error;
@@ -24,46 +24,45 @@ enum ExampleFault {
     Keys,
     /// Its file has no answer.
     #[error("{0}")]
-    Run(RunFault),
+    Run(#[from] RunFault),
 }
 
-// A guarded run, with the attribute rows where the example wants them.
-fn options_of(example: &Example) -> Options
+// A guarded run, with the attribute rows or without.
+fn guarded(attr: bool) -> Options
     ensures guarded { result.free ≡ false }
-    ensures attributes { result.attr ≡ example.now.attr }
+    ensures attributes { result.attr ≡ attr }
 {
-    Options {
-        free: false,
-        attr: example.attr,
-    }
+    Options { free: false, attr }
 }
 
-// Shows the example whose file lies in the folder.
+// Shows the example whose file lies in the folder; whether it came to its good end.
 fn show_file<W: Output>(
     rt: &HostRuntime,
     example: &Example,
     output: &mut W,
-) -> Result<Cause, ExampleFault> {
-    let keys = Keys::parse(example.keys).ok_or(ExampleFault::Keys)?;
+) -> Result<bool, ExampleFault> {
     let Ok(file) = fs::open(rt, example.name) else {
         return Err(ExampleFault::Run(RunFault::Read));
     };
-    let source = &mut FromRead::new(file);
-    let answer = show(
-        rt.alloc(),
-        example.name,
-        source,
-        &keys,
-        options_of(example),
-        output,
-    );
-    answer.map_err(|fault| ExampleFault::Run(fault))
+    let text = &mut FromRead::new(file);
+    let name = example.name;
+    match example.kind {
+        Kind::Run { keys, attr } => {
+            let keys = Keys::parse(keys).ok_or(ExampleFault::Keys)?;
+            let cause = show_run(rt.alloc(), name, text, &keys, guarded(attr), output)?;
+            Ok(matches!(cause, Cause::Returned))
+        }
+        Kind::Monitor => {
+            show_session(rt.alloc(), name, text, output)?;
+            Ok(true)
+        }
+    }
 }
 
 // Whether the example was shown and came to its good end; a fault is told on standard error.
 fn is_well<W: Output>(rt: &HostRuntime, example: &Example, output: &mut W) -> bool {
     match show_file(rt, example, output) {
-        Ok(cause) => matches!(cause, Cause::Returned),
+        Ok(well) => well,
         Err(fault) => {
             let _ = eprintln!(rt; "{}: {fault}", example.name);
             false

@@ -1,12 +1,12 @@
-//! One example's name, and what its run shows.
+//! One example's name, and what its run or its session shows.
 
 ghost use Rattle.std.specs.Prelude.{IfOk, IfErr, IfSome};
 ghost use Rattle.a2_stream.specs.Stream.{SendsOrBreaks};
-ghost use Rattle.a2_examples.specs.Shown.{title, Shows};
+ghost use Rattle.a2_examples.specs.Shown.{title, ShowsRun, ShowsSession};
 
 use a2_bus::Keys;
 use a2_machine::Cause;
-use a2_run::{Options, RunFault, run_text};
+use a2_run::{Options, RunFault, mon_text, run_text};
 use a2_stream::{Input, Output, WriteFault, put_all};
 use std::alloc::Global;
 
@@ -22,7 +22,7 @@ fn put_title<W: Output>(name: &str, output: &mut W) -> Result<(), WriteFault>
 
 /// Writes a line with the name, and behind it what a run of the source shows with these keys waiting; the cause of the
 /// run's end. Where there is a fault, a front of this may have gone out.
-pub fn show<R: Input, W: Output>(
+pub fn show_run<R: Input, W: Output>(
     alloc: Global,
     name: &str,
     source: &mut R,
@@ -31,8 +31,23 @@ pub fn show<R: Input, W: Output>(
     output: &mut W,
 ) -> Result<Cause, RunFault>
     ensures { IfOk result (λ cause. IfSome (R.giver source.old).bytes (λ text.
-        Shows name.now text keys.now options cause (W.taker output.old) (W.taker output.new))) }
+        ShowsRun name.now text keys.now options cause (W.taker output.old) (W.taker output.new))) }
 {
     put_title(name, output)?;
     run_text(alloc, source, keys, MOST_STEPS, options, output)
+}
+
+/// Writes a line with the name, and behind it the script's lines with their answers. Where there is a fault, a front of
+/// this may have gone out.
+pub fn show_session<R: Input, W: Output>(
+    alloc: Global,
+    name: &str,
+    script: &mut R,
+    output: &mut W,
+) -> Result<(), RunFault>
+    ensures { IfOk result (λ _. IfSome (R.giver script.old).bytes (λ text.
+        ShowsSession name.now text (W.taker output.old) (W.taker output.new))) }
+{
+    put_title(name, output)?;
+    mon_text(alloc, script, output)
 }
