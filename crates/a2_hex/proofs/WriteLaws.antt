@@ -4,7 +4,7 @@ use Rattle.std.specs.List.{flat_map}
 use Rattle.std.proofs.lemmas.Bool.{cond-true, cond-false}
 use Rattle.std.proofs.lemmas.List.{append_assoc, append-nil, flat_map_more}
 use Rattle.a2_stream.specs.Stream.{Taker, Sends, Breaks, SendsOrBreaks}
-use Rattle.a2_stream.proofs.Joined.{Sends-then, Breaks-then, broke_off}
+use Rattle.a2_stream.proofs.Joined.{Sends-nil, Sends-then, Breaks-then, broke_off, went_on}
 use Rattle.a2_text.specs.Digits.{hex_pair, hex_word}
 use Rattle.a2_hex.specs.ObjectText.{after_blank, spaced, run, begins_line, line_at, lines_below, text_of_lines, object_text}
 
@@ -86,22 +86,44 @@ line-made image a first word colon pair all end h e0 e1 e2 e3 e4 =
     e3 ∙ ap (λ (l : List ℕ). l ++ flat_map after_blank (run image (a + 1) (7 - a % 8))) (e2 ∙ ap (λ (l : List ℕ). l ++ hex_pair first) (e1 ∙ ap (λ (l : List ℕ). l ++ 58 ∷ []) e0))
     ∙ sym (line_at-parts image a first h))
 
--- one line more went out, or it broke off
-pub sent-more : (old mid new : Taker) (image : ℕ → Option ℕ) (a : ℕ) (piece line : List ℕ) → Sends old mid (text_of_lines (lines_below image a)) → Sends mid new piece → piece ≡ line → line ≡ line_at image a ++ 10 ∷ [] → begins_line image a ≡ true
-    → Sends old new (text_of_lines (lines_below image (a + 1)))
-sent-more old mid new image a piece line before sent is line-is begins =
-    subst (Sends old new) (ap (λ (l : List ℕ). text_of_lines (lines_below image a) ++ l) (is ∙ line-is) ∙ text-more image a begins) (Sends-then old mid new (text_of_lines (lines_below image a)) piece before sent)
+-- Lines that are gathered
 
-pub sent-same : (old new : Taker) (image : ℕ → Option ℕ) (a : ℕ) → Sends old new (text_of_lines (lines_below image a)) → begins_line image a ≡ false → Sends old new (text_of_lines (lines_below image (a + 1)))
-sent-same old new image a sent other = subst (Sends old new) (ap text_of_lines (sym (below-same image a other))) sent
+-- what went out, with what is gathered behind it, is the lines below an address
+pub record IsGathered (old new : Taker) (image : ℕ → Option ℕ) (a : ℕ) (piece : List ℕ) : Type 0 where
+  pub sent : List ℕ
+  pub out : Sends old new sent
+  pub joined : sent ++ piece ≡ text_of_lines (lines_below image a)
 
-pub broke-in : {T E : Type 0} (r : Result T E) (old mid new : Taker) (image : ℕ → Option ℕ) (a : ℕ) (piece line : List ℕ) → IsErr r → Sends old mid (text_of_lines (lines_below image a)) → Breaks mid new piece → piece ≡ line → line ≡ line_at image a ++ 10 ∷ []
-    → begins_line image a ≡ true → a < 49152 → SendsOrBreaks old new r (object_text image)
-broke-in r old mid new image a piece line err before broke is line-is begins lt =
-    let text : List ℕ = text_of_lines (lines_below image a) in
-    let (rest, all) = object_text-front image (a + 1) (omega arith) in
-    let front : text ++ piece ≡ text_of_lines (lines_below image (a + 1)) = ap (λ (l : List ℕ). text ++ l) (is ∙ line-is) ∙ text-more image a begins in
-    subst (SendsOrBreaks old new r) (ap (λ (l : List ℕ). l ++ rest) front ∙ all) (broke_off old new r (text ++ piece) rest err (Breaks-then old mid new text piece before broke))
+pub gathered-none : (a : Taker) (image : ℕ → Option ℕ) → IsGathered a a image 0 []
+unfolding lines_below
+gathered-none a image = record { sent = []; out = Sends-nil a; joined = refl }
 
-pub sent-all : (old new : Taker) (image : ℕ → Option ℕ) (n : ℕ) → n ≡ 49152 → Sends old new (text_of_lines (lines_below image n)) → Sends old new (object_text image)
-sent-all old new image n h sent = subst (Sends old new) (object_text-is image n h) sent
+pub gathered-same : (old new : Taker) (image : ℕ → Option ℕ) (a : ℕ) (piece : List ℕ) → IsGathered old new image a piece → begins_line image a ≡ false → IsGathered old new image (a + 1) piece
+gathered-same old new image a piece h other = record { sent = h.sent; out = h.out; joined = h.joined ∙ ap text_of_lines (sym (below-same image a other)) }
+
+pub gathered-more : (old mid new : Taker) (image : ℕ → Option ℕ) (a : ℕ) (piece slice line after : List ℕ) → IsGathered old mid image a piece
+    → (sent : List ℕ) × Sends mid new sent × (sent ++ after ≡ piece ++ slice) → slice ≡ line → line ≡ line_at image a ++ 10 ∷ [] → begins_line image a ≡ true
+    → IsGathered old new image (a + 1) after
+gathered-more old mid new image a piece slice line after h (sent, out, joined) is line-is begins = record {
+  sent = h.sent ++ sent;
+  out = Sends-then old mid new h.sent sent h.out out;
+  joined =
+      append_assoc h.sent sent after ∙ ap (λ (l : List ℕ). h.sent ++ l) joined ∙ sym (append_assoc h.sent piece slice)
+      ∙ ap (λ (l : List ℕ). l ++ slice) h.joined ∙ ap (λ (l : List ℕ). text_of_lines (lines_below image a) ++ l) (is ∙ line-is)
+      ∙ text-more image a begins;
+}
+
+-- what was gathered broke off
+pub gathered-broke : {T E : Type 0} (r : Result T E) (old mid new : Taker) (image : ℕ → Option ℕ) (a : ℕ) (piece : List ℕ) → IsErr r → IsGathered old mid image a piece
+    → Breaks mid new piece → a < 49152 → SendsOrBreaks old new r (object_text image)
+gathered-broke r old mid new image a piece err h broke lt =
+    let (rest, all) = object_text-front image a (omega (arith, lt)) in
+    subst (SendsOrBreaks old new r) (ap (λ (l : List ℕ). l ++ rest) h.joined ∙ all)
+    (broke_off old new r (h.sent ++ piece) rest err (Breaks-then old mid new h.sent piece h.out broke))
+
+-- the last of them
+pub gathered-all : {T E : Type 0} (r : Result T E) (old mid new : Taker) (image : ℕ → Option ℕ) (n : ℕ) (piece slice : List ℕ) → n ≡ 49152 → IsGathered old mid image n piece
+    → slice ≡ piece → SendsOrBreaks mid new r slice → SendsOrBreaks old new r (object_text image)
+gathered-all r old mid new image n piece slice end h is last =
+    subst (SendsOrBreaks old new r) (h.joined ∙ object_text-is image n end)
+    (went_on old mid new r h.sent piece h.out (subst (SendsOrBreaks mid new r) is last))

@@ -2,3 +2,4 @@ pub mod Images
 pub mod ObjectText
 pub mod ObjectLines
 pub mod Texts
+pub mod Gathering

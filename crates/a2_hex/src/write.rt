@@ -7,6 +7,7 @@ ghost use Rattle.a2_stream.specs.Stream.{SendsOrBreaks};
 ghost use Rattle.a2_hex.specs.Images.{held, IsImage};
 ghost use Rattle.a2_hex.specs.ObjectText as text;
 ghost use Rattle.a2_hex.specs.ObjectLines.{image_of};
+ghost use Rattle.a2_hex.specs.Gathering.{Gathers};
 
 use crate::image::{Image, RAM_END};
 use a2_stream::{Output, WriteFault, put};
@@ -16,6 +17,9 @@ use std::alloc::Allocator;
 
 // The most bytes that a line of text has: an address, `:`, eight bytes with blanks between, and a line feed.
 const LINE_LEN: usize = 29;
+
+// The most bytes that go out by one write, where the writer takes them.
+const PIECE_LEN: usize = 4096;
 
 // The byte at an address, where a line begins there.
 fn begun<A: Allocator>(image: &Image<A>, address: u16) -> Option<u8>
@@ -73,22 +77,43 @@ fn line_at<A: Allocator>(image: &Image<A>, address: u16, first: u8) -> ArrayVec<
     line
 }
 
+// Puts a line behind those gathered; where it has no room there, they go out first.
+fn gather<W: Output>(
+    piece: &mut ArrayVec<u8, PIECE_LEN>,
+    line: &[u8],
+    writer: &mut W,
+) -> Result<(), WriteFault>
+    requires { length line.now ≤ 29 }
+    ensures { Gathers (W.taker writer.old) (W.taker writer.new) result piece.old.items line.now piece.new.items }
+{
+    if piece.try_extend_from_slice(line).is_ok() {
+        return Ok(());
+    }
+    put(piece.as_slice(), writer)?;
+    piece.clear();
+    piece.try_extend_from_slice(line).unwrap();
+    Ok(())
+}
+
 /// Writes the object lines of `image` to `writer`: addresses upwards; a line is four capital hexadecimal digits, `:`, and
 /// one to eight bytes of two digits with one blank between, and ends in LF; a new line begins at each address divisible
-/// by 8 and after each gap. This project's profile of the Monitor's lines that change memory, Apple II Reference Manual
-/// (1979), chapter 3. Refused where a write fails, and a front of the text was written then.
+/// by 8 and after each gap. As many whole lines as 4,096 bytes hold go out together. This project's profile of the
+/// Monitor's lines that change memory, Apple II Reference Manual (1979), chapter 3. Refused where a write fails, and a
+/// front of the text was written then.
 pub fn write_lines<A: Allocator, W: Output>(
     image: &Image<A>,
     writer: &mut W,
 ) -> Result<(), WriteFault>
     ensures { SendsOrBreaks (W.taker writer.old) (W.taker writer.new) result (text.object_text (held image.now)) }
 {
+    let mut piece = ArrayVec::new();
     for address in 0..RAM_END {
         if let Some(first) = begun(image, address) {
-            put(line_at(image, address, first).as_slice(), writer)?;
+            let line = line_at(image, address, first);
+            gather(&mut piece, line.as_slice(), writer)?;
         }
     }
-    Ok(())
+    put(piece.as_slice(), writer)
 }
 
 /// A law: for every image of RAM, the text that `write_lines` writes of it is one that loads to it.
