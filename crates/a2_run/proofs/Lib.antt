@@ -9,3 +9,4 @@ pub mod EachText
 pub mod Refusing
 pub mod Scripting
 pub mod ScriptReading
+pub mod Lengths

@@ -2,12 +2,13 @@
 #![tactic(auto)]
 
 mod fault;
+mod gathered;
 mod laws;
 mod run;
 mod scripts;
 mod sources;
 
-pub use fault::{ReadingFault, RunFault};
+pub use fault::RunFault;
 pub use laws::{
     a_free_run_is_the_guarded_run, a_script_has_one_output, a_text_is_refused_or_means_a_program,
     a_text_means_one_output,

@@ -7,9 +7,10 @@ ghost use Rattle.a2_run.specs.Meaning.{IsRefused, IsRun, AreObjectLines};
 ghost use Rattle.a2_run.specs.Scripts.{ScriptAnswers, is_mon_text, is_refused_script};
 ghost use Rattle.a2_run.specs.Status.{status_of, fault_status as status_of_fault, refusal_status as status_of_refusal};
 
+use crate::fault::ReadingFault;
 use crate::scripts::answer_script;
 use crate::sources::{assemble_source, run_source};
-use crate::{Options, ReadingFault, RunFault};
+use crate::{Options, RunFault};
 use a2_bus::Keys;
 use a2_machine::Cause;
 use a2_stream::{Input, Output, fill};
@@ -35,8 +36,8 @@ fn read_front<A: Allocator + Copy, R: Input>(
     Ok(text)
 }
 
-/// Reads a text up to its end, but at most 65,537 bytes: one more than a text may have.
-pub fn read_text<A: Allocator + Copy, R: Input>(
+// Reads a text up to its end, but at most 65,537 bytes: one more than a text may have.
+fn read_text<A: Allocator + Copy, R: Input>(
     alloc: A,
     reader: &mut R,
 ) -> Result<Vec<u8, A>, ReadingFault>
@@ -50,8 +51,8 @@ pub fn read_text<A: Allocator + Copy, R: Input>(
 }
 
 /// Assembles and runs the source that the reader gives, with these keys waiting, and writes the picture, the register
-/// line and the cause line. `limit` is the most steps. Refused where the source is, where a read or write fails, and for
-/// want of memory.
+/// line and the cause line, all by one write where the writer takes it. `limit` is the most steps. Refused where the source
+/// is, where a read or write fails, and for want of memory.
 pub fn run_text<A: Allocator + Copy, R: Input, W: Output>(
     alloc: A,
     reader: &mut R,
