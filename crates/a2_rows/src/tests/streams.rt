@@ -2,7 +2,7 @@
 
 use super::example::{FIVE_LINES, FIVE_LINES_LEAVE, RETURNS, Run, Screen, answer_of, output_of};
 use a2_machine::Cause;
-use a2_run::{RunFault, asm_text, status};
+use a2_run::{Options, RunFault, asm_text, status};
 use a2_stream::{Endless, Failing, FromRead, Pinched, ToWrite};
 use a2_syntax::Fault;
 use std::process::Abort;
@@ -70,6 +70,50 @@ fn each_write_of_object_lines_fails(rt: HostRuntime) -> Result<(), Fail> {
             };
             assert_eq!(rt; answer, wanted);
         }
+    }
+    Ok(())
+}
+
+// The picture, the attribute rows and both lines go out together.
+#[test]
+fn a_run_makes_one_write(rt: HostRuntime) -> Result<(), Fail> {
+    for attr in [false, true] {
+        let options = Options { free: false, attr };
+        let run = Run {
+            options,
+            ..PRINTS_AN_A
+        };
+        let mut output = Vec::new(rt.alloc());
+        let answer = answer_of(
+            rt.alloc(),
+            run,
+            &mut FromRead::new(FIVE_LINES.as_bytes()),
+            &mut Pinched::new(ToWrite::new(&mut output), 4096, 1, false),
+        );
+        assert_eq!(rt; answer, Ok(Cause::Returned));
+        assert_eq!(rt; output.len(), if attr { 2033 } else { 1049 });
+    }
+    Ok(())
+}
+
+// Of the 6,144 lines of a full image, 29 bytes each, 141 go out together. Where a write fails, whole pieces went out.
+#[test]
+fn object_lines_go_out_together(rt: HostRuntime) -> Result<(), Fail> {
+    let source = b" ORG 0\n NOP\n DS $BFFF\n".as_slice();
+    for (calls, sent, wanted) in [
+        (44u64, 178_176usize, Ok(())),
+        (43, 175_827, Err(RunFault::Write)),
+        (1, 4089, Err(RunFault::Write)),
+        (0, 0, Err(RunFault::Write)),
+    ] {
+        let mut output = Vec::new(rt.alloc());
+        let answer = asm_text(
+            rt.alloc(),
+            &mut FromRead::new(source),
+            &mut Pinched::new(ToWrite::new(&mut output), 4096, calls, false),
+        );
+        assert_eq!(rt; answer, wanted);
+        assert_eq!(rt; output.len(), sent);
     }
     Ok(())
 }
