@@ -5,11 +5,11 @@ ghost use Rattle.a2_machine.specs.declared.Cause.{Cause as Stop};
 ghost use Rattle.a2_run.specs.declared.fault.RunFault.{RunFault as Fault};
 ghost use Rattle.a2_run.specs.Status.{status_of};
 ghost use Rattle.a2.specs.Program.{RunsInput, TellsOrNot};
-ghost use Rattle.a2.specs.Words.{plain, status_of_words};
+ghost use Rattle.a2.specs.Words.{done_status, plain, status_of_words};
 
 use crate::words::{Order, RunOrder, WordsFault, order_of};
 use a2_machine::Cause;
-use a2_run::{RunFault, asm_text, fault_status, run_text, status};
+use a2_run::{RunFault, asm_text, fault_status, mon_text, run_text, status};
 use a2_stream::{Input, Output, ReadFault, put};
 use arrayvec::ArrayString;
 use std::alloc::Global;
@@ -45,6 +45,11 @@ pub fn words_status(fault: WordsFault) -> u8
     }
 }
 
+// Opens a file; one that cannot be opened is a failed read.
+fn opened<S: Shelf>(shelf: &mut S, name: &str) -> Result<S::Reader, RunFault> {
+    shelf.open(name).map_err(|_| RunFault::Read)
+}
+
 // Runs a file, or the standard input.
 fn run_file<S: Shelf, R: Input, W: Output>(
     alloc: Global,
@@ -66,17 +71,15 @@ fn run_file<S: Shelf, R: Input, W: Output>(
             output,
         );
     };
-    match shelf.open(name) {
-        Ok(mut reader) => run_text(
-            alloc,
-            &mut reader,
-            &order.keys,
-            order.limit,
-            order.options,
-            output,
-        ),
-        Err(_) => Err(RunFault::Read),
-    }
+    let mut reader = opened(shelf, name)?;
+    run_text(
+        alloc,
+        &mut reader,
+        &order.keys,
+        order.limit,
+        order.options,
+        output,
+    )
 }
 
 // Writes the object lines of a file.
@@ -86,16 +89,36 @@ fn assemble_file<S: Shelf, W: Output>(
     source: &str,
     output: &mut W,
 ) -> Result<(), RunFault> {
-    match shelf.open(source) {
-        Ok(mut reader) => asm_text(alloc, &mut reader, output),
-        Err(_) => Err(RunFault::Read),
-    }
+    let mut source = opened(shelf, source)?;
+    asm_text(alloc, &mut source, output)
+}
+
+// Answers the Monitor lines of a file.
+fn answer_file<S: Shelf, W: Output>(
+    alloc: Global,
+    shelf: &mut S,
+    script: &str,
+    output: &mut W,
+) -> Result<(), RunFault> {
+    let mut script = opened(shelf, script)?;
+    mon_text(alloc, &mut script, output)
 }
 
 // Tells the fault of an answer, if it has one.
 fn tell_fault<T, E: Output>(answer: &Result<T, RunFault>, complaints: &mut E) {
     if let Err(fault) = answer {
         complain(*fault, complaints);
+    }
+}
+
+// Tells the fault of an answer, if it has one; and the status.
+fn tell_done<E: Output>(answer: &Result<(), RunFault>, complaints: &mut E) -> u8
+    ensures { result ≡ done_status answer.now }
+{
+    tell_fault(answer, complaints);
+    match answer {
+        Ok(()) => 0,
+        Err(fault) => fault_status(fault),
     }
 }
 
@@ -124,12 +147,10 @@ pub fn obey<S: Shelf, R: Input, W: Output, E: Output>(
     };
     match order {
         Order::Asm { source } => {
-            let answer = assemble_file(alloc, shelf, source, output);
-            tell_fault(&answer, complaints);
-            match answer {
-                Ok(()) => 0,
-                Err(fault) => fault_status(&fault),
-            }
+            tell_done(&assemble_file(alloc, shelf, source, output), complaints)
+        }
+        Order::Mon { script } => {
+            tell_done(&answer_file(alloc, shelf, script, output), complaints)
         }
         Order::Run(order) => {
             let answer = run_file(alloc, shelf, input, &order, output);

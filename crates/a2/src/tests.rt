@@ -5,6 +5,18 @@ use a2_stream::{Failing, FromRead, Pinched, ReadFault, ToWrite};
 use std::alloc::{AllocError, Global};
 use std::test::Fail;
 
+/// A Monitor script, and what it shows.
+const LOOK: &str = "300:A9 C1\n300.301\nQ\n";
+
+const LOOKED: &str = "*300:A9 C1\n*300.301\n0300- A9 C1\n*Q\nM1 SYNTAX\n";
+
+/// A script whose second line has 256 bytes.
+const LONG: &str = "300
+................................................................\
+................................................................\
+................................................................\
+................................................................";
+
 const FIVE_LINES: &str = "COUT EQU $FDED\n ORG $300\n LDA #$C1\n JSR COUT\n RTS\n";
 
 /// Files of the test. Reading the torn one fails.
@@ -20,6 +32,8 @@ impl Shelf for Memory {
             "leap" => " ORG $300\n JSR $D000\n",
             "line" => " ORG $300\n JSR $FD6A\n RTS\n",
             "stop" => " BRK\n",
+            "look" => LOOK,
+            "long" => LONG,
             "empty" => "",
             "odd" => " FOO 1\n",
             _ => return Err(ReadFault),
@@ -153,7 +167,7 @@ fn accepted_words(rt: HostRuntime) -> Result<(), Fail> {
 fn refused_words(rt: HostRuntime) -> Result<(), Fail> {
     for (lines, complaint, status) in [
         (
-            "run five five,asm five five,run,asm,five,--free,-- run five,walk five,mon five,debug five five",
+            "run five five,asm five five,run,asm,five,--free,-- run five,walk five,debug five five",
             "BAD WORDS\n",
             2,
         ),
@@ -187,8 +201,17 @@ fn refused_words(rt: HostRuntime) -> Result<(), Fail> {
             "BAD WORDS\n",
             2,
         ),
+        (
+            "mon,mon look look,mon --free look,mon look --attr,mon --keys=A look,mon look --limit 5,mon --help,mon -x look",
+            "BAD WORDS\n",
+            2,
+        ),
         ("run gone --keys \\q,run --keys=\\ five", "BAD KEYS\n", 2),
-        ("run gone,asm gone,run torn,asm torn", "READ FAULT\n", 4),
+        (
+            "run gone,asm gone,mon gone,run torn,asm torn,mon torn",
+            "READ FAULT\n",
+            4,
+        ),
     ] {
         for line in lines.split(',') {
             let left = left_by(rt.alloc(), line, 1000)?;
@@ -208,14 +231,32 @@ fn faults_told(rt: HostRuntime) -> Result<(), Fail> {
         ("asm empty", 1000, "E12 NO INSTRUCTION\n", 1),
         ("run odd", 1000, "LINE 1 E2 SYNTAX\n", 1),
         ("asm odd", 1000, "LINE 1 E2 SYNTAX\n", 1),
+        ("mon long", 1000, "LINE 2 E1 TOO LARGE\n", 1),
         ("", 0, "WRITE FAULT\n", 4),
         ("run five", 0, "WRITE FAULT\n", 4),
         ("asm five", 0, "WRITE FAULT\n", 4),
+        ("mon look", 0, "WRITE FAULT\n", 4),
     ] {
         let left = left_by(rt.alloc(), line, calls)?;
         assert_eq!(rt; left.status, status, "{line}");
         assert!(rt; left.shown.is_empty(), "{line}");
         assert_eq!(rt; left.complaint.as_slice(), complaint.as_bytes(), "{line}");
+    }
+    Ok(())
+}
+
+// The whole of what Monitor lines show; refused lines are part of it.
+#[test]
+fn monitor_lines(rt: HostRuntime) -> Result<(), Fail> {
+    for (line, shown) in [
+        ("mon look", LOOKED),
+        ("mon -- look", LOOKED),
+        ("mon empty", ""),
+    ] {
+        let left = left_by(rt.alloc(), line, 1000)?;
+        assert_eq!(rt; left.status, 0, "{line}");
+        assert!(rt; left.complaint.is_empty(), "{line}");
+        assert_eq!(rt; left.shown.as_slice(), shown.as_bytes(), "{line}");
     }
     Ok(())
 }

@@ -1,9 +1,11 @@
 //! The words of the command line.
 
-ghost use Rattle.std.specs.Prelude.{◌≡◌, ◌≤◌, [], None, Ok, SomeIff, length};
+ghost use Rattle.std.specs.Prelude.{◌≡◌, ◌≤◌, [], None, Some, Ok, IfErr, IfOk, SomeIff, codes, length, option_map};
 ghost use Rattle.std.specs.Str.Parse.{digits_value};
+ghost use Rattle.clap.specs.Words.{first_value, found_of, one_text};
 ghost use Rattle.a2.specs.declared.words.Order.TheVariants.{Run};
-ghost use Rattle.a2.specs.Words.{IsStepLimit, plain};
+ghost use Rattle.a2.specs.declared.words.WordsFault.TheVariants.{Words};
+ghost use Rattle.a2.specs.Words.{IsFlag, IsStepLimit, RefusesRun, SaysKeys, SaysLimit, plain};
 
 use a2_bus::Keys;
 use a2_run::Options;
@@ -29,6 +31,8 @@ pub struct RunOrder<'a> {
 pub enum Order<'a> {
     /// Writes the object lines of a file.
     Asm { source: &'a str },
+    /// Answers the Monitor lines of a file.
+    Mon { script: &'a str },
     /// Runs a file, or the standard input.
     Run(RunOrder<'a>),
 }
@@ -105,6 +109,7 @@ fn bare_command<'a>(alloc: Global) -> Command<'a> {
 fn command<'a>(alloc: Global) -> Result<Command<'a>, AllocError> {
     bare_command(alloc)
         .subcommand(with_file(alloc, "asm")?)?
+        .subcommand(with_file(alloc, "mon")?)?
         .subcommand(run_command(alloc)?)
 }
 
@@ -120,7 +125,10 @@ fn matches_of<'a>(alloc: Global, words: &'a [String]) -> Result<ArgMatches<'a>, 
 }
 
 // A word that has to stand, as it was written.
-fn word_of<'a>(found: &ArgMatches<'a>, name: &str) -> Result<&'a str, WordsFault> {
+fn word_of<'a>(found: &ArgMatches<'a>, name: &str) -> Result<&'a str, WordsFault>
+    ensures found { IfOk result (λ word. first_value (found_of found.now) name.now ≡ Some word.now) }
+    ensures missing { IfErr result (λ fault. (first_value (found_of found.now) name.now ≡ None) × (fault ≡ Words)) }
+{
     found.get_str(name).ok_or(WordsFault::Words)
 }
 
@@ -155,28 +163,69 @@ fn has_loose_keys(words: &[String]) -> bool {
     false
 }
 
-// The number of steps that the words of `run` allow.
-fn limit_in(found: &ArgMatches) -> Result<u32, WordsFault> {
-    match found.get_str("limit") {
+// The most steps of a run. `word` is what stands behind `--limit`, where that is given.
+fn limit_given(word: Option<&str>) -> Result<u32, WordsFault>
+    ensures { SaysLimit (option_map (λ word. word.now) word.entry) result }
+{
+    match word {
         None => Ok(DEFAULT_LIMIT),
         Some(word) => limit_of(word).ok_or(WordsFault::Words),
     }
 }
 
-// What the words of `run` ask for; bad keys are told last.
-fn run_order<'a>(found: &ArgMatches<'a>) -> Result<RunOrder<'a>, WordsFault> {
-    let source = Some(word_of(found, "file")?);
-    let limit = limit_in(found)?;
-    let options = Options {
+// The keys that wait. `text` is what stands behind `--keys`, where that is given.
+fn keys_given(text: Option<&str>) -> Result<Keys, WordsFault>
+    ensures { SaysKeys (option_map (λ text. text.now) text.entry) result }
+{
+    match text {
+        None => Ok(Keys::new()),
+        Some(text) => Keys::parse(text).ok_or(WordsFault::Keys),
+    }
+}
+
+// The most steps that the words of `run` allow.
+fn limit_in(found: &ArgMatches) -> Result<u32, WordsFault>
+    ensures { SaysLimit (first_value (found_of found.now) (codes "limit")) result }
+{
+    limit_given(found.get_str("limit"))
+}
+
+// The keys that they have wait.
+fn keys_in(found: &ArgMatches) -> Result<Keys, WordsFault>
+    ensures { SaysKeys (first_value (found_of found.now) (codes "keys")) result }
+{
+    keys_given(found.get_str("keys"))
+}
+
+// Their options.
+fn options_in(found: &ArgMatches) -> Options
+    ensures free { IsFlag (one_text (found_of found.now) (codes "free")) result.free }
+    ensures attr { IsFlag (one_text (found_of found.now) (codes "attr")) result.attr }
+{
+    Options {
         free: found.get_flag("free"),
         attr: found.get_flag("attr"),
-    };
-    let keys = Keys::parse(found.get_str("keys").unwrap_or("")).ok_or(WordsFault::Keys)?;
+    }
+}
+
+// What the words of `run` ask for; bad keys are told last.
+fn run_order<'a>(found: &ArgMatches<'a>) -> Result<RunOrder<'a>, WordsFault>
+    ensures file { IfOk result (λ order. option_map (λ name. name.now) order.source ≡ first_value (found_of found.now) (codes "file")) }
+    ensures limit { IfOk result (λ order. SaysLimit (first_value (found_of found.now) (codes "limit")) (Ok order.limit)) }
+    ensures keys { IfOk result (λ order. SaysKeys (first_value (found_of found.now) (codes "keys")) (Ok order.keys)) }
+    ensures free { IfOk result (λ order. IsFlag (one_text (found_of found.now) (codes "free")) order.options.free) }
+    ensures attr { IfOk result (λ order. IsFlag (one_text (found_of found.now) (codes "attr")) order.options.attr) }
+    ensures refused { IfErr result (λ fault. let f = found_of found.now in
+        RefusesRun (first_value f (codes "file")) (first_value f (codes "limit")) (first_value f (codes "keys")) fault) }
+{
+    let source = Some(word_of(found, "file")?);
+    let limit = limit_in(found)?;
+    let keys = keys_in(found)?;
     Ok(RunOrder {
         source,
         keys,
         limit,
-        options,
+        options: options_in(found),
     })
 }
 
@@ -204,6 +253,9 @@ fn inner_order<'a>(
     match name {
         "asm" => Ok(Order::Asm {
             source: word_of(inner, "file")?,
+        }),
+        "mon" => Ok(Order::Mon {
+            script: word_of(inner, "file")?,
         }),
         "run" if !has_loose_keys(words) => Ok(Order::Run(run_order(inner)?)),
         _ => Err(WordsFault::Words),
