@@ -88,7 +88,7 @@ fn a_run_makes_one_write(rt: HostRuntime) -> Result<(), Fail> {
             rt.alloc(),
             run,
             &mut FromRead::new(FIVE_LINES.as_bytes()),
-            &mut Pinched::new(ToWrite::new(&mut output), 4096, 1, false),
+            &mut Pinched::new(ToWrite::new(&mut output), 4096, 1, Failing::Refuses),
         );
         assert_eq!(rt; answer, Ok(Cause::Returned));
         assert_eq!(rt; output.len(), if attr { 2033 } else { 1049 });
@@ -110,7 +110,7 @@ fn object_lines_go_out_together(rt: HostRuntime) -> Result<(), Fail> {
         let answer = asm_text(
             rt.alloc(),
             &mut FromRead::new(source),
-            &mut Pinched::new(ToWrite::new(&mut output), 4096, calls, false),
+            &mut Pinched::new(ToWrite::new(&mut output), 4096, calls, Failing::Refuses),
         );
         assert_eq!(rt; answer, wanted);
         assert_eq!(rt; output.len(), sent);
