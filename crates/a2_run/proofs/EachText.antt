@@ -1,5 +1,4 @@
 -- Each text has a refusal or a program, and each program its run and its object lines.
-use Rattle.std.specs.Prelude.{ℕ, List}
 use Rattle.std.proofs.Common.{refl, inl, inr}
 use Rattle.a2_hex.specs.Images.{held}
 use Rattle.a2_hex.specs.ObjectText.{object_text}
@@ -13,8 +12,8 @@ use Rattle.a2_run.specs.Laws.{RefusedOrProgram, EachProgramRuns, EachProgramHasO
 pub refused-or-program : RefusedOrProgram
 refused-or-program text unrefused nothing =
     some-reading text (λ source is.
-        let made = asm.refused-or-program source (λ fault refused. unrefused fault (inr (source, is, refused))) in
-        nothing made.0 (record { source = source; is_source = is; is_program = made.1 })) (λ fault is. unrefused fault (inl is))
+    let made = asm.refused-or-program source (λ fault refused. unrefused fault (inr (source, is, refused))) in
+    nothing made.0 (record { source = source; is_source = is; is_program = made.1 })) (λ fault is. unrefused fault (inl is))
 
 pub program-runs : EachProgramRuns
 program-runs text keys limit options program is =

@@ -9,16 +9,15 @@ use Rattle.a2_asm.specs.Programs.{IsProgram, AreAlike}
 use Rattle.a2_asm.specs.Refusals.{IsLayoutRefusal}
 use Rattle.a2_asm.proofs.MadeLaws.{one-layout_refusal, programs-alike}
 use Rattle.a2_asm.proofs.MadeLaws as asm
-use Rattle.a2_services.specs.World.{World}
 use Rattle.a2_machine.specs.declared.Cause.{Cause}
-use Rattle.a2_machine.specs.Meaning.{Code, End, IsEnd}
+use Rattle.a2_machine.specs.Meaning.{IsEnd}
 use Rattle.a2_machine.specs.ProgramGuard.{guard_of_program}
 use Rattle.a2_machine.specs.Start.{start_world}
 use Rattle.a2_machine.proofs.Runs.{end-unique}
 use Rattle.a2_run.specs.declared.Options.{Options}
 use Rattle.a2_syntax.proofs.EachReading.{one-refusal}
 use Rattle.a2_run.specs.Laws.{OneRefusal, RefusedHasNoProgram, RefusedHasNoRun, RefusedHasNoObjectLines, OneCause, OneOutput, OneObjectText}
-use Rattle.a2_run.specs.Meaning.{IsProgramOf, IsRefused, IsRun, AreObjectLines, code_of_run, start_of_run, output_of}
+use Rattle.a2_run.specs.Meaning.{IsProgramOf, IsRun, code_of_run, start_of_run, output_of}
 
 -- a text has one program, but for how its image is kept
 alike : (text : List ℕ) (p q : Assembled) → IsProgramOf text p → IsProgramOf text q → AreAlike p q

@@ -1,14 +1,13 @@
 -- Laws of what source texts and scripts mean: statements about the definitions of `Meaning.antt` and `Scripts.antt` alone, by
 -- name. This project's own.
-use Rattle.std.specs.Prelude.{◌≡◌, ◌≢◌, ℕ, true, false, List, Some, None}
+use Rattle.std.specs.Prelude.{◌≡◌, ◌≢◌, ℕ, true, false, List, None}
 use Rattle.a2_syntax.specs.declared.fault.Fault.{Fault}
 use Rattle.a2_syntax.specs.Limits.{size_refusal}
 use Rattle.a2_asm.specs.Assembled.{Assembled}
 use Rattle.a2_machine.specs.declared.Cause.{Cause}
 use Rattle.a2_machine.specs.declared.Cause.TheVariants.{CodeWrite, OffStatement}
-use Rattle.a2_machine.specs.Meaning.{End}
 use Rattle.a2_run.specs.declared.Options.{Options}
-use Rattle.a2_run.specs.Meaning.{IsProgramOf, IsRefused, IsRun, AreObjectLines, output_of}
+use Rattle.a2_run.specs.Meaning.{IsProgramOf, IsRefused, IsRun, AreObjectLines}
 use Rattle.a2_run.specs.Scripts.{is_refused_script, is_mon_text}
 
 -- where a text's guarded run ends by neither CODE WRITE nor OFF STATEMENT, its free run has the same cause and output
