@@ -1,6 +1,6 @@
 //! The machine: a board with a processor, its guard, and its counts.
 
-ghost use Rattle.std.specs.Prelude.{◌≡◌, ◌+◌, ◌^◌, ◌<◌, ◌≤◌, ◌↔◌, ℕ, [], None, Some, Ok, IfOk, IfNone, IfSome, OnOk, OnErr, OnSome, IsOk, length};
+ghost use Rattle.std.specs.Prelude.{◌≡◌, ◌+◌, ◌^◌, ◌<◌, ◌≤◌, ◌↔◌, ℕ, [], None, Some, Ok, IfOk, IfNone, IfSome, OnOk, OnErr, OnSome, IsOk, length, slice_range};
 ghost use Rattle.a2_page.specs.Picture.{page_grid};
 ghost use Rattle.a2_bus.specs.Devices.{keys_typed};
 ghost use Rattle.a2_bus.specs.Memory.{ram_end, with_ram, peek as peek_of};
@@ -159,8 +159,10 @@ impl<A: Allocator> Machine<A> {
         self.made
     }
 
-    /// What a screen shows now: the bytes of both text pages and the switches.
+    /// What a screen shows now: the bytes of both text pages, those between the cells too, and the switches.
     pub fn view(&self) -> View<'_>
+        ensures bytes1 { result.page1.now ≡ slice_range self.now.state.bus.bytes 0x0400 0x0800 }
+        ensures bytes2 { result.page2.now ≡ slice_range self.now.state.bus.bytes 0x0800 0x0C00 }
         ensures page1 { page_grid result.page1.now ≡ (memory_of self.now.state.bus).page1 }
         ensures page2 { page_grid result.page2.now ≡ (memory_of self.now.state.bus).page2 }
         ensures switches { result.switches ≡ self.now.state.bus.devices.switches }
