@@ -236,7 +236,7 @@ pub struct Line<A: Allocator = Global> {
     pub body: Body<A>,
 }
 
-/// The lines of a source text, at most 4,096. Only `parse` makes one.
+/// The lines of a source text, at most 4,096. Only `parse` makes one. Contracts see them without their allocator.
 #[derive(Drop)]
 pub struct Source<A: Allocator = Global> {
     lines: Vec<Line<A>, A>,
