@@ -3,13 +3,15 @@ _a2() {
     local word="${COMP_WORDS[COMP_CWORD]}" before="${COMP_WORDS[COMP_CWORD - 1]}"
     COMPREPLY=()
     if ((COMP_CWORD == 1)); then
-        mapfile -t COMPREPLY < <(compgen -W 'run asm' -- "$word")
+        mapfile -t COMPREPLY < <(compgen -W 'run asm mon' -- "$word")
     elif [[ "$before" == --keys || "$before" == --limit || "$before" == = ]]; then
         return
     elif [[ "${COMP_WORDS[1]}" == run && "$word" == -* ]]; then
         mapfile -t COMPREPLY < <(compgen -W '--keys --limit --free --attr' -- "$word")
     else
-        mapfile -t COMPREPLY < <(compgen -f -X '!*.s' -- "$word"; compgen -d -S / -- "$word")
+        local files='*.s'
+        [[ "${COMP_WORDS[1]}" != mon ]] || files='*.mon'
+        mapfile -t COMPREPLY < <(compgen -f -X "!$files" -- "$word"; compgen -d -S / -- "$word")
         [[ "${COMPREPLY[0]:-}" == */ ]] && compopt -o nospace
     fi
 }
