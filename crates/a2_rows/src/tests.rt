@@ -5,6 +5,7 @@ mod example;
 mod instructions;
 mod limits;
 mod machines;
+mod monitor;
 mod pictures;
 mod refusals;
 mod screens;
