@@ -19,3 +19,8 @@ pub record RunsInput (keys : List ℕ) (limit : ℕ) (options : Options) (input 
 -- a line went out; or a front of it, and a call failed; or nothing of it
 abbrev pub TellsOrNot : Taker → Taker → List ℕ → Type 0
 TellsOrNot old new line = Sends old new line ⊎ Breaks old new line ⊎ Sends old new []
+
+-- What a status says of the output: by 1, 2 or 5 nothing went out, and by 0 or 3 no write failed
+pub record Tells (status : ℕ) (old new : Taker) : Type 0 where
+  pub refused : status ≡ 1 ⊎ status ≡ 2 ⊎ status ≡ 5 → Sends old new []
+  pub done : status ≡ 0 ⊎ status ≡ 3 → new.failures ≡ old.failures

@@ -1,10 +1,13 @@
 //! What the program does, over any files and streams.
 
-ghost use Rattle.std.specs.Prelude.{◌≡◌, ◌≤◌, [], ◌++◌, None, Result, IfSome, codes, length};
+ghost use Rattle.std.specs.Prelude.{◌≡◌, ◌≤◌, [], ◌++◌, None, Result, IfErr, IfSome, codes, length};
 ghost use Rattle.a2_machine.specs.declared.Cause.{Cause as Stop};
 ghost use Rattle.a2_run.specs.declared.fault.RunFault.{RunFault as Fault};
+ghost use Rattle.a2_run.specs.declared.fault.RunFault.TheVariants.{Read};
+ghost use Rattle.a2_run.specs.Answers.{NothingSent, is_write_fault};
+ghost use Rattle.a2_stream.specs.Stream.{count_after};
 ghost use Rattle.a2_run.specs.Status.{status_of};
-ghost use Rattle.a2.specs.Program.{RunsInput, TellsOrNot};
+ghost use Rattle.a2.specs.Program.{RunsInput, Tells, TellsOrNot};
 ghost use Rattle.a2.specs.Words.{done_status, plain, status_of_words};
 
 use crate::words::{Order, RunOrder, WordsFault, order_of};
@@ -46,7 +49,9 @@ pub fn words_status(fault: WordsFault) -> u8
 }
 
 // Opens a file; one that cannot be opened is a failed read.
-fn opened<S: Shelf>(shelf: &mut S, name: &str) -> Result<S::Reader, RunFault> {
+fn opened<S: Shelf>(shelf: &mut S, name: &str) -> Result<S::Reader, RunFault>
+    ensures { IfErr result (λ fault. fault ≡ Read) }
+{
     shelf.open(name).map_err(|_| RunFault::Read)
 }
 
@@ -58,8 +63,10 @@ fn run_file<S: Shelf, R: Input, W: Output>(
     order: &RunOrder,
     output: &mut W,
 ) -> Result<Cause, RunFault>
-    ensures { order.now.source ≡ None → RunsInput order.now.keys order.now.limit order.now.options
+    ensures run { order.now.source ≡ None → RunsInput order.now.keys order.now.limit order.now.options
         (R.giver input.old) (R.giver input.new) (W.taker output.old) (W.taker output.new) result }
+    ensures silent { NothingSent (W.taker output.old) (W.taker output.new) result }
+    ensures writer { (W.taker output.new).failures ≡ count_after (is_write_fault result) (W.taker output.old).failures }
 {
     let Some(name) = order.source else {
         return run_text(
@@ -88,7 +95,10 @@ fn assemble_file<S: Shelf, W: Output>(
     shelf: &mut S,
     source: &str,
     output: &mut W,
-) -> Result<(), RunFault> {
+) -> Result<(), RunFault>
+    ensures silent { NothingSent (W.taker output.old) (W.taker output.new) result }
+    ensures writer { (W.taker output.new).failures ≡ count_after (is_write_fault result) (W.taker output.old).failures }
+{
     let mut source = opened(shelf, source)?;
     asm_text(alloc, &mut source, output)
 }
@@ -99,7 +109,10 @@ fn answer_file<S: Shelf, W: Output>(
     shelf: &mut S,
     script: &str,
     output: &mut W,
-) -> Result<(), RunFault> {
+) -> Result<(), RunFault>
+    ensures silent { NothingSent (W.taker output.old) (W.taker output.new) result }
+    ensures writer { (W.taker output.new).failures ≡ count_after (is_write_fault result) (W.taker output.old).failures }
+{
     let mut script = opened(shelf, script)?;
     mon_text(alloc, &mut script, output)
 }
@@ -135,8 +148,10 @@ pub fn obey<S: Shelf, R: Input, W: Output, E: Output>(
     complaints: &mut E,
 ) -> u8
     // Without words the input is run, guarded, with no keys and at most 1,000,000 steps.
-    ensures { length words.now ≤ 1 → (answer : Result Stop Fault) × (result ≡ status_of answer)
+    ensures plain { length words.now ≤ 1 → (answer : Result Stop Fault) × (result ≡ status_of answer)
         × RunsInput [] 1000000 plain (R.giver input.old) (R.giver input.new) (W.taker output.old) (W.taker output.new) answer }
+    // Whatever the words: by 1, 2 or 5 nothing went out, and by 0 or 3 no write failed.
+    ensures output { Tells result (W.taker output.old) (W.taker output.new) }
 {
     let order = match order_of(alloc, words) {
         Ok(order) => order,
