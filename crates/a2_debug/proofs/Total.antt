@@ -1,8 +1,11 @@
 -- Each line of a session is answered or refused, whatever the session is.
-use Rattle.std.proofs.Common.{◌≡◌, ◌≢◌, ◌⊎◌, ℕ, zero, suc, ◌+◌, ◌-◌, ◌%◌, ◌<◌, ◌≤◌, Bool, true, false, List, [], ◌∷◌, ◌++◌, length, map, drop, Option, Some, None, Result, Ok, Err, refl, sym, ap, ◌∙◌, subst, inl, inr, arith, eqb}
+use Rattle.std.proofs.Common.{◌≡◌, ◌≢◌, ◌⊎◌, ℕ, zero, suc, ◌+◌, ◌-◌, ◌%◌, ◌<◌, ◌≤◌, Bool, true, false, List, [], ◌∷◌, ◌++◌, length, map, drop, Option, Some, None, Result, Ok, Err, refl, sym, ap, ◌∙◌, subst, inl, inr, arith, eqb, cond, ltb}
 use Rattle.std.proofs.lemmas.Bool.{eqb-true, eqb-false}
 use Rattle.a2_text.specs.Bytes.{capital}
 use Rattle.a2_text.specs.Words.{words}
+use Rattle.a2_syntax.specs.Names.{is_name}
+use Rattle.a2_hex.specs.ObjectLines.{address_of}
+use Rattle.a2_asm.specs.Values.{Names, value_of}
 use Rattle.a2_bus.specs.KeyText.{escaped, IsSpelling, BeginsWith, Spells}
 use Rattle.a2_bus.proofs.KeyReading.{begins_only, empty_begins}
 use Rattle.a2_machine.specs.declared.Cause.{Cause}
@@ -18,7 +21,7 @@ use Rattle.a2_debug.specs.declared.commands.Verb.TheVariants.{Step, Go, Back, Br
 use Rattle.a2_debug.specs.Worlds.{guarded_code}
 use Rattle.a2_debug.specs.Session.{Halted as End, appended, advanced, stepped, gone, raised}
 use Rattle.a2_debug.specs.Stored.{Stored, session_of, typed_at, up_to, Moves, NoneAbove}
-use Rattle.a2_debug.specs.Marks.{marked, unmarked, at_place}
+use Rattle.a2_debug.specs.Marks.{found_or, place_of, marked, unmarked, at_place}
 use Rattle.a2_debug.specs.Calls.{Does, Sets}
 use Rattle.a2_debug.specs.Lines.{letters_of, first_word, behind_word, number_in, only_word, line_of, halt_line, picture_of}
 use Rattle.a2_debug.specs.Answers.{Says, SaysNone, done_text, IsText, IsDone, IsRefused, IsVerb, IsAnswered, IsTurnedDown}
@@ -415,3 +418,62 @@ pub answered_past : (line : List ℕ) (old : Stored) (text : List ℕ) (new : St
 answered_past line old text new (inl blank) past = same_past old new blank.2 past
 answered_past line old text new (inr (inl screen)) past = same_past old new screen.3 past
 answered_past line old text new (inr (inr obeyed)) past = does_past old new obeyed.2.call obeyed.2.answer obeyed.2.does past
+
+-- No line is refused for a failed write
+
+found_no : (why : DebugFault) → (why ≡ fault.Write → ⊥) → (o : Option ℕ) → found_or why o ≡ Err fault.Write → ⊥
+found_no why other None e = let same : why ≡ fault.Write = cc in other same
+found_no why other (Some address) e = (let bad : ⊥ = cc in bad)
+
+cond_no : {T : Type 0} (b : Bool) (x y : Result T DebugFault) → (x ≡ Err fault.Write → ⊥) → (y ≡ Err fault.Write → ⊥) → cond b x y ≡ Err fault.Write → ⊥
+cond_no true x y first second = first
+cond_no false x y first second = second
+
+place_no : (names : Names) (word : List ℕ) → place_of names word ≡ Err fault.Write → ⊥
+unfolding place_of
+place_no names [] e = (let bad : ⊥ = cc in bad)
+place_no names (c ∷ cs) e =
+    cond_no (eqb c 36) (found_or fault.Syntax (address_of cs)) (cond (is_name (c ∷ cs)) (found_or fault.Unknown (value_of names (c ∷ cs))) (Err fault.Syntax))
+    (found_no fault.Syntax (λ h. (let bad : ⊥ = cc in bad)) (address_of cs))
+    (cond_no (is_name (c ∷ cs)) (found_or fault.Unknown (value_of names (c ∷ cs))) (Err fault.Syntax)
+    (found_no fault.Unknown (λ h. (let bad : ⊥ = cc in bad)) (value_of names (c ∷ cs))) (λ h. (let bad : ⊥ = cc in bad)))
+    e
+
+at_no : (change : List ℕ → ℕ → Result (List ℕ) DebugFault) → ((breaks : List ℕ) (a : ℕ) → change breaks a ≡ Err fault.Write → ⊥)
+    → (names : Names) (word breaks : List ℕ) → at_place change names word breaks ≡ Err fault.Write → ⊥
+at_no change never names word breaks = go (place_of names word) (place_no names word)
+  where
+    go : (r : Result ℕ DebugFault) → (r ≡ Err fault.Write → ⊥)
+        → (elim r as (λ _. Result (List ℕ) DebugFault) [ Err why ↦ Err why | Ok address ↦ change breaks address ]) ≡ Err fault.Write → ⊥
+    go (Ok address) other e = never breaks address e
+    go (Err why) other e = let same : why ≡ fault.Write = cc in other (ap (λ f. Err f) same)
+
+marked_no : (breaks : List ℕ) (a : ℕ) → marked breaks a ≡ Err fault.Write → ⊥
+marked_no breaks a =
+    cond_no (is_among breaks a) (Ok breaks) (cond (ltb (length breaks) 256) (Ok (breaks ++ a ∷ [])) (Err fault.Full)) (λ e. (let bad : ⊥ = cc in bad))
+    (cond_no (ltb (length breaks) 256) (Ok (breaks ++ a ∷ [])) (Err fault.Full) (λ e. (let bad : ⊥ = cc in bad)) (λ e. (let bad : ⊥ = cc in bad)))
+
+unmarked_no : (breaks : List ℕ) (a : ℕ) → unmarked breaks a ≡ Err fault.Write → ⊥
+unmarked_no breaks a e = (let bad : ⊥ = cc in bad)
+
+sets_no : (old : Stored) (found : Result (List ℕ) DebugFault) → (found ≡ Err fault.Write → ⊥) → Sets old found (Refused fault.Write) old → ⊥
+sets_no old (Ok breaks) other h = let same = h.0 in cc
+sets_no old (Err why) other h = let same = h.0 in let is : why ≡ fault.Write = cc in other (ap (λ f. Err f) is)
+
+does_no : (old : Stored) (c : Call) → Does old c (Refused fault.Write) old → ⊥
+does_no old (call.Step n) h = let same = h.1 in cc
+does_no old (call.Go n) h = let same = h.1 in cc
+does_no old (call.TypeKeys keys) h = let same = h.1 in cc
+does_no old (call.Back n) h = let same = h.1 in cc
+does_no old (call.SetBreak word) h = sets_no old (at_place marked old.program.names word.now old.breaks) (at_no marked marked_no old.program.names word.now old.breaks) h
+does_no old (call.ClearBreak word) h = sets_no old (at_place unmarked old.program.names word.now old.breaks) (at_no unmarked unmarked_no old.program.names word.now old.breaks) h
+
+refused_no : (verb : Verb) (rest : List ℕ) (old : Stored)
+    → (SaysNone verb rest × (fault.Write ≡ fault.Syntax)) ⊎ ((c : Call) × Says verb rest c × Does old c (Refused fault.Write) old) → ⊥
+refused_no verb rest old (inl none) = let same = none.1 in cc
+refused_no verb rest old (inr (c, says, does)) = does_no old c does
+
+pub never_by_write : (line : List ℕ) (old : Stored) → IsTurnedDown line old fault.Write → ⊥
+never_by_write line old (inl none) = let same = none.2 in cc
+never_by_write line old (inr (inl more)) = let same = more.2 in cc
+never_by_write line old (inr (inr (verb, other, is, refused))) = refused_no verb (behind_word line) old refused.cause
