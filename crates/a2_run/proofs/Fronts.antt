@@ -47,7 +47,7 @@ refused-front n xs fault above h = go (fronts n xs above)
     go (inl same) = subst (λ text. IsRefused text fault) same h
     go (inr e) = long e.0 e.1 h
 
-program-front : (n : ℕ) (xs : List ℕ) (program : Assembled) → 65536 < n → IsProgramOf (take n xs) program → IsProgramOf xs program
+pub program-front : (n : ℕ) (xs : List ℕ) (program : Assembled) → 65536 < n → IsProgramOf (take n xs) program → IsProgramOf xs program
 program-front n xs program above h = go (fronts n xs above)
   where
     go : (take n xs ≡ xs) ⊎ ((size_refusal (take n xs) ≡ Some (TooLarge 0)) × (size_refusal xs ≡ Some (TooLarge 0))) → IsProgramOf xs program

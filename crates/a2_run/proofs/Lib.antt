@@ -10,3 +10,5 @@ pub mod Refusing
 pub mod Scripting
 pub mod ScriptReading
 pub mod Lengths
+pub mod Replying
+pub mod DebugScripting

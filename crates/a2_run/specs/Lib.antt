@@ -4,3 +4,5 @@ pub mod Status
 pub mod Started
 pub mod Laws
 pub mod Scripts
+pub mod Replies
+pub mod DebugScripts

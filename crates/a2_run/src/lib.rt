@@ -1,6 +1,8 @@
-//! A source text in, a screen or object lines out; and a script of Monitor lines in, its answers out.
+//! A source text in, a screen or object lines out; a script of Monitor lines, or a source and a script of debugger lines in,
+//! the answers out.
 #![tactic(auto)]
 
+mod debugging;
 mod fault;
 mod gathered;
 mod laws;
@@ -13,7 +15,7 @@ pub use laws::{
     a_free_run_is_the_guarded_run, a_script_has_one_output, a_text_is_refused_or_means_a_program,
     a_text_means_one_output,
 };
-pub use run::{asm_text, fault_status, mon_text, run_text, status};
+pub use run::{asm_text, debug_text, fault_status, mon_text, run_text, status};
 
 /// What a run may do, and what it shows.
 #[derive(Clone, Copy, Debug, PartialEq, Eq)]

@@ -4,9 +4,11 @@ ghost use Rattle.std.specs.Prelude.{◌≡◌, IfOk, IfSome, take};
 ghost use Rattle.a2_stream.specs.Stream.{count_after, TakesAtMost};
 ghost use Rattle.a2_run.specs.Answers.{read_of, Answers, is_read_fault, is_unread, is_write_fault, NothingSent};
 ghost use Rattle.a2_run.specs.Meaning.{IsRefused, IsRun, AreObjectLines};
+ghost use Rattle.a2_run.specs.DebugScripts.{DebugAnswers, ReadsFail};
 ghost use Rattle.a2_run.specs.Scripts.{ScriptAnswers, is_mon_text, is_refused_script};
 ghost use Rattle.a2_run.specs.Status.{status_of, fault_status as status_of_fault, refusal_status as status_of_refusal};
 
+use crate::debugging::debug_script;
 use crate::fault::ReadingFault;
 use crate::scripts::answer_script;
 use crate::sources::{assemble_source, run_source};
@@ -118,6 +120,32 @@ pub fn mon_text<A: Allocator + Copy, R: Input, W: Output>(
 {
     let text = read_text(alloc, reader)?;
     answer_script(alloc, text.as_slice(), writer)
+}
+
+/// Debugs the program of the source that the first reader gives, by the debugger lines of the script that the second
+/// gives: for each `>`, the line, LF, and its answer, or its refusal and LF. Both texts are read before anything is
+/// refused. Refused where the source is; where it is not and the script is over the limits of a source; where a read or
+/// write fails; and for want of memory. This project's profile.
+pub fn debug_text<A: Allocator + Copy, R: Input, S: Input, W: Output>(
+    alloc: A,
+    source: &mut R,
+    script: &mut S,
+    writer: &mut W,
+) -> Result<(), RunFault>
+    // What is written is the meaning of what is read.
+    ensures meaning { IfSome (R.giver source.old).bytes (λ text. IfSome (S.giver script.old).bytes (λ lines.
+        DebugAnswers text lines (W.taker writer.old) (W.taker writer.new) result)) }
+    // Nothing is read past the 65,537th byte of either.
+    ensures fronts { TakesAtMost 65537 (R.giver source.old) (R.giver source.new) × TakesAtMost 65537 (S.giver script.old) (S.giver script.new) }
+    // Whatever the readers give, a fault other than of the writer means that nothing was written.
+    ensures silent { NothingSent (W.taker writer.old) (W.taker writer.new) result }
+    // A fault of a reader or of the writer comes exactly where one of its calls failed.
+    ensures readers { ReadsFail (is_read_fault result) (R.giver source.old) (R.giver source.new) (S.giver script.old) (S.giver script.new) }
+    ensures writer { (W.taker writer.new).failures ≡ count_after (is_write_fault result) (W.taker writer.old).failures }
+{
+    let text = read_text(alloc, source)?;
+    let lines = read_text(alloc, script)?;
+    debug_script(alloc, text.as_slice(), lines.as_slice(), writer)
 }
 
 // The status where a text is refused: 1, but 5 for want of memory.

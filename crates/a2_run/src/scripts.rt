@@ -15,8 +15,8 @@ use a2_stream::{Output, WriteFault, put_all};
 use a2_syntax::{Fault, lines};
 use std::alloc::{AllocError, Allocator};
 
-// A fault of the script, but want of memory by itself.
-fn refusal(fault: Fault) -> RunFault
+/// A fault of the script, but want of memory by itself.
+pub fn refusal(fault: Fault) -> RunFault
     ensures { result ≡ scripts.refusal_of fault }
 {
     match fault {

@@ -1,0 +1,22 @@
+-- The lines of a script, each repeated behind a mark and answered.
+use Rattle.std.specs.Prelude.{◌≡◌, ℕ, List, [], ◌∷◌, ◌++◌, codes, Result}
+use Rattle.a2_stream.specs.Stream.{Taker, SendsOrBreaks}
+use Rattle.a2_stream.specs.declared.WriteFault.{WriteFault}
+
+-- a line as it is repeated
+abbrev pub echo : List ℕ → List ℕ → List ℕ
+echo mark line = mark ++ (line ++ codes "\n")
+
+-- one line after another, where `Meets line old text new` says which text a line has, and what it leaves
+abbrev pub AreReplied : {S : Type 0} → (List ℕ → S → List ℕ → S → Type 0) → List ℕ → List (List ℕ) → S → List ℕ → Type 0
+AreReplied Meets mark [] old output = output ≡ []
+AreReplied {S} Meets mark (line ∷ others) old output =
+    (text : List ℕ) × (new : S) × (rest : List ℕ) × Meets line old text new × AreReplied Meets mark others new rest
+    × (output ≡ echo mark line ++ (text ++ rest))
+
+-- what a call for one line answers, and for several
+abbrev pub RepliesTo : {S : Type 0} → (List ℕ → S → List ℕ → S → Type 0) → List ℕ → S → S → Taker → Taker → Result (Unit {0}) WriteFault → Type 0
+RepliesTo Meets line old new before after answer = (text : List ℕ) × Meets line old text new × SendsOrBreaks before after answer text
+
+abbrev pub RepliesToAll : {S : Type 0} → (List ℕ → S → List ℕ → S → Type 0) → List ℕ → List (List ℕ) → S → Taker → Taker → Result (Unit {0}) WriteFault → Type 0
+RepliesToAll Meets mark lines old before after answer = (output : List ℕ) × AreReplied Meets mark lines old output × SendsOrBreaks before after answer output

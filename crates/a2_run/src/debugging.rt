@@ -1,0 +1,79 @@
+//! A source and a script of debugger lines in, the script's answers out.
+
+ghost use Rattle.std.specs.Prelude.{◌≡◌, false, IfOk, map, codes};
+ghost use Rattle.a2_debug.specs.Stored.{begun, NoneAbove};
+ghost use Rattle.a2_run.specs.Answers.{is_read_fault};
+ghost use Rattle.a2_run.specs.Replies.{RepliesTo, RepliesToAll};
+ghost use Rattle.a2_run.specs.DebugScripts.{DebugAnswers, Meets};
+
+use crate::RunFault;
+use crate::scripts::refusal;
+use crate::sources::program_of;
+use a2_asm::Program;
+use a2_debug::{DebugFault, Debugger};
+use a2_machine::Machine;
+use a2_stream::{Output, WriteFault, put, put_all};
+use a2_syntax::lines;
+use std::alloc::{AllocError, Allocator};
+
+// Writes a line's answer or its refusal.
+fn answer<A: Allocator, W: Output>(
+    debugger: &mut Debugger<A>,
+    line: &[u8],
+    writer: &mut W,
+) -> Result<(), WriteFault>
+    ensures { RepliesTo Meets line.now debugger.old debugger.new (W.taker writer.old) (W.taker writer.new) result }
+{
+    let Err(fault) = debugger.line(line, writer) else {
+        return Ok(());
+    };
+    if fault == DebugFault::Write {
+        return Err(WriteFault);
+    }
+    put_all(&[fault.text().as_bytes(), b"\n"], writer)
+}
+
+// Writes each line and its answer.
+fn answer_all<A: Allocator, W: Output>(
+    debugger: &mut Debugger<A>,
+    lines: &[&[u8]],
+    writer: &mut W,
+) -> Result<(), WriteFault>
+    // No key was typed at a later count.
+    requires { NoneAbove debugger.old.count debugger.old.log }
+    ensures { RepliesToAll Meets (codes ">") (map (λ x. x.now) lines.now) debugger.old (W.taker writer.old) (W.taker writer.new) result }
+{
+    for line in lines {
+        put_all(&[b">", line, b"\n"], writer)?;
+        answer(debugger, line, writer)?;
+    }
+    Ok(())
+}
+
+// A debugger of the program, at its start.
+fn opened<A: Allocator + Copy>(alloc: A, program: Program<A>) -> Result<Debugger<A>, AllocError>
+    ensures { IfOk result (λ debugger. debugger ≡ begun program 0) }
+{
+    let machine = Machine::new(alloc)?;
+    Debugger::new(alloc, machine, program).map_err(|_| AllocError)
+}
+
+/// Debugs the program of a source by the lines of a script.
+pub fn debug_script<A: Allocator + Copy, W: Output>(
+    alloc: A,
+    source: &[u8],
+    script: &[u8],
+    writer: &mut W,
+) -> Result<(), RunFault>
+    ensures meaning { DebugAnswers source.now script.now (W.taker writer.old) (W.taker writer.new) result }
+    ensures no_reader { is_read_fault result ≡ false }
+{
+    let program = program_of(alloc, source)?;
+    let lines = match lines(alloc, script) {
+        Ok(lines) => lines,
+        Err(fault) => return Err(refusal(fault)),
+    };
+    let mut debugger = opened(alloc, program)?;
+    answer_all(&mut debugger, lines.as_slice(), writer)?;
+    Ok(())
+}
