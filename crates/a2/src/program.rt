@@ -12,7 +12,7 @@ ghost use Rattle.a2.specs.Words.{done_status, plain, status_of_words};
 
 use crate::words::{Order, RunOrder, WordsFault, order_of};
 use a2_machine::Cause;
-use a2_run::{RunFault, asm_text, fault_status, mon_text, run_text, status};
+use a2_run::{RunFault, asm_text, debug_text, fault_status, mon_text, run_text, status};
 use a2_stream::{Input, Output, ReadFault, put};
 use arrayvec::ArrayString;
 use std::alloc::Global;
@@ -117,6 +117,22 @@ fn answer_file<S: Shelf, W: Output>(
     mon_text(alloc, &mut script, output)
 }
 
+// Debugs the source of a file by the lines of another; both are opened before either is read.
+fn debug_files<S: Shelf, W: Output>(
+    alloc: Global,
+    shelf: &mut S,
+    source: &str,
+    script: &str,
+    output: &mut W,
+) -> Result<(), RunFault>
+    ensures silent { NothingSent (W.taker output.old) (W.taker output.new) result }
+    ensures writer { (W.taker output.new).failures ≡ count_after (is_write_fault result) (W.taker output.old).failures }
+{
+    let mut source = opened(shelf, source)?;
+    let mut script = opened(shelf, script)?;
+    debug_text(alloc, &mut source, &mut script, output)
+}
+
 // Tells the fault of an answer, if it has one.
 fn tell_fault<T, E: Output>(answer: &Result<T, RunFault>, complaints: &mut E) {
     if let Err(fault) = answer {
@@ -167,6 +183,10 @@ pub fn obey<S: Shelf, R: Input, W: Output, E: Output>(
         Order::Mon { script } => {
             tell_done(&answer_file(alloc, shelf, script, output), complaints)
         }
+        Order::Debug { source, script } => tell_done(
+            &debug_files(alloc, shelf, source, script, output),
+            complaints,
+        ),
         Order::Run(order) => {
             let answer = run_file(alloc, shelf, input, &order, output);
             tell_fault(&answer, complaints);

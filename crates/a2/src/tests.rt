@@ -10,6 +10,18 @@ const LOOK: &str = "300:A9 C1\n300.301\nQ\n";
 
 const LOOKED: &str = "*300:A9 C1\n*300.301\n0300- A9 C1\n*Q\nM1 SYNTAX\n";
 
+/// A debugger script, and what it shows of the five lines.
+const STEPS: &str = "step 1\nback 1\nQ\n";
+
+const STEPPED: &str = ">step 1
+A=C1 X=00 Y=00 P=B0 S=FD PC=0302 STEPS=1 CYCLES=2
+STOP LIMIT
+>back 1
+A=00 X=00 Y=00 P=30 S=FD PC=0300 STEPS=0 CYCLES=0
+>Q
+G1 SYNTAX
+";
+
 /// A script whose second line has 256 bytes.
 const LONG: &str = "300
 ................................................................\
@@ -33,6 +45,7 @@ impl Shelf for Memory {
             "line" => " ORG $300\n JSR $FD6A\n RTS\n",
             "stop" => " BRK\n",
             "look" => LOOK,
+            "steps" => STEPS,
             "long" => LONG,
             "empty" => "",
             "odd" => " FOO 1\n",
@@ -167,7 +180,7 @@ fn accepted_words(rt: HostRuntime) -> Result<(), Fail> {
 fn refused_words(rt: HostRuntime) -> Result<(), Fail> {
     for (lines, complaint, status) in [
         (
-            "run five five,asm five five,run,asm,five,--free,-- run five,walk five,debug five five",
+            "run five five,asm five five,run,asm,five,--free,-- run five,walk five",
             "BAD WORDS\n",
             2,
         ),
@@ -206,9 +219,20 @@ fn refused_words(rt: HostRuntime) -> Result<(), Fail> {
             "BAD WORDS\n",
             2,
         ),
+        (
+            "debug,debug five,debug five steps steps,debug --free five steps,debug five steps --limit 5,debug --help",
+            "BAD WORDS\n",
+            2,
+        ),
         ("run gone --keys \\q,run --keys=\\ five", "BAD KEYS\n", 2),
         (
             "run gone,asm gone,mon gone,run torn,asm torn,mon torn",
+            "READ FAULT\n",
+            4,
+        ),
+        // Both files are read before either is refused.
+        (
+            "debug gone steps,debug five gone,debug odd gone,debug torn steps,debug five torn,debug odd torn",
             "READ FAULT\n",
             4,
         ),
@@ -232,10 +256,14 @@ fn faults_told(rt: HostRuntime) -> Result<(), Fail> {
         ("run odd", 1000, "LINE 1 E2 SYNTAX\n", 1),
         ("asm odd", 1000, "LINE 1 E2 SYNTAX\n", 1),
         ("mon long", 1000, "LINE 2 E1 TOO LARGE\n", 1),
+        ("debug five long", 1000, "LINE 2 E1 TOO LARGE\n", 1),
+        ("debug odd long", 1000, "LINE 1 E2 SYNTAX\n", 1),
+        ("debug long steps", 1000, "LINE 2 E1 TOO LARGE\n", 1),
         ("", 0, "WRITE FAULT\n", 4),
         ("run five", 0, "WRITE FAULT\n", 4),
         ("asm five", 0, "WRITE FAULT\n", 4),
         ("mon look", 0, "WRITE FAULT\n", 4),
+        ("debug five steps", 0, "WRITE FAULT\n", 4),
     ] {
         let left = left_by(rt.alloc(), line, calls)?;
         assert_eq!(rt; left.status, status, "{line}");
@@ -245,13 +273,16 @@ fn faults_told(rt: HostRuntime) -> Result<(), Fail> {
     Ok(())
 }
 
-// The whole of what Monitor lines show; refused lines are part of it.
+// The whole of what scripts show; refused lines are part of it.
 #[test]
-fn monitor_lines(rt: HostRuntime) -> Result<(), Fail> {
+fn scripts_answered(rt: HostRuntime) -> Result<(), Fail> {
     for (line, shown) in [
         ("mon look", LOOKED),
         ("mon -- look", LOOKED),
         ("mon empty", ""),
+        ("debug five steps", STEPPED),
+        ("debug -- five steps", STEPPED),
+        ("debug five empty", ""),
     ] {
         let left = left_by(rt.alloc(), line, 1000)?;
         assert_eq!(rt; left.status, 0, "{line}");

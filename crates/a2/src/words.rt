@@ -33,6 +33,8 @@ pub enum Order<'a> {
     Asm { source: &'a str },
     /// Answers the Monitor lines of a file.
     Mon { script: &'a str },
+    /// Debugs the source of a file by the lines of another.
+    Debug { source: &'a str, script: &'a str },
     /// Runs a file, or the standard input.
     Run(RunOrder<'a>),
 }
@@ -98,6 +100,11 @@ fn run_command<'a>(alloc: Global) -> Result<Command<'a>, AllocError> {
         .arg(flag(alloc, "attr"))
 }
 
+// The words after `debug`.
+fn debug_command<'a>(alloc: Global) -> Result<Command<'a>, AllocError> {
+    with_file(alloc, "debug")?.arg(needed(alloc, "script"))
+}
+
 // The program's name alone.
 fn bare_command<'a>(alloc: Global) -> Command<'a> {
     named(alloc, "a2")
@@ -110,6 +117,7 @@ fn command<'a>(alloc: Global) -> Result<Command<'a>, AllocError> {
     bare_command(alloc)
         .subcommand(with_file(alloc, "asm")?)?
         .subcommand(with_file(alloc, "mon")?)?
+        .subcommand(debug_command(alloc)?)?
         .subcommand(run_command(alloc)?)
 }
 
@@ -256,6 +264,10 @@ fn inner_order<'a>(
         }),
         "mon" => Ok(Order::Mon {
             script: word_of(inner, "file")?,
+        }),
+        "debug" => Ok(Order::Debug {
+            source: word_of(inner, "file")?,
+            script: word_of(inner, "script")?,
         }),
         "run" if !has_loose_keys(words) => Ok(Order::Run(run_order(inner)?)),
         _ => Err(WordsFault::Words),
