@@ -181,15 +181,18 @@ impl<A: Allocator> Machine<A> {
         self.steps = other.steps;
     }
 
-    /// The byte of RAM at `address`, with no effect on anything; none at or above $C000.
+    /// The byte of RAM at `address` ($0000 to $FFFF), with no effect on any device; none at or above $C000. Apple II
+    /// Reference Manual (1979), the memory map.
     pub fn peek(&self, address: u16) -> Option<u8>
         ensures value { result ≡ peek_of (memory_of self.now.state.bus) address }
+        // All of RAM is there.
         ensures size { length self.now.state.bus.bytes ≡ ram_end }
     {
         self.board.peek(address)
     }
 
-    /// Stores `byte` at `address`, below $C000, whatever the guard. No step is made.
+    /// Puts `byte` into RAM at `address`, which is below $C000, whatever the guard. No step is made, and all else stays. This
+    /// project's profile.
     pub fn poke(&mut self, address: u16, byte: u8)
         requires { address < ram_end }
         ensures memory { memory_of self.new.state.bus ≡ with_ram (memory_of self.old.state.bus) address byte }
@@ -198,8 +201,8 @@ impl<A: Allocator> Machine<A> {
         self.board.write(address, byte);
     }
 
-    /// Puts PC at `address` and the stack as it is at the start: S = $FD, and at $01FE and $01FF the bytes that send a last
-    /// RTS to $FF69. No step is made. This project's profile.
+    /// Puts PC at `address` ($0000 to $FFFF) and the stack as it is at the start: S = $FD, and at $01FE and $01FF the bytes
+    /// $68 and $FF, which send a last RTS to $FF69. No step is made, and all else stays. This project's profile.
     pub fn set_pc(&mut self, address: u16)
         ensures world { world_of self.new.state ≡ called_at address (world_of self.old.state) }
         ensures left { self.new ≡ (let s = self.old.state in record self.old { state = record s { regs = self.new.state.regs; bus = self.new.state.bus } }) }

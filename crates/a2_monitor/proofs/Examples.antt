@@ -1,5 +1,5 @@
 -- Worked examples of the definitions, by computation.
-use Rattle.std.specs.Prelude.{◌≡◌, ℕ, ◌==◌, List, [], ◌∷◌, codes, Some, None, false, if◌then◌else◌, refl}
+use Rattle.std.specs.Prelude.{◌≡◌, ℕ, ◌==◌, [], ◌∷◌, codes, Some, None, if◌then◌else◌, refl}
 use Rattle.a2_opcode.specs.Encoding.{fetched, decoded}
 use Rattle.a2_opcode.specs.Listing.{listing}
 use Rattle.a2_opcode.specs.Table.{row_of, table}

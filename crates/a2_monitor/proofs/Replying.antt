@@ -1,7 +1,7 @@
 -- Each line has one reply.
 use Rattle.std.specs.Prelude.{codes}
 use Rattle.std.specs.Option.{unwrap_or}
-use Rattle.std.proofs.Common.{◌≡◌, ◌⊎◌, ℕ, ◌+◌, ◌-◌, min, List, [], ◌++◌, length, Option, Some, None, is_some, false, true, refl, sym, ap, ◌∙◌, subst, inl, inr}
+use Rattle.std.proofs.Common.{◌≡◌, ℕ, ◌+◌, ◌-◌, min, List, [], ◌++◌, length, Option, Some, None, is_some, refl, sym, ap, ◌∙◌, subst, inl, inr}
 use Rattle.std.proofs.lemmas.Bool.{false≢true}
 use Rattle.a2_machine.specs.ByteRun.{bytes}
 use Rattle.a2_machine.specs.Meaning.{End}
@@ -14,8 +14,8 @@ use Rattle.a2_monitor.specs.declared.fault.MonFault.{MonFault}
 use Rattle.a2_monitor.specs.declared.fault.MonFault.TheVariants as fault
 use Rattle.a2_monitor.specs.Commands.{Command, command_of, nothing, examines, stores, moves, verifies, lists, goes}
 use Rattle.a2_monitor.specs.Sittings.{Sitting, Answers, IsFreeRun, refusal_of, with_memory, examined, differences, listed, stored, moved}
-use Rattle.a2_monitor.specs.Answers.{IsDone, IsAnswered, line_refusal}
-use Rattle.a2_monitor.specs.Replies.{IsTurnedDown, IsReply}
+use Rattle.a2_monitor.specs.Answers.{IsAnswered, line_refusal}
+use Rattle.a2_monitor.specs.Replies.{IsReply}
 use Rattle.a2_monitor.specs.Texts.{shown}
 use Rattle.a2_monitor.proofs.AnswerLaws.{refusal_is}
 
