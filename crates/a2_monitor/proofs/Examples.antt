@@ -1,5 +1,6 @@
 -- Worked examples of the definitions, by computation.
 use Rattle.std.specs.Prelude.{◌≡◌, ℕ, ◌==◌, [], ◌∷◌, codes, Some, None, if◌then◌else◌, refl}
+use Rattle.a2_hex.specs.ObjectLines.{store_of, given_before, bytes_of, byte_of}
 use Rattle.a2_opcode.specs.Encoding.{fetched, decoded}
 use Rattle.a2_opcode.specs.Listing.{listing}
 use Rattle.a2_opcode.specs.Table.{row_of, table}
@@ -8,11 +9,47 @@ use Rattle.a2_bus.specs.Devices.{Devices}
 use Rattle.a2_bus.specs.Memory.{Memory, ram_byte, with_ram}
 use Rattle.a2_monitor.specs.declared.fault.MonFault.TheVariants.{Backward, Outside}
 use Rattle.a2_monitor.specs.declared.parsing.Range.{Range}
-use Rattle.a2_monitor.specs.Commands.{examines, moves, verifies, lists, goes, stores}
+use Rattle.a2_monitor.specs.Commands.{command_of, nothing, examines, moves, verifies, lists, goes, stores}
 use Rattle.a2_monitor.specs.Sittings.{refusal_of, examined, differences, listed, stored, moved, bytes_at}
 
 abbrev range : ℕ → ℕ → Range
 range first last = record { first = first; last = last }
+
+-- What lines say
+
+examine_line : command_of (codes " 300.30f ") ≡ Some (examines (range 0x300 0x30F))
+unfolding command_of
+examine_line = refl
+
+move_line : command_of (codes "400<300.30Fm") ≡ Some (moves 0x400 (range 0x300 0x30F))
+unfolding command_of
+move_line = refl
+
+go_line : command_of (codes "FF69G") ≡ Some (goes 0xFF69)
+unfolding command_of
+go_line = refl
+
+store_line : command_of (codes "300:a9 1") ≡ Some (stores (record { address = Some 0x300; bytes = 0xA9 ∷ 1 ∷ [] }))
+unfolding command_of store_of given_before bytes_of byte_of
+store_line = refl
+
+store_on_line : command_of (codes " : 5") ≡ Some (stores (record { address = None; bytes = 5 ∷ [] }))
+unfolding command_of store_of given_before bytes_of byte_of
+store_on_line = refl
+
+long_byte_line : command_of (codes "300:123") ≡ None
+unfolding command_of store_of given_before bytes_of byte_of
+long_byte_line = refl
+
+blank_line : command_of (codes " \t ") ≡ Some nothing
+unfolding command_of
+blank_line = refl
+
+two_words_line : command_of (codes "300 .30F") ≡ None
+unfolding command_of
+two_words_line = refl
+
+-- What commands answer and leave
 
 -- three bytes at $0300, and else zeros
 abbrev memory_with : Devices → Memory
@@ -50,6 +87,8 @@ module _ (devices : Devices) where
   list_example : listed (memory_with devices) 0x302 2 ≡ codes "0302-   33         ???\n0303-   00         BRK\n"
   unfolding listed ram_byte cell_at fetched row_of table listing decoded
   list_example = refl
+
+-- What is refused
 
 backward_example : refusal_of (examines (range 0x30F 0x300)) 0 ≡ Some Backward
 unfolding refusal_of
