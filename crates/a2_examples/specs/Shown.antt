@@ -5,6 +5,7 @@ use Rattle.a2_machine.specs.declared.Cause.{Cause}
 use Rattle.a2_run.specs.declared.Options.{Options}
 use Rattle.a2_run.specs.Meaning.{IsRun}
 use Rattle.a2_run.specs.Scripts.{is_mon_text}
+use Rattle.a2_run.specs.DebugScripts.{IsDebugText}
 
 -- a name and LF
 abbrev pub title : List ℕ → List ℕ
@@ -20,4 +21,10 @@ pub record ShowsRun (name text keys : List ℕ) (options : Options) (cause : Cau
 pub record ShowsSession (name script : List ℕ) (old new : Taker) : Type 0 where
   pub output : List ℕ
   pub is_text : is_mon_text script output
+  pub sent : Sends old new (title name ++ output)
+
+-- the title went out, and then the output of the script of debugger lines, of this source
+pub record ShowsDebugging (name source script : List ℕ) (old new : Taker) : Type 0 where
+  pub output : List ℕ
+  pub is_text : IsDebugText source script output
   pub sent : Sends old new (title name ++ output)

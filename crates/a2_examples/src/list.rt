@@ -1,7 +1,7 @@
 //! The examples, in the order of the manual.
 
 ghost use Rattle.std.specs.Prelude.{◌≡◌, false};
-ghost use Rattle.a2_examples.specs.declared.list.Kind.TheVariants.{Run, Monitor};
+ghost use Rattle.a2_examples.specs.declared.list.Kind.TheVariants.{Run, Monitor, Debug};
 
 /// What an example's file is, and so how it is shown.
 #[derive(Clone, Copy, Debug, PartialEq, Eq)]
@@ -15,6 +15,11 @@ pub enum Kind {
     },
     /// A script of Monitor lines, which are answered.
     Monitor,
+    /// A script of debugger lines, which are answered of a source.
+    Debug {
+        /// The source's file.
+        source: &'static str,
+    },
 }
 
 /// An example.
@@ -43,8 +48,17 @@ fn session(name: &'static str) -> Example
     Example { name, kind }
 }
 
-/// Each example of the folder once.
-pub fn examples() -> [Example; 16] {
+// A script of debugger lines, of this source.
+fn debugging(name: &'static str, source: &'static str) -> Example
+    ensures name { result.name.now ≡ name.now }
+    ensures kind { result.kind ≡ Debug source.entry }
+{
+    let kind = Kind::Debug { source };
+    Example { name, kind }
+}
+
+/// Each example of the folder once; a source that is debugged stands with its script.
+pub fn examples() -> [Example; 18] {
     [
         run("hello.s", ""),
         run("row.s", ""),
@@ -68,5 +82,7 @@ pub fn examples() -> [Example; 16] {
         session("letters.mon"),
         session("memory.mon"),
         session("commands.mon"),
+        debugging("total.dbg", "total.s"),
+        debugging("wait.dbg", "wait.s"),
     ]
 }

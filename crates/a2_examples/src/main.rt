@@ -11,8 +11,9 @@ use a2_machine::Cause;
 use a2_run::{Options, RunFault};
 use a2_stream::{FromRead, Output, ToWrite};
 use list::{Example, Kind, examples};
-use show::{show_run, show_session};
+use show::{show_debugging, show_run, show_session};
 use std::fs;
+use std::fs::File;
 use std::process::ExitCode;
 use thiserror::Error;
 
@@ -35,17 +36,22 @@ fn guarded(attr: bool) -> Options
     Options { free: false, attr }
 }
 
+// A file of the folder.
+fn opened(rt: &HostRuntime, name: &str) -> Result<FromRead<File>, RunFault> {
+    match fs::open(rt, name) {
+        Ok(file) => Ok(FromRead::new(file)),
+        Err(_) => Err(RunFault::Read),
+    }
+}
+
 // Shows the example whose file lies in the folder; whether it came to its good end.
 fn show_file<W: Output>(
     rt: &HostRuntime,
     example: &Example,
     output: &mut W,
 ) -> Result<bool, ExampleFault> {
-    let Ok(file) = fs::open(rt, example.name) else {
-        return Err(ExampleFault::Run(RunFault::Read));
-    };
-    let text = &mut FromRead::new(file);
     let name = example.name;
+    let text = &mut opened(rt, name)?;
     match example.kind {
         Kind::Run { keys, attr } => {
             let keys = Keys::parse(keys).ok_or(ExampleFault::Keys)?;
@@ -54,6 +60,11 @@ fn show_file<W: Output>(
         }
         Kind::Monitor => {
             show_session(rt.alloc(), name, text, output)?;
+            Ok(true)
+        }
+        Kind::Debug { source } => {
+            let source = &mut opened(rt, source)?;
+            show_debugging(rt.alloc(), name, source, text, output)?;
             Ok(true)
         }
     }

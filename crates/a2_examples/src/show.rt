@@ -2,11 +2,11 @@
 
 ghost use Rattle.std.specs.Prelude.{IfOk, IfErr, IfSome};
 ghost use Rattle.a2_stream.specs.Stream.{SendsOrBreaks};
-ghost use Rattle.a2_examples.specs.Shown.{title, ShowsRun, ShowsSession};
+ghost use Rattle.a2_examples.specs.Shown.{title, ShowsRun, ShowsSession, ShowsDebugging};
 
 use a2_bus::Keys;
 use a2_machine::Cause;
-use a2_run::{Options, RunFault, mon_text, run_text};
+use a2_run::{Options, RunFault, debug_text, mon_text, run_text};
 use a2_stream::{Input, Output, WriteFault, put_all};
 use std::alloc::Global;
 
@@ -50,4 +50,20 @@ pub fn show_session<R: Input, W: Output>(
 {
     put_title(name, output)?;
     mon_text(alloc, script, output)
+}
+
+/// Writes a line with the name, and behind it the script's lines with their answers of a debugger of the source. Where
+/// there is a fault, a front of this may have gone out.
+pub fn show_debugging<R: Input, S: Input, W: Output>(
+    alloc: Global,
+    name: &str,
+    source: &mut R,
+    script: &mut S,
+    output: &mut W,
+) -> Result<(), RunFault>
+    ensures { IfOk result (λ _. IfSome (R.giver source.old).bytes (λ text. IfSome (S.giver script.old).bytes (λ lines.
+        ShowsDebugging name.now text lines (W.taker output.old) (W.taker output.new)))) }
+{
+    put_title(name, output)?;
+    debug_text(alloc, source, script, output)
 }
