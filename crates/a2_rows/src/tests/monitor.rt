@@ -130,11 +130,7 @@ fn list_from_an_undocumented_opcode(rt: HostRuntime) -> Result<(), Fail> {
 }
 
 // The machine as it is switched on; lines of either case, with blanks at both ends.
-#[test]
-fn examining(rt: HostRuntime) -> Result<(), Fail> {
-    goes(
-        &rt,
-        "*300
+const EXAMINING: &str = "*300
 0300- 00
 *0
 0000- 00
@@ -166,15 +162,14 @@ BFFF- 00
 * \t 
 *00Ff
 00FF- 00
-",
-    )
-}
+";
 
 #[test]
-fn storing(rt: HostRuntime) -> Result<(), Fail> {
-    goes(
-        &rt,
-        "*:7
+fn examining(rt: HostRuntime) -> Result<(), Fail> {
+    goes(&rt, EXAMINING)
+}
+
+const STORING: &str = "*:7
 *0
 0000- 07
 *300:1 2 3
@@ -206,8 +201,11 @@ fn storing(rt: HostRuntime) -> Result<(), Fail> {
 *0:9
 *0.1
 0000- 09 00
-",
-    )
+";
+
+#[test]
+fn storing(rt: HostRuntime) -> Result<(), Fail> {
+    goes(&rt, STORING)
 }
 
 // No byte lies at $C000, and the next address may be there.
@@ -243,11 +241,7 @@ BFFF- 03
     )
 }
 
-#[test]
-fn moving(rt: HostRuntime) -> Result<(), Fail> {
-    goes(
-        &rt,
-        "*300:11 22 33 44
+const MOVING: &str = "*300:11 22 33 44
 *310<300.303M
 *310.314
 0310- 11 22 33 44 00
@@ -280,8 +274,11 @@ BFFF- 11
 *  0351<0300.0301M\t
 *350.352
 0350- 11 11 22
-",
-    )
+";
+
+#[test]
+fn moving(rt: HostRuntime) -> Result<(), Fail> {
+    goes(&rt, MOVING)
 }
 
 #[test]
@@ -310,11 +307,7 @@ fn verifying(rt: HostRuntime) -> Result<(), Fail> {
     )
 }
 
-#[test]
-fn listing(rt: HostRuntime) -> Result<(), Fail> {
-    goes(
-        &rt,
-        "*300:0A 06 24 16 24 B6 24 6C 00 03 A1 24 B1 24 7D 00 03 79 00 03 D0 EA
+const LISTING: &str = "*300:0A 06 24 16 24 B6 24 6C 00 03 A1 24 B1 24 7D 00 03 79 00 03 D0 EA
 *300l
 0300-   0A         ASL   A
 0301-   06 24      ASL   $24
@@ -339,8 +332,11 @@ fn listing(rt: HostRuntime) -> Result<(), Fail> {
 *:1
 *316
 0316- 01
-",
-    )
+";
+
+#[test]
+fn listing(rt: HostRuntime) -> Result<(), Fail> {
+    goes(&rt, LISTING)
 }
 
 // An instruction that is not all in RAM is not listed.
@@ -367,11 +363,7 @@ BFFF-   02         ???
 }
 
 // Counts and registers go on; the stack is made anew.
-#[test]
-fn going_again(rt: HostRuntime) -> Result<(), Fail> {
-    goes(
-        &rt,
-        "*300:60
+const GOING_AGAIN: &str = "*300:60
 *300G
 A=00 X=00 Y=00 P=30 S=FF PC=FF69 STEPS=1 CYCLES=6
 STOP RETURNED
@@ -400,16 +392,15 @@ STOP DECIMAL
 *310G
 A=C1 X=00 Y=00 P=B0 S=FF PC=FF69 STEPS=8 CYCLES=36
 STOP RETURNED
-",
-    )
+";
+
+#[test]
+fn going_again(rt: HostRuntime) -> Result<(), Fail> {
+    goes(&rt, GOING_AGAIN)
 }
 
 // Each run has steps of its own, and no guard; any address may be gone to.
-#[test]
-fn going_anywhere(rt: HostRuntime) -> Result<(), Fail> {
-    goes(
-        &rt,
-        "*0G
+const GOING_ANYWHERE: &str = "*0G
 A=00 X=00 Y=00 P=30 S=FD PC=0000 STEPS=0 CYCLES=0
 STOP BRK
 *C000G
@@ -442,16 +433,15 @@ STOP LIMIT
 *300G
 A=EA X=00 Y=00 P=B0 S=FD PC=0300 STEPS=2000005 CYCLES=6000020
 STOP LIMIT
-",
-    )
+";
+
+#[test]
+fn going_anywhere(rt: HostRuntime) -> Result<(), Fail> {
+    goes(&rt, GOING_ANYWHERE)
 }
 
 // A range that goes backwards is told before one that is not in RAM; what is refused changes nothing.
-#[test]
-fn ranges_refused(rt: HostRuntime) -> Result<(), Fail> {
-    goes(
-        &rt,
-        "*300:11 22 33
+const RANGES_REFUSED: &str = "*300:11 22 33
 *30F.300
 M2 BACKWARD
 *301.300
@@ -505,8 +495,11 @@ M3 OUTSIDE RAM
 0300- 11 22 33 44 00
 *BFFF
 BFFF- 00
-",
-    )
+";
+
+#[test]
+fn ranges_refused(rt: HostRuntime) -> Result<(), Fail> {
+    goes(&rt, RANGES_REFUSED)
 }
 
 // Lines that have none of the forms.
