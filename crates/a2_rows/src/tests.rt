@@ -1,6 +1,7 @@
 //! Worked examples, from a text to the bytes written and the status.
 
 mod assembled;
+mod debugger;
 mod example;
 mod instructions;
 mod limits;

@@ -165,6 +165,13 @@ fn put_screen(text: &mut Vec<u8>, screen: Screen) -> Result<(), AllocError> {
     }
 }
 
+/// The picture of a text page.
+pub fn page_of(alloc: Global, rows: Rows) -> Result<String, Fail> {
+    let mut text = Vec::new(alloc);
+    put_page(&mut text, rows, b' ')?;
+    Ok(String::from_utf8(text)?)
+}
+
 /// The whole output that an example gives.
 pub fn output_of(alloc: Global, run: Run) -> Result<String, Fail> {
     let mut text = Vec::new(alloc);
