@@ -6,7 +6,7 @@ use a2_bus::Keys;
 use a2_debug::{DebugFault, Debugger, Halt};
 use a2_machine::{Cause, Machine};
 use a2_run::{RunFault, debug_text};
-use a2_stream::{FromRead, Pinched, ToWrite};
+use a2_stream::{Failing, FromRead, Pinched, ToWrite};
 use a2_syntax::{Fault, parse};
 use std::process::Abort;
 use std::test::Fail;
@@ -293,14 +293,18 @@ fn texts_that_are_refused(rt: HostRuntime) -> Result<(), Fail> {
 }
 
 /// A script's writer takes one byte a call, and after so many calls fails, or takes nothing more.
-fn breaks_after(rt: &(impl Abort + AllocGlobal), calls: usize, zero: bool) -> Result<(), Fail> {
+fn breaks_after(
+    rt: &(impl Abort + AllocGlobal),
+    calls: usize,
+    failing: Failing,
+) -> Result<(), Fail> {
     let whole = SESSION_OUTPUT.as_bytes();
     let mut output = Vec::new(rt.alloc());
     let answer = debug_text(
         rt.alloc(),
         &mut FromRead::new(POLLS.as_bytes()),
         &mut FromRead::new(SESSION.as_bytes()),
-        &mut Pinched::new(ToWrite::new(&mut output), 1, calls as u64, zero),
+        &mut Pinched::new(ToWrite::new(&mut output), 1, calls as u64, failing),
     );
     assert_eq!(rt; output.as_slice(), whole.get(..calls).unwrap_or(whole));
     let wanted = if calls < whole.len() {
@@ -317,7 +321,7 @@ fn breaks_after(rt: &(impl Abort + AllocGlobal), calls: usize, zero: bool) -> Re
 fn early_writes_of_a_session_fail(rt: HostRuntime) -> Result<(), Fail> {
     assert!(rt; SESSION_OUTPUT.len() < 320);
     for calls in 0..110usize {
-        breaks_after(&rt, calls, false)?;
+        breaks_after(&rt, calls, Failing::Refuses)?;
     }
     Ok(())
 }
@@ -325,7 +329,7 @@ fn early_writes_of_a_session_fail(rt: HostRuntime) -> Result<(), Fail> {
 #[test]
 fn later_writes_of_a_session_fail(rt: HostRuntime) -> Result<(), Fail> {
     for calls in 110..220usize {
-        breaks_after(&rt, calls, false)?;
+        breaks_after(&rt, calls, Failing::Refuses)?;
     }
     Ok(())
 }
@@ -333,7 +337,7 @@ fn later_writes_of_a_session_fail(rt: HostRuntime) -> Result<(), Fail> {
 #[test]
 fn last_writes_of_a_session_fail(rt: HostRuntime) -> Result<(), Fail> {
     for calls in 220..320usize {
-        breaks_after(&rt, calls, false)?;
+        breaks_after(&rt, calls, Failing::Refuses)?;
     }
     Ok(())
 }
@@ -341,7 +345,7 @@ fn last_writes_of_a_session_fail(rt: HostRuntime) -> Result<(), Fail> {
 #[test]
 fn writes_of_a_session_take_nothing(rt: HostRuntime) -> Result<(), Fail> {
     for part in 0..107usize {
-        breaks_after(&rt, part * 3, true)?;
+        breaks_after(&rt, part * 3, Failing::TakesNothing)?;
     }
     Ok(())
 }
@@ -350,14 +354,14 @@ fn writes_of_a_session_take_nothing(rt: HostRuntime) -> Result<(), Fail> {
 #[test]
 fn each_write_of_a_line_fails(rt: HostRuntime) -> Result<(), Fail> {
     let whole: &[u8] = b"A=00 X=00 Y=00 P=32 S=FD PC=0300 STEPS=2 CYCLES=7\nBREAK\n";
-    for zero in [false, true] {
+    for failing in [Failing::Refuses, Failing::TakesNothing] {
         for calls in 0..=whole.len() {
             let mut output = Vec::new(rt.alloc());
             let mut session = debugger(&rt, POLLS)?;
             assert_eq!(rt; session.set_break(b"L"), Ok(()));
             let answer = session.line(
                 b"go 10",
-                &mut Pinched::new(ToWrite::new(&mut output), 1, calls as u64, zero),
+                &mut Pinched::new(ToWrite::new(&mut output), 1, calls as u64, failing),
             );
             assert_eq!(rt; output.as_slice(), whole.get(..calls).unwrap_or(whole));
             assert_eq!(rt; place(&session), (0x00, 0x32, 0x300, 2, 7));
@@ -381,7 +385,12 @@ fn each_read_of_a_session_fails(rt: HostRuntime) -> Result<(), Fail> {
             let answer = debug_text(
                 rt.alloc(),
                 &mut FromRead::new(source.as_bytes()),
-                &mut Pinched::new(FromRead::new(SESSION.as_bytes()), 1, calls as u64, false),
+                &mut Pinched::new(
+                    FromRead::new(SESSION.as_bytes()),
+                    1,
+                    calls as u64,
+                    Failing::Refuses,
+                ),
                 &mut ToWrite::new(&mut output),
             );
             assert_eq!(rt; answer, Err(RunFault::Read));
@@ -392,7 +401,12 @@ fn each_read_of_a_session_fails(rt: HostRuntime) -> Result<(), Fail> {
         let mut output = Vec::new(rt.alloc());
         let answer = debug_text(
             rt.alloc(),
-            &mut Pinched::new(FromRead::new(POLLS.as_bytes()), 1, calls as u64, false),
+            &mut Pinched::new(
+                FromRead::new(POLLS.as_bytes()),
+                1,
+                calls as u64,
+                Failing::Refuses,
+            ),
             &mut FromRead::new(SESSION.as_bytes()),
             &mut ToWrite::new(&mut output),
         );

@@ -6,7 +6,7 @@ use a2_hex::load_lines;
 use a2_machine::Machine;
 use a2_monitor::{MonFault, Session};
 use a2_run::{RunFault, fault_status, mon_text};
-use a2_stream::{Endless, FromRead, Output, Pinched, ToWrite};
+use a2_stream::{Endless, Failing, FromRead, Output, Pinched, ToWrite};
 use a2_syntax::{Fault, parse};
 use std::alloc::AllocError;
 use std::process::Abort;
@@ -652,14 +652,14 @@ fn script_too_long(rt: HostRuntime) -> Result<(), Fail> {
 }
 
 // The writer takes one byte a call, and after so many calls fails, or takes nothing more.
-fn breaks_after_each_byte(rt: &(impl Abort + AllocGlobal), zero: bool) -> Result<(), Fail> {
+fn breaks_after_each_byte(rt: &(impl Abort + AllocGlobal), failing: Failing) -> Result<(), Fail> {
     let script = script_of(rt, WORKED)?;
     for calls in 0..=WORKED.len() {
         let mut output = Vec::new(rt.alloc());
         let answer = mon_text(
             rt.alloc(),
             &mut FromRead::new(script.as_slice()),
-            &mut Pinched::new(ToWrite::new(&mut output), 1, calls as u64, zero),
+            &mut Pinched::new(ToWrite::new(&mut output), 1, calls as u64, failing),
         );
         let front = WORKED.as_bytes().get(..calls);
         assert_eq!(rt; Some(output.as_slice()), front);
@@ -674,8 +674,8 @@ fn breaks_after_each_byte(rt: &(impl Abort + AllocGlobal), zero: bool) -> Result
 
 #[test]
 fn each_write_of_a_session_fails(rt: HostRuntime) -> Result<(), Fail> {
-    breaks_after_each_byte(&rt, false)?;
-    breaks_after_each_byte(&rt, true)
+    breaks_after_each_byte(&rt, Failing::Refuses)?;
+    breaks_after_each_byte(&rt, Failing::TakesNothing)
 }
 
 #[test]
@@ -685,7 +685,12 @@ fn each_read_of_a_script_fails(rt: HostRuntime) -> Result<(), Fail> {
         let mut output = Vec::new(rt.alloc());
         let answer = mon_text(
             rt.alloc(),
-            &mut Pinched::new(FromRead::new(script.as_slice()), 1, calls as u64, false),
+            &mut Pinched::new(
+                FromRead::new(script.as_slice()),
+                1,
+                calls as u64,
+                Failing::Refuses,
+            ),
             &mut ToWrite::new(&mut output),
         );
         assert_eq!(rt; answer, Err(RunFault::Read));
@@ -703,7 +708,7 @@ fn line_of(
     wanted: (&str, Result<(), MonFault>),
 ) -> Result<(), Fail> {
     let mut output = Vec::new(rt.alloc());
-    let mut writer = Pinched::new(ToWrite::new(&mut output), 1, calls, false);
+    let mut writer = Pinched::new(ToWrite::new(&mut output), 1, calls, Failing::Refuses);
     let answer = session.line(line.as_bytes(), &mut writer);
     assert_eq!(rt;
         (answer, String::from_utf8(output)?.as_str()),
