@@ -106,7 +106,8 @@ fn a_failed_write_is_told(rt: HostRuntime) -> Result<(), std::test::Fail> {
         ),
         Err(WriteFault)
     );
-    let front: &[u8] = b"0300:01\n0400:";
+    // Three calls of five bytes: both lines go out together, but for the last line feed.
+    let front: &[u8] = b"0300:01\n0400:02";
     assert_eq!(rt; bytes.as_slice(), front);
     Ok(())
 }
