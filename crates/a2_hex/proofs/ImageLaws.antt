@@ -1,8 +1,8 @@
 -- The cells of an image.
-use Rattle.std.proofs.Common.{◌≡◌, ℕ, ◌<◌, Option, Some, None, inl, inr, length, set, arith}
+use Rattle.std.proofs.Common.{◌≡◌, ℕ, ◌<◌, Option, Some, None, inl, inr, length, set, replicate, arith, refl}
 use Rattle.std.specs.Prelude.{IfSome}
 use Rattle.std.proofs.lemmas.Bool.{cases_lt, cases_eq}
-use Rattle.std.proofs.lemmas.List.{get_or_past, get_or-set_same, get_or-set_other, set_past}
+use Rattle.std.proofs.lemmas.List.{get_or_past, get_or-set_same, get_or-set_other, set_past, get_or-replicate, length-replicate}
 use Rattle.a2_hex.specs.Images.{Cells, held, IsImage}
 
 -- the bytes in cells
@@ -26,4 +26,20 @@ set-bytes cells i byte small h a = elim (cases_lt i (length cells)) [
     | inr n ↦ rw (get_or-set_other cells i a (Some byte) None n) (h a)
   ]
   | inr ge ↦ rw (set_past cells i (Some byte) ge) (h a)
+]
+
+-- New cells
+
+-- what follows from: all of which P holds is None
+pub if_only_none : (P : Option ℕ → Type 0) (Q : Type 0) → (((o : Option ℕ) → P o → o ≡ None) → Q) → ((byte : ℕ) → P (Some byte) → ⊥) → Q
+if_only_none P Q follows never = follows only
+  where
+    only : (o : Option ℕ) → P o → o ≡ None
+    only None p = refl
+    only (Some byte) p = absurd (never byte p)
+
+pub empty_cells : (n a : ℕ) → held (replicate n None) a ≡ None
+empty_cells n a = elim (cases_lt a n) [
+  | inl lt ↦ get_or-replicate n a None None lt
+  | inr ge ↦ get_or_past (replicate n None) a None (omega (arith, length-replicate {A = Option ℕ} n None, ge))
 ]

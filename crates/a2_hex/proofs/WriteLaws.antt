@@ -94,9 +94,26 @@ pub record IsGathered (old new : Taker) (image : ℕ → Option ℕ) (a : ℕ) (
   pub out : Sends old new sent
   pub joined : sent ++ piece ≡ text_of_lines (lines_below image a)
 
-pub gathered-none : (a : Taker) (image : ℕ → Option ℕ) → IsGathered a a image 0 []
+-- no line begins where there is no byte
+begins-none : (image : ℕ → Option ℕ) (a : ℕ) → image a ≡ None → begins_line image a ≡ false
+begins-none image a h = rw h refl
+
+-- no line begins below the first byte
+below-none : (image : ℕ → Option ℕ) (n : ℕ) → ((a : ℕ) → a < n → image a ≡ None) → lines_below image n ≡ []
 unfolding lines_below
-gathered-none a image = record { sent = []; out = Sends-nil a; joined = refl }
+below-none image zero none = refl
+below-none image (suc n) none =
+    sym (ap (lines_below image) (add-one n)) ∙ below-same image n (begins-none image n (none n (omega arith))) ∙ below-none image n (λ a lt. none a (omega (arith, lt)))
+
+-- no line begins behind the last byte
+below-rest : (image : ℕ → Option ℕ) (n k : ℕ) → ((a : ℕ) → n ≤ a → image a ≡ None) → lines_below image (n + k) ≡ lines_below image n
+below-rest image n zero none = ap (lines_below image) (add-zero n)
+below-rest image n (suc k) none =
+    let next : n + suc k ≡ n + k + 1 = omega arith in
+    ap (lines_below image) next ∙ below-same image (n + k) (begins-none image (n + k) (none (n + k) (omega arith))) ∙ below-rest image n k none
+
+pub gathered-none : (a : Taker) (image : ℕ → Option ℕ) (n : ℕ) → ((a : ℕ) → a < n → image a ≡ None) → IsGathered a a image n []
+gathered-none a image n none = record { sent = []; out = Sends-nil a; joined = ap text_of_lines (sym (below-none image n none)) }
 
 pub gathered-same : (old new : Taker) (image : ℕ → Option ℕ) (a : ℕ) (piece : List ℕ) → IsGathered old new image a piece → begins_line image a ≡ false → IsGathered old new image (a + 1) piece
 gathered-same old new image a piece h other = record { sent = h.sent; out = h.out; joined = h.joined ∙ ap text_of_lines (sym (below-same image a other)) }
@@ -122,8 +139,13 @@ gathered-broke r old mid new image a piece err h broke lt =
     (broke_off old new r (h.sent ++ piece) rest err (Breaks-then old mid new h.sent piece h.out broke))
 
 -- the last of them
-pub gathered-all : {T E : Type 0} (r : Result T E) (old mid new : Taker) (image : ℕ → Option ℕ) (n : ℕ) (piece slice : List ℕ) → n ≡ 49152 → IsGathered old mid image n piece
+pub gathered-all : {T E : Type 0} (r : Result T E) (old mid new : Taker) (image : ℕ → Option ℕ) (n end : ℕ) (piece slice : List ℕ) → ((a : ℕ) → end ≤ a → image a ≡ None) → end ≤ n → end ≤ 49152 → IsGathered old mid image n piece
     → slice ≡ piece → SendsOrBreaks mid new r slice → SendsOrBreaks old new r (object_text image)
-gathered-all r old mid new image n piece slice end h is last =
-    subst (SendsOrBreaks old new r) (h.joined ∙ object_text-is image n end)
+gathered-all r old mid new image n end piece slice none behind le h is last =
+    subst (SendsOrBreaks old new r) (h.joined ∙ ap text_of_lines (same n behind ∙ sym (same 49152 le)) ∙ object_text-is image 49152 refl)
     (went_on old mid new r h.sent piece h.out (subst (SendsOrBreaks mid new r) is last))
+  where
+    same : (k : ℕ) → end ≤ k → lines_below image k ≡ lines_below image end
+    same k lt =
+        let whole : end + (k - end) ≡ k = omega (arith, lt) in
+        ap (lines_below image) (sym whole) ∙ below-rest image end (k - end) none

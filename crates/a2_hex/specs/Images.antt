@@ -1,5 +1,5 @@
 -- Bytes at addresses of RAM, which ends at $C000 (Apple II Reference Manual 1979, chapter 4).
-use Rattle.std.specs.Prelude.{ℕ, ◌+◌, ◌<◌, ◌==◌, List, [], ◌∷◌, Option, Some, None, IfSome, slice_index_or, if◌then◌else◌}
+use Rattle.std.specs.Prelude.{◌≡◌, ◌⊎◌, ℕ, ◌+◌, ◌<◌, ◌≤◌, ◌==◌, List, [], ◌∷◌, Option, Some, None, IfSome, slice_index_or, if◌then◌else◌}
 
 -- an image's cells: the byte at each address, where there is one
 abbrev pub Cells : Type 0
@@ -8,6 +8,10 @@ Cells = List (Option ℕ)
 -- the byte that is held at an address; none behind the cells
 abbrev pub held : Cells → ℕ → Option ℕ
 held cells a = slice_index_or cells a None
+
+-- no byte is held but from one address up to another
+abbrev pub IsWithin : Cells → ℕ → ℕ → Type 0
+IsWithin cells start end = (a : ℕ) → (a < start) ⊎ (end ≤ a) → held cells a ≡ None
 
 -- the map without bytes
 abbrev pub no_bytes : ℕ → Option ℕ

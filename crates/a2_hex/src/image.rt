@@ -1,10 +1,10 @@
 //! Bytes at addresses of RAM.
 
-ghost use Rattle.std.specs.Prelude.{◌≡◌, ◌<◌, ℕ, None, IfOk, OnErr};
-ghost use Rattle.a2_hex.specs.Images.{held, put, IsImage};
+ghost use Rattle.std.specs.Prelude.{◌≡◌, ◌<◌, ◌≤◌, ℕ, None, IfOk, OnErr, length, slice_index, unwrap_or, replicate};
+ghost use Rattle.a2_hex.specs.Images.{held, put, IsImage, IsWithin};
 
 use crate::fault::HexFault;
-use std::alloc::{Allocator, Global};
+use std::alloc::{AllocError, Allocator, Global};
 use std::marker::Model;
 
 /// The end of RAM: the first address, $C000, that is none of it. Apple II Reference Manual (1979), the memory map.
@@ -14,17 +14,22 @@ pub const RAM_END: u16 = 0xC000;
 #[derive(Drop)]
 pub struct Image<A: Allocator = Global> {
     cells: Vec<Option<u8>, A>,
+    // What is held lies from the first of these addresses up to the second.
+    start: u16,
+    end: u16,
 }
 
 impl<A: Allocator> Model for Image<A> {
-    ghost use Rattle.std.specs.Prelude.{◌≡◌, ◌<◌, ℕ, length, IfSome};
-    ghost use Rattle.a2_hex.specs.Images.{Cells, held};
+    ghost use Rattle.std.specs.Prelude.{◌≡◌, ◌<◌, ◌≤◌, ℕ, length, IfSome};
+    ghost use Rattle.a2_hex.specs.Images.{Cells, held, IsWithin};
 
     ghost Value = { Cells };
 
     ghost view = { λ image. image.cells.items };
 
-    ghost invariant = { λ image. (length image.cells.items ≡ 49152) × ((a : ℕ) → IfSome (held image.cells.items a) (λ byte. byte < 256)) };
+    ghost invariant = { λ image.
+        (length image.cells.items ≡ 49152) × ((a : ℕ) → IfSome (held image.cells.items a) (λ byte. byte < 256))
+        × IsWithin image.cells.items image.start image.end × (image.end ≤ 49152) };
 }
 
 impl<A: Allocator> Image<A> {
@@ -33,11 +38,12 @@ impl<A: Allocator> Image<A> {
         ensures empty { IfOk result (λ image. (a : ℕ) → held image a ≡ None) }
         ensures refused { OnErr result (result ≡ Err HexFault.Memory) }
     {
-        let mut cells = Vec::new(alloc);
-        for _i in 0..RAM_END {
-            cells.push(None)?;
-        }
-        Ok(Image { cells })
+        let cells = no_cells(alloc)?;
+        Ok(Image {
+            cells,
+            start: RAM_END,
+            end: 0,
+        })
     }
 
     /// The byte at `address`, or none where none was put; at or above $C000 there is none.
@@ -53,6 +59,14 @@ impl<A: Allocator> Image<A> {
         }
     }
 
+    // From the first of these addresses up to the second lies what is held.
+    pub(crate) fn bounds(&self) -> (u16, u16)
+        ensures within { IsWithin self.now result.0 result.1 }
+        ensures end { result.1 ≤ 49152 }
+    {
+        (self.start, self.end)
+    }
+
     /// Puts `byte` at `address`, which is below $C000, in place of any that was there, and leaves all other addresses as
     /// they were.
     pub fn set(&mut self, address: u16, byte: u8)
@@ -60,5 +74,41 @@ impl<A: Allocator> Image<A> {
         ensures { (a : ℕ) → held self.new a ≡ put (held self.old) address byte a }
     {
         self.cells[usize::from(address)] = Some(byte);
+        self.start = self.start.min(address);
+        self.end = self.end.max(address + 1);
+    }
+
+    /// Lays the image over `ram`, the 49,152 bytes from address 0 on: at each address where the image has a byte `ram`
+    /// takes it, and elsewhere it keeps its own.
+    pub fn lay_over(&self, ram: &mut [u8])
+        requires { length ram.old ≡ 49152 }
+        ensures size { length ram.new ≡ 49152 }
+        ensures laid { (a : ℕ) → a < 49152 → slice_index ram.new a ≡ unwrap_or (held self.now a) (slice_index ram.old a) }
+    {
+        lay_cells(self.cells.as_slice(), self.start, self.end, ram);
+    }
+}
+
+// A cell without a byte for each address of RAM.
+fn no_cells<A: Allocator>(alloc: A) -> Result<Vec<Option<u8>, A>, AllocError>
+    ensures { IfOk result (λ cells. cells.items ≡ replicate 49152 None) }
+{
+    vec![in alloc; None; usize::from(RAM_END)]
+}
+
+// Lays over RAM the bytes of cells that have none but from `start` up to `end`.
+fn lay_cells(cells: &[Option<u8>], start: u16, end: u16, ram: &mut [u8])
+    requires cells { length cells.now ≡ 49152 }
+    requires within { IsWithin cells.now start end }
+    requires end { end ≤ 49152 }
+    requires size { length ram.old ≡ 49152 }
+    ensures size { length ram.new ≡ 49152 }
+    ensures laid { (a : ℕ) → slice_index ram.new a ≡ unwrap_or (held cells.now a) (slice_index ram.old a) }
+{
+    for address in start..end {
+        let at = usize::from(address);
+        if let Some(byte) = cells[at] {
+            ram[at] = byte;
+        }
     }
 }

@@ -9,7 +9,7 @@ ghost use Rattle.a2_hex.specs.ObjectText as text;
 ghost use Rattle.a2_hex.specs.ObjectLines.{image_of};
 ghost use Rattle.a2_hex.specs.Gathering.{Gathers};
 
-use crate::image::{Image, RAM_END};
+use crate::image::Image;
 use a2_stream::{Output, WriteFault, put};
 use a2_text::{hex_pair, hex_word};
 use arrayvec::ArrayVec;
@@ -107,7 +107,8 @@ pub fn write_lines<A: Allocator, W: Output>(
     ensures { SendsOrBreaks (W.taker writer.old) (W.taker writer.new) result (text.object_text (held image.now)) }
 {
     let mut piece = ArrayVec::new();
-    for address in 0..RAM_END {
+    let (start, end) = image.bounds();
+    for address in start..end {
         if let Some(first) = begun(image, address) {
             let line = line_at(image, address, first);
             gather(&mut piece, line.as_slice(), writer)?;

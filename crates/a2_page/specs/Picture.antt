@@ -2,6 +2,7 @@
 -- the lines are this project's profile, and one of them stands for the hi-res picture.
 use Rattle.std.specs.Prelude.{◌≡◌, ℕ, ◌+◌, ◌*◌, ◌/◌, ◌%◌, Bool, List, [], ◌∷◌, ◌++◌, flat_map, slice_index, take, drop, codes, if◌then◌else◌, true, false, replicate, refl}
 use Rattle.a2_page.specs.declared.Switches.{Switches}
+use Rattle.a2_page.specs.declared.View.{View}
 use Rattle.a2_page.specs.Grid.{Grid, grid_of}
 use Rattle.a2_page.specs.Text.{text_lines, block_lines, attribute_lines}
 
@@ -13,6 +14,10 @@ page_grid bytes = grid_of (λ row column. slice_index bytes (128 * (row % 8) + 4
 abbrev pub shown : Switches → Grid → Grid → Grid
 shown switches page1 page2 = if switches.page2 then page2 else page1
 
+-- and that of a view
+abbrev pub shown_by : View → Grid
+shown_by view = shown view.switches (page_grid view.page1.now) (page_grid view.page2.now)
+
 -- the row of cells with which text begins: in text mode the first, in mixed mode row 20, and else none
 abbrev pub first_text_row : Switches → ℕ
 first_text_row switches = if switches.text then 0 else if switches.mixed then 20 else 24
@@ -21,12 +26,15 @@ first_text_row switches = if switches.text then 0 else if switches.mixed then 20
 abbrev pub graphics_lines : Switches → Grid → List ℕ
 graphics_lines switches rows = if switches.hires then codes "HI-RES NOT SHOWN\n" else block_lines rows
 
--- the lines of the shown page: graphics down to the text, and then text
-abbrev pub picture : Switches → Grid → Grid → List ℕ
-picture switches page1 page2 =
-    let rows = shown switches page1 page2 in
+-- the lines of a page: graphics down to the text, and then text
+abbrev pub lines_of_page : Switches → Grid → List ℕ
+lines_of_page switches rows =
     (if switches.text then [] else graphics_lines switches (take (first_text_row switches) rows))
     ++ text_lines (drop (first_text_row switches) rows)
+
+-- those of the shown page
+abbrev pub picture : Switches → Grid → Grid → List ℕ
+picture switches page1 page2 = lines_of_page switches (shown switches page1 page2)
 
 -- the attributes of the rows that are shown as text
 abbrev pub attribute_rows : Switches → Grid → Grid → List ℕ

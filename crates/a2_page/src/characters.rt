@@ -1,6 +1,6 @@
 //! What one byte of a page shows.
 
-ghost use Rattle.std.specs.Prelude.{◌≡◌};
+ghost use Rattle.std.specs.Prelude.{◌≡◌, ◌<◌};
 ghost use Rattle.a2_page.specs.Text as text;
 
 use crate::{Attribute, Half};
@@ -31,5 +31,17 @@ pub fn block(byte: u8, half: Half) -> u8
     match half {
         Half::Above => byte % 16,
         Half::Below => byte / 16,
+    }
+}
+
+/// The byte that has the lo-res colour `colour`, 0 to 15, as its block of `half`, and the other block as `byte` has it.
+/// Apple II Reference Manual (1979), page 17.
+pub fn set_block(byte: u8, half: Half, colour: u8) -> u8
+    requires { colour < 16 }
+    ensures { result ≡ text.with_block byte half colour }
+{
+    match half {
+        Half::Above => byte / 16 * 16 + colour,
+        Half::Below => byte % 16 + 16 * colour,
     }
 }

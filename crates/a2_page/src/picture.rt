@@ -18,16 +18,11 @@ use arrayvec::ArrayVec;
 /// rows of cells are lines of characters, after 40 lines of digits or the one line. Refused where a write fails, and
 /// what went out then is a front of these lines. Apple II Reference Manual (1979), pages 12 to 20, and this project's
 /// profile.
-#[tactic(auto, using(a2_stream::proofs::Joined::broke_off, a2_stream::proofs::Joined::went_on))]
 pub fn print<W: Output>(view: &View, writer: &mut W) -> Result<(), WriteFault>
     ensures { SendsOrBreaks (W.taker writer.old) (W.taker writer.new) result
         (picture view.now.switches (page_grid view.now.page1.now) (page_grid view.now.page2.now)) }
 {
-    let page = shown_page(view);
-    if !view.switches.text {
-        put_graphics(page, view.switches, writer)?;
-    }
-    put_text_rows(page, view.switches, Mark::Glyph, writer)
+    put_picture(shown_page(view), view.switches, writer)
 }
 
 /// Writes to `writer` how each cell of `view` shows its character, for the rows that `print` writes as characters and in
@@ -42,13 +37,13 @@ pub fn print_attributes<W: Output>(view: &View, writer: &mut W) -> Result<(), Wr
 
 // What is written of a byte of a page: its character, how it shows it, or a block.
 #[derive(Clone, Copy)]
-enum Mark {
+pub(crate) enum Mark {
     Glyph,
     Attribute,
     Block(Half),
 }
 
-fn shown_page<'a>(view: &View<'a>) -> &'a [u8; 1024]
+pub(crate) fn shown_page<'a>(view: &View<'a>) -> &'a [u8; 1024]
     ensures { page_grid result.now ≡
         screen.shown view.now.switches (page_grid view.now.page1.now) (page_grid view.now.page2.now) }
 {
@@ -68,6 +63,21 @@ fn first_text_row(switches: Switches) -> u8
         Switches { mixed: true, .. } => 20,
         _ => 24,
     }
+}
+
+// The lines of a page: graphics down to the text, and then text.
+#[tactic(auto, using(a2_stream::proofs::Joined::broke_off, a2_stream::proofs::Joined::went_on))]
+pub(crate) fn put_picture<W: Output>(
+    page: &[u8; 1024],
+    switches: Switches,
+    writer: &mut W,
+) -> Result<(), WriteFault>
+    ensures { SendsOrBreaks (W.taker writer.old) (W.taker writer.new) result (screen.lines_of_page switches (page_grid page.now)) }
+{
+    if !switches.text {
+        put_graphics(page, switches, writer)?;
+    }
+    put_text_rows(page, switches, Mark::Glyph, writer)
 }
 
 // The rows of cells above the text.
@@ -101,7 +111,7 @@ fn put_blocks<W: Output>(page: &[u8; 1024], end: u8, writer: &mut W) -> Result<(
 }
 
 // The rows of cells from the first text row on.
-fn put_text_rows<W: Output>(
+pub(crate) fn put_text_rows<W: Output>(
     page: &[u8; 1024],
     switches: Switches,
     mark: Mark,
@@ -117,7 +127,7 @@ fn put_text_rows<W: Output>(
     Ok(())
 }
 
-fn cells_in_row(page: &[u8; 1024], row: u8) -> &[u8]
+pub(crate) fn cells_in_row(page: &[u8; 1024], row: u8) -> &[u8]
     requires { row < 24 }
     ensures cells { result.now ≡ slice_index_or (page_grid page.now) row [] }
     ensures width { length result.now ≡ 40 }

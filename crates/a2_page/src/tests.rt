@@ -142,3 +142,64 @@ fn broken_writer(rt: HostRuntime) -> Result<(), Fail> {
     assert_eq!(rt; text.len(), 51);
     Ok(())
 }
+
+#[test]
+fn blocks_are_set(rt: HostRuntime) {
+    for (byte, half, colour, set) in [
+        (0x00, Half::Above, 13, 0x0D),
+        (0x5A, Half::Above, 0, 0x50),
+        (0x5A, Half::Below, 15, 0xFA),
+    ] {
+        assert!(rt; colour < 16);
+        assert_eq!(rt; set_block(byte, half, colour), set);
+    }
+}
+
+// Rows of a kept picture: a store to the gap marks none, one to a cell its row, on either page; a switch marks all.
+#[test]
+fn a_kept_picture(rt: HostRuntime) -> Result<(), Fail> {
+    let (page1, page2) = pages();
+    let view = View {
+        page1: &page1,
+        page2: &page2,
+        switches: switches("text"),
+    };
+    let mut kept = Picture::new();
+    assert!(rt; kept.fits(&view));
+    assert_eq!(rt; kept.refresh(&view), 24);
+    assert_eq!(rt; kept.refresh(&view), 0);
+    for (address, marked) in [(0x047F, None), (0x0480, Some(1)), (0x0800, Some(0))] {
+        kept.stored(address);
+        for row in 0..24u8 {
+            assert_eq!(rt; kept.marked(row), marked == Some(row));
+        }
+        assert!(rt; kept.fits(&view));
+        let _ = kept.refresh(&view);
+    }
+    kept.switched();
+    let other = View {
+        page1: &page1,
+        page2: &page2,
+        switches: switches("mixed page2"),
+    };
+    assert!(rt; kept.fits(&other));
+    let mut shown = Vec::new(rt.alloc());
+    let mut plain = Vec::new(rt.alloc());
+    assert_eq!(rt; kept.print(&other, &mut ToWrite::new(&mut shown)), Ok(()));
+    assert_eq!(rt; print(&other, &mut ToWrite::new(&mut plain)), Ok(()));
+    assert_eq!(rt; shown.as_slice(), plain.as_slice());
+    assert!(rt; !kept.fits(&view));
+    assert!(rt; kept.fits(&other));
+    shown.clear();
+    plain.clear();
+    assert_eq!(rt;
+        kept.print_attributes(&other, &mut ToWrite::new(&mut shown)),
+        Ok(())
+    );
+    assert_eq!(rt;
+        print_attributes(&other, &mut ToWrite::new(&mut plain)),
+        Ok(())
+    );
+    assert_eq!(rt; shown.as_slice(), plain.as_slice());
+    Ok(())
+}

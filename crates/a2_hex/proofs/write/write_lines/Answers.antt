@@ -1,11 +1,11 @@
-use Rattle.std.proofs.Common.{arith}
+use Rattle.std.proofs.Common.{arith, inl, inr}
 use Rattle.a2_hex.specs.Images.{held}
 use Rattle.a2_hex.proofs.WriteLaws.{gathered-none, gathered-same, gathered-more, gathered-broke, gathered-all}
 use Rattle.a2_hex.proofs.write.write_lines.Goals as goal
 use Rattle.a2_hex.proofs.write.write_lines.Goals.{in-Some+in_ok-gather, in_default}
 
 pub loop-address-init : goal.loop-address-init
-loop-address-init g c = rw c.new-piece.ensures (gathered-none (g.W.Output.taker c.args.writer.now) (held c.args.image.now))
+loop-address-init g c = rw c.new-piece.ensures (gathered-none (g.W.Output.taker c.args.writer.now) (held c.args.image.now) c.bounds-start.result.0 (λ a lt. c.bounds-start.ensures.within a (inl lt)))
 
 pub returns-in_err-gather : goal.returns-in_err-gather
 returns-in_err-gather g c =
@@ -24,5 +24,5 @@ loop-address-preserved g c =
 
 pub returns : goal.returns
 returns g c =
-    gathered-all c.put.result (g.W.Output.taker c.args.writer.now) (g.W.Output.taker c.loop-address.writer) (g.W.Output.taker c.put.new.writer) (held c.args.image.now) c.loop-address.address c.loop-address.piece.items c.as_slice-2.result.now
-    (omega arith) c.loop-address.invariant c.as_slice-2.ensures.value c.put.ensures
+    gathered-all c.put.result (g.W.Output.taker c.args.writer.now) (g.W.Output.taker c.loop-address.writer) (g.W.Output.taker c.put.new.writer) (held c.args.image.now) c.loop-address.address c.bounds-start.result.1 c.loop-address.piece.items c.as_slice-2.result.now
+    (λ a le. c.bounds-start.ensures.within a (inr le)) c.loop-address-test.false c.bounds-start.ensures.end c.loop-address.invariant c.as_slice-2.ensures.value c.put.ensures

@@ -1,0 +1,146 @@
+//! A picture that is kept between two looks at a screen.
+
+ghost use Rattle.std.specs.Prelude.{◌≡◌, ◌<◌, ◌↔◌, ℕ, true, slice_set, slice_index_or, [], length, filter};
+ghost use Rattle.a2_stream.specs.Stream.{SendsOrBreaks};
+ghost use Rattle.a2_page.specs.Kept.{Fits, is_marked, after_store, after_switch, after_refresh, marked_rows};
+ghost use Rattle.a2_page.specs.Picture.{page_grid, picture, attribute_rows, shown_by};
+
+use crate::View;
+use crate::cells::{cell, row_offset};
+use crate::picture::{Mark, cells_in_row, put_picture, put_text_rows, shown_page};
+use a2_stream::{Output, WriteFault};
+use std::marker::Model;
+
+/// The rows of cells that were last taken of a screen's shown page, and a mark for each of the 24 rows that may have
+/// changed since: whoever shows a running machine asks for the marked rows alone. Contracts see rows and marks. No call
+/// takes memory. This project's profile.
+#[derive(Drop)]
+pub struct Picture {
+    // As a page has them, so that a row stands where its address says.
+    page: [u8; 1024],
+    marks: [bool; 24],
+}
+
+impl Model for Picture {
+    ghost use Rattle.a2_page.specs.Kept.{Kept};
+    ghost use Rattle.a2_page.specs.Picture.{page_grid};
+
+    ghost Value = { Kept };
+
+    ghost view = { λ p. record { rows = page_grid p.page; marks = p.marks } };
+}
+
+// Lays a row of one page over that of another.
+fn take_row(page: &mut [u8; 1024], from: &[u8; 1024], row: u8)
+    requires { row < 24 }
+    ensures { page_grid page.new ≡ slice_set (page_grid page.old) row (slice_index_or (page_grid from.now) row []) }
+{
+    let start = usize::from(row_offset(row));
+    page[start..start + 40].copy_from_slice(cells_in_row(from, row));
+}
+
+// How many of the rows are marked.
+fn count_marks(marks: &[bool; 24]) -> u8
+    ensures { result ≡ length (filter (λ mark. mark) marks.now) }
+{
+    marks.iter().filter(|mark| **mark).count() as u8
+}
+
+impl Picture {
+    /// A picture of which every row is marked.
+    pub fn new() -> Picture
+        ensures { (row : ℕ) → row < 24 → is_marked result row ≡ true }
+    {
+        Picture {
+            page: [0; 1024],
+            marks: [true; 24],
+        }
+    }
+
+    /// Whether `row`, 0 to 23 from the top, may have changed since it was last taken.
+    pub fn marked(&self, row: u8) -> bool
+        requires { row < 24 }
+        ensures { result ≡ is_marked self.now row }
+    {
+        self.marks[usize::from(row)]
+    }
+
+    /// Takes note of a store at `address`, $0000 to $FFFF: the row of the cell there, on either page, is marked; where no
+    /// cell is, nothing changes.
+    pub fn stored(&mut self, address: u16)
+        ensures { self.new ≡ after_store address self.old }
+    {
+        if let Some((_, row, _)) = cell(address) {
+            self.marks[usize::from(row)] = true;
+        }
+    }
+
+    /// Takes note that a display switch was changed: every row is marked.
+    pub fn switched(&mut self)
+        ensures { self.new ≡ after_switch self.old }
+    {
+        self.marks = [true; 24];
+    }
+
+    /// Whether each row without a mark is that of the page that `view` shows.
+    pub fn fits(&self, view: &View) -> bool
+        ensures { (result ≡ true) ↔ Fits self.now (shown_by view.now) }
+    {
+        let page = shown_page(view);
+        for row in 0..24u8 {
+            if !self.marks[usize::from(row)]
+                && cells_in_row(&self.page, row) != cells_in_row(page, row)
+            {
+                return false;
+            }
+        }
+        true
+    }
+
+    /// Takes the marked rows of the page that `view` shows, clears the marks, and answers how many rows were marked, 0 to
+    /// 24.
+    pub fn refresh(&mut self, view: &View) -> u8
+        requires { Fits self.old (shown_by view.now) }
+        ensures taken { self.new ≡ after_refresh (shown_by view.now) }
+        ensures count { result ≡ marked_rows self.old }
+    {
+        let page = shown_page(view);
+        let count = count_marks(&self.marks);
+        for row in 0..24u8 {
+            if self.marks[usize::from(row)] {
+                take_row(&mut self.page, page, row);
+            }
+        }
+        self.marks = [false; 24];
+        count
+    }
+
+    /// Refreshes this picture, and writes to `writer` what [`print`](crate::print) writes of `view`, in the same lines.
+    /// Refused where a write fails: what went out then is a front of these lines, and the refresh has been done.
+    pub fn print<W: Output>(&mut self, view: &View, writer: &mut W) -> Result<(), WriteFault>
+        requires { Fits self.old (shown_by view.now) }
+        ensures taken { self.new ≡ after_refresh (shown_by view.now) }
+        ensures sent { SendsOrBreaks (W.taker writer.old) (W.taker writer.new) result
+            (picture view.now.switches (page_grid view.now.page1.now) (page_grid view.now.page2.now)) }
+    {
+        self.refresh(view);
+        put_picture(&self.page, view.switches, writer)
+    }
+
+    /// Refreshes this picture, and writes to `writer` what [`print_attributes`](crate::print_attributes) writes of `view`,
+    /// in the same lines. Refused where a write fails: what went out then is a front of these lines, and the refresh has
+    /// been done.
+    pub fn print_attributes<W: Output>(
+        &mut self,
+        view: &View,
+        writer: &mut W,
+    ) -> Result<(), WriteFault>
+        requires { Fits self.old (shown_by view.now) }
+        ensures taken { self.new ≡ after_refresh (shown_by view.now) }
+        ensures sent { SendsOrBreaks (W.taker writer.old) (W.taker writer.new) result
+            (attribute_rows view.now.switches (page_grid view.now.page1.now) (page_grid view.now.page2.now)) }
+    {
+        self.refresh(view);
+        put_text_rows(&self.page, view.switches, Mark::Attribute, writer)
+    }
+}
