@@ -1,0 +1,211 @@
+//! What stands at PC: the instruction, and where its operand is.
+
+ghost use Rattle.std.specs.Prelude.{◌≡◌, ◌+◌, ◌*◌, ◌%◌, ◌<◌, ◌≤◌, ◌&&◌, IfOk, slice_get, option_map};
+ghost use Rattle.a2_bus.specs.BusState.{BusState};
+ghost use Rattle.a2_cpu.specs.Place.{place_of, base_address, crosses_page};
+ghost use Rattle.a2_cpu.specs.Registers.{one_if};
+ghost use Rattle.a2_cpu.specs.View.{registers_of};
+ghost use Rattle.a2_cpu.specs.Live.{live_registers};
+ghost use Rattle.a2_cpu.specs.Operands.{operand_with};
+ghost use Rattle.a2_cpu.specs.Code.{byte_at, word_at, place_for, operand_for, operand_of, operand_at, found_for, found_at};
+
+use crate::live::{Live, digit};
+use crate::modes::{
+    Absolute, AbsoluteX, AbsoluteY, AtAddress, Bytes, IndexedIndirect, IndirectIndexed, Site,
+    ZeroPage, ZeroPageX, ZeroPageY, branch_target, is_elsewhere,
+};
+use crate::{GuardedStep, Regs};
+use a2_bus::Bus;
+use a2_opcode::{Mnemonic, Mode, row_of};
+
+/// Where an operand is.
+#[derive(Clone, Copy)]
+pub(crate) enum Place {
+    /// There is none.
+    Nowhere,
+    /// A.
+    Accumulator,
+    /// The operand is this byte.
+    Literal(u8),
+    /// The byte at this address, or the address itself.
+    Address(u16),
+    /// The address that stands at this one.
+    Pointer(u16),
+}
+
+/// An operand: where it is, and the address before indexing.
+#[derive(Clone, Copy)]
+pub(crate) struct Operand {
+    pub place: Place,
+    pub base: u16,
+}
+
+/// An instruction at PC: its cycles with that for a crossed page, and the next instruction's address.
+#[derive(Clone, Copy)]
+pub(crate) struct Found {
+    pub mnemonic: Mnemonic,
+    pub place: Place,
+    pub cycles: u32,
+    pub next: u16,
+}
+
+// The byte after an opcode.
+fn byte<B: Bus>(bus: &B, pc: u16) -> Option<u8>
+    ensures { result ≡ byte_at (slice_get (B.state bus.now).bytes) pc }
+{
+    bus.peek(pc.wrapping_add(1))
+}
+
+// The two bytes after an opcode, low one first.
+fn word<B: Bus>(bus: &B, pc: u16) -> Option<u16>
+    ensures { result ≡ word_at (slice_get (B.state bus.now).bytes) pc }
+{
+    let low = bus.peek(pc.wrapping_add(1))?;
+    let high = bus.peek(pc.wrapping_add(2))?;
+    Some(u16::from(low) + 256 * u16::from(high))
+}
+
+// Whether a place is in another page than an address.
+fn crosses(base: u16, place: Place) -> bool
+    ensures { result ≡ crosses_page base (place_for place) }
+{
+    match place {
+        Place::Address(to) => is_elsewhere(base, to),
+        Place::Nowhere | Place::Accumulator | Place::Literal(_) | Place::Pointer(_) => false,
+    }
+}
+
+// What a mode looks at on a bus: the byte or the word behind the opcode, which is fetched, and page 0.
+#[derive(Clone, Copy)]
+struct Shown<'a, B: Bus> {
+    bus: &'a B,
+    byte: u8,
+    word: u16,
+}
+
+impl<'a, B: Bus> Bytes for Shown<'a, B> {
+    ghost Memory = { BusState };
+
+    ghost access = { B.access };
+
+    ghost memory = { λ shown. B.state shown.bus.now };
+
+    ghost byte = { λ shown. shown.byte };
+
+    ghost word = { λ shown. shown.word };
+
+    ghost AreThere = { λ shown. Unit {0} };
+
+    fn byte(&self) -> u8 {
+        self.byte
+    }
+
+    fn word(&self) -> u16 {
+        self.word
+    }
+
+    fn low_byte(&self, address: u8) -> u8 {
+        self.bus.peek(u16::from(address)).unwrap_or(0)
+    }
+}
+
+// An operand at an address.
+fn at_address<P: AtAddress, S: Bytes>(live: &Live, bytes: &S) -> Operand
+    requires { S.AreThere bytes.now }
+    ensures place { place_for result.place ≡ place_of S.access (S.memory bytes.now) (live_registers live.now) P.mode
+        (operand_with (S.byte bytes.now) (S.word bytes.now) live.now.pc P.mode) }
+    ensures base { result.base ≡ base_address S.access (S.memory bytes.now) P.mode
+        (operand_with (S.byte bytes.now) (S.word bytes.now) live.now.pc P.mode) }
+{
+    let Site { place, base } = P::find(live, bytes);
+    Operand {
+        place: Place::Address(place),
+        base,
+    }
+}
+
+// The same of a mode with a byte behind its opcode, if that is there.
+fn by_byte<P: AtAddress, B: Bus>(live: &Live, bus: &B) -> Option<Operand>
+    ensures { operand_for result
+        ≡ option_map (λ byte. operand_of B.access (B.state bus.now) (live_registers live.now) P.mode
+        (operand_with byte 0 live.now.pc P.mode)) (byte_at (slice_get (B.state bus.now).bytes) live.now.pc) }
+{
+    let byte = byte(bus, live.pc)?;
+    let shown = Shown { bus, byte, word: 0 };
+    Some(at_address::<P, Shown<B>>(live, &shown))
+}
+
+// And of one with a word.
+fn by_word<P: AtAddress, B: Bus>(live: &Live, bus: &B) -> Option<Operand>
+    ensures { operand_for result
+        ≡ option_map (λ word. operand_of B.access (B.state bus.now) (live_registers live.now) P.mode
+        (operand_with 0 word live.now.pc P.mode)) (word_at (slice_get (B.state bus.now).bytes) live.now.pc) }
+{
+    let word = word(bus, live.pc)?;
+    let shown = Shown { bus, byte: 0, word };
+    Some(at_address::<P, Shown<B>>(live, &shown))
+}
+
+// An operand that is there.
+fn with_base(place: Place, base: u16) -> Option<Operand>
+    ensures { result ≡ Rattle.std.specs.Prelude.Some (record { place = place; base = base }) }
+{
+    Some(Operand { place, base })
+}
+
+/// The operand of a mode at PC, if all bytes of the instruction are there.
+#[tactic(auto, unfolding(crate::specs::Code::operand_at, crate::specs::Code::value_at))]
+fn locate<B: Bus>(mode: Mode, live: &Live, bus: &B) -> Option<Operand>
+    ensures { operand_for result
+        ≡ operand_at B.access (B.state bus.now) (slice_get (B.state bus.now).bytes) (live_registers live.now) mode }
+{
+    match mode {
+        Mode::Implied => with_base(Place::Nowhere, 0),
+        Mode::Accumulator => with_base(Place::Accumulator, 0),
+        Mode::Immediate => {
+            let value = byte(bus, live.pc)?;
+            with_base(Place::Literal(value), u16::from(value))
+        }
+        Mode::ZeroPage => by_byte::<ZeroPage, B>(live, bus),
+        Mode::ZeroPageX => by_byte::<ZeroPageX, B>(live, bus),
+        Mode::ZeroPageY => by_byte::<ZeroPageY, B>(live, bus),
+        Mode::Absolute => by_word::<Absolute, B>(live, bus),
+        Mode::AbsoluteX => by_word::<AbsoluteX, B>(live, bus),
+        Mode::AbsoluteY => by_word::<AbsoluteY, B>(live, bus),
+        Mode::IndexedIndirect => by_byte::<IndexedIndirect, B>(live, bus),
+        Mode::IndirectIndexed => by_byte::<IndirectIndexed, B>(live, bus),
+        Mode::Indirect => {
+            let value = word(bus, live.pc)?;
+            with_base(Place::Pointer(value), value)
+        }
+        Mode::Relative => {
+            let target = branch_target(live.pc, byte(bus, live.pc)?);
+            with_base(Place::Address(target), target)
+        }
+    }
+}
+
+/// The instruction at PC, or why there is none: the bus shows not all of its bytes, or its opcode is undocumented.
+pub(crate) fn find<B: Bus>(regs: &Regs, bus: &B) -> Result<Found, GuardedStep>
+    ensures few { IfOk result (λ found. found.cycles < 512) }
+    ensures found { found_for result
+        ≡ found_at B.access (B.state bus.now) (slice_get (B.state bus.now).bytes) (registers_of regs.now) }
+{
+    let Some(opcode) = bus.peek(regs.pc) else {
+        return Err(GuardedStep::Rom);
+    };
+    let Some(row) = row_of(opcode) else {
+        return Err(GuardedStep::Opcode);
+    };
+    let live = Live::of(regs);
+    let Some(Operand { place, base }) = locate(row.mode, &live, bus) else {
+        return Err(GuardedStep::Rom);
+    };
+    let crossed = row.crosses && crosses(base, place);
+    Ok(Found {
+        mnemonic: row.mnemonic,
+        place,
+        cycles: u32::from(row.cycles) + u32::from(digit(crossed)),
+        next: regs.pc.wrapping_add(u16::from(row.mode.length())),
+    })
+}
