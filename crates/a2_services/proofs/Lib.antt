@@ -1,8 +1,14 @@
+pub mod Kept
 pub mod Reaching
 pub mod Screens
+pub mod Painting
+pub mod Finding
 pub mod Fitting
 pub mod Lines
 pub mod Returning
 pub mod Unreached
 pub mod Access
 pub mod Counting
+pub mod EditingKept
+pub mod BlocksKept
+pub mod Effects

@@ -11,9 +11,9 @@ use Rattle.a2_bus.specs.Memory.{Memory, with_ram}
 use Rattle.a2_bus.proofs.Agreement.{written, devices-with_grid}
 use Rattle.a2_services.specs.Put.{after_line_feed, after_return, after_backspace, after_character, after_put_unmasked, after_put, prompt, inverse_mask, with_cursor_row, with_cursor_column, window_of, cursor_row, cursor_column, screen_column, with_page1}
 use Rattle.a2_page.specs.Grid.{with_byte}
-use Rattle.a2_services.specs.Services.{Reading, byte_of_key, after_byte, after_cancel, after_prompt, line_read, with_key_taken, cleared_to_end, lacks_keys, served, ended, with_a, with_memory}
+use Rattle.a2_services.specs.Services.{Reading, byte_of_key, after_byte, after_cancel, after_prompt, line_read, with_key_taken, cleared_to_end, lacks_keys, effect, back, with_a, with_memory}
 use Rattle.a2_services.specs.World.{World}
-use Rattle.a2_services.specs.declared.Service.TheVariants.{Rdkey}
+use Rattle.a2_services.specs.declared.Service.TheVariants.{Keyin}
 use Rattle.a2_services.specs.Reading.{reading, rest_of, kept, first_of}
 
 -- What is put changes no device
@@ -199,7 +199,7 @@ line_from_prompt m n mark is step =
     ∙ ap (λ (d : Devices). line_read d.keys (reading (after_put (prompt m) m) 0)) (put_devices (prompt m) m)
 
 -- no key is there exactly where there is no first one
-pub lacks_unless : (m : Memory) (lacking : Bool) → is_some (first_of m.devices.keys) ≡ not lacking → lacking ≡ lacks_keys Rdkey m
+pub lacks_unless : (m : Memory) (lacking : Bool) → is_some (first_of m.devices.keys) ≡ not lacking → lacking ≡ lacks_keys Keyin m
 lacks_unless m lacking e = go m.devices.keys lacking e
   where
     go : (keys : List ℕ) (lacking : Bool) → is_some (first_of keys) ≡ not lacking
@@ -209,20 +209,20 @@ lacks_unless m lacking e = go m.devices.keys lacking e
     go (k ∷ keys) true e = cc
     go (k ∷ keys) false e = refl
 
-pub served_key : (w : World) (key : ℕ) → first_of w.memory.devices.keys ≡ Some key
-    → served Rdkey w ≡ ended 6 (with_a (0x80 + key) (with_memory (with_key_taken w.memory) w))
-unfolding served
-served_key w key first = go w.memory.devices.keys first
+pub effect_key : (w : World) (key : ℕ) → first_of w.memory.devices.keys ≡ Some key
+    → effect Keyin w ≡ back (with_a (0x80 + key) (with_memory (with_key_taken w.memory) w))
+unfolding effect
+effect_key w key first = go w.memory.devices.keys first
   where
     go : (keys : List ℕ) → first_of keys ≡ Some key
-        → elim keys as (λ _. World) [ [] ↦ w | k ∷ rest ↦ ended 6 (with_a (0x80 + k) (with_memory (with_key_taken w.memory) w)) ]
-        ≡ ended 6 (with_a (0x80 + key) (with_memory (with_key_taken w.memory) w))
+        → elim keys as (λ _. World) [ [] ↦ w | k ∷ rest ↦ back (with_a (0x80 + k) (with_memory (with_key_taken w.memory) w)) ]
+        ≡ back (with_a (0x80 + key) (with_memory (with_key_taken w.memory) w))
     go [] h = cc
-    go (k ∷ keys) h = ap (λ j. ended 6 (with_a (0x80 + j) (with_memory (with_key_taken w.memory) w))) (same_key k key keys h)
+    go (k ∷ keys) h = ap (λ j. back (with_a (0x80 + j) (with_memory (with_key_taken w.memory) w))) (same_key k key keys h)
 
 -- a key is there
 
-pub some_key : (bus : BusState) (keys : List ℕ) → keys ≡ bus.devices.keys → lacks_keys Rdkey (memory_of bus) ≡ false → 0 < length keys
+pub some_key : (bus : BusState) (keys : List ℕ) → keys ≡ bus.devices.keys → lacks_keys Keyin (memory_of bus) ≡ false → 0 < length keys
 unfolding memory_of
 some_key bus keys e h = go keys (ap (λ (l : List ℕ). elim l [ [] ↦ true | k ∷ rest ↦ false ]) e ∙ h)
   where
@@ -230,7 +230,7 @@ some_key bus keys e h = go keys (ap (λ (l : List ℕ). elim l [ [] ↦ true | k
     go [] bad = absurd (true≢false bad)
     go (k ∷ rest) _ = omega arith
 
-pub key_there : (bus : BusState) (keys : List ℕ) → keys ≡ bus.devices.keys → lacks_keys Rdkey (memory_of bus) ≡ false
+pub key_there : (bus : BusState) (keys : List ℕ) → keys ≡ bus.devices.keys → lacks_keys Keyin (memory_of bus) ≡ false
     → first_of (memory_of bus).devices.keys ≡ Some (slice_index keys 0)
 unfolding memory_of
 key_there bus keys e h = ap first_of (sym e) ∙ go keys (ap (λ (l : List ℕ). elim l [ [] ↦ true | k ∷ rest ↦ false ]) e ∙ h)

@@ -1,19 +1,16 @@
 -- A service changes no byte out of its reach.
-use Rattle.std.specs.Prelude.{◌≡◌, ◌≢◌, ◌⊎◌, ℕ, zero, suc, ◌+◌, ◌-◌, ◌/◌, ◌%◌, ◌<◌, ◌≤◌, List, [], ◌∷◌, Bool, true, false, ◌&&◌, ◌||◌, ◌==◌, nat_lt, nat_le, if◌then◌else◌, refl, slice_index_or, slice_set, replicate}
-use Rattle.std.proofs.Common.{◌∙◌, arith, inl, inr, true≢false}
+use Rattle.std.specs.Prelude.{◌≡◌, ◌≢◌, ◌⊎◌, ℕ, zero, suc, ◌+◌, ◌-◌, ◌<◌, ◌≤◌, List, [], ◌∷◌, Bool, true, false, ◌&&◌, ◌==◌, nat_lt, nat_le, if◌then◌else◌, refl}
+use Rattle.std.proofs.Common.{◌∙◌, arith, inl, inr}
 use Rattle.std.proofs.lemmas.Bool.Decides.{nat_tests}
-use Rattle.a2_page.specs.Grid.{Grid, scrolled, cleared, with_byte, with_part}
-use Rattle.a2_page.specs.declared.Page.TheVariants.{One}
-use Rattle.a2_page.specs.Cells.{row_start}
+use Rattle.a2_page.specs.Grid.{Grid, scrolled, with_byte}
 use Rattle.a2_cpu.specs.Arithmetic.{by_digits}
 use Rattle.a2_bus.specs.Memory.{Memory, ram_byte, with_ram, memory_access}
 use Rattle.a2_bus.proofs.Frame.{ram_byte-with_ram, ram_byte-page1, changed_by_writes}
 use Rattle.a2_cpu.specs.Instruction.{returned, after_pull}
-use Rattle.a2_services.specs.declared.Service.{Service}
-use Rattle.a2_services.specs.declared.Service.TheVariants.{Cout, Crout, Home, Prbyte, Rdkey, Wait, Getln}
 use Rattle.a2_services.specs.World.{World}
 use Rattle.a2_services.specs.Put.{window_of, cursor_column, cursor_row, with_cursor_column, with_cursor_row, screen_column, prompt, inverse_mask, with_page1, after_line_feed, after_return, after_backspace, after_character, after_put, after_put_unmasked, with_base_address}
-use Rattle.a2_services.specs.Services.{reach, output_reach, is_within, cleared_to_end, Reading, byte_of_key, after_byte, after_cancel, after_prompt, line_read, with_key_taken, ended, output, with_memory, with_a, with_x, digit_byte, served}
+use Rattle.a2_services.specs.Services.{output_reach, cleared_to_end, Reading, byte_of_key, after_byte, after_cancel, after_prompt, line_read, with_key_taken, back, output}
+use Rattle.a2_services.proofs.Kept.{off_base-kept, off_page-cleared}
 
 -- an address that no output service stores at
 pub record IsOutside (b : ℕ) : Type 0 where
@@ -37,13 +34,13 @@ either true x y b r h g = h
 either false x y b r h g = g
 
 module _ (b : ℕ) (outside : IsOutside b) where
-  page1-kept : (page : Grid) (m : Memory) → ram_byte (with_page1 page m) b ≡ ram_byte m b
+  pub page1-kept : (page : Grid) (m : Memory) → ram_byte (with_page1 page m) b ≡ ram_byte m b
   page1-kept page m = ram_byte-page1 m page b outside.page
 
-  column-kept : (c : ℕ) (m : Memory) → ram_byte (with_cursor_column c m) b ≡ ram_byte m b
+  pub column-kept : (c : ℕ) (m : Memory) → ram_byte (with_cursor_column c m) b ≡ ram_byte m b
   column-kept c m = ram_byte-with_ram m 0x24 c b outside.column
 
-  row-kept : (r : ℕ) (m : Memory) → ram_byte (with_cursor_row r m) b ≡ ram_byte m b
+  pub row-kept : (r : ℕ) (m : Memory) → ram_byte (with_cursor_row r m) b ≡ ram_byte m b
   row-kept r m = ram_byte-with_ram m 0x25 r b outside.row
 
   line_feed-kept : (m : Memory) → ram_byte (after_line_feed m) b ≡ ram_byte m b
@@ -91,31 +88,23 @@ module _ (b : ℕ) (outside : IsOutside b) where
       (either (byte == 0x88) (after_backspace m) last b was (backspace-kept m)
       (either (nat_le 0x80 byte && nat_lt byte 0xA0) m (after_character byte m) b was refl (character-kept byte m))))
 
-  put-kept : (byte : ℕ) (m : Memory) → ram_byte (after_put byte m) b ≡ ram_byte m b
+  pub put-kept : (byte : ℕ) (m : Memory) → ram_byte (after_put byte m) b ≡ ram_byte m b
   unfolding after_put
   put-kept byte m = put_unmasked-kept (if nat_le 0xA0 byte then by_digits 8 ◌&&◌ byte (inverse_mask m) else byte) m
 
-  base-kept : (m : Memory) → ram_byte (with_base_address m) b ≡ ram_byte m b
-  unfolding with_base_address
-  base-kept m =
-      let base = row_start One (cursor_row m) + (window_of m).left in
-      ram_byte-with_ram (with_ram m 0x28 (base % 256)) 0x29 (base / 256) b outside.base_high
-      ∙ ram_byte-with_ram m 0x28 (base % 256) b outside.base_low
+  pub base-kept : (m : Memory) → ram_byte (with_base_address m) b ≡ ram_byte m b
+  base-kept m = off_base-kept b (record { low = outside.base_low; high = outside.base_high }) m
 
   prompt-kept : (m : Memory) → ram_byte (after_prompt m) b ≡ ram_byte m b
   prompt-kept m = put-kept (prompt m) (after_put 0x8D m) ∙ put-kept 0x8D m
 
-  cleared_to_end-kept : (m : Memory) → ram_byte (cleared_to_end m) b ≡ ram_byte m b
-  unfolding cleared_to_end
-  cleared_to_end-kept m =
-      let row = slice_index_or m.page1 (cursor_row m) [] in
-      let blanks = replicate ((window_of m).width - cursor_column m) 0xA0 in
-      page1-kept (slice_set m.page1 (cursor_row m) (with_part row (screen_column m) blanks)) m
+  pub cleared_to_end-kept : (m : Memory) → ram_byte (cleared_to_end m) b ≡ ram_byte m b
+  cleared_to_end-kept m = off_page-cleared b outside.page m
 
   -- a line, short enough, whose memory shows the same byte
-  record Fine (was : ℕ) (line : Reading) : Type 0 where
-    same : ram_byte line.memory b ≡ was
-    short : line.len < 256
+  pub record Fine (was : ℕ) (line : Reading) : Type 0 where
+    pub same : ram_byte line.memory b ≡ was
+    pub short : line.len < 256
 
   fine-if : (was : ℕ) (v : Bool) (x y : Reading) → Fine was x → (v ≡ false → Fine was y) → Fine was (if v then x else y)
   fine-if was true x y h g = h
@@ -147,7 +136,7 @@ module _ (b : ℕ) (outside : IsOutside b) where
       backspace zero l = record { same = prompt-kept (after_put_unmasked byte line.memory) ∙ echoed; short = omega arith }
       backspace (suc len) l = record { same = echoed; short = omega (arith, l) }
 
-  line_read-kept : (b < 0x200) ⊎ (0x300 ≤ b) → (was : ℕ) (keys : List ℕ) (line : Reading) → Fine was line → ram_byte (line_read keys line).memory b ≡ was
+  pub line_read-kept : (b < 0x200) ⊎ (0x300 ≤ b) → (was : ℕ) (keys : List ℕ) (line : Reading) → Fine was line → ram_byte (line_read keys line).memory b ≡ was
   unfolding line_read ram_byte
   line_read-kept away was [] line h = h.same
   line_read-kept away was (key ∷ keys) line h =
@@ -175,66 +164,12 @@ module _ (b : ℕ) (outside : IsOutside b) where
       go false rest = rest (after_byte byte noted) (after_byte-fine was byte noted (record { same = stored; short = h.short }))
 
 -- the return keeps every byte
-returned-kept : (world : World) (b : ℕ) → ram_byte (returned memory_access world).memory b ≡ ram_byte world.memory b
+pub returned-kept : (world : World) (b : ℕ) → ram_byte (returned memory_access world).memory b ≡ ram_byte world.memory b
 unfolding returned
 returned-kept world b =
     changed_by_writes.kept_by_read (after_pull memory_access world).memory _ b
     ∙ changed_by_writes.kept_by_read world.memory _ b
 
-output-kept : (b : ℕ) → IsOutside b → (memory : Memory) (world : World)
-    → ram_byte (ended 6 (output memory world)).memory b ≡ ram_byte memory b
+pub output-kept : (b : ℕ) → IsOutside b → (memory : Memory) (world : World)
+    → ram_byte (back (output memory world)).memory b ≡ ram_byte memory b
 output-kept b outside memory world = returned-kept (output memory world) b ∙ base-kept b outside memory
-
--- a service stores only in its reach
-pub served-kept : (service : Service) (world : World) (b : ℕ) → reach service b ≡ false
-    → ram_byte (served service world).memory b ≡ ram_byte world.memory b
-unfolding served reach ram_byte
-served-kept Cout world b h =
-    let o : IsOutside b = outside_of b h in
-    output-kept b o (after_put world.registers.a world.memory) world ∙ put-kept b o world.registers.a world.memory
-served-kept Crout world b h =
-    let o : IsOutside b = outside_of b h in
-    returned-kept (with_a 0x8D (output (after_put 0x8D world.memory) world)) b ∙ base-kept b o (after_put 0x8D world.memory) ∙ put-kept b o 0x8D world.memory
-served-kept Home world b h =
-    let o : IsOutside b = outside_of b h in
-    let blank = with_page1 (cleared (window_of world.memory) world.memory.page1) world.memory in
-    output-kept b o (with_cursor_row (window_of world.memory).top (with_cursor_column 0 blank)) world
-    ∙ row-kept b o (window_of world.memory).top (with_cursor_column 0 blank)
-    ∙ column-kept b o 0 blank
-    ∙ page1-kept b o (cleared (window_of world.memory) world.memory.page1) world.memory
-served-kept Prbyte world b h =
-    let o : IsOutside b = outside_of b h in
-    let a = world.registers.a in
-    let first = after_put (digit_byte (a / 16)) world.memory in
-    output-kept b o (after_put (digit_byte (a % 16)) first) world
-    ∙ put-kept b o (digit_byte (a % 16)) first ∙ put-kept b o (digit_byte (a / 16)) world.memory
-served-kept Rdkey world b h = go world.memory.devices.keys
-  where
-    go : (keys : List ℕ)
-        → ram_byte (elim keys as (λ _. World) [
-          | [] ↦ world
-          | key ∷ rest ↦ ended 6 (with_a (0x80 + key) (with_memory (with_key_taken world.memory) world))
-        ]).memory b
-        ≡ ram_byte world.memory b
-    go [] = refl
-    go (key ∷ rest) = returned-kept (with_a (0x80 + key) (with_memory (with_key_taken world.memory) world)) b
-served-kept Wait world b h = returned-kept (with_a 0 world) b
-served-kept Getln world b h =
-    let o : IsOutside b = outside_of b (or-left (output_reach b) (is_within 0x200 0x2FF b) h) in
-    let memory = world.memory in
-    let start : Reading = record { memory = after_put (prompt memory) memory; len = 0 } in
-    let line = line_read memory.devices.keys start in
-    returned-kept (with_x line.len (output line.memory world)) b ∙ base-kept b o line.memory
-    ∙ line_read-kept b o (away (or-right (output_reach b) (is_within 0x200 0x2FF b) h)) (ram_byte memory b) memory.devices.keys start
-    (record { same = put-kept b o (prompt memory) memory; short = omega arith })
-  where
-    or-left : (x y : Bool) → x || y ≡ false → x ≡ false
-    or-left true y h = h
-    or-left false y h = refl
-
-    or-right : (x y : Bool) → x || y ≡ false → y ≡ false
-    or-right true y h = absurd (true≢false h)
-    or-right false y h = h
-
-    away : is_within 0x200 0x2FF b ≡ false → (b < 0x200) ⊎ (0x300 ≤ b)
-    away h = grind (arith, nat_tests, h)

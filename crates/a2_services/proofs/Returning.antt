@@ -10,11 +10,14 @@ use Rattle.a2_bus.specs.Memory.{Memory, ram_byte, with_ram, ram_end, memory_acce
 use Rattle.a2_bus.specs.View.{memory_of}
 use Rattle.a2_cpu.specs.Instruction.{with_pc, with_s, pulled, after_pull, returned}
 use Rattle.a2_cpu.specs.declared.Regs.{Regs}
+use Rattle.a2_cpu.specs.View.{registers_of}
+use Rattle.a2_services.specs.declared.Service.{Service}
+use Rattle.a2_services.specs.Rows.{row_of}
 use Rattle.a2_services.specs.World.{World, world_of}
 use Rattle.a2_page.specs.Grid.{Window, cleared}
 use Rattle.a2_services.specs.declared.screen.Edges.{Edges}
 use Rattle.a2_services.specs.Put.{window_of, with_page1, with_cursor_row, with_cursor_column}
-use Rattle.a2_services.specs.Services.{window_fits, cursor_fits, ended, with_memory, with_a, with_key_taken}
+use Rattle.a2_services.specs.Services.{window_fits, cursor_fits, cycles_of, effect, served, with_memory, with_a, with_key_taken}
 use Rattle.a2_services.specs.Fits.{Fits, window_at}
 
 -- The return
@@ -50,11 +53,15 @@ returned_is w =
     ap (λ x. with_pc ((pulled memory_access w + 256 * pulled memory_access x + 1) % 65536) (after_pull memory_access x)) p1
     ∙ (λ i. with_pc ((b1 i + 256 * b2 i + 1) % 65536) (p2 i))
 
--- a call's end: the memory is what the service made, and the cycles are counted
-pub ended_is : (regs new : Regs) (bus after : BusState) (m : Memory) (n before : ℕ)
-    → world_of new after before ≡ returned memory_access (with_memory m (world_of regs bus before))
-    → world_of new after (before + n) ≡ ended n (with_memory m (world_of regs bus before))
-ended_is regs new bus after m n before e = ap (λ (w : World). let x : World = record w { cycles = before + n } in x) e
+-- a call: what the service leaves, and its cycles
+pub served_is : (service : Service) (regs new : Regs) (bus after : BusState) (cycles : ℕ)
+    → ((before : ℕ) → world_of new after before ≡ effect service (world_of regs bus before))
+    → cycles ≡ cycles_of (row_of service).takes (registers_of regs)
+    → (before : ℕ) → world_of new after (before + cycles) ≡ served service (world_of regs bus before)
+unfolding served
+served_is service regs new bus after cycles left long before =
+    ap (λ (w : World). let x : World = record w { cycles = before + cycles } in x) (left before)
+    ∙ ap (λ n. let x : World = record (effect service (world_of regs bus before)) { cycles = before + n } in x) long
 
 -- The tests
 
@@ -87,12 +94,12 @@ return_made regs bus low high word cycles w l h =
     ∙ sym (returned_is (world_of regs bus cycles))
 
 -- the same with the memory that a service made
-pub made_is : (new : Regs) (after : BusState) (m m2 : Memory) (regs : Regs) (bus : BusState) (n before : ℕ)
-    → world_of new after before ≡ returned memory_access (with_memory m (world_of regs bus before))
+pub made_is : (new : Regs) (after : BusState) (m m2 : Memory) (regs : Regs) (bus : BusState) (cycles : ℕ)
+    → world_of new after cycles ≡ returned memory_access (with_memory m (world_of regs bus cycles))
     → m ≡ m2
-    → world_of new after (before + n) ≡ ended n (with_memory m2 (world_of regs bus before))
-made_is new after m m2 regs bus n before e same =
-    ended_is regs new bus after m n before e ∙ ap (λ x. ended n (with_memory x (world_of regs bus before))) same
+    → world_of new after cycles ≡ returned memory_access (with_memory m2 (world_of regs bus cycles))
+made_is new after m m2 regs bus cycles e same =
+    e ∙ ap (λ x. returned memory_access (with_memory x (world_of regs bus cycles))) same
 
 -- what HOME's stores make
 pub home_made : (m a b c : Memory) (edges : Edges) → window_at edges ≡ window_of m
@@ -105,11 +112,11 @@ home_made m a b c edges same ea eb ec =
     ∙ ap (λ x. with_ram x 0x25 edges.top) (eb ∙ ap (λ x. with_ram x 0x24 0) ea)
     ∙ ap (λ (w : Window). with_ram (with_ram (with_page1 (cleared w m.page1) m) 0x24 0) 0x25 w.top) same
 
--- RDKEY's end
-pub made_rdkey : (regs new : Regs) (bus after : BusState) (key before : ℕ)
-    → world_of new after before ≡ returned memory_access (world_of (record regs { a = 0x80 + key }) after before)
+-- KEYIN's end
+pub made_keyin : (regs new : Regs) (bus after : BusState) (key cycles : ℕ)
+    → world_of new after cycles ≡ returned memory_access (world_of (record regs { a = 0x80 + key }) after cycles)
     → memory_of after ≡ with_key_taken (memory_of bus)
-    → world_of new after (before + 6) ≡ ended 6 (with_a (0x80 + key) (with_memory (with_key_taken (memory_of bus)) (world_of regs bus before)))
-made_rdkey regs new bus after key before e taken =
-    ap (λ (w : World). let x : World = record w { cycles = before + 6 } in x) e
-    ∙ ap (λ m. ended 6 (with_a (0x80 + key) (with_memory m (world_of regs bus before)))) taken
+    → world_of new after cycles
+    ≡ returned memory_access (with_a (0x80 + key) (with_memory (with_key_taken (memory_of bus)) (world_of regs bus cycles)))
+made_keyin regs new bus after key cycles e taken =
+    e ∙ ap (λ m. returned memory_access (with_a (0x80 + key) (with_memory m (world_of regs bus cycles)))) taken

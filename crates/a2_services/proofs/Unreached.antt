@@ -10,8 +10,7 @@ use Rattle.a2_services.specs.declared.Service.{Service}
 use Rattle.a2_services.specs.World.{World, world_of}
 use Rattle.a2_services.specs.Services.{served}
 use Rattle.a2_services.specs.Called.{IsUnreached}
-use Rattle.a2_services.proofs.Reaching.{served-kept}
-use Rattle.a2_services.proofs.Counting.{served_fewer}
+use Rattle.a2_services.proofs.Effects.{served-kept, served_fewer}
 
 -- the bytes out of its reach
 pub unreached_by : (service : Service) (regs : Regs) (bus : BusState) (new_regs : Regs) (new_bus : BusState) (cycles : ℕ)

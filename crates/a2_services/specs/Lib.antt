@@ -1,7 +1,9 @@
 pub mod Bytes
 pub mod World
 pub mod Put
+pub mod Rows
 pub mod Services
 pub mod Called
 pub mod Fits
 pub mod Reading
+pub mod Blocks

@@ -4,30 +4,29 @@
 use Rattle.std.specs.Prelude.{ℕ, zero, suc, ◌+◌, ◌-◌, ◌*◌, ◌/◌, ◌%◌, Bool, true, false, not, ◌&&◌, ◌||◌, List, [], ◌∷◌, ◌==◌, nat_lt, nat_le, if◌then◌else◌, Option, find, replicate}
 use Rattle.std.specs.List.{list_any}
 use Rattle.a2_page.specs.Grid.{cleared, byte_in, with_row_part}
+use Rattle.a2_page.specs.Text.{blocks_of}
 use Rattle.a2_bus.specs.Devices.{key_taken}
 use Rattle.a2_bus.specs.Locations as at
-use Rattle.a2_bus.specs.Memory.{Memory, with_ram, memory_access}
-use Rattle.a2_cpu.specs.Instruction.{returned}
+use Rattle.a2_bus.specs.Memory.{Memory, ram_byte, with_ram, memory_access}
+use Rattle.a2_cpu.specs.Instruction.{returned, with_pc}
+use Rattle.a2_cpu.specs.Registers.{Registers}
 use Rattle.a2_services.specs.declared.Service.{Service}
-use Rattle.a2_services.specs.declared.Service.TheVariants.{Cout, Crout, Home, Prbyte, Rdkey, Wait, Getln}
+use Rattle.a2_services.specs.declared.Service.TheVariants.{Cout, Cout1, Crout, Home, Prbyte, Prhex, Setinv, Setnorm, Vtab, Clreol, Clreop, Rdkey, Keyin, Getln, Wait, Setcol, Plot, Hline, Vline, Scrn, Clrscr}
+use Rattle.a2_services.specs.declared.rows.Needs.{Needs}
+use Rattle.a2_services.specs.declared.rows.Needs.TheVariants as need
+use Rattle.a2_services.specs.declared.rows.Reach.{Reach}
+use Rattle.a2_services.specs.declared.rows.Reach.TheVariants as reaches
+use Rattle.a2_services.specs.declared.rows.Takes.{Takes}
+use Rattle.a2_services.specs.declared.rows.Takes.TheVariants as span
+use Rattle.a2_services.specs.Rows.{row_of, services}
 use Rattle.a2_services.specs.Bytes.{carriage_return, backspace, cancel, backslash, blank, return_key, right_arrow_key}
 use Rattle.a2_services.specs.World.{World}
+use Rattle.a2_services.specs.Blocks.{painted, painted_across, painted_down, span_of, black}
 use Rattle.a2_services.specs.Put.{window_of, cursor_column, cursor_row, with_cursor_column, with_cursor_row, screen_column, prompt, with_page1, after_put, after_put_unmasked, with_base_address}
-
--- where a service is called
-abbrev pub address_of_service : Service → ℕ
-address_of_service Cout = 0xFDED
-address_of_service Crout = 0xFD8E
-address_of_service Home = 0xFC58
-address_of_service Prbyte = 0xFDDA
-address_of_service Rdkey = 0xFD0C
-address_of_service Wait = 0xFCA8
-address_of_service Getln = 0xFD6A
 
 -- the service at an address, if there is one
 unfoldable pub service_at : ℕ → Option Service
-service_at address =
-    find (λ service. address_of_service service == address) (Cout ∷ Crout ∷ Home ∷ Prbyte ∷ Rdkey ∷ Wait ∷ Getln ∷ [])
+service_at address = find (λ service. (row_of service).address == address) services
 
 -- What a service needs
 
@@ -41,25 +40,38 @@ window_fits memory =
 abbrev pub cursor_fits : Memory → Bool
 cursor_fits memory = nat_lt (cursor_row memory) 24 && nat_lt (screen_column memory) 40
 
+-- A is a row of blocks and Y a column
+abbrev pub block_fits : Registers → Bool
+block_fits registers = nat_lt registers.a 48 && nat_lt registers.y 40
+
+-- window, cursor and registers are as they are needed
+abbrev pub lies_right : Needs → Registers → Memory → Bool
+lies_right need.Nothing registers memory = true
+lies_right need.Window registers memory = window_fits memory
+lies_right need.Cursor registers memory = window_fits memory && cursor_fits memory
+lies_right need.Key registers memory = true
+lies_right need.Line registers memory = window_fits memory && cursor_fits memory
+lies_right need.Block registers memory = block_fits registers
+lies_right need.Across registers memory = block_fits registers && nat_lt (ram_byte memory at.h2) 40
+lies_right need.Down registers memory = block_fits registers && nat_lt (ram_byte memory at.v2) 48
+
 -- window and cursor lie where the service needs them
-abbrev pub fits : Service → Memory → Bool
-fits Home memory = window_fits memory
-fits Rdkey memory = true
-fits Wait memory = true
-fits Cout memory = window_fits memory && cursor_fits memory
-fits Crout memory = window_fits memory && cursor_fits memory
-fits Prbyte memory = window_fits memory && cursor_fits memory
-fits Getln memory = window_fits memory && cursor_fits memory
+abbrev pub fits : Service → Registers → Memory → Bool
+fits service registers memory = lies_right (row_of service).needs registers memory
 
 -- RETURN is among the keys
 abbrev pub has_return : List ℕ → Bool
 has_return keys = list_any (λ key. key == return_key) keys
 
--- the keys that a service needs are not there: RDKEY needs one, GETLN a whole line
+-- the keys that are needed do not wait: a key, or a whole line
+abbrev pub is_without : Needs → List ℕ → Bool
+is_without need.Key keys = elim keys [ [] ↦ true | key ∷ rest ↦ false ]
+is_without need.Line keys = not (has_return keys)
+is_without _ keys = false
+
+-- the keys that the service needs are not there
 abbrev pub lacks_keys : Service → Memory → Bool
-lacks_keys Rdkey memory = elim memory.devices.keys [ [] ↦ true | key ∷ keys ↦ false ]
-lacks_keys Getln memory = not (has_return memory.devices.keys)
-lacks_keys _ memory = false
+lacks_keys service memory = is_without (row_of service).needs memory.devices.keys
 
 -- Where a service may store
 
@@ -70,19 +82,33 @@ line_buffer = 0x200
 abbrev pub is_within : ℕ → ℕ → ℕ → Bool
 is_within first last address = nat_le first address && nat_le address last
 
--- CH, CV, BASL, BASH and page 1, the bytes between its rows too
+-- BASL and BASH
+abbrev pub base_reach : ℕ → Bool
+base_reach address = is_within at.basl at.bash address
+
+-- page 1, the bytes between its rows too
+abbrev pub page_reach : ℕ → Bool
+page_reach address = is_within 0x400 0x7FF address
+
+-- CH, CV, BASL, BASH and page 1
 abbrev pub output_reach : ℕ → Bool
-output_reach address = is_within at.ch at.cv address || is_within at.basl at.bash address || is_within 0x400 0x7FF address
+output_reach address = is_within at.ch at.cv address || base_reach address || page_reach address
+
+-- the address is in the reach
+abbrev pub is_reached : Reach → ℕ → Bool
+is_reached reaches.Nowhere address = false
+is_reached reaches.Screen address = output_reach address
+is_reached reaches.ScreenAndLine address = output_reach address || is_within line_buffer 0x2FF address
+is_reached reaches.Mask address = address == at.invflg
+is_reached reaches.Base address = base_reach address
+is_reached reaches.Page address = page_reach address
+is_reached reaches.BaseAndPage address = base_reach address || page_reach address
+is_reached reaches.Color address = address == at.color
+is_reached reaches.Graphics address = address == at.v2 || address == at.color || page_reach address
 
 -- the service may store at the address
 unfoldable pub reach : Service → ℕ → Bool
-reach Rdkey address = false
-reach Wait address = false
-reach Getln address = output_reach address || is_within line_buffer 0x2FF address
-reach Cout address = output_reach address
-reach Crout address = output_reach address
-reach Home address = output_reach address
-reach Prbyte address = output_reach address
+reach service address = is_reached (row_of service).reach address
 
 -- Reading a line. Apple II Reference Manual (1979), chapter 2, GETLN
 
@@ -137,10 +163,6 @@ line_read (key ∷ keys) line =
 
 -- What each service does
 
--- PC is pulled as RTS does, and the cycles are counted
-abbrev pub ended : ℕ → World → World
-ended cycles world = record (returned memory_access world) { cycles = world.cycles + cycles }
-
 abbrev pub with_memory : Memory → World → World
 with_memory memory world = record world { memory = memory }
 
@@ -162,23 +184,66 @@ digit_byte digit = if nat_lt digit 10 then 0xB0 + digit else 0xB7 + digit
 abbrev pub wait_cycles : ℕ → ℕ
 wait_cycles a = if a == 0 then 167293 else (14 + 27 * a + 5 * a * a) / 2
 
--- the world after a call of a service that fits and lacks no keys
-unfoldable pub served : Service → World → World
-served Cout world = ended 6 (output (after_put world.registers.a world.memory) world)
-served Crout world = ended 6 (with_a carriage_return (output (after_put carriage_return world.memory) world))
-served Home world =
+-- how long a service takes, by the registers before it
+abbrev pub cycles_of : Takes → Registers → ℕ
+cycles_of span.Hook registers = 5
+cycles_of span.Six registers = 6
+cycles_of span.Wait registers = wait_cycles registers.a
+
+-- PC is pulled as RTS does
+abbrev pub back : World → World
+back world = returned memory_access world
+
+-- PC goes through a hook: to the word that stands there, low byte first
+abbrev pub through : ℕ → World → World
+through hook world = with_pc (ram_byte world.memory hook + 256 * ram_byte world.memory (hook + 1)) world
+
+-- the window's rows below the cursor's become blank
+abbrev pub cleared_below : Memory → Memory
+cleared_below memory =
+    let below = record (window_of memory) { top = cursor_row memory + 1 } in
+    with_page1 (cleared below memory.page1) memory
+
+-- what a call of a service that fits and lacks no keys leaves, but for the cycles
+unfoldable pub effect : Service → World → World
+effect Cout world = through at.csw world
+effect Cout1 world = back (output (after_put world.registers.a world.memory) world)
+effect Crout world = through at.csw (with_a carriage_return world)
+effect Home world =
     let blank = with_page1 (cleared (window_of world.memory) world.memory.page1) world.memory in
-    ended 6 (output (with_cursor_row (window_of world.memory).top (with_cursor_column 0 blank)) world)
-served Prbyte world =
+    back (output (with_cursor_row (window_of world.memory).top (with_cursor_column 0 blank)) world)
+effect Prbyte world =
     let a = world.registers.a in
-    ended 6 (output (after_put (digit_byte (a % 16)) (after_put (digit_byte (a / 16)) world.memory)) world)
-served Rdkey world =
+    back (output (after_put (digit_byte (a % 16)) (after_put (digit_byte (a / 16)) world.memory)) world)
+effect Prhex world = back (output (after_put (digit_byte (world.registers.a % 16)) world.memory) world)
+effect Setinv world = back (with_memory (with_ram world.memory at.invflg 0x3F) world)
+effect Setnorm world = back (with_memory (with_ram world.memory at.invflg 0xFF) world)
+effect Vtab world = back (output world.memory world)
+effect Clreol world = back (with_memory (cleared_to_end world.memory) world)
+effect Clreop world = back (output (cleared_below (cleared_to_end world.memory)) world)
+effect Rdkey world = through at.ksw world
+effect Keyin world =
     elim world.memory.devices.keys [
       | [] ↦ world
-      | key ∷ keys ↦ ended 6 (with_a (0x80 + key) (with_memory (with_key_taken world.memory) world))
+      | key ∷ keys ↦ back (with_a (0x80 + key) (with_memory (with_key_taken world.memory) world))
     ]
-served Wait world = ended (wait_cycles world.registers.a) (with_a 0 world)
-served Getln world =
+effect Getln world =
     let memory = world.memory in
     let line = line_read memory.devices.keys (record { memory = after_put (prompt memory) memory; len = 0 }) in
-    ended 6 (with_x line.len (output line.memory world))
+    back (with_x line.len (output line.memory world))
+effect Wait world = back (with_a 0 world)
+effect Setcol world = back (with_memory (with_ram world.memory at.color (17 * (world.registers.a % 16))) world)
+effect Plot world = back (with_memory (painted world.registers.a world.registers.y world.memory) world)
+effect Hline world =
+    let columns = span_of world.registers.y (ram_byte world.memory at.h2) in
+    back (with_memory (painted_across world.registers.a columns world.memory) world)
+effect Vline world =
+    let rows = span_of world.registers.a (ram_byte world.memory at.v2) in
+    back (with_memory (painted_down rows world.registers.y world.memory) world)
+effect Scrn world = back (with_a (byte_in (blocks_of world.memory.page1) world.registers.a world.registers.y) world)
+effect Clrscr world = back (with_memory (with_ram (with_ram (with_page1 black world.memory) at.color 0) at.v2 47) world)
+
+-- the world after a call of a service that fits and lacks no keys
+unfoldable pub served : Service → World → World
+served service world =
+    record (effect service world) { cycles = world.cycles + cycles_of (row_of service).takes world.registers }

@@ -7,9 +7,10 @@ ghost use Rattle.a2_services.specs.Fits.{Fits};
 ghost use Rattle.a2_services.specs.Reading.{reading, rest_of, kept, first_of};
 
 use crate::bytes::{BACKSLASH, BACKSPACE, CANCEL, RETURN, RIGHT_ARROW_KEY};
-use crate::locations::{CH, CV, LINE_BUFFER, PROMPT};
+use crate::locations::LINE_BUFFER;
 use crate::put::{put, put_unmasked};
 use crate::screen::{blank_part, cell, load, store, window};
+use a2_bus::locations::{CH, CV, PROMPT};
 use a2_bus::{Board, Bus};
 use std::alloc::Allocator;
 
@@ -66,9 +67,9 @@ fn keep<A: Allocator>(board: &mut Board<A>, length: u8, byte: u8)
     store(board, LINE_BUFFER + u16::from(length), byte);
 }
 
-// The cells from the cursor to the window's right edge become blanks.
+/// The cells from the cursor to the window's right edge become blanks.
 #[tactic(auto, unfolding(crate::specs::Services::cleared_to_end))]
-fn clear_to_end<A: Allocator>(board: &mut Board<A>)
+pub(crate) fn clear_to_end<A: Allocator>(board: &mut Board<A>)
     requires { Fits (memory_of board.old) }
     ensures memory { memory_of board.new ≡ cleared_to_end (memory_of board.old) }
     ensures fits { Fits (memory_of board.new) }

@@ -1,24 +1,4 @@
-//! Where the Monitor keeps its window, its cursor and its line.
-
-pub(crate) const WNDLFT: u16 = 0x20;
-
-pub(crate) const WNDWDTH: u16 = 0x21;
-
-pub(crate) const WNDTOP: u16 = 0x22;
-
-pub(crate) const WNDBTM: u16 = 0x23;
-
-pub(crate) const CH: u16 = 0x24;
-
-pub(crate) const CV: u16 = 0x25;
-
-pub(crate) const BASL: u16 = 0x28;
-
-pub(crate) const BASH: u16 = 0x29;
-
-pub(crate) const INVFLG: u16 = 0x32;
-
-pub(crate) const PROMPT: u16 = 0x33;
+//! Where the Monitor keeps a line, where page 1 lies, and how many rows and columns of blocks it has.
 
 /// The line that GETLN reads.
 pub(crate) const LINE_BUFFER: u16 = 0x200;
@@ -29,3 +9,8 @@ pub(crate) const LINE_BUFFER_LAST: u16 = 0x2FF;
 pub(crate) const PAGE1: u16 = 0x400;
 
 pub(crate) const PAGE1_LAST: u16 = 0x7FF;
+
+/// How many rows of lo-res blocks there are, and how many columns.
+pub(crate) const BLOCK_ROWS: u8 = 48;
+
+pub(crate) const COLUMNS: u8 = 40;

@@ -8,9 +8,10 @@ ghost use Rattle.a2_services.specs.Put.{after_line_feed, after_return, after_bac
 ghost use Rattle.a2_services.specs.Fits.{Fits, LineFits};
 
 use crate::bytes::{BACKSPACE, LINE_FEED, RETURN};
-use crate::locations::{BASH, BASL, CH, CV, INVFLG};
-use crate::screen::{cell_address, load, scroll, set_cell, store, window};
+use crate::screen::{load, scroll, set_cell, store, window};
 use a2_bus::Board;
+use a2_bus::locations::{BASH, BASL, CH, CV, INVFLG};
+use a2_page::{Page, address};
 use std::alloc::Allocator;
 
 // The cursor goes down, or at the window's bottom the window scrolls.
@@ -119,7 +120,7 @@ pub(crate) fn set_base<A: Allocator>(board: &mut Board<A>)
     ensures { memory_of board.new ≡ with_base_address (memory_of board.old) }
 {
     let edges = window(board);
-    let base = cell_address(load(board, CV), edges.left);
+    let base = address(Page::One, load(board, CV), edges.left);
     let [low, high] = base.to_le_bytes();
     store(board, BASL, low);
     store(board, BASH, high);

@@ -1,8 +1,6 @@
 //! RAM, the cells of page 1, and the window.
 
 ghost use Rattle.std.specs.Prelude.{◌≡◌, ◌<◌, ◌≤◌, ◌+◌, ◌*◌, ◌%◌, ◌/◌, ℕ, slice_range, slice_index_or, length, replicate, []};
-ghost use Rattle.a2_page.specs.declared.Page.TheVariants.{One};
-ghost use Rattle.a2_page.specs.Cells.{address_of};
 ghost use Rattle.a2_page.specs.Grid.{byte_in, with_byte, with_row_part, scrolled, cleared};
 ghost use Rattle.a2_page.specs.Window.{IsWindow};
 ghost use Rattle.a2_bus.specs.Memory.{ram_byte, with_ram};
@@ -12,8 +10,10 @@ ghost use Rattle.a2_services.specs.Put.{window_of, with_page1};
 ghost use Rattle.a2_services.specs.Fits.{window_at};
 
 use crate::bytes::BLANK;
-use crate::locations::{PAGE1, WNDBTM, WNDLFT, WNDTOP, WNDWDTH};
+use crate::locations::COLUMNS;
+use a2_bus::locations::{WNDBTM, WNDLFT, WNDTOP, WNDWDTH};
 use a2_bus::{Board, Bus};
+use a2_page::{Page, address};
 use std::alloc::Allocator;
 
 /// The window's edges: its first column, how many columns it has, its first row, and the row below its last.
@@ -42,24 +42,13 @@ pub(crate) fn store<A: Allocator>(board: &mut Board<A>, address: u16, byte: u8)
     board.write(address, byte);
 }
 
-/// The address of a cell of page 1.
-pub(crate) fn cell_address(row: u8, column: u8) -> u16
-    requires row { row < 24 }
-    requires column { column < 40 }
-    ensures address { result ≡ address_of One row column }
-    ensures in_page { result < 2048 }
-{
-    let row = u16::from(row);
-    PAGE1 + 128 * (row % 8) + 40 * (row / 8) + u16::from(column)
-}
-
 /// The byte of a cell of page 1.
 pub(crate) fn cell<A: Allocator>(board: &Board<A>, row: u8, column: u8) -> u8
     requires row { row < 24 }
     requires column { column < 40 }
     ensures { result ≡ byte_in (memory_of board.now).page1 row column }
 {
-    load(board, cell_address(row, column))
+    load(board, address(Page::One, row, column))
 }
 
 /// The byte of a cell of page 1 becomes another.
@@ -69,7 +58,7 @@ pub(crate) fn set_cell<A: Allocator>(board: &mut Board<A>, row: u8, column: u8, 
     ensures { let memory = memory_of board.old in
         memory_of board.new ≡ with_page1 (with_byte memory.page1 row column byte) memory }
 {
-    store(board, cell_address(row, column), byte);
+    store(board, address(Page::One, row, column), byte);
 }
 
 /// The window's edges, as its four locations say them.
@@ -88,27 +77,34 @@ pub(crate) fn window<A: Allocator>(board: &Board<A>) -> Edges
 /// A part of a row becomes blank.
 pub(crate) fn blank_part<A: Allocator>(board: &mut Board<A>, row: u8, left: u8, width: u8)
     requires row { row < 24 }
+    requires left { left < 40 }
     requires right { left + width ≤ 40 }
     ensures { let memory = memory_of board.old in
         memory_of board.new ≡ with_page1 (with_row_part memory.page1 row left (replicate width blank)) memory }
 {
-    for done in 0..width {
-        set_cell(board, row, left + done, BLANK);
-    }
+    board.fill_bytes(address(Page::One, row, left), u16::from(width), BLANK);
+}
+
+/// A row becomes black blocks.
+pub(crate) fn black_row<A: Allocator>(board: &mut Board<A>, row: u8)
+    requires row { row < 24 }
+    ensures { let memory = memory_of board.old in
+        memory_of board.new ≡ with_page1 (with_row_part memory.page1 row 0 (replicate 40 0)) memory }
+{
+    board.fill_bytes(address(Page::One, row, 0), u16::from(COLUMNS), 0);
 }
 
 /// A part of a row takes the bytes of the row below.
 pub(crate) fn copy_up<A: Allocator>(board: &mut Board<A>, row: u8, left: u8, width: u8)
     requires row { row + 1 < 24 }
+    requires left { left < 40 }
     requires right { left + width ≤ 40 }
     ensures { let memory = memory_of board.old in
         let below = slice_range (slice_index_or memory.page1 (row + 1) []) left (left + width) in
         memory_of board.new ≡ with_page1 (with_row_part memory.page1 row left below) memory }
 {
-    for done in 0..width {
-        let byte = cell(board, row + 1, left + done);
-        set_cell(board, row, left + done, byte);
-    }
+    let below = address(Page::One, row + 1, left);
+    board.move_bytes(below, address(Page::One, row, left), u16::from(width));
 }
 
 /// The window scrolls.

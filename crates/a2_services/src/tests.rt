@@ -1,6 +1,6 @@
 //! Worked calls on a board as it starts: what they leave on the screen, in the registers and in the line.
 
-use crate::{Served, Service, call, fits, lacks_keys, reach, service_at};
+use crate::{Served, Service, call, reach, refusal, service_at};
 use a2_bus::{Board, Bus, Keys};
 use a2_cpu::Regs;
 use std::test::Fail;
@@ -33,12 +33,12 @@ fn byte(board: &Board, address: u16) -> u8 {
 fn scrolls_and_keeps_the_gap(rt: HostRuntime) -> Result<(), Fail> {
     let mut board = start(&rt, b"")?;
     board.write(0x47F, 0x5A);
-    let _ = called(Service::Crout, 0, &mut board);
-    let _ = called(Service::Cout, 0xD1, &mut board);
+    let _ = called(Service::Cout1, 0x8D, &mut board);
+    let _ = called(Service::Cout1, 0xD1, &mut board);
     for _ in 0..23 {
-        let _ = called(Service::Crout, 0, &mut board);
+        let _ = called(Service::Cout1, 0x8D, &mut board);
     }
-    let (regs, served) = called(Service::Cout, 0xDA, &mut board);
+    let (regs, served) = called(Service::Cout1, 0xDA, &mut board);
     assert_eq!(rt; byte(&board, 0x400), 0xD1);
     assert_eq!(rt; byte(&board, 0x480), 0xA0);
     assert_eq!(rt; byte(&board, 0x7D0), 0xDA);
@@ -53,10 +53,10 @@ fn scrolls_and_keeps_the_gap(rt: HostRuntime) -> Result<(), Fail> {
 fn the_forty_first_character_stands_in_the_next_row(rt: HostRuntime) -> Result<(), Fail> {
     let mut board = start(&rt, b"")?;
     for _ in 0..40 {
-        let _ = called(Service::Cout, 0xC1, &mut board);
+        let _ = called(Service::Cout1, 0xC1, &mut board);
     }
     assert_eq!(rt; (byte(&board, 0x24), byte(&board, 0x25)), (0, 1));
-    let _ = called(Service::Cout, 0xC2, &mut board);
+    let _ = called(Service::Cout1, 0xC2, &mut board);
     assert_eq!(rt; byte(&board, 0x427), 0xC1);
     assert_eq!(rt; byte(&board, 0x480), 0xC2);
     assert_eq!(rt; (byte(&board, 0x28), byte(&board, 0x29)), (0x80, 0x04));
@@ -79,7 +79,7 @@ fn clears_a_window_and_masks(rt: HostRuntime) -> Result<(), Fail> {
     }
     let _ = called(Service::Home, 0, &mut board);
     assert_eq!(rt; (byte(&board, 0x58A), byte(&board, 0x58F)), (0xA0, 2));
-    let _ = called(Service::Cout, 0xC1, &mut board);
+    let _ = called(Service::Cout1, 0xC1, &mut board);
     assert_eq!(rt; (byte(&board, 0x58A), byte(&board, 0x58B)), (0x01, 0xA0));
     assert_eq!(rt; (byte(&board, 0x28), byte(&board, 0x29)), (0x8A, 0x05));
     Ok(())
@@ -102,10 +102,10 @@ fn prints_a_byte_and_waits(rt: HostRuntime) -> Result<(), Fail> {
 #[test]
 fn takes_one_key(rt: HostRuntime) -> Result<(), Fail> {
     let mut board = start(&rt, b"Q")?;
-    let (regs, served) = called(Service::Rdkey, 0, &mut board);
+    let (regs, served) = called(Service::Keyin, 0, &mut board);
     assert_eq!(rt; (regs.a, served), (0xD1, Served::Next(6)));
     assert_eq!(rt; board.waiting().len(), 0);
-    let (regs, served) = called(Service::Rdkey, 7, &mut board);
+    let (regs, served) = called(Service::Keyin, 7, &mut board);
     assert_eq!(rt; (regs.a, served), (7, Served::Keys));
     Ok(())
 }
@@ -204,28 +204,188 @@ fn a_return_from_a_cell_ends_the_line(rt: HostRuntime) -> Result<(), Fail> {
 fn tells_window_service_and_reach(rt: HostRuntime) -> Result<(), Fail> {
     let mut board = start(&rt, b"")?;
     board.write(0x21, 0);
-    assert_eq!(rt; called(Service::Cout, 0, &mut board).1, Served::Window);
-    assert_eq!(rt;
-        (fits(Service::Home, &board), fits(Service::Rdkey, &board)),
-        (false, true)
-    );
+    let (regs, served) = called(Service::Cout1, 0, &mut board);
+    assert_eq!(rt; served, Served::Window);
     assert_eq!(rt;
         (
-            lacks_keys(Service::Rdkey, &board),
-            lacks_keys(Service::Cout, &board)
+            refusal(Service::Home, &regs, &board),
+            refusal(Service::Keyin, &regs, &board),
+            refusal(Service::Cout, &regs, &board)
         ),
-        (true, false)
+        (Some(Served::Window), Some(Served::Keys), None)
     );
     assert_eq!(rt; called(Service::Wait, 1, &mut board).1, Served::Next(23));
     assert_eq!(rt; service_at(0xFDED), Some(Service::Cout));
+    assert_eq!(rt; service_at(0xFDF0), Some(Service::Cout1));
+    assert_eq!(rt; service_at(0xF832), Some(Service::Clrscr));
     assert_eq!(rt; service_at(0xFDEE), None);
     assert_eq!(rt;
-        (reach(Service::Getln, 0x2FF), reach(Service::Cout, 0x2FF)),
+        (reach(Service::Getln, 0x2FF), reach(Service::Cout1, 0x2FF)),
         (true, false)
     );
     assert_eq!(rt;
-        (reach(Service::Home, 0x47F), reach(Service::Rdkey, 0x24)),
+        (reach(Service::Home, 0x47F), reach(Service::Keyin, 0x24)),
         (true, false)
     );
+    Ok(())
+}
+
+#[test]
+fn hooks_go_on_where_they_lead(rt: HostRuntime) -> Result<(), Fail> {
+    let mut board = start(&rt, b"")?;
+    let (regs, served) = called(Service::Cout, 0xC1, &mut board);
+    assert_eq!(rt;
+        (regs.pc, regs.a, regs.s, served),
+        (0xFDF0, 0xC1, 0xFD, Served::Next(5))
+    );
+    let (regs, served) = called(Service::Crout, 0xC1, &mut board);
+    assert_eq!(rt;
+        (regs.pc, regs.a, regs.s, served),
+        (0xFDF0, 0x8D, 0xFD, Served::Next(5))
+    );
+    let (regs, served) = called(Service::Rdkey, 0xC1, &mut board);
+    assert_eq!(rt;
+        (regs.pc, regs.a, regs.s, served),
+        (0xFD1B, 0xC1, 0xFD, Served::Next(5))
+    );
+    board.write(0x36, 0x34);
+    board.write(0x37, 0x12);
+    let (regs, _) = called(Service::Cout, 0xC1, &mut board);
+    assert_eq!(rt; regs.pc, 0x1234);
+    Ok(())
+}
+
+#[test]
+fn sets_the_mask_and_puts_a_digit(rt: HostRuntime) -> Result<(), Fail> {
+    let mut board = start(&rt, b"")?;
+    let _ = called(Service::Setinv, 0, &mut board);
+    assert_eq!(rt; byte(&board, 0x32), 0x3F);
+    let _ = called(Service::Setnorm, 0, &mut board);
+    assert_eq!(rt; byte(&board, 0x32), 0xFF);
+    let (regs, served) = called(Service::Prhex, 0xAB, &mut board);
+    assert_eq!(rt; (regs.a, served), (0xAB, Served::Next(6)));
+    assert_eq!(rt; (byte(&board, 0x400), byte(&board, 0x401)), (0xC2, 0xA0));
+    Ok(())
+}
+
+#[test]
+fn clears_from_the_cursor(rt: HostRuntime) -> Result<(), Fail> {
+    let mut board = start(&rt, b"")?;
+    for (address, byte) in [
+        (0x401, 1),
+        (0x402, 2),
+        (0x427, 3),
+        (0x480, 4),
+        (0x7F7, 5),
+        (0x7F8, 6),
+        (0x24, 2),
+    ] {
+        board.write(address, byte);
+    }
+    let _ = called(Service::Clreol, 0, &mut board);
+    assert_eq!(rt;
+        (
+            byte(&board, 0x401),
+            byte(&board, 0x402),
+            byte(&board, 0x427)
+        ),
+        (1, 0xA0, 0xA0)
+    );
+    assert_eq!(rt;
+        (byte(&board, 0x480), byte(&board, 0x28), byte(&board, 0x29)),
+        (4, 0, 4)
+    );
+    board.write(0x25, 1);
+    let _ = called(Service::Vtab, 0, &mut board);
+    assert_eq!(rt; (byte(&board, 0x28), byte(&board, 0x29)), (0x80, 4));
+    board.write(0x25, 0);
+    let _ = called(Service::Clreop, 0, &mut board);
+    assert_eq!(rt;
+        (
+            byte(&board, 0x401),
+            byte(&board, 0x480),
+            byte(&board, 0x7F7),
+            byte(&board, 0x7F8)
+        ),
+        (1, 0xA0, 0xA0, 6)
+    );
+    assert_eq!(rt; (byte(&board, 0x28), byte(&board, 0x29)), (0, 4));
+    Ok(())
+}
+
+// A call with this A and this Y.
+fn drawn(service: Service, a: u8, y: u8, board: &mut Board) -> (u8, Served) {
+    let mut regs = Regs::start(0x300);
+    regs.a = a;
+    regs.y = y;
+    let served = call(service, &mut regs, board);
+    (regs.a, served)
+}
+
+#[test]
+fn draws_blocks(rt: HostRuntime) -> Result<(), Fail> {
+    let mut board = start(&rt, b"")?;
+    board.write(0x478, 0x77);
+    let _ = drawn(Service::Clrscr, 0, 0, &mut board);
+    assert_eq!(rt;
+        (
+            byte(&board, 0x400),
+            byte(&board, 0x7F7),
+            byte(&board, 0x478)
+        ),
+        (0, 0, 0x77)
+    );
+    assert_eq!(rt; (byte(&board, 0x30), byte(&board, 0x2D)), (0, 47));
+    let _ = drawn(Service::Setcol, 0x1D, 0, &mut board);
+    assert_eq!(rt; byte(&board, 0x30), 0xDD);
+    assert_eq!(rt;
+        drawn(Service::Plot, 5, 3, &mut board),
+        (5, Served::Next(6))
+    );
+    assert_eq!(rt; byte(&board, 0x503), 0xD0);
+    assert_eq!(rt;
+        drawn(Service::Scrn, 5, 3, &mut board),
+        (0xD, Served::Next(6))
+    );
+    assert_eq!(rt;
+        drawn(Service::Scrn, 4, 3, &mut board),
+        (0, Served::Next(6))
+    );
+    board.write(0x2C, 2);
+    let _ = drawn(Service::Hline, 0, 0, &mut board);
+    assert_eq!(rt;
+        (
+            byte(&board, 0x400),
+            byte(&board, 0x402),
+            byte(&board, 0x403)
+        ),
+        (0xD, 0xD, 0)
+    );
+    let _ = drawn(Service::Hline, 1, 5, &mut board);
+    assert_eq!(rt;
+        (
+            byte(&board, 0x404),
+            byte(&board, 0x405),
+            byte(&board, 0x406)
+        ),
+        (0, 0xD0, 0)
+    );
+    board.write(0x2D, 3);
+    let _ = drawn(Service::Vline, 1, 39, &mut board);
+    assert_eq!(rt;
+        (
+            byte(&board, 0x427),
+            byte(&board, 0x4A7),
+            byte(&board, 0x527)
+        ),
+        (0xD0, 0xDD, 0)
+    );
+    for (a, y) in [(48, 0), (0, 40)] {
+        assert_eq!(rt; drawn(Service::Plot, a, y, &mut board), (a, Served::Window));
+    }
+    board.write(0x2C, 40);
+    board.write(0x2D, 48);
+    assert_eq!(rt; drawn(Service::Hline, 0, 0, &mut board).1, Served::Window);
+    assert_eq!(rt; drawn(Service::Vline, 0, 0, &mut board).1, Served::Window);
     Ok(())
 }

@@ -1,11 +1,11 @@
 use Rattle.a2_services.proofs.Unreached.{unreached_by, fewer_by}
 use Rattle.a2_services.proofs.calls.call.Goals as goal
 
-pub returns-clause-unreached : goal.returns-clause-unreached
-returns-clause-unreached g c =
+pub returns-in-None-clause-unreached : goal.returns-in-None-clause-unreached
+returns-in-None-clause-unreached g c =
     unreached_by c.args.service c.args.regs.now c.args.board.now c.serve.new.regs c.serve.new.board c.serve.result
-    c.fits.ensures.size c.serve.ensures.size (c.serve.ensures.served 0)
+    c.refusal.ensures.size c.serve.ensures.size (c.serve.ensures.served 0)
 
-pub returns-clause-keys : goal.returns-clause-keys
-returns-clause-keys g c =
+pub returns-in-None-clause-keys : goal.returns-in-None-clause-keys
+returns-in-None-clause-keys g c =
     fewer_by c.args.service c.args.regs.now c.args.board.now c.serve.new.regs c.serve.new.board c.serve.result (c.serve.ensures.served 0)

@@ -1,18 +1,18 @@
 use Rattle.std.proofs.Common.{◌∙◌, ap}
+use Rattle.a2_bus.specs.Memory.{memory_access}
 use Rattle.a2_bus.specs.View.{memory_of}
+use Rattle.a2_cpu.specs.Instruction.{returned}
 use Rattle.a2_services.specs.World.{world_of}
 use Rattle.a2_services.specs.Put.{with_base_address}
-use Rattle.a2_services.specs.Services.{served, ended, with_x, with_memory, Reading}
-use Rattle.a2_services.proofs.Returning.{ended_is}
+use Rattle.a2_services.specs.Services.{effect, with_x, with_memory, Reading}
 use Rattle.a2_services.proofs.Lines.{line_from_prompt}
 use Rattle.a2_services.proofs.calls.getln.Goals as goal
 
-pub returns-clause-served : goal.returns-clause-served
-unfolding served
-returns-clause-served g c =
+pub returns-clause-left : goal.returns-clause-left
+unfolding effect
+returns-clause-left g c =
     λ cycles.
     let m = memory_of c.args.board.now in
     let line = c.read_line-regs.ensures.line ∙ line_from_prompt m (memory_of c.put.new.board) c.load-mark.result c.load-mark.ensures.byte c.put.ensures.memory in
-    ended_is (record c.args.regs.now { x = c.read_line-regs.result }) c.end_output.new.regs c.args.board.now c.end_output.new.board
-    (with_base_address (memory_of c.read_line-regs.new.board)) 6 cycles (c.end_output.ensures.returned cycles)
-    ∙ ap (λ (r : Reading). ended 6 (with_x r.len (with_memory (with_base_address r.memory) (world_of c.args.regs.now c.args.board.now cycles)))) line
+    c.end_output.ensures.returned cycles
+    ∙ ap (λ (r : Reading). returned memory_access (with_x r.len (with_memory (with_base_address r.memory) (world_of c.args.regs.now c.args.board.now cycles)))) line

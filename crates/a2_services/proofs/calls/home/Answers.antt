@@ -2,7 +2,7 @@ use Rattle.std.proofs.Common.{ap, sym, subst}
 use Rattle.a2_bus.specs.View.{memory_of}
 use Rattle.a2_services.specs.Fits.{LineFits}
 use Rattle.a2_services.specs.Put.{with_base_address}
-use Rattle.a2_services.specs.Services.{served}
+use Rattle.a2_services.specs.Services.{effect}
 use Rattle.a2_services.proofs.Fitting.{home_line}
 use Rattle.a2_services.proofs.Returning.{made_is, home_made}
 use Rattle.a2_services.proofs.calls.home.Goals as goal
@@ -12,9 +12,9 @@ end_output-requires g c =
     subst LineFits (sym (home_made (memory_of c.args.board.now) _ _ _ _ c.window-edges.ensures.edges c.clear.ensures c.store.ensures c.store-2.ensures))
     (home_line (memory_of c.args.board.now) _ c.requires)
 
-pub returns-clause-served : goal.returns-clause-served
-unfolding served
-returns-clause-served g c =
-    λ cycles. made_is c.end_output.new.regs c.end_output.new.board _ _ c.args.regs.now c.args.board.now 6 cycles
+pub returns-clause-left : goal.returns-clause-left
+unfolding effect
+returns-clause-left g c =
+    λ cycles. made_is c.end_output.new.regs c.end_output.new.board _ _ c.args.regs.now c.args.board.now cycles
     (c.end_output.ensures.returned cycles)
     (ap with_base_address (home_made (memory_of c.args.board.now) _ _ _ _ c.window-edges.ensures.edges c.clear.ensures c.store.ensures c.store-2.ensures))

@@ -1,13 +1,16 @@
-use Rattle.std.proofs.Common.{arith}
+use Rattle.std.proofs.Common.{◌∙◌, ℕ, ap, ap₂, arith, replicate}
+use Rattle.std.proofs.lemmas.List.{length-replicate}
+use Rattle.a2_page.specs.Grid.{with_part}
+use Rattle.a2_bus.specs.BusState.{BusState}
 use Rattle.a2_bus.specs.View.{memory_of}
-use Rattle.a2_bus.proofs.Viewing.{page1_is_grid}
-use Rattle.a2_services.proofs.Screens.{blank_first, blank_more}
+use Rattle.a2_services.proofs.Screens.{row_laid}
 use Rattle.a2_services.proofs.screen.blank_part.Goals as goal
 
-pub loop-done-init : goal.loop-done-init
-loop-done-init g c = blank_first (memory_of c.args.board.now) c.args.row c.args.left
-
-pub loop-done-preserved : goal.loop-done-preserved
-loop-done-preserved g c =
-    blank_more (memory_of c.args.board.now) (memory_of c.loop-done.board) _ c.args.row c.args.left c.loop-done.done
-    (page1_is_grid c.args.board.now) c.requires.row (omega arith) c.loop-done.invariant c.set_cell.ensures
+pub returns : goal.returns
+returns g c =
+    let bus : BusState = c.args.board.now in
+    ap memory_of c.fill_bytes.ensures.filled
+    ∙ ap₂ (λ a width. let laid : BusState = record bus { bytes = with_part bus.bytes a (replicate width 0xA0) } in memory_of laid)
+    c.address.ensures c.from.ensures
+    ∙ row_laid bus c.args.row c.args.left (replicate c.args.width 0xA0) c.fill_bytes.ensures.size c.requires.row
+    (omega (arith, length-replicate {A = ℕ} c.args.width 0xA0, c.requires.right))

@@ -2,7 +2,7 @@ use Rattle.std.proofs.Common.{◌≡◌, ◌∙◌, ◌+◌, ◌*◌, ◌%◌, a
 use Rattle.a2_bus.specs.View.{memory_of}
 use Rattle.a2_bus.specs.Memory.{ram_byte}
 use Rattle.a2_services.proofs.Returning.{return_made}
-use Rattle.a2_services.proofs.calls.return_from.Goals as goal
+use Rattle.a2_services.proofs.ends.return_from.Goals as goal
 
 pub returns-clause-returned : goal.returns-clause-returned
 returns-clause-returned g c =

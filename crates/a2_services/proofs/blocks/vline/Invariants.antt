@@ -1,0 +1,8 @@
+use Rattle.a2_bus.specs.View.{memory_of}
+use Rattle.a2_services.specs.Blocks.{painted}
+use Rattle.a2_services.proofs.Painting.{IsStepped}
+use Rattle.a2_services.proofs.blocks.vline.Given as goal
+
+abbrev pub invariant-loop-row : goal.invariant-loop-row
+invariant-loop-row g l =
+    IsStepped (λ row memory. painted row l.fn.regs.y memory) (memory_of l.fn.board) (memory_of l.board) l.fn.regs.a l.row

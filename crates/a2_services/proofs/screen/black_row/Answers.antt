@@ -1,0 +1,15 @@
+use Rattle.std.proofs.Common.{◌∙◌, ℕ, ap, ap₂, arith, replicate}
+use Rattle.std.proofs.lemmas.List.{length-replicate}
+use Rattle.a2_page.specs.Grid.{with_part}
+use Rattle.a2_bus.specs.BusState.{BusState}
+use Rattle.a2_bus.specs.View.{memory_of}
+use Rattle.a2_services.proofs.Screens.{row_laid}
+use Rattle.a2_services.proofs.screen.black_row.Goals as goal
+
+pub returns : goal.returns
+returns g c =
+    let bus : BusState = c.args.board.now in
+    ap memory_of c.fill_bytes.ensures.filled
+    ∙ ap₂ (λ a width. let laid : BusState = record bus { bytes = with_part bus.bytes a (replicate width 0) } in memory_of laid)
+    c.address.ensures c.from.ensures
+    ∙ row_laid bus c.args.row 0 (replicate 40 0) c.fill_bytes.ensures.size c.requires.row (omega (arith, length-replicate {A = ℕ} 40 0))
