@@ -1,6 +1,6 @@
 //! The machine: a board with a processor, its guard, and its counts.
 
-ghost use Rattle.std.specs.Prelude.{◌≡◌, ◌+◌, ◌^◌, ◌<◌, ◌≤◌, ◌↔◌, ℕ, [], None, Some, Ok, IfOk, IfNone, IfSome, OnOk, OnErr, OnSome, IsOk, length, slice_range};
+ghost use Rattle.std.specs.Prelude.{◌≡◌, ◌≢◌, ◌+◌, ◌^◌, ◌<◌, ◌≤◌, ◌↔◌, ℕ, [], None, Some, Ok, IfOk, IfNone, IfSome, OnOk, OnErr, OnSome, IsOk, length, slice_range};
 ghost use Rattle.a2_page.specs.Picture.{page_grid};
 ghost use Rattle.a2_bus.specs.Devices.{keys_typed};
 ghost use Rattle.a2_bus.specs.Memory.{ram_end, with_ram, peek as peek_of};
@@ -10,15 +10,17 @@ ghost use Rattle.a2_machine.specs.Meaning.{stuck};
 ghost use Rattle.a2_machine.specs.ProgramGuard.{guard_of_program};
 ghost use Rattle.a2_machine.specs.Start.{start_world};
 ghost use Rattle.a2_machine.specs.Start.{called_at};
-ghost use Rattle.a2_machine.specs.State.{world_of, code_of, cause_of, most_steps, steps_left, IsStep, IsRun};
+ghost use Rattle.a2_machine.specs.State.{world_of, code_of, cause_of, most_steps, steps_left, IsStep, IsRun, IsRunTo};
+ghost use Rattle.a2_machine.specs.declared.Stop.TheVariants.{Cause as StopCause, Breakpoint};
 
-use crate::Cause;
 use crate::advance::advance_by;
 use crate::turn::cause_at;
 use crate::watch::Watch;
+use crate::{Cause, Stop};
 use a2_asm::Program;
+use a2_bus::locations::{LAST_RETURN, RETURN_ADDRESS};
 use a2_bus::{Board, Bus, Keys, KeysFull};
-use a2_cpu::Regs;
+use a2_cpu::{Breakpoints, NoBreakpoints, Regs};
 use a2_hex::Image;
 use a2_page::View;
 use std::alloc::{AllocError, Allocator, Global};
@@ -35,6 +37,17 @@ fn keeps_count(count: u64)
     ensures { count < 2 ^ 64 }
 {
     let _ = count;
+}
+
+// The cause that stopped a run, where no breakpoint did.
+fn cause_in(stop: Stop) -> Cause
+    requires { stop ≢ Breakpoint }
+    ensures { StopCause result ≡ stop }
+{
+    match stop {
+        Stop::Cause(cause) => cause,
+        Stop::Breakpoint => unreachable!(),
+    }
 }
 
 /// A modelled Apple II: the NMOS 6502 with 48K of RAM, keyboard, display switches and the Monitor's services. Apple II
@@ -170,15 +183,22 @@ impl<A: Allocator> Machine<A> {
         self.board.view()
     }
 
+    /// Puts this machine where `other` is: registers, board, cycles and steps since the start. Guard and `made` stay.
+    pub fn restore<C: Allocator>(&mut self, other: &Machine<C>)
+        ensures { self.new ≡ (let guard = self.old.state.guard in let s = other.now.state in record self.old { state = record s { guard = guard } }) }
+    {
+        self.board.copy_from(&other.board);
+        self.regs = other.regs;
+        self.cycles = other.cycles;
+        self.steps = other.steps;
+    }
+
     /// Makes this machine equal to `other` in all but `made`: registers, board, cycles and steps since the start, guard.
     pub fn copy_from<C: Allocator>(&mut self, other: &Machine<C>)
         ensures { self.new ≡ record self.old { state = other.now.state } }
     {
-        self.board.copy_from(&other.board);
+        self.restore(other);
         self.watch.copy_from(&other.watch);
-        self.regs = other.regs;
-        self.cycles = other.cycles;
-        self.steps = other.steps;
     }
 
     /// The byte of RAM at `address` ($0000 to $FFFF), with no effect on any device; none at or above $C000. Apple II
@@ -209,18 +229,25 @@ impl<A: Allocator> Machine<A> {
     {
         self.regs.pc = address;
         self.regs.s = 0xFD;
-        self.board.write(0x01FE, 0x68);
-        self.board.write(0x01FF, 0xFF);
+        let [low, high] = (RETURN_ADDRESS - 1).to_le_bytes();
+        self.board.write(LAST_RETURN, low);
+        self.board.write(LAST_RETURN + 1, high);
     }
 
-    // Makes at most so many steps, fewer only where the machine is stuck: the cause then.
-    fn make(&mut self, limit: u64) -> Option<Cause>
-        ensures { Rattle.a2_machine.specs.State.IsMaking limit self.old self.new result }
+    // Makes at most so many steps, fewer only where the machine is stuck or a step came to a breakpoint: that then.
+    fn make<B: Breakpoints>(&mut self, limit: u64, breakpoints: &B) -> Option<Stop>
+        ensures { Rattle.a2_machine.specs.State.IsMaking (B.is_breakpoint breakpoints.now) limit self.old self.new result }
     {
         keeps_count(self.made);
         let left = MOST_STEPS - self.steps;
         let most = if limit < left { limit } else { left };
-        let done = advance_by(&mut self.regs, &mut self.board, &self.watch, most);
+        let done = advance_by(
+            &mut self.regs,
+            &mut self.board,
+            &self.watch,
+            most,
+            breakpoints,
+        );
         self.cycles += done.cycles;
         self.steps += done.made;
         self.made = self.made.saturating_add(done.made);
@@ -243,7 +270,10 @@ impl<A: Allocator> Machine<A> {
         ensures stuck { IfSome result (λ _. self.new ≡ self.old) }
     {
         if self.steps < MOST_STEPS {
-            return self.make(1);
+            return match self.make(1, &NoBreakpoints) {
+                Some(stop) => Some(cause_in(stop)),
+                None => None,
+            };
         }
         match self.stop() {
             Some(cause) => Some(cause),
@@ -257,12 +287,21 @@ impl<A: Allocator> Machine<A> {
     pub fn run(&mut self, limit: u32) -> Cause
         ensures { IsRun limit self.old self.new result }
     {
-        if let Some(cause) = self.make(u64::from(limit)) {
-            return cause;
+        cause_in(self.run_to(limit, &NoBreakpoints))
+    }
+
+    /// Makes steps as [`Machine::run`] does, but ends after a step that comes to one of `breakpoints`, and answers
+    /// [`Stop::Breakpoint`], whatever cause holds there, `Cause::Limit` too. PC is not looked at before the first step.
+    /// Where no step comes to a breakpoint the answer is the cause that `run` answers. This project's profile.
+    pub fn run_to<B: Breakpoints>(&mut self, limit: u32, breakpoints: &B) -> Stop
+        ensures { IsRunTo (B.is_breakpoint breakpoints.now) limit self.old self.new result }
+    {
+        if let Some(stop) = self.make(u64::from(limit), breakpoints) {
+            return stop;
         }
         match self.stop() {
-            Some(cause) => cause,
-            None => Cause::Limit,
+            Some(cause) => Stop::Cause(cause),
+            None => Stop::Cause(Cause::Limit),
         }
     }
 }

@@ -1,6 +1,6 @@
-//! The guard as a machine keeps it: two marks for each address of RAM.
+//! The guard as a machine keeps it: a byte of marks for each address.
 
-ghost use Rattle.std.specs.Prelude.{◌≡◌, ℕ, ◌+◌, ◌<◌, ◌≤◌, ◌==◌, ◌&&◌, ◌||◌, nat_le, nat_lt, true, false, Bool, List, length, IfOk, Some, None};
+ghost use Rattle.std.specs.Prelude.{◌≡◌, ℕ, ◌+◌, ◌<◌, ◌≤◌, ◌==◌, ◌&&◌, ◌||◌, nat_le, nat_lt, Bool, List, length, slice_index, if◌then◌else◌, true, IfOk, Some, None};
 ghost use Rattle.a2_asm.specs.Programs.{begins_at, is_code};
 ghost use Rattle.a2_machine.specs.ProgramGuard.{guard_of_program};
 ghost use Rattle.std.specs.List.{list_any};
@@ -8,71 +8,59 @@ ghost use Rattle.a2_bus.specs.Memory.{ram_end};
 ghost use Rattle.a2_services.specs.Services.{reach as reach_of};
 ghost use Rattle.a2_machine.specs.ByteRun.{addresses_below};
 ghost use Rattle.a2_machine.specs.Meaning.{is_among};
-ghost use Rattle.a2_machine.specs.Marks.{mark_at, guard_if};
+ghost use Rattle.a2_machine.specs.Marks.{begins, begins_by, lies, first_mark, AreStarted};
+ghost use Rattle.a2_machine.specs.Watches.{ArePlainMarks};
 ghost use Rattle.a2_machine.specs.Blocking.{is_blocked, BlocksBy};
 ghost use Rattle.a2_machine.specs.Turn.{admits as admits_of, protected_by};
 
 use a2_asm::{Program, Statement};
 use a2_cpu::Protection;
+use a2_hex::RAM_END;
 use a2_services::{Service, reach};
 use std::alloc::{AllocError, Allocator, Global};
 use std::marker::Model;
 
-/// The end of RAM.
-const RAM_END: usize = 0xC000;
+/// The end of the addresses from which on three bytes are in RAM.
+const WHOLE_END: usize = RAM_END as usize - 2;
 
-/// What the guard says of an address: an instruction statement begins there; a byte of one lies there.
-#[derive(Clone, Copy)]
-pub struct Mark {
-    pub begins: bool,
-    pub code: bool,
-}
+/// How many addresses there are.
+const ADDRESSES: usize = 0x1_0000;
 
-/// No guard: an instruction may begin anywhere, and nothing is protected.
-const FREE: Mark = Mark {
-    begins: true,
-    code: false,
-};
+// The bits of a mark.
 
-/// No mark.
-const UNMARKED: Mark = Mark {
-    begins: false,
-    code: false,
-};
+/// An instruction may begin there, and three bytes from there on are in RAM.
+const BEGINS: u8 = 1;
 
-/// Which services may store into code.
+/// A byte of code lies there.
+const CODE: u8 = 2;
+
+/// No RAM is there.
+const ABOVE: u8 = 4;
+
+/// An instruction may begin there, and of three bytes from there on some are not in RAM.
+const BEGINS_LAST: u8 = 8;
+
+/// Which services may store into code, by their numbers.
 #[derive(Clone, Copy)]
 pub struct Blocked {
-    pub cout: bool,
-    pub crout: bool,
-    pub home: bool,
-    pub prbyte: bool,
-    pub rdkey: bool,
-    pub wait: bool,
-    pub getln: bool,
+    pub by: [bool; Service::COUNT],
 }
 
 /// No service is blocked.
 const NONE_BLOCKED: Blocked = Blocked {
-    cout: false,
-    crout: false,
-    home: false,
-    prbyte: false,
-    rdkey: false,
-    wait: false,
-    getln: false,
+    by: [false; Service::COUNT],
 };
 
 /// The guard, or none. Contracts see it as an option of the addresses at which instructions begin and lie.
 #[derive(Drop)]
 pub struct Watch<A: Allocator = Global> {
-    marks: Vec<Mark, A>,
+    marks: Vec<u8, A>,
     blocked: Blocked,
     on: bool,
 }
 
 impl<A: Allocator> Model for Watch<A> {
-    ghost use Rattle.std.specs.Prelude.{◌≡◌, ◌<◌, ℕ, false, Option, length};
+    ghost use Rattle.std.specs.Prelude.{Option};
     ghost use Rattle.a2_machine.specs.ByteRun.{Guard};
 
     ghost Value = { Option Guard };
@@ -85,113 +73,164 @@ impl<A: Allocator> Model for Watch<A> {
     ghost invariant = { λ w. IsWatch w.on w.marks.items w.blocked };
 }
 
-// Whether a service may store at a marked address of code.
-fn reaches_code(marks: &[Mark], service: Service) -> bool
-    requires { length marks.now ≤ 65536 }
-    ensures { result ≡ list_any (reach_of service) (addresses_below (length marks.now) (λ a. (mark_at marks.now a).code)) }
+// Whether an instruction may begin where a mark stands.
+#[inline(always)]
+fn has_begin(mark: u8) -> bool
+    ensures { result ≡ begins_by mark }
 {
-    for (address, mark) in marks.iter().enumerate() {
-        if mark.code && reach(service, address as u16) {
-            return true;
-        }
-    }
-    false
+    mark & BEGINS != 0 || mark & BEGINS_LAST != 0
 }
 
-// The services that may store at a marked address of code.
-fn blocked_by(marks: &[Mark]) -> Blocked
-    requires { length marks.now ≡ ram_end }
-    ensures { BlocksBy result (addresses_below ram_end (λ a. (mark_at marks.now a).code)) }
+// The services that may store at an address are blocked too.
+fn block(blocked: &mut Blocked, address: u16)
+    ensures { (service : Service) → is_blocked blocked.new service ≡ (is_blocked blocked.old service || reach_of service address) }
 {
-    Blocked {
-        cout: reaches_code(marks, Service::Cout),
-        crout: reaches_code(marks, Service::Crout),
-        home: reaches_code(marks, Service::Home),
-        prbyte: reaches_code(marks, Service::Prbyte),
-        rdkey: reaches_code(marks, Service::Rdkey),
-        wait: reaches_code(marks, Service::Wait),
-        getln: reaches_code(marks, Service::Getln),
+    for service in Service::ALL {
+        blocked.by[service as usize] |= reach(service, address);
     }
 }
 
-// So many marks of no guard.
-fn free_marks<A: Allocator>(alloc: A, size: usize) -> Result<Vec<Mark, A>, AllocError>
-    ensures size { IfOk result (λ v. length v.items ≡ size) }
-    ensures free { IfOk result (λ v. (a : ℕ) → a < size → mark_at v.items a ≡ FREE) }
+// The same mark for each address from one on.
+fn fill_from(marks: &mut [u8], start: usize, mark: u8)
+    requires size { length marks.old ≡ 65536 }
+    requires within { start ≤ 65536 }
+    ensures size { length marks.new ≡ 65536 }
+    ensures filled { (a : ℕ) → a < 65536 → slice_index marks.new a ≡ (if nat_lt a start then slice_index marks.old a else mark) }
 {
-    Vec::from_elem(alloc, FREE, size)
+    marks[start..].fill(mark);
+}
+
+// Makes all marks the first ones: with no guard, where an instruction may begin anywhere, or for a program's.
+fn start_marks(marks: &mut [u8], free: bool)
+    requires { length marks.old ≡ 65536 }
+    ensures size { length marks.new ≡ 65536 }
+    ensures first { (a : ℕ) → a < 65536 → slice_index marks.new a ≡ first_mark free a }
+{
+    fill_from(marks, 0, if free { BEGINS } else { 0 });
+    fill_from(marks, WHOLE_END, if free { BEGINS_LAST } else { 0 });
+    fill_from(
+        marks,
+        usize::from(RAM_END),
+        if free { BEGINS_LAST | ABOVE } else { ABOVE },
+    );
 }
 
 // An instruction begins at an address, where that is in RAM.
-fn mark_begin(marks: &mut [Mark], address: u16)
-    requires { length marks.old ≡ ram_end }
-    ensures size { length marks.new ≡ ram_end }
-    ensures begins { (a : ℕ) → a < ram_end → (mark_at marks.new a).begins ≡ ((mark_at marks.old a).begins || address == a) }
-    ensures code { (a : ℕ) → a < ram_end → (mark_at marks.new a).code ≡ (mark_at marks.old a).code }
+fn mark_begin(marks: &mut [u8], address: usize)
+    requires started { AreStarted marks.old }
+    requires in_ram { address < ram_end }
+    ensures started { AreStarted marks.new }
+    ensures begins { (a : ℕ) → a < ram_end → begins marks.new a ≡ (begins marks.old a || address == a) }
+    ensures lies { (a : ℕ) → a < ram_end → lies marks.new a ≡ lies marks.old a }
 {
-    let start = address as usize;
-    if start < RAM_END {
-        marks[start] = Mark {
-            begins: true,
-            code: marks[start].code,
-        };
-    }
+    marks[address] |= if address < WHOLE_END {
+        BEGINS
+    } else {
+        BEGINS_LAST
+    };
 }
 
-// Bytes of instructions lie from one address on, up to another.
-fn mark_bytes(marks: &mut [Mark], start: usize, end: usize)
-    requires size { length marks.old ≡ ram_end }
+// A byte of code lies at an address.
+fn mark_code(marks: &mut [u8], address: usize)
+    requires started { AreStarted marks.old }
+    requires in_ram { address < ram_end }
+    ensures started { AreStarted marks.new }
+    ensures begins { (a : ℕ) → a < ram_end → begins marks.new a ≡ begins marks.old a }
+    ensures lies { (a : ℕ) → a < ram_end → lies marks.new a ≡ (lies marks.old a || address == a) }
+{
+    marks[address] |= CODE;
+}
+
+// The same, and the services that may store there are blocked.
+fn mark_byte(marks: &mut [u8], blocked: &mut Blocked, address: usize)
+    requires started { AreStarted marks.old }
+    requires in_ram { address < ram_end }
+    requires blocks { BlocksBy blocked.old (addresses_below ram_end (lies marks.old)) }
+    ensures started { AreStarted marks.new }
+    ensures begins { (a : ℕ) → a < ram_end → begins marks.new a ≡ begins marks.old a }
+    ensures lies { (a : ℕ) → a < ram_end → lies marks.new a ≡ (lies marks.old a || address == a) }
+    ensures blocks { BlocksBy blocked.new (addresses_below ram_end (lies marks.new)) }
+{
+    mark_code(marks, address);
+    block(blocked, address as u16);
+}
+
+// Bytes of code lie from one address on, up to another.
+fn mark_bytes(marks: &mut [u8], blocked: &mut Blocked, start: usize, end: usize)
+    requires started { AreStarted marks.old }
     requires order { start ≤ end }
     requires within { end ≤ ram_end }
-    ensures size { length marks.new ≡ ram_end }
-    ensures begins { (a : ℕ) → a < ram_end → (mark_at marks.new a).begins ≡ (mark_at marks.old a).begins }
-    ensures code { (a : ℕ) → a < ram_end → (mark_at marks.new a).code ≡ ((mark_at marks.old a).code || (nat_le start a && nat_lt a end)) }
+    requires blocks { BlocksBy blocked.old (addresses_below ram_end (lies marks.old)) }
+    ensures started { AreStarted marks.new }
+    ensures begins { (a : ℕ) → a < ram_end → begins marks.new a ≡ begins marks.old a }
+    ensures lies { (a : ℕ) → a < ram_end → lies marks.new a ≡ (lies marks.old a || (nat_le start a && nat_lt a end)) }
+    ensures blocks { BlocksBy blocked.new (addresses_below ram_end (lies marks.new)) }
 {
-    for lies in start..end {
-        marks[lies] = Mark {
-            begins: marks[lies].begins,
-            code: true,
-        };
+    for address in start..end {
+        mark_byte(marks, blocked, address);
     }
 }
 
 // An instruction of so many bytes is marked; what lies behind RAM is left out.
-fn mark_instruction(marks: &mut [Mark], address: u16, bytes: u16)
-    requires { length marks.old ≡ ram_end }
-    ensures size { length marks.new ≡ ram_end }
-    ensures begins { (a : ℕ) → a < ram_end → (mark_at marks.new a).begins ≡ ((mark_at marks.old a).begins || address == a) }
-    ensures code { (a : ℕ) → a < ram_end → (mark_at marks.new a).code ≡ ((mark_at marks.old a).code || (nat_le address a && nat_lt a (address + bytes))) }
+fn mark_instruction(marks: &mut [u8], blocked: &mut Blocked, address: u16, bytes: u16)
+    requires started { AreStarted marks.old }
+    requires blocks { BlocksBy blocked.old (addresses_below ram_end (lies marks.old)) }
+    ensures started { AreStarted marks.new }
+    ensures begins { (a : ℕ) → a < ram_end → begins marks.new a ≡ (begins marks.old a || address == a) }
+    ensures lies { (a : ℕ) → a < ram_end → lies marks.new a ≡ (lies marks.old a || (nat_le address a && nat_lt a (address + bytes))) }
+    ensures blocks { BlocksBy blocked.new (addresses_below ram_end (lies marks.new)) }
 {
-    let start = address as usize;
-    if start < RAM_END {
-        mark_begin(marks, address);
-        mark_bytes(marks, start, (start + bytes as usize).min(RAM_END));
+    if address < RAM_END {
+        let start = usize::from(address);
+        let end = start + usize::from(bytes);
+        mark_begin(marks, start);
+        mark_bytes(marks, blocked, start, end.min(usize::from(RAM_END)));
     }
 }
 
-// The marks of a program's instruction statements.
-fn mark_statements(marks: &mut [Mark], statements: &[Statement])
-    requires { length marks.old ≡ ram_end }
-    ensures size { length marks.new ≡ ram_end }
-    ensures begins { (a : ℕ) → a < ram_end → (mark_at marks.new a).begins ≡ list_any (begins_at a) statements.now }
-    ensures code { (a : ℕ) → a < ram_end → (mark_at marks.new a).code ≡ is_code statements.now a }
+// The marks of a program's instruction statements, and the services that these block.
+fn mark_statements(marks: &mut [u8], statements: &[Statement]) -> Blocked
+    requires { length marks.old ≡ 65536 }
+    ensures started { AreStarted marks.new }
+    ensures begins { (a : ℕ) → a < ram_end → begins marks.new a ≡ list_any (begins_at a) statements.now }
+    ensures lies { (a : ℕ) → a < ram_end → lies marks.new a ≡ is_code statements.now a }
+    ensures blocks { BlocksBy result (addresses_below ram_end (lies marks.new)) }
 {
-    marks.fill(UNMARKED);
+    start_marks(marks, false);
+    let mut blocked = NONE_BLOCKED;
     for statement in statements {
         if statement.instr.is_some() {
-            mark_instruction(marks, statement.addr, statement.length);
+            mark_instruction(marks, &mut blocked, statement.addr, statement.length);
         }
     }
+    blocked
 }
 
 // The same in a machine's own marks.
-fn mark_all<A: Allocator>(marks: &mut Vec<Mark, A>, statements: &[Statement])
-    requires { length marks.old.items ≡ ram_end }
-    ensures size { length marks.new.items ≡ ram_end }
-    ensures begins { (a : ℕ) → a < ram_end → (mark_at marks.new.items a).begins ≡ list_any (begins_at a) statements.now }
-    ensures code { (a : ℕ) → a < ram_end → (mark_at marks.new.items a).code ≡ is_code statements.now a }
+fn mark_all<A: Allocator>(marks: &mut Vec<u8, A>, statements: &[Statement]) -> Blocked
+    requires { length marks.old.items ≡ 65536 }
+    ensures started { AreStarted marks.new.items }
+    ensures begins { (a : ℕ) → a < ram_end → begins marks.new.items a ≡ list_any (begins_at a) statements.now }
+    ensures lies { (a : ℕ) → a < ram_end → lies marks.new.items a ≡ is_code statements.now a }
+    ensures blocks { BlocksBy result (addresses_below ram_end (lies marks.new.items)) }
 {
-    mark_statements(marks.as_mut_slice(), statements);
+    mark_statements(marks.as_mut_slice(), statements)
+}
+
+// The marks of no guard.
+fn free_all<A: Allocator>(marks: &mut Vec<u8, A>)
+    requires { length marks.old.items ≡ 65536 }
+    ensures size { length marks.new.items ≡ 65536 }
+    ensures first { (a : ℕ) → a < 65536 → slice_index marks.new.items a ≡ first_mark true a }
+{
+    start_marks(marks.as_mut_slice(), true);
+}
+
+// So many zeros.
+fn zeros<A: Allocator>(alloc: A, size: usize) -> Result<Vec<u8, A>, AllocError>
+    ensures { IfOk result (λ v. length v.items ≡ size) }
+{
+    vec![in alloc; 0; size]
 }
 
 impl<A: Allocator> Watch<A> {
@@ -199,7 +238,8 @@ impl<A: Allocator> Watch<A> {
     pub fn new(alloc: A) -> Result<Watch<A>, AllocError>
         ensures { IfOk result (λ watch. watch ≡ None) }
     {
-        let marks = free_marks(alloc, RAM_END)?;
+        let mut marks = zeros(alloc, ADDRESSES)?;
+        free_all(&mut marks);
         Ok(Watch {
             marks,
             blocked: NONE_BLOCKED,
@@ -211,8 +251,7 @@ impl<A: Allocator> Watch<A> {
     pub fn set<C: Allocator>(&mut self, program: &Program<C>)
         ensures { self.new ≡ Some (guard_of_program program.now) }
     {
-        mark_all(&mut self.marks, program.statements());
-        self.blocked = blocked_by(&self.marks);
+        self.blocked = mark_all(&mut self.marks, program.statements());
         self.on = true;
     }
 
@@ -220,7 +259,7 @@ impl<A: Allocator> Watch<A> {
     pub fn free(&mut self)
         ensures { self.new ≡ None }
     {
-        self.marks.fill(FREE);
+        free_all(&mut self.marks);
         self.blocked = NONE_BLOCKED;
         self.on = false;
     }
@@ -241,27 +280,22 @@ impl<A: Allocator> Watch<A> {
     pub fn admits(&self, address: u16) -> bool
         ensures { result ≡ admits_of self.now address }
     {
-        let _ = &self.marks;
-        if (address as usize) < RAM_END {
-            self.marks[address as usize].begins
-        } else {
-            !self.on
-        }
+        has_begin(self.marks[address as usize])
+    }
+
+    /// The marks, a byte for each address, on which plain steps may rest.
+    #[inline(always)]
+    pub fn marks(&self) -> &[u8]
+        ensures { ArePlainMarks self.now result.now }
+    {
+        self.marks.as_slice()
     }
 
     /// Whether a service may store at a protected address.
     pub fn blocks(&self, service: Service) -> bool
         ensures { result ≡ list_any (reach_of service) (protected_by self.now) }
     {
-        match service {
-            Service::Cout => self.blocked.cout,
-            Service::Crout => self.blocked.crout,
-            Service::Home => self.blocked.home,
-            Service::Prbyte => self.blocked.prbyte,
-            Service::Rdkey => self.blocked.rdkey,
-            Service::Wait => self.blocked.wait,
-            Service::Getln => self.blocked.getln,
-        }
+        self.blocked.by[service as usize]
     }
 }
 
@@ -273,7 +307,6 @@ impl<A: Allocator> Protection for Watch<A> {
 
     #[inline(always)]
     fn is_protected(&self, address: u16) -> bool {
-        let _ = &self.marks;
-        (address as usize) < RAM_END && self.marks[address as usize].code
+        self.marks[address as usize] & CODE != 0
     }
 }

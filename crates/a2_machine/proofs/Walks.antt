@@ -1,0 +1,101 @@
+-- Parts of runs: so many steps, none of which is stuck. They follow one another, and make a run's end.
+use Rattle.std.specs.Prelude.{◌≡◌, ◌≤◌, ℕ, zero, suc, ◌+◌, ◌-◌, ◌*◌, Option, Some, None, refl, is_some, unwrap_or}
+use Rattle.std.proofs.Common.{sym, ap, ◌∙◌, subst, arith, true≢false}
+use Rattle.a2_services.specs.World.{World}
+use Rattle.a2_machine.specs.declared.Cause.{Cause}
+use Rattle.a2_machine.specs.declared.Cause.TheVariants.{Limit}
+use Rattle.a2_machine.specs.Meaning.{Code, End, IsEnd, stuck, next}
+use Rattle.a2_machine.proofs.RunFrom.{run_from}
+use Rattle.a2_machine.proofs.Runs.{run-is_end}
+
+-- the world after so many steps, if none of them is stuck
+unfoldable pub walked : Code → World → ℕ → Option World
+walked code world zero = Some world
+walked code world (suc n) = elim (stuck code world) [ Some cause ↦ None | None ↦ walked code (next code world) n ]
+
+none-some : {X : Type 0} (x : X) → None ≡ Some x → ⊥
+none-some x e = true≢false (sym (ap is_some e))
+
+some-one : {X : Type 0} (x y : X) → Some x ≡ Some y → x ≡ y
+some-one x y e = ap (λ o. unwrap_or o x) e
+
+-- one part after another
+pub then : (code : Code) (w v u : World) (m n : ℕ) → walked code w m ≡ Some v → walked code v n ≡ Some u → walked code w (m + n) ≡ Some u
+unfolding walked
+then code w v u zero n a b =
+    let e : 0 + n ≡ n = omega arith in ap (λ k. walked code w k) e ∙ ap (λ z. walked code z n) (some-one w v a) ∙ b
+then code w v u (suc m) n a b =
+    let e : suc m + n ≡ suc (m + n) = omega arith in ap (λ k. walked code w k) e ∙ go (stuck code w) a (λ h. then code (next code w) v u m n h b)
+  where
+    go : (o : Option Cause) → (let r : Option World = elim o [ Some cause ↦ None | None ↦ walked code (next code w) m ] in r) ≡ Some v
+        → (walked code (next code w) m ≡ Some v → walked code (next code w) (m + n) ≡ Some u)
+        → (let r : Option World = elim o [ Some cause ↦ None | None ↦ walked code (next code w) (m + n) ] in r) ≡ Some u
+    go (Some cause) h later = absurd (none-some v h)
+    go None h later = later h
+
+-- a run goes on where a part of it ends
+goes_on : (code : Code) (w v : World) (n done rest : ℕ) → walked code w n ≡ Some v → run_from code w done (n + rest) ≡ run_from code v (done + n) rest
+unfolding walked run_from
+goes_on code w v zero done rest h =
+    let e : 0 + rest ≡ rest = omega arith in let f : done ≡ done + 0 = omega arith in
+    ap (λ k. run_from code w done k) e ∙ ap (λ z. run_from code z done rest) (some-one w v h) ∙ ap (λ k. run_from code v k rest) f
+goes_on code w v (suc n) done rest h =
+    let e : suc n + rest ≡ suc (n + rest) = omega arith in
+    let f : suc done + n ≡ done + suc n = omega arith in
+    ap (λ k. run_from code w done k) e ∙ go (stuck code w) h (λ g. goes_on code (next code w) v n (suc done) rest g ∙ ap (λ k. run_from code v k rest) f)
+  where
+    go : (o : Option Cause) → (let r : Option World = elim o [ Some cause ↦ None | None ↦ walked code (next code w) n ] in r) ≡ Some v
+        → (walked code (next code w) n ≡ Some v → run_from code (next code w) (suc done) (n + rest) ≡ run_from code v (done + suc n) rest)
+        → (let r : End = elim o [ Some cause ↦ record { world = w; steps = done; cause = cause } | None ↦ run_from code (next code w) (suc done) (n + rest) ] in r)
+        ≡ run_from code v (done + suc n) rest
+    go (Some cause) h later = absurd (none-some v h)
+    go None h later = later h
+
+stopped : (code : Code) (v : World) (cause : Cause) (done rest : ℕ) → stuck code v ≡ Some cause → run_from code v done rest ≡ record { world = v; steps = done; cause = cause }
+unfolding run_from
+stopped code v cause done zero h =
+    ap (λ o. let r : End = elim o [ Some cause ↦ record { world = v; steps = done; cause = cause } | None ↦ record { world = v; steps = done; cause = Limit } ] in r) h
+stopped code v cause done (suc rest) h =
+    ap (λ o. let r : End = elim o [ Some cause ↦ record { world = v; steps = done; cause = cause } | None ↦ run_from code (next code v) (suc done) rest ] in r) h
+
+-- a part that leads to a world that is stuck is a run's end, with each limit that allows its steps
+pub ends : (code : Code) (w v : World) (n limit : ℕ) (cause : Cause) → walked code w n ≡ Some v → stuck code v ≡ Some cause → n ≤ limit
+    → IsEnd code w limit (record { world = v; steps = n; cause = cause })
+ends code w v n limit cause h stops within = by_rest (split n limit within)
+  where
+    split : (n limit : ℕ) → n ≤ limit → (rest : ℕ) × (limit ≡ n + rest)
+    split n limit within = (limit - n, omega (arith, within))
+
+    by_rest : (rest : ℕ) × (limit ≡ n + rest) → IsEnd code w limit (record { world = v; steps = n; cause = cause })
+    by_rest (rest, is) =
+        let zero_and : 0 + n ≡ n = omega arith in
+        let same : run_from code w 0 limit ≡ record { world = v; steps = n; cause = cause } =
+        ap (λ k. run_from code w 0 k) is ∙ goes_on code w v n 0 rest h ∙ stopped code v cause (0 + n) rest stops
+        ∙ ap (λ k. let r : End = record { world = v; steps = k; cause = cause } in r) zero_and in
+        let P : End → Type 0 = λ e. IsEnd code w limit e in
+        subst P same (run-is_end code w limit)
+
+-- Parts of runs by what holds where they end
+
+-- so many steps lead to a world of which this holds
+abbrev pub Leads : Code → World → ℕ → (World → Type 0) → Type 0
+Leads code w n Q = (v : World) × (walked code w n ≡ Some v) × Q v
+
+pub and_then : (code : Code) (w : World) (m n : ℕ) (P Q : World → Type 0) → Leads code w m P → ((v : World) → P v → Leads code v n Q) → Leads code w (m + n) Q
+and_then code w m n P Q (v, walk, holds) later = go (later v holds)
+  where
+    go : Leads code v n Q → Leads code w (m + n) Q
+    go (u, more, at_end) = (u, then code w v u m n walk more, at_end)
+
+-- a loop: a count goes down by one each round, and each round takes as many steps
+pub rounds : (code : Code) (P : ℕ → World → Type 0) (round : ℕ) → ((k : ℕ) (w : World) → P (suc k) w → Leads code w round (P k))
+    → (n : ℕ) (w : World) → P n w → Leads code w (n * round) (P 0)
+unfolding walked
+rounds code P round once zero w holds = let e : 0 ≡ 0 * round = omega arith in subst (λ k. Leads code w k (P 0)) e (w, refl, holds)
+rounds code P round once (suc n) w holds =
+    let e : round + n * round ≡ suc n * round = grind arith in
+    subst (λ k. Leads code w k (P 0)) e (and_then code w round (n * round) (P n) (P 0) (once n w holds) (λ v h. rounds code P round once n v h))
+
+pub to_end : (code : Code) (w : World) (n limit : ℕ) (cause : Cause) (Q : World → Type 0) → Leads code w n Q → ((v : World) → Q v → stuck code v ≡ Some cause) → n ≤ limit
+    → (v : World) × IsEnd code w limit (record { world = v; steps = n; cause = cause }) × Q v
+to_end code w n limit cause Q (v, walk, holds) stops within = (v, ends code w v n limit cause walk (stops v holds) within, holds)
