@@ -10,30 +10,42 @@ use Rattle.a2_syntax.specs.declared.source.Part.{Part}
 use Rattle.a2_syntax.specs.declared.source.Part.TheVariants.{Whole, Low, High}
 use Rattle.a2_syntax.specs.declared.source.Expr.{Expr}
 use Rattle.a2_syntax.specs.Grammar.{IsTerm, IsSign, AreMoreTerms, AreTerms, IsPart, IsExpr}
-use Rattle.a2_syntax.specs.Reading.{PartIs}
+use Rattle.a2_syntax.specs.Reading.{ContinuesTerms, PartIs}
 
 -- the terms so far are read, as they have to be
 pub record Reads {A : Type 0} (all rest : List (List ℕ)) (done : List (Signed A)) : Type 0 where
-  pub back : (more : List (Signed A)) → AreMoreTerms rest more → AreTerms all (done ++ more)
-  pub only : (others : List (Signed A)) → AreTerms all others → (more : List (Signed A)) × AreMoreTerms rest more × (others ≡ done ++ more)
+  pub back : (more : List (Signed A)) → AreMoreTerms rest more → AreMoreTerms all (done ++ more)
+  pub only : (others : List (Signed A)) → AreMoreTerms all others → (more : List (Signed A)) × AreMoreTerms rest more × (others ≡ done ++ more)
 
 pub same-signed : {A : Type 0} → (a b : Signed A) → a.minus ≡ b.minus → a.term ≡ b.term → a ≡ b
 same-signed {A} a b m t = ap (λ (x : Bool). record { minus = x; term = a.term }) m ∙ ap (λ (x : Term A). record { minus = b.minus; term = x }) t
 
-pub Reads-first : {A : Type 0} → (all rest : List (List ℕ)) (piece : List ℕ) (t : Term A) → all ≡ piece ∷ rest → TheOne (IsTerm piece) (Some t) → Reads all rest (record { minus = false; term = t } ∷ [])
-Reads-first {A} all rest piece t e one = record {
-  back = λ more h. (piece, rest, e, refl, one.0, h);
-  only = only-first;
-} where
-  only-first : (others : List (Signed A)) → AreTerms all others → (more : List (Signed A)) × AreMoreTerms rest more × (others ≡ (record { minus = false; term = t } ∷ []) ++ more)
-  only-first [] h = absurd h
-  only-first (s ∷ ss) (p, r, is, m, k, more) =
-      let both : piece ∷ rest ≡ p ∷ r = sym e ∙ is in
-      let pieces : p ≡ piece = cc in
-      let rests : r ≡ rest = cc in
-      let P : List ℕ → Type 0 = λ x. IsTerm x s.term in
-      let Q : List (List ℕ) → Type 0 = λ x. AreMoreTerms x ss in
-      (ss, subst Q rests more, ap (λ x. x ∷ ss) (same-signed s (record { minus = false; term = t }) m (one.1 s.term (subst P pieces k))))
+pub Reads-start : {A : Type 0} → (all : List (List ℕ)) → Reads {A = A} all all []
+Reads-start all = record { back = λ more h. h; only = λ others h. (others, h, refl) }
+
+-- a first term, and the further ones behind it
+pub terms-some : {A : Type 0} → (all rest : List (List ℕ)) (piece : List ℕ) (t : Term A) (found ts : List (Signed A)) → all ≡ piece ∷ rest → TheOne (IsTerm piece) (Some t) → found ≡ record { minus = false; term = t } ∷ [] → ContinuesTerms rest found ts → TheOne (AreTerms all) (Some ts)
+terms-some {A} all rest piece t found ts e one is (more, whole, m) =
+    let P : List (Signed A) → Type 0 = λ x. TheOne (AreTerms all) (Some x) in
+    subst P (sym (whole ∙ ap (λ x. x ++ more) is)) ((piece, rest, e, refl, one.0, m.0), only)
+  where
+    only : (others : List (Signed A)) → AreTerms all others → others ≡ record { minus = false; term = t } ∷ more
+    only [] h = absurd h
+    only (s ∷ ss) (p, r, k, minus, term, behind) =
+        let both : piece ∷ rest ≡ p ∷ r = sym e ∙ k in
+        let pieces : p ≡ piece = cc in
+        let rests : r ≡ rest = cc in
+        let Q : List ℕ → Type 0 = λ x. IsTerm x s.term in
+        let R : List (List ℕ) → Type 0 = λ x. AreMoreTerms x ss in
+        ap (λ x. s ∷ x) (m.1 ss (subst R rests behind)) ∙ ap (λ x. x ∷ more) (same-signed s (record { minus = false; term = t }) minus (one.1 s.term (subst Q pieces term)))
+
+pub terms-none : {A : Type 0} → (all rest : List (List ℕ)) (piece : List ℕ) → all ≡ piece ∷ rest → TheOne (AreMoreTerms {A = A} rest) None → TheOne (AreTerms {A = A} all) None
+terms-none all rest piece e none [] h = h
+terms-none all rest piece e none (q ∷ qs) (p, r, k, _, _, behind) =
+    let both : piece ∷ rest ≡ p ∷ r = sym e ∙ k in
+    let rests : r ≡ rest = cc in
+    let R : List (List ℕ) → Type 0 = λ x. AreMoreTerms x qs in
+    none qs (subst R rests behind)
 
 abbrev is_first : ℕ → List ℕ → Bool
 is_first c [] = false
@@ -51,7 +63,7 @@ IsSign-one sign true false h k = absurd (plus-minus sign k h)
 
 pub Reads-more : {A : Type 0} → (all here rest : List (List ℕ)) (sign piece : List ℕ) (done : List (Signed A)) (m : Bool) (t : Term A) → Reads all here done → here ≡ sign ∷ piece ∷ rest → IsSign sign m → TheOne (IsTerm piece) (Some t) → Reads all rest (done ++ record { minus = m; term = t } ∷ [])
 Reads-more {A} all here rest sign piece done m t r e s one = record {
-  back = λ more h. (let P : List (Signed A) → Type 0 = AreTerms all in subst P (sym (append_assoc done (record { minus = m; term = t } ∷ []) more)) (r.back (record { minus = m; term = t } ∷ more) (sign, piece, rest, e, s, one.0, h)));
+  back = λ more h. (let P : List (Signed A) → Type 0 = AreMoreTerms all in subst P (sym (append_assoc done (record { minus = m; term = t } ∷ []) more)) (r.back (record { minus = m; term = t } ∷ more) (sign, piece, rest, e, s, one.0, h)));
   only = λ others h.
       let x = r.only others h in
       let y = next x.0 x.1 in
@@ -69,15 +81,37 @@ Reads-more {A} all here rest sign piece done m t r e s one = record {
       let S : List ℕ → Type 0 = λ x. IsSign x q.minus in
       (qs, subst Q rests more, ap (λ x. x ∷ qs) (same-signed q (record { minus = m; term = t }) (IsSign-one sign q.minus m (subst S signs k) s) (one.1 q.term (subst P pieces l))))
 
-pub Reads-end : {A : Type 0} → (all here : List (List ℕ)) (done : List (Signed A)) → Reads all here done → here ≡ [] → TheOne (AreTerms all) (Some done)
-Reads-end {A} all here done r e = (let P : List (Signed A) → Type 0 = AreTerms all in subst P (append-nil done) (r.back [] e), λ others h. last others (r.only others h)) where
+pub Reads-end : {A : Type 0} → (all here : List (List ℕ)) (done : List (Signed A)) → Reads all here done → here ≡ [] → TheOne (AreMoreTerms all) (Some done)
+Reads-end {A} all here done r e = (let P : List (Signed A) → Type 0 = AreMoreTerms all in subst P (append-nil done) (r.back [] e), λ others h. last others (r.only others h)) where
   last : (others : List (Signed A)) → (more : List (Signed A)) × AreMoreTerms here more × (others ≡ done ++ more) → others ≡ done
   last others ([], h, is) = is ∙ append-nil done
   last others (q ∷ qs, (g, p, rs, k, _, _, _), is) = (let none : [] ≡ g ∷ p ∷ rs = sym e ∙ k in cc)
 
 -- what stands there is no further term
-pub Reads-none : {A : Type 0} → (all here : List (List ℕ)) (done : List (Signed A)) → Reads all here done → ((more : List (Signed A)) → AreMoreTerms here more → ⊥) → TheOne (AreTerms {A = A} all) None
+pub Reads-none : {A : Type 0} → (all here : List (List ℕ)) (done : List (Signed A)) → Reads all here done → ((more : List (Signed A)) → AreMoreTerms here more → ⊥) → TheOne (AreMoreTerms {A = A} all) None
 Reads-none all here done r h = λ others k. (let x = r.only others k in h x.0 x.1)
+
+-- the terms found are those before, and behind them terms that are read
+pub record Behind {A : Type 0} (all rest : List (List ℕ)) (before found : List (Signed A)) : Type 0 where
+  pub done : List (Signed A)
+  pub whole : found ≡ before ++ done
+  pub reads : Reads all rest done
+
+pub Behind-start : {A : Type 0} → (all : List (List ℕ)) (before : List (Signed A)) → Behind all all before before
+Behind-start all before = record { done = []; whole = sym (append-nil before); reads = Reads-start all }
+
+pub Behind-more : {A : Type 0} → (all here rest : List (List ℕ)) (sign piece : List ℕ) (before found : List (Signed A)) (m : Bool) (t : Term A) → Behind all here before found → here ≡ sign ∷ piece ∷ rest → IsSign sign m → TheOne (IsTerm piece) (Some t) → Behind all rest before (found ++ record { minus = m; term = t } ∷ [])
+Behind-more all here rest sign piece before found m t b e s one = record {
+  done = b.done ++ record { minus = m; term = t } ∷ [];
+  whole = ap (λ x. x ++ record { minus = m; term = t } ∷ []) b.whole ∙ append_assoc before b.done (record { minus = m; term = t } ∷ []);
+  reads = Reads-more all here rest sign piece b.done m t b.reads e s one;
+}
+
+pub Behind-end : {A : Type 0} → (all here : List (List ℕ)) (before found : List (Signed A)) → Behind all here before found → here ≡ [] → ContinuesTerms all before found
+Behind-end all here before found b e = (b.done, b.whole, Reads-end all here b.done b.reads e)
+
+pub Behind-none : {A : Type 0} → (all here : List (List ℕ)) (before found : List (Signed A)) → Behind all here before found → ((more : List (Signed A)) → AreMoreTerms here more → ⊥) → TheOne (AreMoreTerms {A = A} all) None
+Behind-none all here before found b h = Reads-none all here b.done b.reads h
 
 pub one-left : {A : Type 0} → (here : List (List ℕ)) (piece : List ℕ) (more : List (Signed A)) → here ≡ piece ∷ [] → AreMoreTerms here more → ⊥
 one-left here piece [] e h = let none : [] ≡ piece ∷ [] = sym h ∙ e in cc

@@ -9,3 +9,5 @@ pub mod ParseLaws
 pub mod OneReading
 pub mod ListedLaws
 pub mod EachReading
+pub mod Deciding
+pub mod Reader

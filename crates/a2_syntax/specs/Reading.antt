@@ -1,10 +1,12 @@
 -- What stands at the front of a text, and kinds of operations. No public clause cites this file.
-use Rattle.std.specs.Prelude.{◌≡◌, ℕ, ◌+◌, Bool, false, ◌==◌, List, [], ◌∷◌, drop, codes, if◌then◌else◌}
+use Rattle.std.specs.Prelude.{◌≡◌, ℕ, ◌+◌, Bool, false, ◌==◌, List, [], ◌∷◌, ◌++◌, drop, codes, Some, if◌then◌else◌}
 use Rattle.std.specs.List.{prefix_len, list_any}
 use Rattle.a2_syntax.specs.Names.{is_name_byte}
 use Rattle.a2_syntax.specs.Numbers.{is_quote, is_quotable}
 use Rattle.a2_syntax.specs.Pieces.{is_sign, is_mark}
-use Rattle.a2_syntax.specs.Grammar.{IsPart}
+use Rattle.a2_syntax.specs.Relations.{TheOne}
+use Rattle.a2_syntax.specs.Grammar.{IsPart, AreMoreTerms}
+use Rattle.a2_syntax.specs.declared.source.Signed.{Signed}
 use Rattle.a2_syntax.specs.declared.operation.Operation.{Operation}
 use Rattle.a2_syntax.specs.declared.operation.Operation.TheVariants.{Instr}
 use Rattle.a2_syntax.specs.declared.source.Part.{Part}
@@ -38,6 +40,10 @@ piece_len (c ∷ cs) =
 -- the part at the front of pieces, and no other
 abbrev pub PartIs : Part → List (List ℕ) → List (List ℕ) → Type 0
 PartIs p pieces rest = IsPart p pieces rest × (p ≡ Whole → (r : List (List ℕ)) → (pieces ≡ codes "<" ∷ r → ⊥) × (pieces ≡ codes ">" ∷ r → ⊥))
+
+-- all are those found, and behind them the further terms that the pieces are
+abbrev pub ContinuesTerms : {A : Type 0} → List (List ℕ) → List (Signed A) → List (Signed A) → Type 0
+ContinuesTerms {A} pieces found all = (more : List (Signed A)) × (all ≡ found ++ more) × TheOne (AreMoreTerms pieces) (Some more)
 
 abbrev pub is_comma : List ℕ → Bool
 is_comma (c ∷ []) = c == 44

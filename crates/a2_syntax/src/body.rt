@@ -46,7 +46,7 @@ fn codes<A: Allocator>(alloc: A, quote: u8, text: &[u8]) -> Result<Bytes<A>, All
     requires short { length text.now ≤ 255 }
     ensures { IfOk result (λ bytes. bytes ≡ map (code_in quote) text.now) }
 {
-    let mut bytes = Vec::new(alloc);
+    let mut bytes = Vec::with_capacity(alloc, text.len())?;
     for c in text {
         bytes.push(code_in(quote, *c))?;
     }

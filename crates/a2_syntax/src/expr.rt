@@ -1,14 +1,53 @@
 //! Expressions, alone and with commas between them.
 
-ghost use Rattle.std.specs.Prelude.{◌≡◌, ◌↔◌, ◌≤◌, ◌∷◌, [], ◌++◌, take, drop, IsTrue, length, map, false, IfOk};
+ghost use Rattle.std.specs.Prelude.{◌≡◌, ◌↔◌, ◌+◌, ◌≤◌, ◌∷◌, [], ◌++◌, take, drop, IsTrue, length, map, true, false, None, IfOk};
 ghost use Rattle.a2_syntax.specs.Relations.{TheOne};
-ghost use Rattle.a2_syntax.specs.Grammar.{AreTerms, IsExpr, AreExprs};
-ghost use Rattle.a2_syntax.specs.Reading.{PartIs, has_comma, BeginsComma};
+ghost use Rattle.a2_syntax.specs.Grammar.{AreMoreTerms, AreTerms, IsExpr, AreExprs};
+ghost use Rattle.a2_syntax.specs.Reading.{ContinuesTerms, PartIs, has_comma, BeginsComma};
 
 use crate::source::{Expr, Exprs, Part, Signed, Terms};
 use crate::term::{minus, term};
 use std::alloc::{AllocError, Allocator};
 
+// Puts the terms behind the first piece, each behind its sign, behind those found; false where the pieces are none.
+#[inline(never)]
+fn more_terms<A: Allocator + Copy>(
+    alloc: A,
+    pieces: &[&[u8]],
+    found: &mut Vec<Signed<A>, A>,
+) -> Result<bool, AllocError>
+    requires { length found.old.items + length (drop 1 pieces.now) ≤ 255 }
+    ensures read { IfOk result (λ is. is ≡ true → ContinuesTerms (map (λ x. x.now) (drop 1 pieces.now)) found.old.items found.new.items) }
+    ensures none { IfOk result (λ is. is ≡ false → TheOne (AreMoreTerms {A = A} (map (λ x. x.now) (drop 1 pieces.now))) None) }
+    ensures few { IfOk result (λ is. is ≡ true → length found.new.items ≤ 255) }
+{
+    let Some((_, others)) = pieces.split_first() else {
+        return Ok(true);
+    };
+    let mut rest = others;
+    'terms: loop {
+        let Some((sign, behind)) = rest.split_first() else {
+            return Ok(true);
+        };
+        let Some((piece, more)) = behind.split_first() else {
+            return Ok(false);
+        };
+        let Some(is_minus) = minus(*sign) else {
+            return Ok(false);
+        };
+        let next = term(alloc, *piece)?;
+        let Some(next_term) = next else {
+            return Ok(false);
+        };
+        found.push(Signed {
+            minus: is_minus,
+            term: next_term,
+        })?;
+        rest = more;
+    }
+}
+
+// The terms of an expression.
 fn terms<A: Allocator + Copy>(alloc: A, pieces: &[&[u8]]) -> Result<Option<Terms<A>>, AllocError>
     requires { length pieces.now ≤ 255 }
     ensures { IfOk result (λ o. TheOne (AreTerms (map (λ x. x.now) pieces.now)) o) }
@@ -20,32 +59,19 @@ fn terms<A: Allocator + Copy>(alloc: A, pieces: &[&[u8]]) -> Result<Option<Terms
     let Some(first_term) = read else {
         return Ok(None);
     };
-    let mut found = Vec::new(alloc);
-    found.push(Signed {
+    // Between two terms stands a sign.
+    let mut found = Vec::with_capacity(alloc, pieces.len() / 2 + 1)?;
+    found.push_reserved(Signed {
         minus: false,
         term: first_term,
-    })?;
-    let mut rest = others;
-    'terms: loop {
-        let Some((sign, behind)) = rest.split_first() else {
-            return Ok(Some(Terms::of(found)));
-        };
-        let Some((piece, more)) = behind.split_first() else {
-            return Ok(None);
-        };
-        let Some(is_minus) = minus(*sign) else {
-            return Ok(None);
-        };
-        let next = term(alloc, *piece)?;
-        let Some(next_term) = next else {
-            return Ok(None);
-        };
-        found.push(Signed {
-            minus: is_minus,
-            term: next_term,
-        })?;
-        rest = more;
+    });
+    if others.len() == 0 {
+        return Ok(Some(Terms::of(found)));
     }
+    if !more_terms(alloc, pieces, &mut found)? {
+        return Ok(None);
+    }
+    Ok(Some(Terms::of(found)))
 }
 
 // Whether a piece is this one byte.
@@ -113,7 +139,8 @@ pub(crate) fn exprs<A: Allocator + Copy>(
     requires { length pieces.now ≤ 255 }
     ensures { IfOk result (λ o. TheOne (AreExprs (map (λ x. x.now) pieces.now)) o) }
 {
-    let mut found = Vec::new(alloc);
+    // Between two expressions stands a comma.
+    let mut found = Vec::with_capacity(alloc, pieces.len() / 2 + 1)?;
     let mut start = 0;
     'exprs: loop {
         let rest = &pieces[start..];

@@ -41,8 +41,8 @@ pub enum Fault {
 }
 
 impl Fault {
-    // The line of a refusal, or 0 where it is of no line.
-    fn line(&self) -> u16
+    /// The line of the refusal, counted from 1, or 0 where it is of no line.
+    pub fn line(&self) -> u16
         ensures { result ≡ line_of self.now }
     {
         match self {

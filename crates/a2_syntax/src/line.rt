@@ -13,8 +13,12 @@ use crate::word::is_name;
 use a2_text::behind_blanks;
 use std::alloc::{AllocError, Allocator};
 
-// What stands behind the label.
-fn body<A: Allocator + Copy>(alloc: A, text: &[u8]) -> Result<Option<Body<A>>, AllocError>
+// What stands behind the label. The pieces found before are dropped.
+fn body<'a, A: Allocator + Copy>(
+    alloc: A,
+    text: &'a [u8],
+    found: &mut Vec<&'a [u8], A>,
+) -> Result<Option<Body<A>>, AllocError>
     requires { length text.now ≤ 255 }
     ensures { IfOk result (λ o. TheOne (IsBody text.now) o) }
 {
@@ -29,11 +33,10 @@ fn body<A: Allocator + Copy>(alloc: A, text: &[u8]) -> Result<Option<Body<A>>, A
     let Some(operation) = named(word) else {
         return Ok(None);
     };
-    let found = pieces(alloc, after)?;
-    let Some(pieces) = found else {
+    if !pieces(after, found)? {
         return Ok(None);
-    };
-    operation_body(alloc, operation, pieces.as_slice())
+    }
+    operation_body(alloc, operation, found.as_slice())
 }
 
 fn needs_label<A: Allocator>(body: &Body<A>) -> bool
@@ -52,10 +55,11 @@ fn is_starred(text: &[u8]) -> bool
     }
 }
 
-// A line, or None where it is not in the grammar.
-pub(crate) fn line<A: Allocator + Copy>(
+// A line, or None where it is not in the grammar. The pieces found before are dropped.
+pub(crate) fn line<'a, A: Allocator + Copy>(
     alloc: A,
-    text: &[u8],
+    text: &'a [u8],
+    pieces: &mut Vec<&'a [u8], A>,
 ) -> Result<Option<Line<A>>, AllocError>
     requires { length text.now ≤ 255 }
     ensures { IfOk result (λ o. TheOne (IsLine text.now) o) }
@@ -70,7 +74,7 @@ pub(crate) fn line<A: Allocator + Copy>(
     if !is_gap(rest) {
         return Ok(None);
     }
-    let found = body(alloc, rest)?;
+    let found = body(alloc, rest, pieces)?;
     let Some(body) = found else {
         return Ok(None);
     };

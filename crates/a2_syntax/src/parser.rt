@@ -13,17 +13,18 @@ use crate::source::Source;
 use std::alloc::Allocator;
 
 // The lines of a source text that is cut.
-fn parse_lines<A: Allocator + Copy>(alloc: A, texts: &[&[u8]]) -> Result<Source<A>, Fault>
+fn parse_lines<'a, A: Allocator + Copy>(alloc: A, texts: &[&'a [u8]]) -> Result<Source<A>, Fault>
     requires few { length texts.now ≤ 4096 }
     requires short { All (λ text. length text.now ≤ 255) texts.now }
     ensures read { IfOk result (λ source. AreLines (map (λ x. x.now) texts.now) source) }
     ensures only { IfOk result (λ source. (others : List BareLine) → AreLines (map (λ x. x.now) texts.now) others → others ≡ source) }
     ensures refused { IfErr result (λ fault. fault ≢ Fault.Memory → (n : ℕ) × (fault ≡ Fault.Syntax n) × FirstUnread (map (λ x. x.now) texts.now) n) }
 {
-    let mut parsed = Vec::new(alloc);
+    let mut parsed = Vec::with_capacity(alloc, texts.len())?;
+    let mut pieces: Vec<&'a [u8], A> = Vec::new(alloc);
     let mut n: u16 = 1;
     for text in texts {
-        let read = line(alloc, *text)?;
+        let read = line(alloc, *text, &mut pieces)?;
         let Some(line) = read else {
             return Err(Fault::Syntax(n));
         };

@@ -1,6 +1,6 @@
 //! The pieces of a text: signs, words and texts in quotes.
 
-ghost use Rattle.std.specs.Prelude.{◌≡◌, ◌+◌, ◌≤◌, ℕ, List, take, drop, map, length, IfOk, IfSome, MatchOption};
+ghost use Rattle.std.specs.Prelude.{◌≡◌, ◌+◌, ◌≤◌, ℕ, List, true, false, take, drop, map, length, IfOk};
 ghost use Rattle.a2_syntax.specs.Numbers as numbers;
 ghost use Rattle.a2_syntax.specs.Pieces as pieces;
 ghost use Rattle.a2_syntax.specs.Pieces.{Spells};
@@ -126,29 +126,30 @@ fn piece_len(text: &[u8]) -> usize
     run_len(text)
 }
 
-// The pieces of a text, or None where it is no text of pieces.
+// Finds the pieces of a text, which take the place of those found before; false where it is no text of pieces.
 pub(crate) fn pieces<'a, A: Allocator>(
-    alloc: A,
     text: &'a [u8],
-) -> Result<Option<Vec<&'a [u8], A>>, AllocError>
+    found: &mut Vec<&'a [u8], A>,
+) -> Result<bool, AllocError>
     requires { length text.now ≤ 65536 }
-    ensures read { IfOk result (λ o. MatchOption o
-        ((pieces : List (List ℕ)) → Spells text.now pieces → ⊥)
-        (λ v. Spells text.now (map (λ x. x.now) v.items))) }
-    ensures few { IfOk result (λ o. IfSome o (λ v. length v.items ≤ length text.now)) }
+    ensures read { IfOk result (λ is. is ≡ true → Spells text.now (map (λ x. x.now) found.new.items)) }
+    ensures none { IfOk result (λ is. is ≡ false → (pieces : List (List ℕ)) → Spells text.now pieces → ⊥) }
+    ensures few { IfOk result (λ is. is ≡ true → length found.new.items ≤ length text.now) }
 {
-    let mut found = Vec::new(alloc);
+    found.clear();
+    // A piece has a byte at least.
+    found.reserve(text.len())?;
     let mut rest = text;
     'pieces: loop {
         let here = behind_blanks(rest);
         if is_over(here) {
-            return Ok(Some(found));
+            return Ok(true);
         }
         let n = piece_len(here);
         if n == 0 {
-            return Ok(None);
+            return Ok(false);
         }
-        found.push(&here[..n])?;
+        found.push_reserved(&here[..n]);
         rest = &here[n..];
     }
 }

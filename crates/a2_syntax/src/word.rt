@@ -16,7 +16,7 @@ fn starts_name(c: u8) -> bool
 pub(crate) fn in_name(c: u8) -> bool
     ensures { result ≡ is_name_byte c }
 {
-    starts_name(c) || matches!(c, b'0'..=b'9')
+    matches!(c, b'0'..=b'9') || starts_name(c)
 }
 
 fn all_in_name(bytes: &[u8]) -> bool

@@ -8,9 +8,9 @@ now = map (λ x. x.now)
 
 pub exprs-init : goal.exprs-init
 exprs-init g c = record {
-  lists = rw c.new-found.ensures.items (Lists-none (now c.args.pieces.now));
+  lists = rw c.in_ok-found.ensures.items (Lists-none (now c.args.pieces.now));
   within = omega arith;
-  count = omega (arith, ap length c.new-found.ensures.items);
+  count = omega (arith, ap length c.in_ok-found.ensures.items);
 }
 
 pub of-requires : goal.of-requires

@@ -28,24 +28,24 @@ pub pieces-requires : goal.pieces-requires
 pieces-requires g c =
     omega (arith, ap length c.front_run.ensures.rest, length-drop (run_len c.behind_blanks-here.result.now) c.behind_blanks-here.result.now, behind-within c.args.text.now c.behind_blanks-here.result.now c.behind_blanks-here.ensures, c.requires)
 
-pub returns-in_default-found : goal.returns-in_default-found
-returns-in_default-found g c =
-    IsBody-no_pieces c.args.text.now c.behind_blanks-here.result.now c.front_run.result.1.now c.behind_blanks-here.ensures (sym c.is_over.ensures ∙ c.if-is_over.false) c.front_run.ensures.rest (rw c.in_default-found.is at c.in_ok-found.ensures.read)
+pub returns-then-not-branch : goal.returns-then-not-branch
+returns-then-not-branch g c =
+    IsBody-no_pieces c.args.text.now c.behind_blanks-here.result.now c.front_run.result.1.now c.behind_blanks-here.ensures (sym c.is_over.ensures ∙ c.if-is_over.false) c.front_run.ensures.rest (c.in_ok-pieces.ensures.none c.if-not-branch.true)
 
 pub operation_body-requires : goal.operation_body-requires
 operation_body-requires g c =
     let after = c.front_run.result.1.now in
     let most : length after ≤ 255 = omega (arith, ap length c.front_run.ensures.rest, length-drop (run_len c.behind_blanks-here.result.now) c.behind_blanks-here.result.now, behind-within c.args.text.now c.behind_blanks-here.result.now c.behind_blanks-here.ensures, c.requires) in
-    let few = rw c.in-Some-found.is at c.in_ok-found.ensures.few in
-    let spells = rw c.in-Some-found.is at c.in_ok-found.ensures.read in
+    let few = c.in_ok-pieces.ensures.few c.if-not-branch.false in
+    let spells = c.in_ok-pieces.ensures.read c.if-not-branch.false in
     let P : List (Bor (List ℕ)) → Type 0 = λ x. All (λ p. length p ≤ 255) (now x) in
     record {
       few = omega (arith, most, few, ap length c.as_slice.ensures.value);
-      short = subst P (sym c.as_slice.ensures.value) (All-weaker (λ p. length p ≤ length after) (λ p. length p ≤ 255) (λ p h. omega (arith, most, h)) (now c.in-Some-found.pieces.items) (Spells-short after (now c.in-Some-found.pieces.items) spells));
+      short = subst P (sym c.as_slice.ensures.value) (All-weaker (λ p. length p ≤ length after) (λ p. length p ≤ 255) (λ p h. omega (arith, most, h)) (now c.pieces.new.found.items) (Spells-short after (now c.pieces.new.found.items) spells));
     }
 
 pub returns : goal.returns
 returns g c =
     IfOk-weaker _ (λ o. TheOne (IsOperation c.in-Some.operation (now c.as_slice.result.now)) o) (λ o. TheOne (IsBody c.args.text.now) o)
-    (λ o h. IsBody-operation c.args.text.now c.behind_blanks-here.result.now c.front_run.result.0.now c.front_run.result.1.now c.in-Some.operation (now c.in-Some-found.pieces.items) o c.behind_blanks-here.ensures (sym c.is_over.ensures ∙ c.if-is_over.false) c.front_run.ensures.word c.front_run.ensures.rest (sym c.is_gap.ensures ∙ c.if-not-is_gap.false) (sym (rw c.in-Some.is at c.named.ensures.found)) (rw c.in-Some-found.is at c.in_ok-found.ensures.read) (let P : List (Bor (List ℕ)) → Type 0 = λ x. TheOne (IsOperation c.in-Some.operation (now x)) o in subst P c.as_slice.ensures.value h))
+    (λ o h. IsBody-operation c.args.text.now c.behind_blanks-here.result.now c.front_run.result.0.now c.front_run.result.1.now c.in-Some.operation (now c.pieces.new.found.items) o c.behind_blanks-here.ensures (sym c.is_over.ensures ∙ c.if-is_over.false) c.front_run.ensures.word c.front_run.ensures.rest (sym c.is_gap.ensures ∙ c.if-not-is_gap.false) (sym (rw c.in-Some.is at c.named.ensures.found)) (c.in_ok-pieces.ensures.read c.if-not-branch.false) (let P : List (Bor (List ℕ)) → Type 0 = λ x. TheOne (IsOperation c.in-Some.operation (now x)) o in subst P c.as_slice.ensures.value h))
     c.operation_body.ensures

@@ -1,10 +1,17 @@
 use Rattle.std.proofs.Common.{◌+◌, List, ℕ, Bor, map, drop, length, arith, ap, refl}
 use Rattle.std.proofs.lemmas.List.{at_drop_more, length_push, drop_all}
-use Rattle.a2_syntax.proofs.ParseLaws.{Parses-more, Parses-fail, Parses-read, Parses-only}
+use Rattle.a2_syntax.proofs.ParseLaws.{Parses-none, Parses-more, Parses-fail, Parses-read, Parses-only}
 use Rattle.a2_syntax.proofs.parser.parse_lines.Goals as goal
 
 abbrev now : List (Bor (List ℕ)) → List (List ℕ)
 now = map (λ x. x.now)
+
+pub loop-text-init : goal.loop-text-init
+loop-text-init g c = record {
+  count = ap length c.in_ok-parsed.ensures.items;
+  number = refl;
+  parses = rw c.in_ok-parsed.ensures.items (Parses-none (now c.args.texts.now));
+}
 
 pub line-requires : goal.line-requires
 line-requires g c = c.requires.short c.loop-text.text-index _ c.loop-text-test.true

@@ -1,0 +1,232 @@
+-- A reader of source texts by recursion: for any text that it reads, the lines that it finds are the text's, by one
+-- computation. No code follows it; it is for proofs about given texts.
+use Rattle.std.specs.Prelude.{◌≡◌, ℕ, suc, zero, ◌<◌, nat_lt, Bool, true, false, List, [], ◌∷◌, ◌++◌, length, map, take, drop, codes, Option, Some, None, option_map, is_some, unwrap_or, refl}
+use Rattle.std.specs.List.{list_all}
+use Rattle.std.proofs.Common.{sym, ap, subst, inl, inr, arith}
+use Rattle.std.proofs.lemmas.Bool.{false≢true}
+use Rattle.std.proofs.lemmas.Bool.Decides.{nat_tests}
+use Rattle.std.proofs.lemmas.List.{take-append-drop}
+use Rattle.std.proofs.lemmas.List.Sums.{AllPass-from_list_all}
+use Rattle.a2_text.specs.Bytes.{capital}
+use Rattle.a2_text.specs.Lines.{lines}
+use Rattle.a2_text.specs.Words.{behind_blanks}
+use Rattle.a2_opcode.specs.Table.{table}
+use Rattle.a2_opcode.specs.declared.Mnemonic.{Mnemonic}
+use Rattle.a2_syntax.specs.Bare.{BareLine}
+use Rattle.a2_syntax.specs.Names.{is_name}
+use Rattle.a2_syntax.specs.Numbers.{number, is_quote, is_quotable, code_in}
+use Rattle.a2_syntax.specs.Pieces.{IsQuoted, is_gap, is_over, Spells}
+use Rattle.a2_syntax.specs.Limits.{size_refusal}
+use Rattle.a2_syntax.specs.Reading.{run_len, piece_len}
+use Rattle.a2_syntax.specs.Words.{letters_of}
+use Rattle.a2_syntax.specs.Grammar.{IsTerm, IsSign, AreMoreTerms, AreTerms, IsExpr, AreExprs, IsIndexed, IsEnclosed, IsOperand, is_shift, IsOperandOf, IsText, IsOperation, IsBody, IsLabelled, may_stand, IsLine}
+use Rattle.a2_syntax.specs.Sources.{AreLines, IsSource}
+use Rattle.a2_syntax.specs.declared.operation.Operation.{Operation}
+use Rattle.a2_syntax.specs.declared.operation.Operation.TheVariants as operations
+use Rattle.a2_syntax.specs.declared.source.Term.{Term}
+use Rattle.a2_syntax.specs.declared.source.Term.TheVariants.{Number, Named, Here}
+use Rattle.a2_syntax.specs.declared.source.Part.TheVariants.{Whole, Low, High}
+use Rattle.a2_syntax.specs.declared.source.Expr.{Expr}
+use Rattle.a2_syntax.specs.declared.source.Operand.{Operand}
+use Rattle.a2_syntax.specs.declared.source.Operand.TheVariants.{Nothing, Accumulator, Immediate, Plain, WithX, WithY, InParenthesesX, ParenthesesY, InParentheses}
+use Rattle.a2_syntax.specs.declared.source.Body.{Body}
+use Rattle.a2_syntax.specs.declared.source.Body.TheVariants.{Empty, Instr, Org, Equ, Dfb, Dw, Asc, Ds}
+use Rattle.a2_syntax.specs.declared.source.Line.{Line}
+use Rattle.a2_syntax.proofs.PieceLaws.{Spells-over, Spells-more}
+use Rattle.a2_syntax.proofs.BodyLaws.{operand_of-to}
+use Rattle.a2_syntax.proofs.LineLaws.{HasOperation-from}
+use Rattle.a2_syntax.proofs.Deciding.{Found, tested, where_so, told, and_then, or_else, same_number, same_bytes, before_last, cut_at}
+
+pub below : {n : ℕ} → nat_lt 0 n ≡ true → 0 < n
+below h = grind (arith, nat_tests, h)
+
+pub some : {X : Type 0} (x : X) (xs : List X) → x ∷ xs ≡ [] → ⊥
+some x xs e = cc
+
+-- Pieces
+
+-- the pieces of a text, at most so many
+abbrev pub read_pieces : (most : ℕ) (text : List ℕ) → Found (Spells text)
+read_pieces zero text = where_so (is_over (behind_blanks text)) (λ h. Some ([], Spells-over text h))
+read_pieces (suc most) text =
+    tested (is_over (behind_blanks text)) (λ h. Some ([], Spells-over text h))
+    (λ _. where_so (nat_lt 0 (piece_len (behind_blanks text))) (λ some.
+    and_then (read_pieces most (drop (piece_len (behind_blanks text)) (behind_blanks text)))
+    (λ (more, is). Some (take (piece_len (behind_blanks text)) (behind_blanks text) ∷ more, Spells-more text more (below some) is))))
+
+-- Expressions
+
+abbrev pub read_term : {A : Type 0} (piece : List ℕ) → Found (IsTerm {A = A} piece)
+read_term piece =
+    or_else (and_then (same_bytes piece (codes "*")) (λ e. Some (Here, e)))
+    (told (number piece) (λ n e. Some (Number n, e)) (λ _. where_so (is_name piece) (λ h. Some (Named piece, (refl, h)))))
+
+abbrev pub read_sign : (piece : List ℕ) → Found (IsSign piece)
+read_sign piece =
+    or_else (and_then (same_bytes piece (codes "+")) (λ e. Some (false, e))) (and_then (same_bytes piece (codes "-")) (λ e. Some (true, e)))
+
+abbrev pub read_more : {A : Type 0} (pieces : List (List ℕ)) → Found (AreMoreTerms {A = A} pieces)
+read_more [] = Some ([], refl)
+read_more (sign ∷ []) = None
+read_more (sign ∷ piece ∷ more) =
+    and_then (read_sign sign) (λ (minus, signed). and_then (read_term piece) (λ (term, named). and_then (read_more more)
+    (λ (others, are). Some (record { minus = minus; term = term } ∷ others, (sign, piece, more, refl, signed, named, are)))))
+
+abbrev pub read_terms : {A : Type 0} (pieces : List (List ℕ)) → Found (AreTerms {A = A} pieces)
+read_terms [] = None
+read_terms (piece ∷ more) =
+    and_then (read_term piece) (λ (term, named). and_then (read_more more)
+    (λ (others, are). Some (record { minus = false; term = term } ∷ others, (piece, more, refl, refl, named, are))))
+
+abbrev pub read_expr : {A : Type 0} (pieces : List (List ℕ)) → Found (IsExpr {A = A} pieces)
+read_expr [] = None
+read_expr (piece ∷ rest) =
+    or_else (and_then (same_bytes piece (codes "<")) (λ e. and_then (read_terms rest)
+    (λ (terms, are). Some (record { part = Low; terms = terms }, (rest, ap (λ p. p ∷ rest) e, are)))))
+    (or_else (and_then (same_bytes piece (codes ">")) (λ e. and_then (read_terms rest)
+    (λ (terms, are). Some (record { part = High; terms = terms }, (rest, ap (λ p. p ∷ rest) e, are)))))
+    (and_then (read_terms (piece ∷ rest)) (λ (terms, are). Some (record { part = Whole; terms = terms }, (piece ∷ rest, refl, are)))))
+
+-- expressions with commas between them, at most so many
+abbrev pub read_exprs : {A : Type 0} (most : ℕ) (pieces : List (List ℕ)) → Found (AreExprs {A = A} pieces)
+read_exprs zero pieces = None
+read_exprs {A} (suc most) pieces =
+    told (cut_at same_bytes (codes ",") pieces)
+    (λ (front, back, e) _. and_then (read_expr front) (λ (first, is). and_then (read_exprs most back) (λ (others, are). longer front back e first is others are)))
+    (λ _. and_then (read_expr pieces) (λ (only, is). Some (only ∷ [], is)))
+  where
+    longer : (front back : List (List ℕ)) → pieces ≡ front ++ codes "," ∷ back → (first : Expr A) → IsExpr front first
+        → (others : List (Expr A)) → AreExprs back others → Found (AreExprs {A = A} pieces)
+    longer front back e first is [] are = absurd are
+    longer front back e first is (next ∷ more) are = Some (first ∷ next ∷ more, (front, back, e, is, are))
+
+-- Operands
+
+-- what stands before a comma and a register's letter
+abbrev pub read_indexed : (letter : ℕ) (pieces : List (List ℕ)) → Found (IsIndexed letter pieces)
+read_indexed letter [] = None
+read_indexed letter (comma ∷ []) = None
+read_indexed letter (comma ∷ x ∷ []) =
+    and_then (same_bytes comma (codes ",")) (λ e. and_then (same_bytes (map capital x) (letter ∷ [])) (λ is. Some ([], (x, ap (λ p. p ∷ x ∷ []) e, is))))
+read_indexed letter (piece ∷ next ∷ third ∷ more) =
+    and_then (read_indexed letter (next ∷ third ∷ more)) (λ (front, (x, e, is)). Some (piece ∷ front, (x, ap (λ ps. piece ∷ ps) e, is)))
+
+abbrev pub read_enclosed : (pieces : List (List ℕ)) → Found (IsEnclosed pieces)
+read_enclosed [] = None
+read_enclosed (piece ∷ rest) =
+    and_then (same_bytes piece (codes "(")) (λ e. and_then (before_last same_bytes (codes ")") rest)
+    (λ (front, f). Some (front, enclosed piece rest front e f)))
+  where
+    enclosed : (piece : List ℕ) (rest front : List (List ℕ)) → piece ≡ codes "(" → rest ≡ front ++ codes ")" ∷ [] → IsEnclosed (piece ∷ rest) front
+    enclosed piece rest front e f = λ i. e i ∷ f i
+
+abbrev pub read_immediate : {A : Type 0} (pieces : List (List ℕ)) → Found (IsOperand {A = A} pieces)
+read_immediate [] = None
+read_immediate (piece ∷ rest) =
+    and_then (same_bytes piece (codes "#")) (λ e. and_then (read_expr rest) (λ (expr, is). Some (Immediate expr, (rest, ap (λ p. p ∷ rest) e, is))))
+
+abbrev pub read_letter : {A : Type 0} (pieces : List (List ℕ)) → Found (IsOperand {A = A} pieces)
+read_letter [] = None
+read_letter (piece ∷ []) = and_then (same_bytes (map capital piece) (65 ∷ [])) (λ is. Some (Accumulator, (piece, refl, is)))
+read_letter (piece ∷ next ∷ more) = None
+
+abbrev pub read_operand : {A : Type 0} (pieces : List (List ℕ)) → Found (IsOperand {A = A} pieces)
+read_operand pieces =
+    or_else (read_letter pieces)
+    (or_else (read_immediate pieces)
+    (or_else (and_then (read_expr pieces) (λ (e, is). Some (Plain e, is)))
+    (or_else (and_then (read_indexed 88 pieces) (λ (es, indexed). and_then (read_expr es) (λ (e, is). Some (WithX e, (es, indexed, is)))))
+    (or_else (and_then (read_indexed 89 pieces) (λ (es, indexed). and_then (read_expr es) (λ (e, is). Some (WithY e, (es, indexed, is)))))
+    (or_else (and_then (read_enclosed pieces) (λ (inner, closed). and_then (read_indexed 88 inner)
+    (λ (es, indexed). and_then (read_expr es) (λ (e, is). Some (InParenthesesX e, (inner, es, closed, indexed, is))))))
+    (or_else (and_then (read_indexed 89 pieces) (λ (front, indexed). and_then (read_enclosed front)
+    (λ (es, closed). and_then (read_expr es) (λ (e, is). Some (ParenthesesY e, (front, es, indexed, closed, is))))))
+    (and_then (read_enclosed pieces) (λ (es, closed). and_then (read_expr es) (λ (e, is). Some (InParentheses e, (es, closed, is)))))))))))
+
+-- a shift with nothing behind it means the accumulator
+abbrev pub read_operand_of : {A : Type 0} (m : Mnemonic) (pieces : List (List ℕ)) → Found (IsOperandOf {A = A} m pieces)
+read_operand_of m [] = tested (is_shift m) (λ h. Some (Accumulator, inr (h, refl))) (λ h. Some (Nothing, (h, refl)))
+read_operand_of m (piece ∷ more) = and_then (read_operand (piece ∷ more)) (λ (operand, is). Some (operand, operand_of-to m (piece ∷ more) (λ _ e. some piece more e) operand is))
+
+-- characters in quotes
+abbrev pub read_text : (pieces : List (List ℕ)) → Found (IsText pieces)
+read_text [] = None
+read_text ([] ∷ more) = None
+read_text ((quote ∷ rest) ∷ next ∷ more) = None
+read_text ((quote ∷ rest) ∷ []) =
+    where_so (is_quote quote) (λ q. and_then (before_last same_number quote rest)
+    (λ (text, e). where_so (list_all (is_quotable quote) text) (λ all. where_so (nat_lt 0 (length text))
+    (λ some. Some (map (code_in quote) text, (quote, text, quote ∷ rest, refl, (q, AllPass-from_list_all (is_quotable quote) text all, ap (λ r. quote ∷ r) e), below some, refl))))))
+
+-- Lines
+
+abbrev pub read_operation : {A : Type 0} (o : Operation) (pieces : List (List ℕ)) → Found (IsOperation {A = A} o pieces)
+read_operation (operations.Instr m) pieces = and_then (read_operand_of m pieces) (λ (operand, is). Some (Instr m operand, (refl, is)))
+read_operation operations.Org pieces = and_then (read_expr pieces) (λ (e, is). Some (Org e, is))
+read_operation operations.Equ pieces = and_then (read_expr pieces) (λ (e, is). Some (Equ e, is))
+read_operation operations.Dfb pieces = and_then (read_exprs (length pieces) pieces) (λ (es, are). Some (Dfb es, are))
+read_operation operations.Dw pieces = and_then (read_exprs (length pieces) pieces) (λ (es, are). Some (Dw es, are))
+read_operation operations.Asc pieces = and_then (read_text pieces) (λ (bytes, is). Some (Asc bytes, is))
+read_operation operations.Ds pieces = and_then (read_expr pieces) (λ (e, is). Some (Ds e, is))
+
+abbrev pub directives : List Operation
+directives = operations.Org ∷ operations.Equ ∷ operations.Dfb ∷ operations.Dw ∷ operations.Asc ∷ operations.Ds ∷ []
+
+-- the operation of these letters, among some
+abbrev pub named_in : (all : List Operation) (word : List ℕ) → Option ((o : Operation) × (word ≡ letters_of o))
+named_in [] word = None
+named_in (o ∷ more) word = or_else (and_then (same_bytes word (letters_of o)) (λ e. Some (o, e))) (named_in more word)
+
+unfoldable pub read_name : (word : List ℕ) → Option ((o : Operation) × (word ≡ letters_of o))
+unfolding table
+read_name word = or_else (named_in directives word) (named_in (map (λ row. operations.Instr row.mnemonic) table) word)
+
+abbrev pub read_body : {A : Type 0} (text : List ℕ) → Found (IsBody {A = A} text)
+read_body text =
+    let here = behind_blanks text in
+    let behind = drop (run_len here) here in
+    tested (is_over here) (λ h. Some (Empty, inl (Spells-over text h, refl)))
+    (λ _. and_then (read_name (map capital (take (run_len here) here)))
+    (λ (o, named). where_so (is_gap behind) (λ gap. and_then (read_pieces (length behind) behind)
+    (λ (pieces, spells). and_then (read_operation o pieces)
+    (λ (body, is). Some (body, inr (o, pieces, HasOperation-from text here o pieces refl named gap spells, is)))))))
+
+-- a line without its label: what is left
+abbrev pub read_behind : {A : Type 0} (text : List ℕ) (label : Option (List ℕ)) (rest : List ℕ) → IsLabelled text label rest → Found (IsLine {A = A} text)
+read_behind text label rest labelled =
+    where_so (is_gap rest) (λ gap. and_then (read_body rest)
+    (λ (body, is). where_so (may_stand label body) (λ may. Some (record { label = label; body = body }, inr (rest, labelled, gap, is, may)))))
+
+abbrev pub read_line : {A : Type 0} (text : List ℕ) → Found (IsLine {A = A} text)
+read_line [] = read_behind [] None [] refl
+read_line (c ∷ cs) =
+    or_else (and_then (same_number c 42) (λ e. Some (record { label = None; body = Empty }, inl (cs, ap (λ x. x ∷ cs) e, refl, refl))))
+    (tested (is_gap (c ∷ cs)) (λ _. read_behind (c ∷ cs) None (c ∷ cs) refl)
+    (λ _. where_so (is_name (take (run_len (c ∷ cs)) (c ∷ cs)))
+    (λ name. read_behind (c ∷ cs) (Some (take (run_len (c ∷ cs)) (c ∷ cs))) (drop (run_len (c ∷ cs)) (c ∷ cs)) (sym (take-append-drop (run_len (c ∷ cs)) (c ∷ cs)), name))))
+
+abbrev pub read_lines : {A : Type 0} (texts : List (List ℕ)) → Found (AreLines {A = A} texts)
+read_lines [] = Some ([], tt)
+read_lines (text ∷ more) = and_then (read_line text) (λ (line, is). and_then (read_lines more) (λ (others, are). Some (line ∷ others, (is, are))))
+
+abbrev pub read : (text : List ℕ) → Found (IsSource text)
+read text =
+    told (size_refusal text) (λ _ _. None) (λ fits. and_then (read_lines (lines text)) (λ (source, are). Some (source, (fits, are))))
+
+-- the lines of a text, if it is one
+unfoldable pub read_source : List ℕ → Option (List BareLine)
+unfolding read_name
+read_source text = option_map (λ found. found.0) (read text)
+
+pub read-is_source : (text : List ℕ) (source : List BareLine) → read_source text ≡ Some source → IsSource text source
+unfolding read_source
+read-is_source text source e = go (read text) e
+  where
+    go : (found : Found (IsSource text)) → option_map (λ f. f.0) found ≡ Some source → IsSource text source
+    go None e = absurd (false≢true (ap is_some e))
+    go (Some (lines, is)) e = subst (IsSource text) (ap (λ o. unwrap_or o lines) e) is
+
+-- every form of a line, of an operand and of a directive is read
+pub reads_each_form : is_some (read_source (codes "* A COMMENT\n ORG $400\nN EQU 6\nLOOP clc ; ANOTHER\n lda #<N\n LDA N+%10,X\n LDX N-'A',Y\n STA (N),Y\n ORA (N,X)\n JMP (LOOP)\n LSR\n LSR A\n BNE LOOP\n BEQ *\nT DFB 1,>T,N-1\n DW T,$1234\n ASC \"AB\"\n DS 3\n\n")) ≡ true
+unfolding read_source
+reads_each_form = refl
