@@ -1,12 +1,12 @@
 -- Each line of a session is answered or refused, whatever the session is.
-use Rattle.std.proofs.Common.{◌≡◌, ◌≢◌, ◌⊎◌, ℕ, zero, suc, ◌+◌, ◌-◌, ◌%◌, ◌<◌, ◌≤◌, Bool, true, false, List, [], ◌∷◌, ◌++◌, length, map, drop, Option, Some, None, Result, Ok, Err, refl, sym, ap, ◌∙◌, subst, inl, inr, arith, eqb, cond, ltb}
+use Rattle.std.proofs.Common.{◌≡◌, ◌≢◌, ◌⊎◌, ℕ, zero, suc, ◌+◌, ◌-◌, ◌%◌, ◌<◌, ◌≤◌, Bool, true, false, List, [], ◌∷◌, ◌++◌, length, map, Option, Some, None, Result, Ok, Err, refl, sym, ap, ◌∙◌, subst, inl, inr, arith, eqb, cond, ltb}
 use Rattle.std.proofs.lemmas.Bool.{eqb-true, eqb-false}
 use Rattle.a2_text.specs.Bytes.{capital}
 use Rattle.a2_text.specs.Words.{words}
 use Rattle.a2_syntax.specs.Names.{is_name}
 use Rattle.a2_hex.specs.ObjectLines.{address_of}
 use Rattle.a2_asm.specs.Values.{Names, value_of}
-use Rattle.a2_bus.specs.KeyText.{escaped, IsSpelling, BeginsWith, Spells}
+use Rattle.a2_bus.specs.KeyText.{escaped, BeginsWith, Spells}
 use Rattle.a2_bus.proofs.KeyReading.{begins_only, empty_begins}
 use Rattle.a2_machine.specs.declared.Cause.{Cause}
 use Rattle.a2_machine.specs.Meaning.{is_among, stuck}
@@ -22,9 +22,9 @@ use Rattle.a2_debug.specs.Worlds.{guarded_code}
 use Rattle.a2_debug.specs.Session.{Halted as End, appended, advanced, stepped, gone, raised}
 use Rattle.a2_debug.specs.Stored.{Stored, session_of, typed_at, up_to, Moves, NoneAbove}
 use Rattle.a2_debug.specs.Marks.{found_or, place_of, marked, unmarked, at_place}
-use Rattle.a2_debug.specs.Calls.{Does, Sets}
+use Rattle.a2_debug.specs.Calls.{Does, Sets, Run}
 use Rattle.a2_debug.specs.Lines.{letters_of, first_word, behind_word, number_in, only_word, line_of, halt_line, picture_of}
-use Rattle.a2_debug.specs.Answers.{Says, SaysNone, done_text, IsText, IsDone, IsRefused, IsVerb, IsAnswered, IsTurnedDown}
+use Rattle.a2_debug.specs.Answers.{Says, SaysNone, done_text, IsText, IsVerb, IsAnswered, IsTurnedDown}
 use Rattle.a2_debug.proofs.Keys.{NoneAbove-weaker, NoneAbove-append, NoneAbove-typed_at, NoneAbove-up_to}
 use Rattle.a2_debug.proofs.Sessions.{session_next, session_typed, session_back}
 use Rattle.a2_debug.proofs.Advancing.{goes_on, stops_stuck, stops_marked}
@@ -180,12 +180,20 @@ outcome old past (call.ClearBreak word) = go (at_place unmarked old.program.name
         inl (record { answer = Done; new = new; does = subst (λ (r : Result (List ℕ) DebugFault). Sets old r Done new) (sym e) (refl, refl, refl); spelt = λ verb. (done_text verb new, refl) })
     go (Err why) e = inr (why, subst (λ (r : Result (List ℕ) DebugFault). Sets old r (Refused why) old) (sym e) (refl, refl))
 
+-- each call has an answer
+pub call_answers : (c : Call) (old : Stored) → NoneAbove old.count old.log → (answer : Answer) × (new : Stored) × Does old c answer new
+call_answers c old past = go (outcome old past c)
+  where
+    go : Outcome old c → (answer : Answer) × (new : Stored) × Does old c answer new
+    go (inl done) = (done.answer, done.new, done.does)
+    go (inr refused) = (Refused refused.0, old, refused.1)
+
 -- Keys that a text spells
 
 abbrev Spelt : List ℕ → Type 0
 Spelt text = ((keys : List ℕ) × Spells text keys) ⊎ ((keys : List ℕ) → Spells text keys → ⊥)
 
-spells_only : (text xs ys : List ℕ) → Spells text xs → Spells text ys → xs ≡ ys
+pub spells_only : (text xs ys : List ℕ) → Spells text xs → Spells text ys → xs ≡ ys
 spells_only text [] [] h k = refl
 spells_only text [] (y ∷ ys) h k = absurd (empty_begins y k.0 (subst (λ (t : List ℕ). BeginsWith t y k.0) h k.1))
 spells_only text (x ∷ xs) [] h k = absurd (empty_begins x h.0 (subst (λ (t : List ℕ). BeginsWith t x h.0) k h.1))
@@ -397,7 +405,7 @@ sets_past : (old new : Stored) (found : Result (List ℕ) DebugFault) (answer : 
 sets_past old new (Ok breaks) answer h past = subst (λ (s : Stored). NoneAbove s.count s.log) (sym h.2) past
 sets_past old new (Err why) answer h past = same_past old new h.1 past
 
-does_past : (old new : Stored) (c : Call) (answer : Answer) → Does old c answer new → NoneAbove old.count old.log → NoneAbove new.count new.log
+pub does_past : (old new : Stored) (c : Call) (answer : Answer) → Does old c answer new → NoneAbove old.count old.log → NoneAbove new.count new.log
 does_past old new (call.Step n) (Halted halt) h past = moves_past old new n h.3 past
 does_past old new (call.Step n) Done h past = absurd h
 does_past old new (call.Step n) (Refused why) h past = same_past old new h.2 past
@@ -413,6 +421,14 @@ does_past old new (call.Back n) Done h past = subst (λ (s : Stored). NoneAbove 
 does_past old new (call.Back n) (Refused why) h past = same_past old new h.2 past
 does_past old new (call.SetBreak word) answer h past = sets_past old new (at_place marked old.program.names word.now old.breaks) answer h past
 does_past old new (call.ClearBreak word) answer h past = sets_past old new (at_place unmarked old.program.names word.now old.breaks) answer h past
+
+-- each list of calls has answers
+pub calls_answer : (calls : List Call) (old : Stored) → NoneAbove old.count old.log → (answers : List Answer) × (new : Stored) × Run old calls answers new
+calls_answer [] old past = ([], old, refl)
+calls_answer (c ∷ calls) old past =
+    let (answer, mid, does) = call_answers c old past in
+    let (answers, new, runs) = calls_answer calls mid (does_past old mid c answer does past) in
+    (answer ∷ answers, new, (mid, does, runs))
 
 pub answered_past : (line : List ℕ) (old : Stored) (text : List ℕ) (new : Stored) → IsAnswered line old text new → NoneAbove old.count old.log → NoneAbove new.count new.log
 answered_past line old text new (inl blank) past = same_past old new blank.2 past
