@@ -98,7 +98,7 @@ fn left_by(alloc: Global, line: &str, calls: u64) -> Result<Left, AllocError> {
     })
 }
 
-const RETURNED: &str = "A=C1 X=00 Y=00 P=B0 S=FF PC=FF69 STEPS=4 CYCLES=20\nSTOP RETURNED\n";
+const RETURNED: &str = "A=C1 X=00 Y=00 P=B0 S=FF PC=FF69 STEPS=5 CYCLES=25\nSTOP RETURNED\n";
 
 // What is shown begins and ends so.
 #[test]
@@ -107,9 +107,9 @@ fn accepted_words(rt: HostRuntime) -> Result<(), Fail> {
         ("", "A   ", RETURNED, 0),
         ("run five", "A   ", RETURNED, 0),
         (
-            "run --limit 3 five",
+            "run --limit 4 five",
             "A   ",
-            "PC=0305 STEPS=3 CYCLES=14\nSTOP LIMIT\n",
+            "PC=0305 STEPS=4 CYCLES=19\nSTOP LIMIT\n",
             3,
         ),
         (
@@ -118,7 +118,7 @@ fn accepted_words(rt: HostRuntime) -> Result<(), Fail> {
             "STEPS=0 CYCLES=0\nSTOP LIMIT\n",
             3,
         ),
-        ("run five --limit 000000004", "A   ", RETURNED, 0),
+        ("run five --limit 000000005", "A   ", RETURNED, 0),
         ("run --limit=100000000 five", "A   ", RETURNED, 0),
         (
             "run leap",
@@ -132,7 +132,7 @@ fn accepted_words(rt: HostRuntime) -> Result<(), Fail> {
         (
             "run five --attr",
             "A   ",
-            "........\nA=C1 X=00 Y=00 P=B0 S=FF PC=FF69 STEPS=4 CYCLES=20\nSTOP RETURNED\n",
+            "........\nA=C1 X=00 Y=00 P=B0 S=FF PC=FF69 STEPS=5 CYCLES=25\nSTOP RETURNED\n",
             0,
         ),
         (

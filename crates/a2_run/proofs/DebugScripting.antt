@@ -1,8 +1,8 @@
 -- What a script of debugger lines rests on: each line has a text, and what is read of source and script is enough.
 use Rattle.std.specs.Prelude.{codes, IsErr}
 use Rattle.std.specs.Result.{IsErrAnd}
-use Rattle.std.proofs.Common.{◌≡◌, ◌≢◌, ◌⊎◌, ℕ, ◌<◌, Bool, true, false, List, [], ◌++◌, take, Option, Some, None, IfSome, Result, Ok, Err, refl, sym, ◌∙◌, subst, inl, inr, lit<}
-use Rattle.a2_stream.specs.Stream.{Giver, Taker, Sends, Breaks, SendsOrBreaks}
+use Rattle.std.proofs.Common.{◌≡◌, ◌≢◌, ◌⊎◌, ℕ, ◌<◌, true, false, List, ◌++◌, take, Option, Some, None, IfSome, Result, Ok, Err, refl, sym, ◌∙◌, subst, inl, inr, lit<}
+use Rattle.a2_stream.specs.Stream.{Taker, Breaks, SendsOrBreaks}
 use Rattle.a2_stream.specs.declared.WriteFault.{WriteFault}
 use Rattle.a2_stream.proofs.Joined.{Sends-nil}
 use Rattle.a2_syntax.specs.declared.fault.Fault.{Fault}
@@ -16,7 +16,7 @@ use Rattle.a2_debug.specs.contracts.fault.DebugFault.{the_type}
 use Rattle.a2_debug.specs.declared.fault.DebugFault.{DebugFault}
 use Rattle.a2_debug.specs.declared.fault.DebugFault.TheVariants as debug
 use Rattle.a2_debug.specs.Stored.{Stored, NoneAbove, begun}
-use Rattle.a2_debug.specs.Answers.{IsAnswered, IsTurnedDown, LineAnswers}
+use Rattle.a2_debug.specs.Answers.{LineAnswers}
 use Rattle.a2_debug.specs.Texts.{shown}
 use Rattle.a2_debug.proofs.Total.{Met, met, answered_past, never_by_write}
 use Rattle.a2_run.specs.declared.fault.RunFault.{RunFault}
@@ -129,7 +129,8 @@ program_of_read source program h = program-front 65537 source program enough h
 answers_of_read : {T : Type 0} (source script : List ℕ) (a b : Taker) (r : Result T RunFault) → DebugAnswers (read_of source) (read_of script) a b r → DebugAnswers source script a b r
 answers_of_read source script a b (Ok value) p = (p.0, text_of_read source script p.0 p.1, p.2)
 answers_of_read source script a b (Err (Source fault)) p = (source_of_read source fault p.0, p.1)
-answers_of_read source script a b (Err (Script fault)) p = ((p.0.0, program_of_read source p.0.0 p.0.1), script_of_read script fault p.1, p.2)
+answers_of_read source script a b (Err (Script fault)) p =
+    (((p.0.0.0, program_of_read source p.0.0.0 p.0.0.1), script_of_read script fault p.0.1), p.1)
 answers_of_read source script a b (Err Read) p = p
 answers_of_read source script a b (Err Write) p = (p.0, text_of_read source script p.0 p.1, p.2)
 answers_of_read source script a b (Err Memory) p = p
@@ -153,18 +154,18 @@ refused_script source script program a fault why is h e = subst (λ (w : RunFaul
   where
     go : (f : Fault) → (f ≢ refusal.Memory → size_refusal script ≡ Some f) → DebugAnswers {T = Unit {0}} source script a a (Err (refusal_of f))
     go refusal.Memory told = Sends-nil a
-    go refusal.NoCode told = ((program, is), told (λ e. (let bad : ⊥ = cc in bad)), Sends-nil a)
-    go (refusal.TooLarge n) told = ((program, is), told (λ e. (let bad : ⊥ = cc in bad)), Sends-nil a)
-    go (refusal.Syntax n) told = ((program, is), told (λ e. (let bad : ⊥ = cc in bad)), Sends-nil a)
-    go (refusal.TooManyNames n) told = ((program, is), told (λ e. (let bad : ⊥ = cc in bad)), Sends-nil a)
-    go (refusal.Duplicate n) told = ((program, is), told (λ e. (let bad : ⊥ = cc in bad)), Sends-nil a)
-    go (refusal.Unknown n) told = ((program, is), told (λ e. (let bad : ⊥ = cc in bad)), Sends-nil a)
-    go (refusal.Forward n) told = ((program, is), told (λ e. (let bad : ⊥ = cc in bad)), Sends-nil a)
-    go (refusal.NoMode n) told = ((program, is), told (λ e. (let bad : ⊥ = cc in bad)), Sends-nil a)
-    go (refusal.Range n) told = ((program, is), told (λ e. (let bad : ⊥ = cc in bad)), Sends-nil a)
-    go (refusal.Branch n) told = ((program, is), told (λ e. (let bad : ⊥ = cc in bad)), Sends-nil a)
-    go (refusal.Outside n) told = ((program, is), told (λ e. (let bad : ⊥ = cc in bad)), Sends-nil a)
-    go (refusal.Overlap n) told = ((program, is), told (λ e. (let bad : ⊥ = cc in bad)), Sends-nil a)
+    go refusal.NoCode told = (((program, is), told (λ e. (let bad : ⊥ = cc in bad))), Sends-nil a)
+    go (refusal.TooLarge n) told = (((program, is), told (λ e. (let bad : ⊥ = cc in bad))), Sends-nil a)
+    go (refusal.Syntax n) told = (((program, is), told (λ e. (let bad : ⊥ = cc in bad))), Sends-nil a)
+    go (refusal.TooManyNames n) told = (((program, is), told (λ e. (let bad : ⊥ = cc in bad))), Sends-nil a)
+    go (refusal.Duplicate n) told = (((program, is), told (λ e. (let bad : ⊥ = cc in bad))), Sends-nil a)
+    go (refusal.Unknown n) told = (((program, is), told (λ e. (let bad : ⊥ = cc in bad))), Sends-nil a)
+    go (refusal.Forward n) told = (((program, is), told (λ e. (let bad : ⊥ = cc in bad))), Sends-nil a)
+    go (refusal.NoMode n) told = (((program, is), told (λ e. (let bad : ⊥ = cc in bad))), Sends-nil a)
+    go (refusal.Range n) told = (((program, is), told (λ e. (let bad : ⊥ = cc in bad))), Sends-nil a)
+    go (refusal.Branch n) told = (((program, is), told (λ e. (let bad : ⊥ = cc in bad))), Sends-nil a)
+    go (refusal.Outside n) told = (((program, is), told (λ e. (let bad : ⊥ = cc in bad))), Sends-nil a)
+    go (refusal.Overlap n) told = (((program, is), told (λ e. (let bad : ⊥ = cc in bad))), Sends-nil a)
 
 pub script_broke : {T : Type 0} (source script : List ℕ) (program : Assembled) (cut : List (List ℕ)) (old : Stored) (a b : Taker) (r : Result T RunFault)
     → IsProgramOf source program → size_refusal script ≡ None → cut ≡ lines script → old ≡ begun program 0

@@ -1,7 +1,7 @@
 -- What a run writes is below 4,096 bytes.
 use Rattle.std.specs.Prelude.{codes, Some, slice_index}
 use Rattle.std.specs.Fmt.{decimal}
-use Rattle.std.proofs.Common.{◌≡◌, ℕ, zero, suc, ◌+◌, ◌*◌, ◌^◌, ◌<◌, ◌≤◌, Bool, true, false, if◌then◌else◌, List, [], ◌∷◌, ◌++◌, length, map, take, drop, ap, ◌∙◌, subst, sym, refl, arith, lit≤, lit<, length-append, length-take, length-drop}
+use Rattle.std.proofs.Common.{◌≡◌, ℕ, zero, suc, ◌*◌, ◌^◌, ◌<◌, ◌≤◌, Bool, true, false, if◌then◌else◌, List, [], ◌∷◌, ◌++◌, length, map, take, drop, ap, ◌∙◌, subst, refl, arith, lit≤, lit<, length-append, length-take, length-drop}
 use Rattle.std.proofs.lemmas.List.{length-map}
 use Rattle.std.proofs.lemmas.Fmt.{length-decimal-le}
 use Rattle.a2_page.specs.Cells.{numbers_from, address_of}
@@ -11,7 +11,6 @@ use Rattle.a2_page.specs.declared.Switches.{Switches}
 use Rattle.a2_page.specs.Text.{line_of, lines_of, blocks_of, text_lines, block_lines, glyph, attribute_mark, block_digit}
 use Rattle.a2_page.specs.Picture as page
 use Rattle.a2_bus.specs.BusState.{BusState}
-use Rattle.a2_bus.specs.Memory.{Memory}
 use Rattle.a2_bus.specs.View.{memory_of}
 use Rattle.a2_cpu.specs.Registers.{Registers}
 use Rattle.a2_machine.specs.declared.Cause.{Cause}

@@ -12,3 +12,4 @@ pub mod ScriptReading
 pub mod Lengths
 pub mod Replying
 pub mod DebugScripting
+pub mod OneDebugging

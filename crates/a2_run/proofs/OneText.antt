@@ -20,7 +20,7 @@ use Rattle.a2_run.specs.Laws.{OneRefusal, RefusedHasNoProgram, RefusedHasNoRun, 
 use Rattle.a2_run.specs.Meaning.{IsProgramOf, IsRun, code_of_run, start_of_run, output_of}
 
 -- a text has one program, but for how its image is kept
-alike : (text : List ℕ) (p q : Assembled) → IsProgramOf text p → IsProgramOf text q → AreAlike p q
+pub alike : (text : List ℕ) (p q : Assembled) → IsProgramOf text p → IsProgramOf text q → AreAlike p q
 alike text p q a b = programs-alike b.source p q (subst (λ s. IsProgram s p) (one-source text a.source b.source a.is_source b.is_source) a.is_program) b.is_program
 
 held-same : (p q : Assembled) → AreAlike p q → held p.image ≡ held q.image

@@ -1,6 +1,6 @@
 -- The lines of a script have answers, one after another.
-use Rattle.std.specs.Prelude.{codes, IsErr}
-use Rattle.std.proofs.Common.{◌≡◌, ℕ, ◌+◌, ◌<◌, ◌≤◌, List, [], ◌∷◌, ◌++◌, length, map, drop, get_or, Result, Ok, Err, refl, sym, ap, ◌∙◌, subst, arith}
+use Rattle.std.specs.Prelude.{IsErr}
+use Rattle.std.proofs.Common.{◌≡◌, ℕ, ◌+◌, ◌<◌, ◌≤◌, List, [], ◌∷◌, ◌++◌, length, map, drop, get_or, Result, Ok, Err, refl, sym, ap, ap₂, ◌∙◌, subst, arith}
 use Rattle.std.specs.Borrow.{Bor}
 use Rattle.std.proofs.lemmas.List.{append_assoc, append-nil, length-map, get_or-map, drop_more, drop_all}
 use Rattle.a2_stream.specs.Stream.{Taker, Sends, Breaks}
@@ -8,11 +8,22 @@ use Rattle.a2_stream.proofs.Joined.{Sends-nil, Sends-then, Breaks-then, Breaks-m
 use Rattle.a2_stream.specs.declared.WriteFault.{WriteFault}
 use Rattle.a2_run.specs.Replies.{echo, AreReplied, RepliesTo, RepliesToAll}
 
+-- where states that are alike have one text for a line, and leave such states, they have one for all lines
+module _ {S : Type 0} (Meets : List ℕ → S → List ℕ → S → Type 0) (mark : List ℕ) (Alike : S → S → Type 0)
+    (one : (line text words : List ℕ) (old other new next : S) → Alike old other → Meets line old text new → Meets line other words next
+    → (text ≡ words) × Alike new next) where
+  pub all_one : (lines : List (List ℕ)) (old other : S) (output another : List ℕ) → Alike old other
+      → AreReplied Meets mark lines old output → AreReplied Meets mark lines other another → output ≡ another
+  all_one [] old other output another alike a b = a ∙ sym b
+  all_one (line ∷ others) old other output another alike (text, new, rest, meets, are, is) (words, next, left, met, were, was) =
+      let (same, after) = one line text words old other new next alike meets met in
+      is ∙ ap₂ (λ t r. echo mark line ++ (t ++ r)) same (all_one others new next rest left after are were) ∙ sym was
+
 -- P holds of each state that is met, and where it holds each line has a text
 module _ {S : Type 0} (Meets : List ℕ → S → List ℕ → S → Type 0) (mark : List ℕ) (P : S → Type 0)
     (met : (line : List ℕ) (old : S) → P old → (text : List ℕ) × (new : S) × Meets line old text new)
     (keeps : (line : List ℕ) (old : S) (text : List ℕ) (new : S) → Meets line old text new → P old → P new) where
-  all_met : (lines : List (List ℕ)) (old : S) → P old → (output : List ℕ) × AreReplied Meets mark lines old output
+  pub all_met : (lines : List (List ℕ)) (old : S) → P old → (output : List ℕ) × AreReplied Meets mark lines old output
   all_met [] old holds = ([], refl)
   all_met (line ∷ others) old holds =
       let (text, new, meets) = met line old holds in

@@ -31,14 +31,20 @@ pub record IsDebugText (source script output : List ℕ) : Type 0 where
   pub fits : size_refusal script ≡ None
   pub answers : AreReplied Meets (codes ">") (lines script) (begun program 0) output
 
--- An output went out; or the source is refused, or it has a program and the script is over the limits, and nothing went
--- out; or a front of an output went out, and a write failed; or there was no memory, or a read failed, and nothing went
--- out.
+-- the source is refused for this; or it has a program, and the script is over the limits
+abbrev pub IsDebugRefusal : List ℕ → List ℕ → RunFault → Type 0
+IsDebugRefusal source script (Source fault) = IsRefused source fault
+IsDebugRefusal source script (Script fault) = ((program : Assembled) × IsProgramOf source program) × (size_refusal script ≡ Some fault)
+IsDebugRefusal source script Read = ⊥
+IsDebugRefusal source script Write = ⊥
+IsDebugRefusal source script Memory = ⊥
+
+-- An output went out; or source or script is refused, and nothing went out; or a front of an output went out, and a write
+-- failed; or there was no memory, or a read failed, and nothing went out.
 abbrev pub DebugAnswers : {T : Type 0} → List ℕ → List ℕ → Taker → Taker → Result T RunFault → Type 0
 DebugAnswers source script old new (Ok _) = (output : List ℕ) × IsDebugText source script output × Sends old new output
-DebugAnswers source script old new (Err (Source fault)) = IsRefused source fault × Sends old new []
-DebugAnswers source script old new (Err (Script fault)) =
-    ((program : Assembled) × IsProgramOf source program) × (size_refusal script ≡ Some fault) × Sends old new []
+DebugAnswers source script old new (Err (Source fault)) = IsDebugRefusal source script (Source fault) × Sends old new []
+DebugAnswers source script old new (Err (Script fault)) = IsDebugRefusal source script (Script fault) × Sends old new []
 DebugAnswers source script old new (Err Read) = Sends old new []
 DebugAnswers source script old new (Err Write) = (output : List ℕ) × IsDebugText source script output × Breaks old new output
 DebugAnswers source script old new (Err Memory) = Sends old new []

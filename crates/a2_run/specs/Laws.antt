@@ -1,5 +1,5 @@
--- Laws of what source texts and scripts mean: statements about the definitions of `Meaning.antt` and `Scripts.antt` alone, by
--- name. This project's own.
+-- Laws of what source texts and scripts mean: statements about the definitions of `Meaning.antt`, `Scripts.antt` and
+-- `DebugScripts.antt` alone, by name. This project's own.
 use Rattle.std.specs.Prelude.{◌≡◌, ◌≢◌, ℕ, true, false, List, None}
 use Rattle.a2_syntax.specs.declared.fault.Fault.{Fault}
 use Rattle.a2_syntax.specs.Limits.{size_refusal}
@@ -7,8 +7,10 @@ use Rattle.a2_asm.specs.Assembled.{Assembled}
 use Rattle.a2_machine.specs.declared.Cause.{Cause}
 use Rattle.a2_machine.specs.declared.Cause.TheVariants.{CodeWrite, OffStatement}
 use Rattle.a2_run.specs.declared.Options.{Options}
+use Rattle.a2_run.specs.declared.fault.RunFault.{RunFault}
 use Rattle.a2_run.specs.Meaning.{IsProgramOf, IsRefused, IsRun, AreObjectLines}
 use Rattle.a2_run.specs.Scripts.{is_refused_script, is_mon_text}
+use Rattle.a2_run.specs.DebugScripts.{IsDebugText, IsDebugRefusal}
 
 -- where a text's guarded run ends by neither CODE WRITE nor OFF STATEMENT, its free run has the same cause and output
 abbrev pub FreeRunsAreGuardedRuns : Type 0
@@ -81,3 +83,30 @@ EachScriptHasOutput = (script : List ℕ) → size_refusal script ≡ None → (
 -- and only one
 abbrev pub OneScriptOutput : Type 0
 OneScriptOutput = (script output other : List ℕ) → is_mon_text script output → is_mon_text script other → output ≡ other
+
+-- a source with a script of debugger lines has one refusal at most
+abbrev pub OneDebugRefusal : Type 0
+OneDebugRefusal =
+    (source script : List ℕ) (why other : RunFault) → IsDebugRefusal source script why
+    → IsDebugRefusal source script other → why ≡ other
+
+-- where it has one, it has no output
+abbrev pub RefusedDebuggingHasNoOutput : Type 0
+RefusedDebuggingHasNoOutput =
+    (source script output : List ℕ) (why : RunFault) → IsDebugRefusal source script why → IsDebugText source script output → ⊥
+
+-- a source that has a program and a script within the limits have an output
+abbrev pub EachDebuggingHasOutput : Type 0
+EachDebuggingHasOutput =
+    (source script : List ℕ) (program : Assembled) → IsProgramOf source program → size_refusal script ≡ None
+    → (output : List ℕ) × IsDebugText source script output
+
+-- no source with a script is without a refusal and without an output
+abbrev pub RefusedOrDebugged : Type 0
+RefusedOrDebugged =
+    (source script : List ℕ) → ((why : RunFault) → IsDebugRefusal source script why → ⊥)
+    → ((output : List ℕ) → IsDebugText source script output → ⊥) → ⊥
+
+-- and it has one output at most
+abbrev pub OneDebugOutput : Type 0
+OneDebugOutput = (source script output other : List ℕ) → IsDebugText source script output → IsDebugText source script other → output ≡ other

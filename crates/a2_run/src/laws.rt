@@ -1,6 +1,6 @@
 //! Laws of what source texts and scripts mean. The calls do nothing: their contracts are the laws.
 
-ghost use Rattle.a2_run.specs.Laws.{FreeRunsAreGuardedRuns, OneRefusal, RefusedHasNoProgram, RefusedHasNoRun, RefusedHasNoObjectLines, RefusedOrProgram, OneCause, OneOutput, OneObjectText, EachProgramRuns, EachProgramHasObjectLines, OneScriptRefusal, RefusedScriptHasNoOutput, EachScriptHasOutput, OneScriptOutput};
+ghost use Rattle.a2_run.specs.Laws.{FreeRunsAreGuardedRuns, OneRefusal, RefusedHasNoProgram, RefusedHasNoRun, RefusedHasNoObjectLines, RefusedOrProgram, OneCause, OneOutput, OneObjectText, EachProgramRuns, EachProgramHasObjectLines, OneScriptRefusal, RefusedScriptHasNoOutput, EachScriptHasOutput, OneScriptOutput, OneDebugRefusal, RefusedDebuggingHasNoOutput, EachDebuggingHasOutput, RefusedOrDebugged, OneDebugOutput};
 
 /// For every source text, list of keys, step limit and option: where the text's guarded run ends by a cause other than
 /// `CodeWrite` and `OffStatement`, its free run ends by the same cause and writes the same.
@@ -36,4 +36,14 @@ pub fn a_script_has_one_output()
     ensures refused { RefusedScriptHasNoOutput }
     ensures each { EachScriptHasOutput }
     ensures one { OneScriptOutput }
+{}
+
+/// A source with a script of debugger lines has one refusal, the source's or, where that has a program, the script's; or
+/// one output. It never has both, and never neither.
+pub fn a_debugging_script_has_one_output()
+    ensures refusal { OneDebugRefusal }
+    ensures refused { RefusedDebuggingHasNoOutput }
+    ensures each { EachDebuggingHasOutput }
+    ensures either { RefusedOrDebugged }
+    ensures one { OneDebugOutput }
 {}

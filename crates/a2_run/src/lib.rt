@@ -10,12 +10,13 @@ mod run;
 mod scripts;
 mod sources;
 
-pub use fault::RunFault;
+pub use fault::{ReadingFault, RunFault};
 pub use laws::{
-    a_free_run_is_the_guarded_run, a_script_has_one_output, a_text_is_refused_or_means_a_program,
-    a_text_means_one_output,
+    a_debugging_script_has_one_output, a_free_run_is_the_guarded_run, a_script_has_one_output,
+    a_text_is_refused_or_means_a_program, a_text_means_one_output,
 };
-pub use run::{asm_text, debug_text, fault_status, mon_text, run_text, status};
+pub use run::{asm_text, debug_text, fault_status, mon_text, read_text, run_text, status};
+pub use sources::{program_of, started};
 
 /// What a run may do, and what it shows.
 #[derive(Clone, Copy, Debug, PartialEq, Eq)]

@@ -38,8 +38,9 @@ fn read_front<A: Allocator + Copy, R: Input>(
     Ok(text)
 }
 
-// Reads a text up to its end, but at most 65,537 bytes: one more than a text may have.
-fn read_text<A: Allocator + Copy, R: Input>(
+/// Reads a text up to its end, but at most 65,537 bytes: one more than a text may have. Refused where a read fails, and
+/// for want of memory.
+pub fn read_text<A: Allocator + Copy, R: Input>(
     alloc: A,
     reader: &mut R,
 ) -> Result<Vec<u8, A>, ReadingFault>

@@ -1,12 +1,14 @@
 //! A script of Monitor lines in, its answers out.
 
-ghost use Rattle.std.specs.Prelude.{◌≡◌, ◌≢◌, false, IfOk, IfErr, List, ℕ, length, map};
+ghost use Rattle.std.specs.Prelude.{◌≡◌, ◌≢◌, false, IfOk, IfErr, List, ℕ, length, map, codes};
 ghost use Rattle.a2_text.specs.Lines as cut;
 ghost use Rattle.a2_syntax.specs.Limits.{size_refusal};
 ghost use Rattle.a2_monitor.specs.Sittings.{sitting_of};
 ghost use Rattle.a2_run.specs.Answers.{is_read_fault};
 ghost use Rattle.a2_run.specs.Scripts as scripts;
-ghost use Rattle.a2_run.specs.Scripts.{ScriptAnswers, AnswersLine, AnswersLines, is_refused_script, is_mon_text, start_sitting};
+ghost use Rattle.a2_monitor.specs.Replies.{IsReply};
+ghost use Rattle.a2_run.specs.Replies.{RepliesTo, RepliesToAll};
+ghost use Rattle.a2_run.specs.Scripts.{ScriptAnswers, is_refused_script, is_mon_text, start_sitting};
 
 use crate::RunFault;
 use a2_machine::Machine;
@@ -31,7 +33,7 @@ fn answer<A: Allocator, W: Output>(
     line: &[u8],
     writer: &mut W,
 ) -> Result<(), WriteFault>
-    ensures { AnswersLine line.now (sitting_of session.old) (sitting_of session.new) (W.taker writer.old) (W.taker writer.new) result }
+    ensures { RepliesTo IsReply line.now (sitting_of session.old) (sitting_of session.new) (W.taker writer.old) (W.taker writer.new) result }
 {
     let Err(fault) = session.line(line, writer) else {
         return Ok(());
@@ -48,7 +50,7 @@ fn answer_all<A: Allocator, W: Output>(
     lines: &[&[u8]],
     writer: &mut W,
 ) -> Result<(), WriteFault>
-    ensures { AnswersLines (map (λ x. x.now) lines.now) (sitting_of session.old) (W.taker writer.old) (W.taker writer.new) result }
+    ensures { RepliesToAll IsReply (codes "*") (map (λ x. x.now) lines.now) (sitting_of session.old) (W.taker writer.old) (W.taker writer.new) result }
 {
     for line in lines {
         put_all(&[b"*", line, b"\n"], writer)?;

@@ -1,8 +1,8 @@
 use Rattle.std.specs.Prelude.{codes}
-use Rattle.std.proofs.Common.{◌≡◌, ◌+◌, ◌∷◌, [], List, ℕ, map, drop, get_or, subst, sym, ap, arith}
+use Rattle.std.proofs.Common.{◌+◌, map, drop, arith}
 use Rattle.a2_run.specs.DebugScripts.{Meets}
 use Rattle.a2_run.proofs.DebugScripting.{IsPast, text_of_line, stays_past}
-use Rattle.a2_run.proofs.Replying.{IsFront, front-nil, front-more, front-broke-echo, front-broke, front-all, with_error, left-now, none-left}
+use Rattle.a2_run.proofs.Replying.{front-nil, front-more, front-broke-echo, front-broke, front-all, with_error, left-now, none-left}
 use Rattle.a2_run.proofs.debugging.answer_all.Goals as goal
 
 pub loop-line-init : goal.loop-line-init
