@@ -1,0 +1,11 @@
+pub mod Routines
+pub mod Runs
+pub mod Swap
+pub mod WideSum
+pub mod Larger
+pub mod ByteSum
+pub mod Product
+pub mod Filling
+pub mod TextLength
+pub mod KeySum
+pub mod Greeting
