@@ -1,0 +1,8 @@
+use Rattle.std.proofs.lemmas.Result.{err_from_is_err_and}
+use Rattle.a2_stream.proofs.Joined.{Sends-nil}
+use Rattle.a2_list.proofs.listing.list_source.Goals as goal
+
+pub returns-in_err-texts-clause-meaning : goal.returns-in_err-texts-clause-meaning
+returns-in_err-texts-clause-meaning g c =
+    let fault = err_from_is_err_and c.from_residual-in_err-texts.result c.from_residual-in_err-texts.ensures.1 in
+    rw (fault.1, fault.2) (Sends-nil (g.W.Output.taker c.args.writer.now))
