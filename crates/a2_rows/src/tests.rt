@@ -1,14 +1,14 @@
 //! Worked examples, from a text to the bytes written and the status.
 
 mod assembled;
-mod debugger;
+mod blocks;
+mod editing;
 mod example;
+mod hooks;
 mod instructions;
 mod limits;
 mod machines;
-mod monitor;
 mod pictures;
 mod refusals;
 mod screens;
 mod stops;
-mod streams;

@@ -1,11 +1,12 @@
 //! What `asm` tells of texts: object lines, or the refusal beside them.
 
-use super::example::{FIVE_LINES, RETURNS, answer_of, is_refused, tells, told};
+use super::example::{RETURNS, answer_of, is_refused, tells, told};
 use a2_asm::assemble;
 use a2_hex::load_lines;
 use a2_machine::Cause;
 use a2_stream::{FromRead, ToWrite};
 use a2_syntax::parse;
+use a2_worked::FIVE_LINES;
 use std::test::Fail;
 
 #[test]
@@ -181,7 +182,7 @@ fn cut_sources(rt: HostRuntime) -> Result<(), Fail> {
 fn object_lines_load(rt: HostRuntime) -> Result<(), Fail> {
     let text = b" ORG $400\n ASC \"HELLO\"\n ORG $300\n RTS";
     let lines = told(&rt, text)?;
-    let loaded = load_lines(rt.alloc(), lines.as_bytes())?;
+    let loaded = load_lines(rt.alloc(), lines.as_slice())?;
     let source = parse(rt.alloc(), text)?;
     let program = assemble(rt.alloc(), &source)?;
     for address in 0..0xC000u16 {

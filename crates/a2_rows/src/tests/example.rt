@@ -4,20 +4,10 @@ use a2_bus::Keys;
 use a2_machine::Cause;
 use a2_run::{Options, RunFault, asm_text, run_text, status};
 use a2_stream::{FromRead, Input, Output, ToWrite};
+use a2_worked::{Grid, Rows, put_grid, put_page};
 use std::alloc::{AllocError, Global};
 use std::process::Abort;
 use std::test::Fail;
-
-/// Prints an A.
-pub const FIVE_LINES: &str = "COUT EQU $FDED
- ORG $300
- LDA #$C1
- JSR COUT
- RTS
-";
-
-/// What the five lines leave in the registers.
-pub const FIVE_LINES_LEAVE: &str = "A=C1 X=00 Y=00 P=B0 S=FF PC=FF69 STEPS=4 CYCLES=20";
 
 pub const GUARDED: Options = Options {
     free: false,
@@ -28,20 +18,6 @@ pub const FREE: Options = Options {
     free: true,
     attr: false,
 };
-
-/// How many characters a row has.
-const WIDTH: usize = 40;
-
-/// Rows that have a name: their number, from 0 on, and what they begin with.
-pub type Rows = &'static [(usize, &'static str)];
-
-/// Rows filled with one character behind what they begin with; a row without a name is nothing else.
-#[derive(Clone, Copy)]
-pub struct Grid {
-    pub count: usize,
-    pub fill: u8,
-    pub rows: Rows,
-}
 
 /// What a run shows above its last two lines.
 #[derive(Clone, Copy)]
@@ -91,14 +67,16 @@ pub fn answer_of<R: Input, W: Output>(
 }
 
 /// What `asm` tells of a text: its object lines; or its refusal, and then nothing was written.
-pub fn told(rt: &(impl Abort + AllocGlobal), text: &[u8]) -> Result<String, Fail> {
+pub fn told(rt: &(impl Abort + AllocGlobal), text: &[u8]) -> Result<Vec<u8>, Fail> {
     let mut output = Vec::new(rt.alloc());
     let mut reader = FromRead::new(text);
     match asm_text(rt.alloc(), &mut reader, &mut ToWrite::new(&mut output)) {
-        Ok(()) => Ok(String::from_utf8(output)?),
+        Ok(()) => Ok(output),
         Err(fault) => {
             assert!(rt; output.is_empty());
-            Ok(format!(in rt.alloc(); "{fault}\n")?)
+            let text = format!(in rt.alloc(); "{fault}\n")?;
+            output.extend_from_slice(text.as_bytes())?;
+            Ok(output)
         }
     }
 }
@@ -119,35 +97,6 @@ fn words_of(cause: Cause) -> (&'static str, u8) {
     }
 }
 
-/// What a row begins with.
-fn named(rows: Rows, number: usize) -> &'static str {
-    for (row, text) in rows {
-        if *row == number {
-            return *text;
-        }
-    }
-    ""
-}
-
-/// Adds the rows of a grid.
-fn put_grid(text: &mut Vec<u8>, grid: Grid) -> Result<(), AllocError> {
-    for number in 0..grid.count {
-        let begins = named(grid.rows, number);
-        text.extend_from_slice(begins.as_bytes())?;
-        for _ in begins.len()..WIDTH {
-            text.push(grid.fill)?;
-        }
-        text.push(b'\n')?;
-    }
-    Ok(())
-}
-
-/// Adds the 24 rows of a text page.
-fn put_page(text: &mut Vec<u8>, rows: Rows, fill: u8) -> Result<(), AllocError> {
-    let count = 24;
-    put_grid(text, Grid { count, fill, rows })
-}
-
 fn put_screen(text: &mut Vec<u8>, screen: Screen) -> Result<(), AllocError> {
     match screen {
         Screen::Text(rows) => put_page(text, rows, b' '),
@@ -165,21 +114,14 @@ fn put_screen(text: &mut Vec<u8>, screen: Screen) -> Result<(), AllocError> {
     }
 }
 
-/// The picture of a text page.
-pub fn page_of(alloc: Global, rows: Rows) -> Result<String, Fail> {
-    let mut text = Vec::new(alloc);
-    put_page(&mut text, rows, b' ')?;
-    Ok(String::from_utf8(text)?)
-}
-
 /// The whole output that an example gives.
-pub fn output_of(alloc: Global, run: Run) -> Result<String, Fail> {
+fn output_of(alloc: Global, run: Run) -> Result<Vec<u8>, AllocError> {
     let mut text = Vec::new(alloc);
     put_screen(&mut text, run.screen)?;
     let (cause, _) = words_of(run.cause);
     let lines = format!(in alloc; "{}\nSTOP {cause}\n", run.registers)?;
     text.extend_from_slice(lines.as_bytes())?;
-    Ok(String::from_utf8(text)?)
+    Ok(text)
 }
 
 // The run under these options writes this text and nothing else, and answers the cause with its status.
@@ -187,7 +129,7 @@ fn shows_under(
     rt: &(impl Abort + AllocGlobal),
     run: Run,
     options: Options,
-    text: &str,
+    text: &[u8],
 ) -> Result<(), Fail> {
     let mut output = Vec::new(rt.alloc());
     let answer = answer_of(
@@ -199,15 +141,14 @@ fn shows_under(
     assert_eq!(rt; answer, Ok(run.cause), "{}", run.source);
     let (_, code) = words_of(run.cause);
     assert_eq!(rt; status(&answer), code, "{}", run.source);
-    let output = String::from_utf8(output)?;
-    assert_eq!(rt; output.as_str(), text, "{}", run.source);
+    assert_eq!(rt; output.as_slice(), text, "{}", run.source);
     Ok(())
 }
 
 /// The run gives what the example says; and where its guard stopped nothing, the free run gives the same.
 pub fn shows(rt: &(impl Abort + AllocGlobal), run: Run) -> Result<(), Fail> {
     let text = output_of(rt.alloc(), run)?;
-    shows_under(rt, run, run.options, text.as_str())?;
+    shows_under(rt, run, run.options, text.as_slice())?;
     if run.options.free || matches!(run.cause, Cause::CodeWrite | Cause::OffStatement) {
         return Ok(());
     }
@@ -215,14 +156,14 @@ pub fn shows(rt: &(impl Abort + AllocGlobal), run: Run) -> Result<(), Fail> {
         free: true,
         ..run.options
     };
-    shows_under(rt, run, free, text.as_str())
+    shows_under(rt, run, free, text.as_slice())
 }
 
 /// `asm` tells this of the text.
 pub fn tells(rt: &(impl Abort + AllocGlobal), text: &[u8], wanted: &str) -> Result<(), Fail> {
     let found = told(rt, text)?;
     let shown = String::from_utf8_lossy(rt.alloc(), text)?;
-    assert_eq!(rt; found.as_str(), wanted, "{shown}");
+    assert_eq!(rt; found.as_slice(), wanted.as_bytes(), "{shown}");
     Ok(())
 }
 

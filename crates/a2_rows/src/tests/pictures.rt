@@ -1,7 +1,8 @@
 //! Pictures other than the text page alone.
 
-use super::example::{GUARDED, Grid, RETURNS, Run, Screen, shows};
+use super::example::{GUARDED, RETURNS, Run, Screen, shows};
 use a2_run::Options;
+use a2_worked::Grid;
 use std::test::Fail;
 
 const WITH_ATTRIBUTES: Options = Options {
@@ -99,7 +100,7 @@ HOME EQU $FC58
 ",
             options: WITH_ATTRIBUTES,
             screen: Screen::Attributes(&[(3, "          A")], &[(3, "..........I")]),
-            registers: "A=C1 X=00 Y=00 P=B0 S=FF PC=FF69 STEPS=16 CYCLES=57",
+            registers: "A=C1 X=00 Y=00 P=B0 S=FF PC=FF69 STEPS=17 CYCLES=62",
             ..RETURNS
         },
     )

@@ -1,7 +1,8 @@
 //! What the Monitor's services leave on the screen.
 
-use super::example::{FIVE_LINES, FIVE_LINES_LEAVE, RETURNS, Run, Screen, shows, tells};
+use super::example::{RETURNS, Run, Screen, shows, tells};
 use a2_machine::Cause;
+use a2_worked::{FIVE_LINES, FIVE_LINES_LEAVE};
 use std::test::Fail;
 
 const PRINTED_A: Screen = Screen::Text(&[(0, "A")]);
@@ -32,11 +33,17 @@ fn limits(rt: HostRuntime) -> Result<(), Fail> {
         ),
         (
             3,
-            PRINTED_A,
-            "A=C1 X=00 Y=00 P=B0 S=FD PC=0305 STEPS=3 CYCLES=14",
+            Screen::Text(&[]),
+            "A=C1 X=00 Y=00 P=B0 S=FB PC=FDF0 STEPS=3 CYCLES=13",
             Cause::Limit,
         ),
-        (4, PRINTED_A, FIVE_LINES_LEAVE, Cause::Returned),
+        (
+            4,
+            PRINTED_A,
+            "A=C1 X=00 Y=00 P=B0 S=FD PC=0305 STEPS=4 CYCLES=19",
+            Cause::Limit,
+        ),
+        (5, PRINTED_A, FIVE_LINES_LEAVE, Cause::Returned),
         (4_294_967_295, PRINTED_A, FIVE_LINES_LEAVE, Cause::Returned),
     ] {
         shows(
@@ -79,7 +86,7 @@ L JSR CROUT
  RTS
 ",
             screen: Screen::Text(&[(0, "Q"), (23, "Z")]),
-            registers: "A=5A X=00 Y=00 P=30 S=FF PC=FF69 STEPS=107 CYCLES=460",
+            registers: "A=5A X=00 Y=00 P=30 S=FF PC=FF69 STEPS=134 CYCLES=595",
             ..RETURNS
         },
     )
@@ -104,7 +111,7 @@ L JSR COUT
  RTS
 ",
             screen: Screen::Text(&[(0, "BBBBBBBBBBBBBBBBBBBBBBBBBBBBBBBBBBBBBBBB"), (1, "C")]),
-            registers: "A=01 X=00 Y=01 P=30 S=FF PC=FF69 STEPS=168 CYCLES=709",
+            registers: "A=01 X=00 Y=01 P=30 S=FF PC=FF69 STEPS=209 CYCLES=914",
             ..RETURNS
         },
     )
@@ -116,7 +123,7 @@ fn backspace_from_the_first_column(rt: HostRuntime) -> Result<(), Fail> {
         &rt,
         Run {
             source: " ORG $300\n LDA #$88\n JSR $FDED\n LDA $24\n LDX $25\n RTS",
-            registers: "A=27 X=00 Y=00 P=32 S=FF PC=FF69 STEPS=6 CYCLES=26",
+            registers: "A=27 X=00 Y=00 P=32 S=FF PC=FF69 STEPS=7 CYCLES=31",
             ..RETURNS
         },
     )

@@ -52,7 +52,7 @@ fn services_and_pushes_that_reach_code(rt: HostRuntime) -> Result<(), Fail> {
         (
             " ORG $400\n JSR $FDED\n RTS",
             Screen::Text(&[(0, " -=")]),
-            "A=00 X=00 Y=00 P=30 S=FB PC=FDED STEPS=1 CYCLES=6",
+            "A=00 X=00 Y=00 P=30 S=FB PC=FDF0 STEPS=2 CYCLES=11",
         ),
         (
             " ORG $300\n LDX #0\n TXS\n JSR T\n ORG $1FF\nT RTS",
@@ -80,11 +80,11 @@ fn window_that_does_not_fit(rt: HostRuntime) -> Result<(), Fail> {
     for (source, registers) in [
         (
             " ORG $300\n LDA #0\n STA $21\n JSR $FDED",
-            "A=00 X=00 Y=00 P=32 S=FB PC=FDED STEPS=3 CYCLES=11",
+            "A=00 X=00 Y=00 P=32 S=FB PC=FDF0 STEPS=4 CYCLES=16",
         ),
         (
             " ORG $300\n LDA #24\n STA $25\n JSR $FDED",
-            "A=18 X=00 Y=00 P=30 S=FB PC=FDED STEPS=3 CYCLES=11",
+            "A=18 X=00 Y=00 P=30 S=FB PC=FDF0 STEPS=4 CYCLES=16",
         ),
     ] {
         shows(
@@ -100,14 +100,14 @@ fn window_that_does_not_fit(rt: HostRuntime) -> Result<(), Fail> {
     Ok(())
 }
 
-// The second RDKEY has no key, and GETLN no RETURN: it then takes none of the keys it has.
+// The second KEYIN has no key, and GETLN no RETURN: it then takes none of the keys it has.
 #[test]
 fn keys_run_out(rt: HostRuntime) -> Result<(), Fail> {
     for (source, keys, registers) in [
         (
             " ORG $300\n JSR $FD0C\n JSR $FD0C\n RTS",
             "Q",
-            "A=D1 X=00 Y=00 P=30 S=FB PC=FD0C STEPS=3 CYCLES=18",
+            "A=D1 X=00 Y=00 P=30 S=FB PC=FD1B STEPS=5 CYCLES=28",
         ),
         (
             " ORG $300\n JSR $FD6A\n RTS",

@@ -1,28 +1,12 @@
 //! Sessions of the Monitor, each whole: a line that begins with `*` is a line of the script as it is repeated, and what
 //! stands below it is its answer.
 
-use super::limits::put_bytes;
-use a2_hex::load_lines;
-use a2_machine::Machine;
-use a2_monitor::{MonFault, Session};
 use a2_run::{RunFault, fault_status, mon_text};
-use a2_stream::{Endless, Failing, FromRead, Output, Pinched, ToWrite};
-use a2_syntax::{Fault, parse};
-use std::alloc::AllocError;
+use a2_stream::{Endless, FromRead, ToWrite};
+use a2_syntax::Fault;
+use a2_worked::{MONITOR_SESSION, script_of};
 use std::process::Abort;
 use std::test::Fail;
-
-// The lines of the script that a session answers.
-fn script_of(rt: &impl AllocGlobal, session: &str) -> Result<Vec<u8>, AllocError> {
-    let mut script = Vec::new(rt.alloc());
-    for line in session.split('\n') {
-        if let Some(line) = line.strip_prefix('*') {
-            script.extend_from_slice(line.as_bytes())?;
-            script.push(b'\n')?;
-        }
-    }
-    Ok(script)
-}
 
 // The script is answered with this output and nothing else.
 fn is_answered(rt: &(impl Abort + AllocGlobal), script: &[u8], wanted: &[u8]) -> Result<(), Fail> {
@@ -40,37 +24,13 @@ fn is_answered(rt: &(impl Abort + AllocGlobal), script: &[u8], wanted: &[u8]) ->
 
 // The session goes so.
 fn goes(rt: &(impl Abort + AllocGlobal), session: &str) -> Result<(), Fail> {
-    let script = script_of(rt, session)?;
+    let script = script_of(rt.alloc(), session)?;
     is_answered(rt, script.as_slice(), session.as_bytes())
 }
 
-const WORKED: &str = "*300:11 22 33
-*300.304
-0300- 11 22 33 00 00
-*301<300.303M
-*300.304
-0300- 11 11 11 11 11
-*310<300.301V
-0300- 11 (00)
-0301- 11 (00)
-*30F.300
-M2 BACKWARD
-*300:GG
-M1 SYNTAX
-*C000
-M3 OUTSIDE RAM
-*BFFD:A9 C1 60
-*BFFDL
-BFFD-   A9 C1      LDA   #$C1
-BFFF-   60         RTS
-*BFFDG
-A=C1 X=00 Y=00 P=B0 S=FF PC=FF69 STEPS=2 CYCLES=8
-STOP RETURNED
-";
-
 #[test]
 fn monitor_session(rt: HostRuntime) -> Result<(), Fail> {
-    goes(&rt, WORKED)
+    goes(&rt, MONITOR_SESSION)
 }
 
 #[test]
@@ -167,6 +127,28 @@ BFFF- 00
 #[test]
 fn examining(rt: HostRuntime) -> Result<(), Fail> {
     goes(&rt, EXAMINING)
+}
+
+#[test]
+fn hooks_at_the_start(rt: HostRuntime) -> Result<(), Fail> {
+    goes(&rt, "*36.39\n0036- F0 FD\n0038- 1B FD\n")
+}
+
+// The output hook leads to LDA #$C2 and JMP $FDF0.
+#[test]
+fn hook_that_is_stored(rt: HostRuntime) -> Result<(), Fail> {
+    goes(
+        &rt,
+        "*36:0 10
+*1000:A9 C2 4C F0 FD
+*300:20 ED FD 60
+*300G
+A=C2 X=00 Y=00 P=B0 S=FF PC=FF69 STEPS=6 CYCLES=28
+STOP RETURNED
+*400
+0400- C2
+",
+    )
 }
 
 const STORING: &str = "*:7
@@ -606,8 +588,7 @@ fn is_too_large(rt: &(impl Abort + AllocGlobal), script: &[u8], fault: Fault) ->
 
 #[test]
 fn line_of_a_script_too_long(rt: HostRuntime) -> Result<(), Fail> {
-    let mut line = Vec::new(rt.alloc());
-    put_bytes(&mut line, b' ', 252)?;
+    let mut line = Vec::from_elem(rt.alloc(), b' ', 252)?;
     line.extend_from_slice(b"300")?;
     let mut wanted = Vec::new(rt.alloc());
     wanted.push(b'*')?;
@@ -633,9 +614,10 @@ fn script_too_long(rt: HostRuntime) -> Result<(), Fail> {
     is_answered(&rt, script.as_slice(), wanted.as_slice())?;
     script.push(b'0')?;
     is_too_large(&rt, script.as_slice(), Fault::TooLarge(4097))?;
+    let blank = [b' '; 255];
     let mut long = Vec::new(rt.alloc());
     for _ in 0..256 {
-        put_bytes(&mut long, b' ', 255)?;
+        long.extend_from_slice(&blank)?;
         long.push(b'\n')?;
     }
     long.push(b' ')?;
@@ -648,111 +630,5 @@ fn script_too_long(rt: HostRuntime) -> Result<(), Fail> {
     );
     assert_eq!(rt; answer, Err(RunFault::Script(Fault::TooLarge(0))));
     assert!(rt; output.is_empty());
-    Ok(())
-}
-
-// The writer takes one byte a call, and after so many calls fails, or takes nothing more.
-fn breaks_after_each_byte(rt: &(impl Abort + AllocGlobal), failing: Failing) -> Result<(), Fail> {
-    let script = script_of(rt, WORKED)?;
-    for calls in 0..=WORKED.len() {
-        let mut output = Vec::new(rt.alloc());
-        let answer = mon_text(
-            rt.alloc(),
-            &mut FromRead::new(script.as_slice()),
-            &mut Pinched::new(ToWrite::new(&mut output), 1, calls as u64, failing),
-        );
-        let front = WORKED.as_bytes().get(..calls);
-        assert_eq!(rt; Some(output.as_slice()), front);
-        if calls < WORKED.len() {
-            assert_eq!(rt; answer, Err(RunFault::Write));
-        } else {
-            assert_eq!(rt; answer, Ok(()));
-        }
-    }
-    Ok(())
-}
-
-#[test]
-fn each_write_of_a_session_fails(rt: HostRuntime) -> Result<(), Fail> {
-    breaks_after_each_byte(&rt, Failing::Refuses)?;
-    breaks_after_each_byte(&rt, Failing::TakesNothing)
-}
-
-#[test]
-fn each_read_of_a_script_fails(rt: HostRuntime) -> Result<(), Fail> {
-    let script = script_of(&rt, WORKED)?;
-    for calls in 0..=script.len() {
-        let mut output = Vec::new(rt.alloc());
-        let answer = mon_text(
-            rt.alloc(),
-            &mut Pinched::new(
-                FromRead::new(script.as_slice()),
-                1,
-                calls as u64,
-                Failing::Refuses,
-            ),
-            &mut ToWrite::new(&mut output),
-        );
-        assert_eq!(rt; answer, Err(RunFault::Read));
-        assert!(rt; output.is_empty());
-    }
-    Ok(())
-}
-
-// What a session writes for a line, to a writer that takes one byte a call and fails after so many calls.
-fn line_of(
-    rt: &(impl Abort + AllocGlobal),
-    session: &mut Session,
-    line: &str,
-    calls: u64,
-    wanted: (&str, Result<(), MonFault>),
-) -> Result<(), Fail> {
-    let mut output = Vec::new(rt.alloc());
-    let mut writer = Pinched::new(ToWrite::new(&mut output), 1, calls, Failing::Refuses);
-    let answer = session.line(line.as_bytes(), &mut writer);
-    assert_eq!(rt;
-        (answer, String::from_utf8(output)?.as_str()),
-        (wanted.1, wanted.0),
-        "{line}"
-    );
-    Ok(())
-}
-
-// After a failed write the line's command has been done; a refusal does nothing, and writes nothing.
-#[test]
-fn write_of_a_line_fails(rt: HostRuntime) -> Result<(), Fail> {
-    let source = parse(rt.alloc(), b" ORG $300\n RTS\n").map_err(|_| Fail::from("parse"))?;
-    let program = a2_asm::assemble(rt.alloc(), &source).map_err(|_| Fail::from("assemble"))?;
-    let mut machine = Machine::new(rt.alloc())?;
-    machine.boot(
-        &load_lines(rt.alloc(), b"300:8D 00 03 60").map_err(|_| Fail::from("load"))?,
-        0x300,
-    );
-    machine.guard(&program);
-    let mut session = Session::new(machine);
-    let broken = Err(MonFault::Write);
-    for (line, calls, wanted) in [
-        ("C000", 0, ("", Err(MonFault::Outside))),
-        ("301.300", 0, ("", Err(MonFault::Backward))),
-        ("300:300", 0, ("", Err(MonFault::Syntax))),
-        ("310:1 2", 0, ("", Ok(()))),
-        ("300.308", 10, ("0300- 8D 0", broken)),
-        (":CE", 0, ("", Ok(()))),
-        ("300", 9, ("0300- CE\n", Ok(()))),
-        ("300G", 0, ("", broken)),
-        ("300", 9, ("0300- CD\n", Ok(()))),
-        (
-            "FF69G",
-            60,
-            (
-                "A=00 X=00 Y=00 P=B0 S=FD PC=FF69 STEPS=2 CYCLES=12\nSTOP RETU",
-                broken,
-            ),
-        ),
-        ("301<300.300V", 14, ("0300- CD (00)\n", Ok(()))),
-        ("300L", 3, ("030", broken)),
-    ] {
-        line_of(&rt, &mut session, line, calls, wanted)?;
-    }
     Ok(())
 }

@@ -1,0 +1,160 @@
+//! Scripts that are cut after each of their bytes: the lines before the cut are answered, and the rest of a line as it
+//! stands.
+
+use super::texts::{Call, make};
+use a2_stream::{FromRead, ToWrite};
+use a2_worked::POLLS;
+use std::alloc::{AllocError, Global};
+use std::process::Abort;
+use std::test::Fail;
+
+/// A line of a script, and what its fronts are answered, each up to so many bytes; the last answer is that of the line.
+type Line = (&'static str, &'static [(usize, &'static str)]);
+
+const MONITOR: [Line; 3] = [
+    (
+        "300:C8",
+        &[
+            (1, "0003- 00\n"),
+            (2, "0030- 00\n"),
+            (3, "0300- 00\n"),
+            (6, ""),
+        ],
+    ),
+    (
+        "400<300.300M",
+        &[
+            (1, "0004- 00\n"),
+            (2, "0040- 00\n"),
+            (3, "0400- A0\n"),
+            (11, "M1 SYNTAX\n"),
+            (12, ""),
+        ],
+    ),
+    (
+        "400.401",
+        &[
+            (1, "0004- 00\n"),
+            (2, "0040- 00\n"),
+            (3, "0400- C8\n"),
+            (4, "M1 SYNTAX\n"),
+            (6, "M2 BACKWARD\n"),
+            (7, "0400- C8 A0\n"),
+        ],
+    ),
+];
+
+const DEBUGGER: [Line; 4] = [
+    (
+        "step 2",
+        &[
+            (5, "G1 SYNTAX\n"),
+            (
+                6,
+                "A=00 X=00 Y=00 P=32 S=FD PC=0300 STEPS=2 CYCLES=7\nSTOP LIMIT\n",
+            ),
+        ],
+    ),
+    (
+        "back 1",
+        &[
+            (5, "G1 SYNTAX\n"),
+            (6, "A=00 X=00 Y=00 P=32 S=FD PC=0303 STEPS=1 CYCLES=4\n"),
+        ],
+    ),
+    ("type Q", &[(4, "G1 SYNTAX\n"), (6, "")]),
+    (
+        "go 1",
+        &[
+            (3, "G1 SYNTAX\n"),
+            (
+                4,
+                "A=00 X=00 Y=00 P=32 S=FD PC=0300 STEPS=2 CYCLES=7\nSTOP LIMIT\n",
+            ),
+        ],
+    ),
+];
+
+// What a front of so many bytes is answered.
+fn answer_of(fronts: &[(usize, &'static str)], length: usize) -> &'static str {
+    for (last, answer) in fronts {
+        if length <= *last {
+            return *answer;
+        }
+    }
+    ""
+}
+
+// Adds a front of a line, as it is repeated, and its answer.
+fn put_answer(
+    output: &mut Vec<u8>,
+    prompt: u8,
+    line: Line,
+    length: usize,
+) -> Result<(), AllocError> {
+    let front = line.0.as_bytes().get(..length).unwrap_or(line.0.as_bytes());
+    output.push(prompt)?;
+    output.extend_from_slice(front)?;
+    output.push(b'\n')?;
+    output.extend_from_slice(answer_of(line.1, front.len()).as_bytes())
+}
+
+// A script's front of so many bytes, and what it is answered. A front that ends a line is answered as that line.
+fn cut(
+    alloc: Global,
+    lines: &[Line],
+    prompt: u8,
+    bytes: usize,
+) -> Result<(Vec<u8>, Vec<u8>), AllocError> {
+    let mut script = Vec::new(alloc);
+    let mut output = Vec::new(alloc);
+    for line in lines {
+        let left = bytes.saturating_sub(script.len());
+        if left > 0 {
+            put_answer(&mut output, prompt, *line, left)?;
+        }
+        script.extend_from_slice(line.0.as_bytes())?;
+        script.push(b'\n')?;
+    }
+    script.truncate(bytes);
+    Ok((script, output))
+}
+
+fn each_cut_is_answered(
+    rt: &(impl Abort + AllocGlobal),
+    call: Call,
+    lines: &[Line],
+    prompt: u8,
+    bytes: usize,
+) -> Result<(), Fail> {
+    let (whole, _) = cut(rt.alloc(), lines, prompt, bytes)?;
+    assert_eq!(rt; whole.len(), bytes);
+    for length in 0..=bytes {
+        let (script, wanted) = cut(rt.alloc(), lines, prompt, length)?;
+        let mut output = Vec::new(rt.alloc());
+        let answer = make(
+            rt.alloc(),
+            call,
+            &mut FromRead::new(POLLS.as_bytes()),
+            &mut FromRead::new(script.as_slice()),
+            &mut ToWrite::new(&mut output),
+        );
+        assert_eq!(rt; answer, Ok(()));
+        assert_eq!(rt;
+            output.as_slice(),
+            wanted.as_slice(),
+            "after {length} bytes"
+        );
+    }
+    Ok(())
+}
+
+#[test]
+fn cut_monitor_scripts(rt: HostRuntime) -> Result<(), Fail> {
+    each_cut_is_answered(&rt, Call::Monitor, &MONITOR, b'*', 28)
+}
+
+#[test]
+fn cut_debugger_scripts(rt: HostRuntime) -> Result<(), Fail> {
+    each_cut_is_answered(&rt, Call::Debug, &DEBUGGER, b'>', 26)
+}
