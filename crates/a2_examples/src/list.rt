@@ -1,7 +1,9 @@
 //! The examples, in the order of the manual.
 
-ghost use Rattle.std.specs.Prelude.{◌≡◌, false};
+ghost use Rattle.std.specs.Prelude.{◌≡◌};
 ghost use Rattle.a2_examples.specs.declared.list.Kind.TheVariants.{Run, Monitor, Debug};
+
+use a2_run::Options;
 
 /// What an example's file is, and so how it is shown.
 #[derive(Clone, Copy, Debug, PartialEq, Eq)]
@@ -10,8 +12,8 @@ pub enum Kind {
     Run {
         /// The keys that wait at the start, as `--keys` spells them.
         keys: &'static str,
-        /// Whether the attribute rows are shown.
-        attr: bool,
+        /// How it is run, and what is shown.
+        options: Options,
     },
     /// A script of Monitor lines, which are answered.
     Monitor,
@@ -30,12 +32,30 @@ pub struct Example {
     pub kind: Kind,
 }
 
-// A source, run with these keys as the program runs it without options.
-fn run(name: &'static str, keys: &'static str) -> Example
+// As the program runs a source without options.
+const PLAIN: Options = Options {
+    free: false,
+    attr: false,
+};
+
+// With the attribute rows.
+const ATTRIBUTES: Options = Options {
+    free: false,
+    attr: true,
+};
+
+// Without the guard.
+const FREE: Options = Options {
+    free: true,
+    attr: false,
+};
+
+// A source, run with these keys.
+fn run(name: &'static str, keys: &'static str, options: Options) -> Example
     ensures name { result.name.now ≡ name.now }
-    ensures kind { result.kind ≡ Run keys.entry false }
+    ensures kind { result.kind ≡ Run keys.entry options }
 {
-    let kind = Kind::Run { keys, attr: false };
+    let kind = Kind::Run { keys, options };
     Example { name, kind }
 }
 
@@ -57,28 +77,39 @@ fn debugging(name: &'static str, source: &'static str) -> Example
     Example { name, kind }
 }
 
-/// Each example of the folder once; a source that is debugged stands with its script.
-pub fn examples() -> [Example; 18] {
+/// Each example of the folder once, but the lessons (`lesson-*.s`), which are run with several inputs elsewhere; a source that is
+/// debugged stands with its script.
+pub fn examples() -> [Example; 34] {
     [
-        run("hello.s", ""),
-        run("row.s", ""),
-        run("count.s", ""),
-        run("times.s", ""),
-        run("primes.s", ""),
-        run("sieve.s", ""),
-        run("powers.s", ""),
-        run("dump.s", ""),
-        run("echo.s", "HELLO\\rAPPLX\\bE\\r\\r"),
-        run("keys.s", "A1?\\r"),
-        Example {
-            name: "styles.s",
-            kind: Kind::Run {
-                keys: "",
-                attr: true,
-            },
-        },
-        run("bounce.s", ""),
-        run("lores.s", ""),
+        run("hello.s", "", PLAIN),
+        run("row.s", "", PLAIN),
+        run("count.s", "", PLAIN),
+        run("times.s", "", PLAIN),
+        run("primes.s", "", PLAIN),
+        run("sieve.s", "", PLAIN),
+        run("powers.s", "", PLAIN),
+        run("signed.s", "", PLAIN),
+        run("flags.s", "", PLAIN),
+        run("dump.s", "", PLAIN),
+        run("echo.s", "HELLO\\rAPPLX\\bE\\r\\r", PLAIN),
+        run("keys.s", "A1?\\r", PLAIN),
+        run("cipher.s", "VENI, VIDI, VICI XYZ\\r", PLAIN),
+        run("menu.s", "HELP\\rSTARS\\r?\\rQUIT\\r", PLAIN),
+        run("styles.s", "", ATTRIBUTES),
+        run("frame.s", "", ATTRIBUTES),
+        run("countdown.s", "", PLAIN),
+        run("window.s", "", PLAIN),
+        run("maze.s", "", PLAIN),
+        run("bounce.s", "", PLAIN),
+        run("lores.s", "", PLAIN),
+        run("house.s", "", PLAIN),
+        run("walls.s", "", PLAIN),
+        run("bars.s", "", PLAIN),
+        run("pages.s", "", ATTRIBUTES),
+        run("capitals.s", "", PLAIN),
+        run("counter.s", "", PLAIN),
+        run("typed.s", "AND SO ON.\\r", PLAIN),
+        run("patch.s", "", FREE),
         session("letters.mon"),
         session("memory.mon"),
         session("commands.mon"),

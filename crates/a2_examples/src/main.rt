@@ -4,11 +4,9 @@
 mod list;
 mod show;
 
-ghost use Rattle.std.specs.Prelude.{◌≡◌, false};
-
 use a2_bus::Keys;
 use a2_machine::Cause;
-use a2_run::{Options, RunFault};
+use a2_run::RunFault;
 use a2_stream::{FromRead, Output, ToWrite};
 use list::{Example, Kind, examples};
 use show::{show_debugging, show_run, show_session};
@@ -28,14 +26,6 @@ enum ExampleFault {
     Run(#[from] RunFault),
 }
 
-// A guarded run, with the attribute rows or without.
-fn guarded(attr: bool) -> Options
-    ensures guarded { result.free ≡ false }
-    ensures attributes { result.attr ≡ attr }
-{
-    Options { free: false, attr }
-}
-
 // A file of the folder.
 fn opened(rt: &HostRuntime, name: &str) -> Result<FromRead<File>, RunFault> {
     match fs::open(rt, name) {
@@ -53,9 +43,9 @@ fn show_file<W: Output>(
     let name = example.name;
     let text = &mut opened(rt, name)?;
     match example.kind {
-        Kind::Run { keys, attr } => {
+        Kind::Run { keys, options } => {
             let keys = Keys::parse(keys).ok_or(ExampleFault::Keys)?;
-            let cause = show_run(rt.alloc(), name, text, &keys, guarded(attr), output)?;
+            let cause = show_run(rt.alloc(), name, text, &keys, options, output)?;
             Ok(matches!(cause, Cause::Returned))
         }
         Kind::Monitor => {
