@@ -24,13 +24,13 @@ use Rattle.a2_syntax.specs.declared.source.Line.{Line}
 use Rattle.a2_syntax.specs.Bare.{NoAllocator, bare_term, bare_signed, bare_expr, bare_operand, bare_body, bare_line, bare}
 use Rattle.a2_asm.specs.declared.place.Place.{Place}
 use Rattle.a2_asm.specs.Assembled.{Assembled}
-use Rattle.a2_asm.specs.Values.{Names, is_known_term, is_known, term_value, signed_value, sum_of, part_of, within, number}
-use Rattle.a2_asm.specs.Modes.{has, is_early_byte, short_or_long, mode_of, greatest}
-use Rattle.a2_asm.specs.Layout.{mode_in, word, size, next_of, label_of, Row, defined_by, names, end_of}
+use Rattle.a2_asm.specs.Values.{Names, is_known_term, is_known, term_value, signed_value, sum_of_terms, part_of, within, value_within}
+use Rattle.a2_asm.specs.Modes.{has_mode, is_early_byte, short_or_long, mode_of, greatest}
+use Rattle.a2_asm.specs.Layout.{mode_in, directive_value, size, next_of, label_of, Row, defined_by, names, end_of}
 use Rattle.a2_asm.specs.Laying.{byte_from, meets}
-use Rattle.a2_asm.specs.Bytes.{counted, operand_value, instr_of, word_bytes, bytes_of, image, stated, statement_of, statements, is_instruction, entry}
+use Rattle.a2_asm.specs.Bytes.{value_or_zero, operand_value, instr_of, word_bytes, bytes_of, image, stated, statement_of, statements_of, is_instruction, first_instruction}
 use Rattle.a2_asm.specs.Refusals.{first_behind, refuse_names, is_taken, refuse_now, refuse_body, is_outside, refuse_line, refuse_place, is_far, refuse_instr, refuse_values, refuse_operand, refuse_bytes}
-use Rattle.a2_asm.specs.Pass.{place_of, row_behind, rows_behind, rows, layout_refusal}
+use Rattle.a2_asm.specs.Pass.{place_behind, row_behind, rows_behind, source_rows, layout_refusal}
 use Rattle.a2_asm.proofs.MadeLaws.{IsMade}
 
 -- Values
@@ -52,14 +52,14 @@ term_value-bare all here Here = refl
 signed-bare : {A : Type 0} (all : Names) (here : ℕ) (t : Signed A) → signed_value all here (bare_signed {B = NoAllocator} t) ≡ signed_value all here t
 signed-bare all here t = ap (λ n. if t.minus then neg_ℤ (pos n) else pos n) (term_value-bare all here t.term)
 
-sum-bare : {A : Type 0} (all : Names) (here : ℕ) (ts : List (Signed A)) → sum_of all here (map (bare_signed {B = NoAllocator}) ts) ≡ sum_of all here ts
+sum-bare : {A : Type 0} (all : Names) (here : ℕ) (ts : List (Signed A)) → sum_of_terms all here (map (bare_signed {B = NoAllocator}) ts) ≡ sum_of_terms all here ts
 sum-bare all here ts =
     fold-map (λ n t. n +ℤ signed_value all here t) (bare_signed {B = NoAllocator}) (pos 0) ts ∙ (λ i. fold (λ n t. n +ℤ signed-bare all here t i) (pos 0) ts)
 
-number-bare : {A : Type 0} (all : Names) (most here : ℕ) (e : Expr A) → number all most here (bare_expr {B = NoAllocator} e) ≡ number all most here e
+number-bare : {A : Type 0} (all : Names) (most here : ℕ) (e : Expr A) → value_within all most here (bare_expr {B = NoAllocator} e) ≡ value_within all most here e
 number-bare all most here e = ap (λ n. within most (part_of e.part n)) (sum-bare all here e.terms)
 
-counted-bare : {A : Type 0} (all : Names) (most here : ℕ) (e : Expr A) → counted all most here (bare_expr {B = NoAllocator} e) ≡ counted all most here e
+counted-bare : {A : Type 0} (all : Names) (most here : ℕ) (e : Expr A) → value_or_zero all most here (bare_expr {B = NoAllocator} e) ≡ value_or_zero all most here e
 counted-bare all most here e = ap (λ o. unwrap_or o 0) (number-bare all most here e)
 
 -- Modes
@@ -69,13 +69,13 @@ early-bare all here e = λ i. known-bare all e i && is_some (number-bare all 255
 
 short-bare : {A : Type 0} (all : Names) (here : ℕ) (m : Mnemonic) (short long : Mode) (e : Expr A)
     → short_or_long all here m short long (bare_expr {B = NoAllocator} e) ≡ short_or_long all here m short long e
-short-bare all here m short long e = ap (λ b. if has m short && (not (has m long) || b) then short else long) (early-bare all here e)
+short-bare all here m short long e = ap (λ b. if has_mode m short && (not (has_mode m long) || b) then short else long) (early-bare all here e)
 
 mode-bare : {A : Type 0} (all : Names) (here : ℕ) (m : Mnemonic) (o : Operand A) → mode_of all here m (bare_operand {B = NoAllocator} o) ≡ mode_of all here m o
 mode-bare all here m forms.Nothing = refl
 mode-bare all here m forms.Accumulator = refl
 mode-bare all here m (forms.Immediate e) = refl
-mode-bare all here m (forms.Plain e) = ap (λ x. if has m Relative then Relative else x) (short-bare all here m ZeroPage Absolute e)
+mode-bare all here m (forms.Plain e) = ap (λ x. if has_mode m Relative then Relative else x) (short-bare all here m ZeroPage Absolute e)
 mode-bare all here m (forms.WithX e) = short-bare all here m ZeroPageX AbsoluteX e
 mode-bare all here m (forms.WithY e) = short-bare all here m ZeroPageY AbsoluteY e
 mode-bare all here m (forms.InParenthesesX e) = refl
@@ -94,7 +94,7 @@ mode_in-bare all here (Dw es) = refl
 mode_in-bare all here (Asc bytes) = refl
 mode_in-bare all here (Ds e) = refl
 
-word-bare : {A : Type 0} (all : Names) (here : ℕ) (body : Body A) → word all here (bare_body {B = NoAllocator} body) ≡ word all here body
+word-bare : {A : Type 0} (all : Names) (here : ℕ) (body : Body A) → directive_value all here (bare_body {B = NoAllocator} body) ≡ directive_value all here body
 word-bare all here (Instr m o) = refl
 word-bare all here Empty = refl
 word-bare all here (Org e) = counted-bare all 65535 here e
@@ -147,7 +147,7 @@ row-bare : {A : Type 0} (before : List (Row A)) (line : Line A) → row_behind (
 row-bare before line =
     (λ i. record {
       line = bare_line {B = NoAllocator} line;
-      place = place_of (names-bare before i) (length-map before bare_row i + 1) (end-bare before i) (bare_body {B = NoAllocator} line.body);
+      place = place_behind (names-bare before i) (length-map before bare_row i + 1) (end-bare before i) (bare_body {B = NoAllocator} line.body);
       next = next_of (names-bare before i) (end-bare before i) (bare_body {B = NoAllocator} line.body);
       label = label_of (names-bare before i) (end-bare before i) (bare_body {B = NoAllocator} line.body);
     })
@@ -171,11 +171,11 @@ rows_behind-bare before (line ∷ lines) =
     ∙ ap (λ rs. bare_row (row_behind before line) ∷ rs) (rows_behind-bare (before ++ row_behind before line ∷ []) lines)
 
 -- the rows of the bare lines
-pub rows-bare : {A : Type 0} (lines : List (Line A)) → rows (bare lines) ≡ map bare_row (rows lines)
+pub rows-bare : {A : Type 0} (lines : List (Line A)) → source_rows (bare lines) ≡ map bare_row (source_rows lines)
 rows-bare lines = rows_behind-bare [] lines
 
-pub names-rows : {A : Type 0} (lines : List (Line A)) → names (rows (bare lines)) ≡ names (rows lines)
-names-rows lines = ap names (rows-bare lines) ∙ names-bare (rows lines)
+pub names-rows : {A : Type 0} (lines : List (Line A)) → names (source_rows (bare lines)) ≡ names (source_rows lines)
+names-rows lines = ap names (rows-bare lines) ∙ names-bare (source_rows lines)
 
 -- Bytes
 
@@ -204,7 +204,7 @@ bytes-bare all place (Org e) = refl
 bytes-bare all place (Equ e) = refl
 bytes-bare all place (Dfb es) = map-bare (bare_expr {B = NoAllocator}) _ _ es (λ e. counted-bare all 255 place.address e)
 bytes-bare all place (Dw es) =
-    flat_map-map (λ e. word_bytes (counted all 65535 place.address e)) (bare_expr {B = NoAllocator}) es
+    flat_map-map (λ e. word_bytes (value_or_zero all 65535 place.address e)) (bare_expr {B = NoAllocator}) es
     ∙ (λ i. flat_map (λ e. word_bytes (counted-bare all 65535 place.address e i)) es)
 bytes-bare all place (Asc bytes) = refl
 bytes-bare all place (Ds e) = refl
@@ -224,7 +224,7 @@ statement-bare all place (Dw es) = refl
 statement-bare all place (Asc bytes) = refl
 statement-bare all place (Ds e) = refl
 
-statements-bare : {A : Type 0} (all : Names) (rows : List (Row A)) → statements all (map bare_row rows) ≡ statements all rows
+statements-bare : {A : Type 0} (all : Names) (rows : List (Row A)) → statements_of all (map bare_row rows) ≡ statements_of all rows
 statements-bare all rows =
     flat_map-map (λ row. statement_of all row.place row.line.body) bare_row rows ∙ (λ i. flat_map (λ row. statement-bare all row.place row.line.body i) rows)
 
@@ -238,7 +238,7 @@ instruction-bare (Dw es) = refl
 instruction-bare (Asc bytes) = refl
 instruction-bare (Ds e) = refl
 
-entry-bare : {A : Type 0} (rows : List (Row A)) → entry (map bare_row rows) ≡ entry rows
+entry-bare : {A : Type 0} (rows : List (Row A)) → first_instruction (map bare_row rows) ≡ first_instruction rows
 entry-bare [] = refl
 entry-bare (row ∷ more) = λ i. if instruction-bare row.line.body i then Some row.place.address else entry-bare more i
 
@@ -291,7 +291,7 @@ instr_refusal-bare all place e = λ i.
 values-bare : {A : Type 0} (all : Names) (most : ℕ) (place : Place) (es : List (Expr A)) → refuse_values all most place (map (bare_expr {B = NoAllocator}) es) ≡ refuse_values all most place es
 values-bare all most place es =
     (λ i. refuse_if (not (list_all-map (is_known all) (bare_expr {B = NoAllocator}) es i)) (faults.Unknown place.number) otherwise
-    refuse_if (not (list_all-map (λ e. is_some (number all most place.address e)) (bare_expr {B = NoAllocator}) es i)) (faults.Range place.number))
+    refuse_if (not (list_all-map (λ e. is_some (value_within all most place.address e)) (bare_expr {B = NoAllocator}) es i)) (faults.Range place.number))
     ∙ (λ i. refuse_if (not (list_all (λ e. known-bare all e i) es)) (faults.Unknown place.number) otherwise
     refuse_if (not (list_all (λ e. is_some (number-bare all most place.address e i)) es)) (faults.Range place.number))
 
@@ -326,25 +326,25 @@ refusal-bare lines = λ i.
     refuse_if (not (is_some (entered i))) faults.NoCode otherwise
     laid i
   where
-    placed : first_behind (refuse_place (names (rows (bare lines)))) [] (rows (bare lines)) ≡ first_behind (refuse_place (names (rows lines))) [] (rows lines)
+    placed : first_behind (refuse_place (names (source_rows (bare lines)))) [] (source_rows (bare lines)) ≡ first_behind (refuse_place (names (source_rows lines))) [] (source_rows lines)
     placed =
         (λ i. first_behind (refuse_place (names-rows lines i)) [] (rows-bare lines i))
-        ∙ first_behind-map bare_row (refuse_place (names (rows lines))) (refuse_place (names (rows lines))) (place-bare (names (rows lines))) [] (rows lines)
+        ∙ first_behind-map bare_row (refuse_place (names (source_rows lines))) (refuse_place (names (source_rows lines))) (place-bare (names (source_rows lines))) [] (source_rows lines)
 
-    entered : entry (rows (bare lines)) ≡ entry (rows lines)
-    entered = ap entry (rows-bare lines) ∙ entry-bare (rows lines)
+    entered : first_instruction (source_rows (bare lines)) ≡ first_instruction (source_rows lines)
+    entered = ap first_instruction (rows-bare lines) ∙ entry-bare (source_rows lines)
 
-    laid : first_behind (refuse_bytes (names (rows (bare lines)))) [] (rows (bare lines)) ≡ first_behind (refuse_bytes (names (rows lines))) [] (rows lines)
+    laid : first_behind (refuse_bytes (names (source_rows (bare lines)))) [] (source_rows (bare lines)) ≡ first_behind (refuse_bytes (names (source_rows lines))) [] (source_rows lines)
     laid =
         (λ i. first_behind (refuse_bytes (names-rows lines i)) [] (rows-bare lines i))
-        ∙ first_behind-map bare_row (refuse_bytes (names (rows lines))) (refuse_bytes (names (rows lines))) (bytes_refusal-bare (names (rows lines))) [] (rows lines)
+        ∙ first_behind-map bare_row (refuse_bytes (names (source_rows lines))) (refuse_bytes (names (source_rows lines))) (bytes_refusal-bare (names (source_rows lines))) [] (source_rows lines)
 
 -- a program of the lines is one of the bare lines
 pub program-bare : {A : Type 0} (lines : List (Line A)) (p : Assembled) → IsMade lines p → IsMade (bare lines) p
 program-bare lines p is = record {
   accepted = refusal-bare lines ∙ is.accepted;
   named = is.named ∙ sym (names-rows lines);
-  laid = λ a. is.laid a ∙ sym ((λ i. image (names-rows lines i) (rows-bare lines i) a) ∙ image-bare (names (rows lines)) (rows lines) a);
-  stated = is.stated ∙ sym ((λ i. statements (names-rows lines i) (rows-bare lines i)) ∙ statements-bare (names (rows lines)) (rows lines));
-  begins = ap entry (rows-bare lines) ∙ entry-bare (rows lines) ∙ is.begins;
+  laid = λ a. is.laid a ∙ sym ((λ i. image (names-rows lines i) (rows-bare lines i) a) ∙ image-bare (names (source_rows lines)) (source_rows lines) a);
+  stated = is.stated ∙ sym ((λ i. statements_of (names-rows lines i) (rows-bare lines i)) ∙ statements-bare (names (source_rows lines)) (source_rows lines));
+  begins = ap first_instruction (rows-bare lines) ∙ entry-bare (source_rows lines) ∙ is.begins;
 }

@@ -9,9 +9,9 @@ use Rattle.a2_syntax.specs.declared.source.Line.{Line}
 use Rattle.a2_asm.specs.Assembled.{Assembled}
 use Rattle.a2_asm.specs.Values.{Names}
 use Rattle.a2_asm.specs.Layout.{Row, names}
-use Rattle.a2_asm.specs.Bytes.{bytes_of, image, statements, entry}
+use Rattle.a2_asm.specs.Bytes.{bytes_of, image, statements_of, first_instruction}
 use Rattle.a2_asm.specs.Refusals.{first_behind, refuse_names, refuse_place, refuse_bytes, IsLayoutRefusal}
-use Rattle.a2_asm.specs.Pass.{rows, layout_refusal}
+use Rattle.a2_asm.specs.Pass.{source_rows, layout_refusal}
 use Rattle.a2_asm.specs.Programs.{IsProgram}
 use Rattle.a2_asm.proofs.MadeLaws.{program-of, refused-of}
 use Rattle.a2_asm.proofs.PassedLaws.{none-past}
@@ -43,15 +43,15 @@ some-of (Some n) e = (n, refl)
 some-of None e = absurd (true≢false (sym e))
 
 -- what is not refused has an entry
-entered : {A : Type 0} (source : List (Line A)) → layout_refusal source ≡ None → is_some (entry (rows source)) ≡ true
+entered : {A : Type 0} (source : List (Line A)) → layout_refusal source ≡ None → is_some (first_instruction (source_rows source)) ≡ true
 entered source e =
-    go (first_behind refuse_names [] source) (first_behind (refuse_place (names (rows source))) [] (rows source)) (is_some (entry (rows source))) e
+    go (first_behind refuse_names [] source) (first_behind (refuse_place (names (source_rows source))) [] (source_rows source)) (is_some (first_instruction (source_rows source))) e
   where
     some≢none : {X : Type 0} (x : X) → Some x ≡ None → ⊥
     some≢none x e = true≢false (ap is_some e)
 
     go : (a b : Option Fault) (c : Bool)
-        → (a otherwise b otherwise refuse_if (not c) NoCode otherwise first_behind (refuse_bytes (names (rows source))) [] (rows source)) ≡ None → c ≡ true
+        → (a otherwise b otherwise refuse_if (not c) NoCode otherwise first_behind (refuse_bytes (names (source_rows source))) [] (source_rows source)) ≡ None → c ≡ true
     go (Some f) b c e = absurd (some≢none f e)
     go None (Some f) c e = absurd (some≢none f e)
     go None None true e = refl
@@ -60,11 +60,11 @@ entered source e =
 -- lines that are not refused are a program
 pub program-of-source : {A : Type 0} (source : List (Line A)) → layout_refusal source ≡ None → (p : Assembled) × IsProgram source p
 program-of-source source e =
-    let all = names (rows source) in
-    let first = some-of (entry (rows source)) (entered source e) in
+    let all = names (source_rows source) in
+    let first = some-of (first_instruction (source_rows source)) (entered source e) in
     let made : Assembled = record {
-      image = cells_of (image all (rows source)) (end_of_bytes all (rows source));
-      statements = statements all (rows source);
+      image = cells_of (image all (source_rows source)) (end_of_bytes all (source_rows source));
+      statements = statements_of all (source_rows source);
       names = all;
       entry = first.0;
     } in (
@@ -72,7 +72,7 @@ program-of-source source e =
       program-of source made (record {
         accepted = e;
         named = refl;
-        laid = held-cells (image all (rows source)) (end_of_bytes all (rows source)) (nothing-behind all (rows source));
+        laid = held-cells (image all (source_rows source)) (end_of_bytes all (source_rows source)) (nothing-behind all (source_rows source));
         stated = refl;
         begins = first.1;
       }),

@@ -7,9 +7,9 @@ use Rattle.a2_syntax.specs.declared.fault.Fault.{Fault}
 use Rattle.a2_syntax.specs.declared.source.Line.{Line}
 use Rattle.a2_asm.specs.Assembled.{Assembled}
 use Rattle.a2_asm.specs.Layout.{names}
-use Rattle.a2_asm.specs.Bytes.{image, statements, entry}
+use Rattle.a2_asm.specs.Bytes.{image, statements_of, first_instruction}
 use Rattle.a2_asm.specs.Refusals.{first_behind, refuse_names, refuse_place, refuse_bytes, refusal_in, IsLayoutRefusal}
-use Rattle.a2_asm.specs.Pass.{rows, layout_refusal}
+use Rattle.a2_asm.specs.Pass.{source_rows, layout_refusal}
 use Rattle.a2_asm.specs.Programs.{IsProgram, AreAlike}
 use Rattle.a2_asm.proofs.AssembleLaws.{layout-by}
 use Rattle.a2_asm.proofs.OneLayout.{rows-fit, one-layout}
@@ -17,38 +17,38 @@ use Rattle.a2_asm.proofs.OneLayout.{rows-fit, one-layout}
 -- the program that the first pass's places make
 pub record IsMade {A : Type 0} (source : List (Line A)) (p : Assembled) : Type 0 where
   pub accepted : layout_refusal source ≡ None
-  pub named : p.names ≡ names (rows source)
-  pub laid : (a : ℕ) → held p.image a ≡ image (names (rows source)) (rows source) a
-  pub stated : p.statements ≡ statements (names (rows source)) (rows source)
-  pub begins : entry (rows source) ≡ Some p.entry
+  pub named : p.names ≡ names (source_rows source)
+  pub laid : (a : ℕ) → held p.image a ≡ image (names (source_rows source)) (source_rows source) a
+  pub stated : p.statements ≡ statements_of (names (source_rows source)) (source_rows source)
+  pub begins : first_instruction (source_rows source) ≡ Some p.entry
 
 -- what both passes find makes a program
 pub made-by : {A : Type 0} (source : List (Line A)) (p : Assembled)
-    → first_behind refuse_names [] source ≡ None → first_behind (refuse_place (names (rows source))) [] (rows source) ≡ None
-    → first_behind (refuse_bytes p.names) [] (rows source) ≡ None → p.names ≡ names (rows source) → ((a : ℕ) → held p.image a ≡ image p.names (rows source) a)
-    → p.statements ≡ statements p.names (rows source) → entry (rows source) ≡ Some p.entry → IsMade source p
+    → first_behind refuse_names [] source ≡ None → first_behind (refuse_place (names (source_rows source))) [] (source_rows source) ≡ None
+    → first_behind (refuse_bytes p.names) [] (source_rows source) ≡ None → p.names ≡ names (source_rows source) → ((a : ℕ) → held p.image a ≡ image p.names (source_rows source) a)
+    → p.statements ≡ statements_of p.names (source_rows source) → first_instruction (source_rows source) ≡ Some p.entry → IsMade source p
 made-by source p few placed laid named bytes stated begins = record {
   accepted = layout-by source p.names p.entry None few placed begins named laid;
   named = named;
-  laid = λ a. bytes a ∙ ap (λ k. image k (rows source) a) named;
-  stated = stated ∙ ap (λ k. statements k (rows source)) named;
+  laid = λ a. bytes a ∙ ap (λ k. image k (source_rows source) a) named;
+  stated = stated ∙ ap (λ k. statements_of k (source_rows source)) named;
   begins = begins;
 }
 
 pub made-of : {A : Type 0} (source : List (Line A)) (p : Assembled) → IsProgram source p → IsMade source p
 made-of {A} source p is =
-    let e : is.layout ≡ rows source = one-layout source is.layout (rows source) is.is_layout (rows-fit source) in
+    let e : is.layout ≡ source_rows source = one-layout source is.layout (source_rows source) is.is_layout (rows-fit source) in
     record {
       accepted = sym (ap (refusal_in source) e) ∙ is.accepted;
       named = is.named ∙ ap names e;
       laid = λ a. is.laid a ∙ ap (λ r. image (names r) r a) e;
-      stated = is.stated ∙ ap (λ r. statements (names r) r) e;
-      begins = sym (ap entry e) ∙ is.begins;
+      stated = is.stated ∙ ap (λ r. statements_of (names r) r) e;
+      begins = sym (ap first_instruction e) ∙ is.begins;
     }
 
 pub program-of : {A : Type 0} (source : List (Line A)) (p : Assembled) → IsMade source p → IsProgram source p
 program-of source p is = record {
-  layout = rows source;
+  layout = source_rows source;
   is_layout = rows-fit source;
   accepted = is.accepted;
   named = is.named;
@@ -59,10 +59,10 @@ program-of source p is = record {
 
 pub refusal-of : {A : Type 0} (source : List (Line A)) (fault : Fault) → IsLayoutRefusal source fault → layout_refusal source ≡ Some fault
 refusal-of source fault (layout, is, e) =
-    sym (ap (refusal_in source) (one-layout source layout (rows source) is (rows-fit source))) ∙ e
+    sym (ap (refusal_in source) (one-layout source layout (source_rows source) is (rows-fit source))) ∙ e
 
 pub refused-of : {A : Type 0} (source : List (Line A)) (fault : Fault) → layout_refusal source ≡ Some fault → IsLayoutRefusal source fault
-refused-of source fault e = (rows source, rows-fit source, e)
+refused-of source fault e = (source_rows source, rows-fit source, e)
 
 some-one : {X : Type 0} (x y : X) → Some x ≡ Some y → x ≡ y
 some-one x y e = ap (λ o. unwrap_or o x) e

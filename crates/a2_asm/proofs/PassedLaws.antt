@@ -13,7 +13,7 @@ use Rattle.a2_asm.specs.Layout.{Row, names, IsPlaced}
 use Rattle.a2_asm.specs.Laying.{byte_from, meets}
 use Rattle.a2_asm.specs.Bytes.{bytes_of, image}
 use Rattle.a2_asm.specs.Refusals.{first_behind, is_taken, is_outside, refuse_body, refuse_operand, refuse_place, refuse_bytes}
-use Rattle.a2_asm.specs.Pass.{rows, layout_refusal}
+use Rattle.a2_asm.specs.Pass.{source_rows, layout_refusal}
 use Rattle.a2_asm.proofs.FirstLaws.{otherwise-left, otherwise-right}
 use Rattle.a2_asm.proofs.SeatLaws.{Keeps, keeps-line, place-room}
 use Rattle.a2_asm.proofs.StateLaws.{accepted-is, bytes-length}
@@ -28,13 +28,13 @@ at-split check done (b ∷ bs) after x h =
 
 -- a row passes each check
 pub record Passed {A : Type 0} (source : List (Line A)) (before : List (Row A)) (row : Row A) : Type 0 where
-  pub now : refuse_body (names (rows source)) (names before) row.place row.line.body ≡ None
-  pub later : refuse_operand (names (rows source)) row.place row.line.body ≡ None
+  pub now : refuse_body (names (source_rows source)) (names before) row.place row.line.body ≡ None
+  pub later : refuse_operand (names (source_rows source)) row.place row.line.body ≡ None
   pub keeps : Keeps (names before) row.place row.line.body
 
-pub passed-is : {A : Type 0} (source : List (Line A)) (before after : List (Row A)) (row : Row A) → layout_refusal source ≡ None → rows source ≡ before ++ row ∷ after → Passed source before row
+pub passed-is : {A : Type 0} (source : List (Line A)) (before after : List (Row A)) (row : Row A) → layout_refusal source ≡ None → source_rows source ≡ before ++ row ∷ after → Passed source before row
 passed-is {A} source before after row e is =
-    let all = names (rows source) in
+    let all = names (source_rows source) in
     let earlier = names before in
     let place = row.place in
     let body = row.line.body in
@@ -70,11 +70,11 @@ ends-in-ram place n a inside long le = go (cases_lt 0 place.length)
     go (inr none) = omega (arith, long, none)
 
 -- rows that are not refused hold nothing at or above $C000
-pub none-outside : {A : Type 0} (source : List (Line A)) (before after : List (Row A)) (a : ℕ) → layout_refusal source ≡ None → rows source ≡ before ++ after → 49152 ≤ a
-    → image (names (rows source)) after a ≡ None
+pub none-outside : {A : Type 0} (source : List (Line A)) (before after : List (Row A)) (a : ℕ) → layout_refusal source ≡ None → source_rows source ≡ before ++ after → 49152 ≤ a
+    → image (names (source_rows source)) after a ≡ None
 none-outside source before [] a e is le = refl
 none-outside source before (row ∷ after) a e is le =
-    let all = names (rows source) in
+    let all = names (source_rows source) in
     let bytes = bytes_of all row.place row.line.body in
     let passed = passed-is source before after row e is in
     let long = bytes-length all (names before) row.place row.line.body passed.keeps passed.later in

@@ -19,8 +19,8 @@ use Rattle.a2_asm.specs.Values.{Names}
 use Rattle.a2_asm.specs.Laying.{meets}
 use Rattle.a2_asm.specs.Assembled.{Assembled}
 use Rattle.a2_asm.specs.Layout.{Row, names}
-use Rattle.a2_asm.specs.Pass.{rows}
-use Rattle.a2_asm.specs.Bytes.{image, bytes_of, stated, is_instruction, instr_in, instr_of, statement_of, statements, entry}
+use Rattle.a2_asm.specs.Pass.{source_rows}
+use Rattle.a2_asm.specs.Bytes.{image, bytes_of, stated, is_instruction, instr_in, instr_of, statement_of, statements_of, first_instruction}
 use Rattle.a2_asm.specs.Refusals.{refuse_operand}
 use Rattle.a2_asm.specs.Programs.{IsProgram, begins_at, covers, is_code, StatementsDecode, StatementsBegin, StatementsApart, CodeInRam, CodeIsHeld, EntryBegins, ImageInRam, IsSound, instr_at, Holds}
 use Rattle.a2_asm.proofs.MadeLaws.{IsMade, made-of}
@@ -45,15 +45,15 @@ statement-room source s f lt =
 record Codes {A : Type 0} (source : List (Line A)) (s : Statement) (i : Instr) (f : Fits source s) : Type 0 where
   bytes : List ℕ
   encodes : encoded i s.addr ≡ Some bytes
-  bytes_are : bytes_of (names (rows source)) f.from.row.place f.from.row.line.body ≡ bytes
+  bytes_are : bytes_of (names (source_rows source)) f.from.row.place f.from.row.line.body ≡ bytes
   small : i.value < 65536
 
 codes-is : {A : Type 0} (source : List (Line A)) (s : Statement) (i : Instr) (f : Fits source s) → s.instr ≡ Some i → Codes source s i f
 codes-is {A = A} source s i f of-s =
-    let all = names (rows source) in
+    let all = names (source_rows source) in
     let place = f.from.row.place in
     let body = f.from.row.line.body in
-    let earlier = names (take f.from.index (rows source)) in
+    let earlier = names (take f.from.index (source_rows source)) in
     let y = says all place body i (sym (ap (λ x. x.instr) f.from.is) ∙ of-s) in
     let K : Body A → Type 0 = λ b. Keeps earlier place b in
     let R : Body A → Type 0 = λ b. refuse_operand all place b ≡ None in
@@ -79,7 +79,7 @@ code-there all s i k (j, lt, e) is h =
 
 made-decodes : {A : Type 0} (source : List (Line A)) (p : Assembled) → IsMade source p → StatementsDecode p
 made-decodes source p is peek shows s i among of-s =
-    let all = names (rows source) in
+    let all = names (source_rows source) in
     let f = fits-of source p s is among in
     let k = codes-is source s i f of-s in
     let long : length k.bytes ≡ s.length = sym (ap length k.bytes_are) ∙ f.long in
@@ -88,11 +88,11 @@ made-decodes source p is peek shows s i among of-s =
     let shown : (n : ℕ) → n < length k.bytes → peek (s.addr + n) ≡ slice_get k.bytes n = λ n lt.
     (let within : n < length (bytes_of all f.from.row.place f.from.row.line.body) = omega (arith, lt, ap length k.bytes_are) in
     let byte = slice_get-get_or (bytes_of all f.from.row.place f.from.row.line.body) n 0 within in
-    let there = row-held all (take f.from.index (rows source)) (drop (f.from.index + 1) (rows source)) f.from.row n (get_or (bytes_of all f.from.row.place f.from.row.line.body) n 0) f.free within byte in
+    let there = row-held all (take f.from.index (source_rows source)) (drop (f.from.index + 1) (source_rows source)) f.from.row n (get_or (bytes_of all f.from.row.place f.from.row.line.body) n 0) f.free within byte in
     shows (s.addr + n) (code-there p.statements s i n among of-s (omega (arith, lt, long)))
     ∙ is.laid (s.addr + n)
-    ∙ ap (λ a. image all (rows source) (a + n)) (sym f.begins)
-    ∙ ap (λ xs. image all xs (f.from.row.place.address + n)) (row-split (rows source) f.from.index f.from.row f.from.within f.from.at)
+    ∙ ap (λ a. image all (source_rows source) (a + n)) (sym f.begins)
+    ∙ ap (λ xs. image all xs (f.from.row.place.address + n)) (row-split (source_rows source) f.from.index f.from.row f.from.within f.from.at)
     ∙ there ∙ sym byte ∙ ap (λ b. slice_get b n) k.bytes_are) in
     fetched-back i s.addr k.bytes (omega (arith, room, some)) k.small k.encodes peek (shows-below peek s.addr k.bytes (omega (arith, long, room)) shown)
 
@@ -126,12 +126,12 @@ none-some x o h k = let e : None ≡ Some x = sym h ∙ k in cc (e)
 -- rows of two statements that hold one address do not follow one another
 not-before : {A : Type 0} (source : List (Line A)) (s t : Statement) (a : ℕ) (f : Fits source s) (g : Fits source t) → Holds s a → Holds t a → f.from.index < g.from.index → ⊥
 not-before source s t a f g in-s in-t lt =
-    let all = names (rows source) in
+    let all = names (source_rows source) in
     let here : f.from.row.place.address + (a - s.addr) ≡ a = omega (arith, f.begins, in-s.0) in
     let there : g.from.row.place.address + (a - t.addr) ≡ a = omega (arith, g.begins, in-t.0) in
-    let holds = earlier-holds all (rows source) f.from.row f.from.index g.from.index (a - s.addr) lt f.from.within f.from.at f.free (omega (arith, f.long, in-s.0, in-s.1)) in
-    let free = meets-free (image all (take g.from.index (rows source))) g.from.row.place.address (bytes_of all g.from.row.place g.from.row.line.body) (a - t.addr) g.free (omega (arith, g.long, in-t.0, in-t.1)) in
-    none-some _ (image all (take g.from.index (rows source)) a) (sym (ap (image all (take g.from.index (rows source))) there) ∙ free) (sym (ap (image all (take g.from.index (rows source))) here) ∙ holds)
+    let holds = earlier-holds all (source_rows source) f.from.row f.from.index g.from.index (a - s.addr) lt f.from.within f.from.at f.free (omega (arith, f.long, in-s.0, in-s.1)) in
+    let free = meets-free (image all (take g.from.index (source_rows source))) g.from.row.place.address (bytes_of all g.from.row.place g.from.row.line.body) (a - t.addr) g.free (omega (arith, g.long, in-t.0, in-t.1)) in
+    none-some _ (image all (take g.from.index (source_rows source)) a) (sym (ap (image all (take g.from.index (source_rows source))) there) ∙ free) (sym (ap (image all (take g.from.index (source_rows source))) here) ∙ holds)
 
 same-index : {A : Type 0} (all : Names) (places : List (Row A)) (s t : Statement) (c : Comes all places s) (d : Comes all places t) → c.index ≡ d.index → s ≡ t
 same-index all places s t c d e =
@@ -146,7 +146,7 @@ made-apart source p is s t a in-s in-t holds-s holds-t =
     (λ (lt : f.from.index < g.from.index). absurd (not-before source s t a f g holds-s holds-t lt))
     (λ (ge : g.from.index ≤ f.from.index). ⊎_elim
     (λ (lt : g.from.index < f.from.index). absurd (not-before source t s a g f holds-t holds-s lt))
-    (λ (le : f.from.index ≤ g.from.index). same-index (names (rows source)) (rows source) s t f.from g.from (omega (arith, ge, le)))
+    (λ (le : f.from.index ≤ g.from.index). same-index (names (source_rows source)) (source_rows source) s t f.from g.from (omega (arith, ge, le)))
     (cases_lt g.from.index f.from.index))
     (cases_lt f.from.index g.from.index)
 
@@ -210,7 +210,7 @@ made-room source p is a code =
 -- each byte of code is in the image
 made-stored : {A : Type 0} (source : List (Line A)) (p : Assembled) → IsMade source p → CodeIsHeld p
 made-stored source p is a code =
-    let all = names (rows source) in
+    let all = names (source_rows source) in
     let any = Any-from_list_any (covers a) p.statements code in
     let s = any.1 in
     let from = covers-from a s any.4 in
@@ -221,8 +221,8 @@ made-stored source p is a code =
     let k = a - row.place.address in
     let at : row.place.address + k ≡ a = omega (arith, f.begins, from) in
     let short : k < length bytes = omega (arith, f.begins, from, below, f.long) in
-    let there = row-held all (take f.from.index (rows source)) (drop (f.from.index + 1) (rows source)) row k (get_or bytes k 0) f.free short (slice_get-get_or bytes k 0 short) in
-    (get_or bytes k 0, is.laid a ∙ ap (λ xs. image all xs a) (row-split (rows source) f.from.index row f.from.within f.from.at) ∙ ap (image all (take f.from.index (rows source) ++ row ∷ drop (f.from.index + 1) (rows source))) (sym at) ∙ there)
+    let there = row-held all (take f.from.index (source_rows source)) (drop (f.from.index + 1) (source_rows source)) row k (get_or bytes k 0) f.free short (slice_get-get_or bytes k 0 short) in
+    (get_or bytes k 0, is.laid a ∙ ap (λ xs. image all xs a) (row-split (source_rows source) f.from.index row f.from.within f.from.at) ∙ ap (image all (take f.from.index (source_rows source) ++ row ∷ drop (f.from.index + 1) (source_rows source))) (sym at) ∙ there)
 
 -- a statement of a row further on
 Contains-back : (xs ys : List Statement) (s : Statement) → Contains ys s → Contains (xs ++ ys) s
@@ -233,29 +233,29 @@ Contains-back (x ∷ xs) ys s h = let (k, lt, e) = Contains-back xs ys s h in (s
 record Stated {A : Type 0} (all : Names) (places : List (Row A)) (e : ℕ) : Type 0 where
   statement : Statement
   instr : Instr
-  among : Contains (statements all places) statement
+  among : Contains (statements_of all places) statement
   of_instr : statement.instr ≡ Some instr
   there : statement.addr ≡ e
 
-entry-stated : {A : Type 0} (all : Names) (places : List (Row A)) (e : ℕ) → entry places ≡ Some e → Stated all places e
+entry-stated : {A : Type 0} (all : Names) (places : List (Row A)) (e : ℕ) → first_instruction places ≡ Some e → Stated all places e
 entry-stated all [] e h = cc (h)
 entry-stated {A = A} all (row ∷ more) e h = by row.line.body refl (λ k. entry-stated all more e k)
   where
-    later : (b : Body A) → row.line.body ≡ b → is_instruction b ≡ false → (entry more ≡ Some e → Stated all more e) → Stated all (row ∷ more) e
+    later : (b : Body A) → row.line.body ≡ b → is_instruction b ≡ false → (first_instruction more ≡ Some e → Stated all more e) → Stated all (row ∷ more) e
     later b is none rest =
-        let r = rest (ap (λ x. cond x (Some row.place.address) (entry more)) (sym (ap is_instruction is ∙ none)) ∙ h) in record {
+        let r = rest (ap (λ x. cond x (Some row.place.address) (first_instruction more)) (sym (ap is_instruction is ∙ none)) ∙ h) in record {
           statement = r.statement;
           instr = r.instr;
-          among = Contains-back (statement_of all row.place row.line.body) (statements all more) r.statement r.among;
+          among = Contains-back (statement_of all row.place row.line.body) (statements_of all more) r.statement r.among;
           of_instr = r.of_instr;
           there = r.there;
         }
 
-    by : (b : Body A) → row.line.body ≡ b → (entry more ≡ Some e → Stated all more e) → Stated all (row ∷ more) e
+    by : (b : Body A) → row.line.body ≡ b → (first_instruction more ≡ Some e → Stated all more e) → Stated all (row ∷ more) e
     by (bodies.Instr m o) is rest =
-        let first : Some row.place.address ≡ Some e = ap (λ b. cond (is_instruction b) (Some row.place.address) (entry more)) (sym is) ∙ h in
+        let first : Some row.place.address ≡ Some e = ap (λ b. cond (is_instruction b) (Some row.place.address) (first_instruction more)) (sym is) ∙ h in
         let there : row.place.address ≡ e = cc (first) in
-        let P : List Statement → Type 0 = λ x. Contains (x ++ statements all more) (stated row.place (Some (instr_of all row.place m o))) in record {
+        let P : List Statement → Type 0 = λ x. Contains (x ++ statements_of all more) (stated row.place (Some (instr_of all row.place m o))) in record {
           statement = stated row.place (Some (instr_of all row.place m o));
           instr = instr_of all row.place m o;
           among = subst P (ap (statement_of all row.place) (sym is)) (0, omega arith, refl);
@@ -272,13 +272,13 @@ entry-stated {A = A} all (row ∷ more) e h = by row.line.body refl (λ k. entry
 
 made-enters : {A : Type 0} (source : List (Line A)) (p : Assembled) → IsMade source p → EntryBegins p
 made-enters source p is =
-    let r = entry-stated (names (rows source)) (rows source) p.entry is.begins in
+    let r = entry-stated (names (source_rows source)) (source_rows source) p.entry is.begins in
     let P : List Statement → Type 0 = λ x. Contains x r.statement in
     let begins = made-begins source p is r.statement r.instr (subst P (sym is.stated) r.among) r.of_instr in
     (r.instr, ap (instr_at p.statements) (sym r.there) ∙ begins.0)
 
 made-outside : {A : Type 0} (source : List (Line A)) (p : Assembled) → IsMade source p → ImageInRam p
-made-outside source p is a le = is.laid a ∙ none-outside source [] (rows source) a is.accepted refl le
+made-outside source p is a le = is.laid a ∙ none-outside source [] (source_rows source) a is.accepted refl le
 
 pub made-sound : {A : Type 0} (source : List (Line A)) (p : Assembled) → IsMade source p → IsSound p
 made-sound source p is = record {

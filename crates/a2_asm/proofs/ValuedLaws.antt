@@ -11,11 +11,11 @@ use Rattle.a2_syntax.specs.declared.source.Operand.TheVariants as forms
 use Rattle.a2_syntax.specs.declared.source.Body.{Body}
 use Rattle.a2_syntax.specs.declared.source.Body.TheVariants.{Empty, Instr, Org, Equ, Dfb, Dw, Asc, Ds}
 use Rattle.a2_asm.specs.declared.place.Place.{Place}
-use Rattle.a2_asm.specs.Values.{Names, is_known, number}
+use Rattle.a2_asm.specs.Values.{Names, is_known, value_within}
 use Rattle.a2_asm.specs.Modes.{greatest, expr_of}
 use Rattle.a2_asm.specs.Layout.{Row, names}
-use Rattle.a2_asm.specs.Pass.{rows, layout_refusal}
-use Rattle.a2_asm.specs.Bytes.{counted}
+use Rattle.a2_asm.specs.Pass.{source_rows, layout_refusal}
+use Rattle.a2_asm.specs.Bytes.{value_or_zero}
 use Rattle.a2_asm.specs.Refusals.{is_far, refuse_now, refuse_body, refuse_instr, refuse_value, refuse_values, refuse_operand, refusal_in}
 use Rattle.a2_asm.specs.Valued.{HasValue, HaveValues, HasItsValues, AcceptedHaveTheirValues}
 use Rattle.a2_asm.proofs.FirstLaws.{otherwise-left, otherwise-right, if-none}
@@ -31,26 +31,26 @@ not-true false h = sym h
 valued : {A : Type 0} (known : Names) (most : ℕ) (place : Place) (e : Expr A) → refuse_value known most place e ≡ None → HasValue known most place.address e
 valued known most place e h =
     let unknown = refuse_if (not (is_known known e)) (faults.Unknown place.number) in
-    let range = refuse_if (not (is_some (number known most place.address e))) (faults.Range place.number) in (
+    let range = refuse_if (not (is_some (value_within known most place.address e))) (faults.Range place.number) in (
       not-true _ (if-none (not (is_known known e)) (faults.Unknown place.number) (otherwise-left unknown range h)),
-      not-true _ (if-none (not (is_some (number known most place.address e))) (faults.Range place.number) (otherwise-right unknown range h)),
+      not-true _ (if-none (not (is_some (value_within known most place.address e))) (faults.Range place.number) (otherwise-right unknown range h)),
     )
 
 valued-now : {A : Type 0} (all earlier : Names) (place : Place) (e : Expr A) → refuse_now all earlier place e ≡ None → HasValue earlier 65535 place.address e
 valued-now all earlier place e h =
     let unknown = refuse_if (not (is_known all e)) (faults.Unknown place.number) in
     let later = refuse_if (not (is_known earlier e)) (faults.Forward place.number) in
-    let range = refuse_if (not (is_some (number earlier 65535 place.address e))) (faults.Range place.number) in
+    let range = refuse_if (not (is_some (value_within earlier 65535 place.address e))) (faults.Range place.number) in
     let behind : (later otherwise range) ≡ None = otherwise-right unknown (later otherwise range) h in (
       not-true _ (if-none (not (is_known earlier e)) (faults.Forward place.number) (otherwise-left later range behind)),
-      not-true _ (if-none (not (is_some (number earlier 65535 place.address e))) (faults.Range place.number) (otherwise-right later range behind)),
+      not-true _ (if-none (not (is_some (value_within earlier 65535 place.address e))) (faults.Range place.number) (otherwise-right later range behind)),
     )
 
 valued-list : {A : Type 0} (all : Names) (most : ℕ) (place : Place) (es : List (Expr A)) → refuse_values all most place es ≡ None
     → HaveValues all most place.address es
 valued-list all most place es h =
     let known = list_all (is_known all) es in
-    let within = list_all (λ e. is_some (number all most place.address e)) es in
+    let within = list_all (λ e. is_some (value_within all most place.address e)) es in
     let unknown = refuse_if (not known) (faults.Unknown place.number) in
     let range = refuse_if (not within) (faults.Range place.number) in (
       not-true known (if-none (not known) (faults.Unknown place.number) (otherwise-left unknown range h)),
@@ -61,7 +61,7 @@ valued-instr : {A : Type 0} (all : Names) (place : Place) (e : Expr A) → refus
 valued-instr all place e h =
     valued all (greatest place.mode) place e
     (otherwise-left (refuse_value all (greatest place.mode) place e)
-    (refuse_if (is_far place.mode place.address (counted all (greatest place.mode) place.address e)) (faults.Branch place.number)) h)
+    (refuse_if (is_far place.mode place.address (value_or_zero all (greatest place.mode) place.address e)) (faults.Branch place.number)) h)
 
 valued-operand : {A : Type 0} (all : Names) (place : Place) (m : Rattle.a2_opcode.specs.declared.Mnemonic.Mnemonic) (o : Operand A) → refuse_operand all place (Instr m o) ≡ None
     → IfSome (expr_of o) (HasValue all (greatest place.mode) place.address)
@@ -92,14 +92,14 @@ abbrev Rows : Type 0
 Rows = List (Row NoAllocator)
 
 -- each line has its values in the rows that the first pass finds
-rows-valued : (source : List BareLine) (before after : Rows) (row : Row NoAllocator) → layout_refusal source ≡ None → rows source ≡ before ++ row ∷ after
-    → HasItsValues (names (rows source)) (names before) row.place row.line.body
+rows-valued : (source : List BareLine) (before after : Rows) (row : Row NoAllocator) → layout_refusal source ≡ None → source_rows source ≡ before ++ row ∷ after
+    → HasItsValues (names (source_rows source)) (names before) row.place row.line.body
 rows-valued source before after row e is =
     let passed = passed-is source before after row e is in
-    valued-body (names (rows source)) (names before) row.place row.line.body passed.keeps passed.now passed.later
+    valued-body (names (source_rows source)) (names before) row.place row.line.body passed.keeps passed.now passed.later
 
 pub accepted-valued : AcceptedHaveTheirValues
 accepted-valued source layout before after row is accepted split =
     let Valued : Rows → Type 0 = λ xs. refusal_in source xs ≡ None → xs ≡ before ++ row ∷ after → HasItsValues (names xs) (names before) row.place row.line.body in
-    let same : rows source ≡ layout = one-layout source (rows source) layout (rows-fit source) is in
+    let same : source_rows source ≡ layout = one-layout source (source_rows source) layout (rows-fit source) is in
     subst Valued same (rows-valued source before after row) accepted split

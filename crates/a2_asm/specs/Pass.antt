@@ -9,14 +9,14 @@ use Rattle.a2_asm.specs.Layout.{Row, mode_in, size, next_of, label_of, names, en
 use Rattle.a2_asm.specs.Refusals.{refusal_in}
 
 -- the place of a line behind lines that define these names
-abbrev pub place_of : {A : Type 0} → Names → ℕ → ℕ → Body A → Place
-place_of earlier number here body = record { number = number; address = here; length = size earlier here body; mode = mode_in earlier here body }
+abbrev pub place_behind : {A : Type 0} → Names → ℕ → ℕ → Body A → Place
+place_behind earlier number here body = record { number = number; address = here; length = size earlier here body; mode = mode_in earlier here body }
 
 -- the row of a line that lies behind these rows
 abbrev pub row_behind : {A : Type 0} → List (Row A) → Line A → Row A
 row_behind before line = record {
   line = line;
-  place = place_of (names before) (length before + 1) (end_of before) line.body;
+  place = place_behind (names before) (length before + 1) (end_of before) line.body;
   next = next_of (names before) (end_of before) line.body;
   label = label_of (names before) (end_of before) line.body;
 }
@@ -27,9 +27,9 @@ rows_behind before [] = []
 rows_behind before (line ∷ lines) = row_behind before line ∷ rows_behind (before ++ row_behind before line ∷ []) lines
 
 -- the lines of a source in their places
-abbrev pub rows : {A : Type 0} → List (Line A) → List (Row A)
-rows source = rows_behind [] source
+abbrev pub source_rows : {A : Type 0} → List (Line A) → List (Row A)
+source_rows source = rows_behind [] source
 
 -- the first refusal of the lines of a source in these rows
 abbrev pub layout_refusal : {A : Type 0} → List (Line A) → Option Fault
-layout_refusal source = refusal_in source (rows source)
+layout_refusal source = refusal_in source (source_rows source)

@@ -11,7 +11,7 @@ use Rattle.a2_hex.specs.Images.{held}
 use Rattle.a2_asm.specs.declared.program.Statement.{Statement}
 use Rattle.a2_asm.specs.Assembled.{Assembled}
 use Rattle.a2_asm.specs.Layout.{Row as PlacedLine, IsLayout, names}
-use Rattle.a2_asm.specs.Bytes.{image, statements, entry}
+use Rattle.a2_asm.specs.Bytes.{image, statements_of, first_instruction}
 use Rattle.a2_asm.specs.Refusals.{refusal_in}
 
 -- an instruction that begins at an address
@@ -37,8 +37,8 @@ pub record IsProgram {A : Type 0} (source : List (Line A)) (p : Assembled) : Typ
   pub accepted : refusal_in source layout ≡ None
   pub named : p.names ≡ names layout
   pub laid : (a : ℕ) → held p.image a ≡ image (names layout) layout a
-  pub stated : p.statements ≡ statements (names layout) layout
-  pub begins : entry layout ≡ Some p.entry
+  pub stated : p.statements ≡ statements_of (names layout) layout
+  pub begins : first_instruction layout ≡ Some p.entry
 
 -- a memory shows the bytes of code as they were laid
 abbrev pub ShowsCode : Assembled → (ℕ → Option ℕ) → Type 0

@@ -7,7 +7,7 @@ use Rattle.a2_syntax.specs.declared.source.Body.{Body}
 use Rattle.a2_syntax.specs.declared.source.Body.TheVariants.{Instr, Org, Equ, Dfb, Dw, Ds}
 use Rattle.a2_syntax.specs.Bare.{NoAllocator, BareLine}
 use Rattle.a2_asm.specs.declared.place.Place.{Place}
-use Rattle.a2_asm.specs.Values.{Names, is_known, number}
+use Rattle.a2_asm.specs.Values.{Names, is_known, value_within}
 use Rattle.a2_asm.specs.Modes.{greatest, expr_of}
 use Rattle.a2_asm.specs.Layout.{Row, IsLayout, names}
 use Rattle.a2_asm.specs.Bytes.{instr_of}
@@ -15,11 +15,11 @@ use Rattle.a2_asm.specs.Refusals.{refusal_in}
 
 -- each name of an expression is known, and its value is from 0 to a greatest one
 abbrev pub HasValue : {A : Type 0} → Names → ℕ → ℕ → Expr A → Type 0
-HasValue known most here e = (is_known known e ≡ true) × (is_some (number known most here e) ≡ true)
+HasValue known most here e = (is_known known e ≡ true) × (is_some (value_within known most here e) ≡ true)
 
 -- and so of each of some expressions
 abbrev pub HaveValues : {A : Type 0} → Names → ℕ → ℕ → List (Expr A) → Type 0
-HaveValues known most here es = (list_all (is_known known) es ≡ true) × (list_all (λ e. is_some (number known most here e)) es ≡ true)
+HaveValues known most here es = (list_all (is_known known) es ≡ true) × (list_all (λ e. is_some (value_within known most here e)) es ≡ true)
 
 -- what a line says has values: in ORG, EQU and DS by the names of earlier lines, else by all; and an instruction has bytes
 abbrev pub HasItsValues : {A : Type 0} → Names → Names → Place → Body A → Type 0

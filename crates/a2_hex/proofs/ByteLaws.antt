@@ -8,7 +8,7 @@ use Rattle.std.proofs.lemmas.Option.{cond_some, none-some}
 use Rattle.hex.specs.Hex.{decode_pairs, decode_sized, hex_digit_value}
 use Rattle.hex.specs.declared.error.FromHexError.{FromHexError}
 use Rattle.hex.specs.declared.error.FromHexError.TheVariants.{InvalidHexCharacter}
-use Rattle.a2_text.specs.Bytes.{is_digit_in, digit, value, number_in}
+use Rattle.a2_text.specs.Bytes.{is_digit_in, digit, value_of_digits, number_in}
 use Rattle.a2_hex.specs.ObjectLines.{byte_of}
 
 digit_value : (c : ℕ) → hex_digit_value c ≡ cond (is_digit_in 16 c) (Some (digit c)) None
@@ -17,7 +17,7 @@ digit_value c = grind (arith, nat_tests)
 pub digit-small : (c : ℕ) → is_digit_in 16 c ≡ true → digit c < 16
 digit-small c h = ltb-true (digit c) 16 ((and_parts _ _ h).1)
 
-value-two : (a b : ℕ) → is_digit_in 16 a ≡ true → is_digit_in 16 b ≡ true → value 16 (a ∷ b ∷ []) < 256
+value-two : (a b : ℕ) → is_digit_in 16 a ≡ true → is_digit_in 16 b ≡ true → value_of_digits 16 (a ∷ b ∷ []) < 256
 value-two a b h k =
     let x = digit-small a h in
     let y = digit-small b k in
@@ -53,17 +53,17 @@ byte_from None low = None
 byte_of-two : (a b : ℕ) (p q : Bool) → is_digit_in 16 a ≡ p → is_digit_in 16 b ≡ q → byte_of (a ∷ b ∷ []) ≡ byte_from (cond p (Some (digit a)) None) (cond q (Some (digit b)) None)
 unfolding byte_of
 byte_of-two a b true true h k =
-    let v : value 16 (a ∷ b ∷ []) ≡ digit a * 16 + digit b = omega arith in
+    let v : value_of_digits 16 (a ∷ b ∷ []) ≡ digit a * 16 + digit b = omega arith in
     let small = value-two a b h k in
-    let t : ltb (value 16 (a ∷ b ∷ [])) 65536 ≡ true = lt-ltb _ 65536 (omega arith) in
+    let t : ltb (value_of_digits 16 (a ∷ b ∷ [])) 65536 ≡ true = lt-ltb _ 65536 (omega arith) in
     let all : list_all (is_digit_in 16) (a ∷ b ∷ []) ≡ true = and_from _ _ h (and_from _ _ k refl) in
-    cond-true (list_all (is_digit_in 16) (a ∷ b ∷ []) && ltb (value 16 (a ∷ b ∷ [])) 65536) (Some (value 16 (a ∷ b ∷ []))) None (and_from _ _ all t) ∙ ap Some v
+    cond-true (list_all (is_digit_in 16) (a ∷ b ∷ []) && ltb (value_of_digits 16 (a ∷ b ∷ [])) 65536) (Some (value_of_digits 16 (a ∷ b ∷ []))) None (and_from _ _ all t) ∙ ap Some v
 byte_of-two a b true false h k =
     let no : list_all (is_digit_in 16) (a ∷ b ∷ []) ≡ false = and_right _ _ (and_left (is_digit_in 16 b) true k) in
-    cond-false (list_all (is_digit_in 16) (a ∷ b ∷ []) && ltb (value 16 (a ∷ b ∷ [])) 65536) (Some (value 16 (a ∷ b ∷ []))) None (and_left _ _ no)
+    cond-false (list_all (is_digit_in 16) (a ∷ b ∷ []) && ltb (value_of_digits 16 (a ∷ b ∷ [])) 65536) (Some (value_of_digits 16 (a ∷ b ∷ []))) None (and_left _ _ no)
 byte_of-two a b false q h k =
     let no : list_all (is_digit_in 16) (a ∷ b ∷ []) ≡ false = and_left (is_digit_in 16 a) _ h in
-    cond-false (list_all (is_digit_in 16) (a ∷ b ∷ []) && ltb (value 16 (a ∷ b ∷ [])) 65536) (Some (value 16 (a ∷ b ∷ []))) None (and_left _ _ no)
+    cond-false (list_all (is_digit_in 16) (a ∷ b ∷ []) && ltb (value_of_digits 16 (a ∷ b ∷ [])) 65536) (Some (value_of_digits 16 (a ∷ b ∷ []))) None (and_left _ _ no)
 
 byte_of-values : (a b : ℕ) → byte_of (a ∷ b ∷ []) ≡ byte_from (hex_digit_value a) (hex_digit_value b)
 byte_of-values a b = byte_of-two a b (is_digit_in 16 a) (is_digit_in 16 b) refl refl ∙ sym (ap (λ o. byte_from o (cond (is_digit_in 16 b) (Some (digit b)) None)) (digit_value a)) ∙ sym (ap (byte_from (hex_digit_value a)) (digit_value b))

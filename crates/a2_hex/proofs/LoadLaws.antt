@@ -13,7 +13,7 @@ use Rattle.a2_text.specs.Words.{words}
 use Rattle.a2_hex.specs.declared.fault.HexFault.{HexFault}
 use Rattle.a2_hex.specs.declared.fault.HexFault.TheVariants.{Digit, NoAddress, Outside, Memory}
 use Rattle.a2_hex.specs.Images.{no_bytes, put, overlaid}
-use Rattle.a2_hex.specs.ObjectLines.{Store, store_of, Loaded, lies_outside, after_bytes, after_store, after_line, after_lines, image_of, ◌>>=◌}
+use Rattle.a2_hex.specs.ObjectLines.{Store, store_of, Loaded, lies_outside, after_bytes, after_store_line, after_line, after_lines, image_of, ◌>>=◌}
 
 -- the bytes behind a first one
 pub bytes_behind : (o p : Option (List ℕ)) (byte : ℕ) (xs : List ℕ) → o ≡ option_map (λ others. byte ∷ others) p → o ≡ Some xs → (ys : List ℕ) × (p ≡ Some ys) × (xs ≡ byte ∷ ys)
@@ -49,10 +49,10 @@ pub after-blank : (n : ℕ) (before : Loaded) (line : List ℕ) → words line �
 unfolding after_line
 after-blank n before line h = rw h refl
 
-after-store : (n : ℕ) (before : Loaded) (line word : List ℕ) (others : List (List ℕ)) (store : Option Store) → words line ≡ word ∷ others → store_of line ≡ store → after_line n before line ≡ after_store n before store
+after-store : (n : ℕ) (before : Loaded) (line word : List ℕ) (others : List (List ℕ)) (store : Option Store) → words line ≡ word ∷ others → store_of line ≡ store → after_line n before line ≡ after_store_line n before store
 unfolding after_line
 after-store n before line word others store h is =
-    rw (h, is) (cond-false (eqb (length (word ∷ others)) 0) (Ok before) (after_store n before store) (ne_eqb (length (word ∷ others)) 0 (λ e. absurd (omega arith))))
+    rw (h, is) (cond-false (eqb (length (word ∷ others)) 0) (Ok before) (after_store_line n before store) (ne_eqb (length (word ∷ others)) 0 (λ e. absurd (omega arith))))
 
 pub after-form : (n : ℕ) (before : Loaded) (line word : List ℕ) (others : List (List ℕ)) → words line ≡ word ∷ others → store_of line ≡ None → after_line n before line ≡ Err (Digit n)
 after-form n before line word others h is = after-store n before line word others None h is

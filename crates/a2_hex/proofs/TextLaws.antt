@@ -9,14 +9,14 @@ use Rattle.std.proofs.lemmas.List.{append_assoc}
 use Rattle.std.proofs.lemmas.List.Elements.{All-from_get_or}
 use Rattle.std.proofs.lemmas.List.Splits.{slice_split_at, slice_split-cons_yes, slice_split-cons_no}
 use Rattle.std.proofs.lemmas.List.Sums.{AllPass-from_list_all}
-use Rattle.a2_text.specs.Bytes.{is_blank, is_digit_in, digit, value}
+use Rattle.a2_text.specs.Bytes.{is_blank, is_digit_in, digit, value_of_digits}
 use Rattle.a2_text.specs.Digits.{hex_digit, hex_pair, hex_word}
 use Rattle.a2_text.specs.Lines.{lines, lines_of_pieces}
 use Rattle.a2_text.specs.Words.{behind_blanks, words}
 use Rattle.a2_text.proofs.Cutting.{slice_split-some, lines_of_pieces-cons}
 use Rattle.a2_text.proofs.WordLaws.{words-first}
 use Rattle.a2_hex.specs.ObjectText.{after_blank, spaced, run, line_at, text_of_lines}
-use Rattle.a2_hex.specs.ObjectLines.{address_of, byte_of, each, bytes_of, given, given_before, both, store_of}
+use Rattle.a2_hex.specs.ObjectLines.{hex_address, byte_of, each, hex_bytes, given, given_before, both, store_of}
 use Rattle.a2_hex.proofs.StoreLaws.{is_colon, store_of-colon}
 
 -- neither a line feed nor a carriage return
@@ -123,23 +123,23 @@ byte-pair byte h =
     let low : byte % 16 < 16 = omega arith in
     let x = digit-value (byte / 16) high in
     let y = digit-value (byte % 16) low in
-    let v : value 16 (hex_pair byte) ≡ byte = omega arith in
+    let v : value_of_digits 16 (hex_pair byte) ≡ byte = omega arith in
     let all : list_all (is_digit_in 16) (hex_pair byte) ≡ true = and_from _ _ (digit-is (byte / 16) high) (and_from _ _ (digit-is (byte % 16) low) refl) in
-    let small : ltb (value 16 (hex_pair byte)) 65536 ≡ true = lt-ltb _ 65536 (omega (arith, v)) in
-    cond-true (list_all (is_digit_in 16) (hex_pair byte) && ltb (value 16 (hex_pair byte)) 65536) (Some (value 16 (hex_pair byte))) None (and_from _ _ all small) ∙ ap Some v
+    let small : ltb (value_of_digits 16 (hex_pair byte)) 65536 ≡ true = lt-ltb _ 65536 (omega (arith, v)) in
+    cond-true (list_all (is_digit_in 16) (hex_pair byte) && ltb (value_of_digits 16 (hex_pair byte)) 65536) (Some (value_of_digits 16 (hex_pair byte))) None (and_from _ _ all small) ∙ ap Some v
 
 each-pairs : (bytes : List ℕ) → AreBytes bytes → each (map byte_of (map hex_pair bytes)) ≡ Some bytes
 each-pairs [] h = refl
 each-pairs (byte ∷ bytes) h =
     ap (λ (o : Option ℕ). each (o ∷ map byte_of (map hex_pair bytes))) (byte-pair byte h.0) ∙ ap (option_map (λ others. byte ∷ others)) (each-pairs bytes h.1)
 
-bytes_of-spaced : (bytes : List ℕ) → AreBytes bytes → bytes_of (spaced bytes) ≡ Some bytes
-unfolding bytes_of
+bytes_of-spaced : (bytes : List ℕ) → AreBytes bytes → hex_bytes (spaced bytes) ≡ Some bytes
+unfolding hex_bytes
 bytes_of-spaced [] h = refl
 bytes_of-spaced (byte ∷ bytes) h = ap (λ (ws : List (List ℕ)). each (map byte_of ws)) (words-pairs byte bytes) ∙ each-pairs (byte ∷ bytes) h
 
 -- the address
-address-word : (a : ℕ) → a < 65536 → address_of (hex_word a) ≡ Some a
+address-word : (a : ℕ) → a < 65536 → hex_address (hex_word a) ≡ Some a
 address-word a h =
     let n1 : a / 256 / 16 < 16 = omega arith in
     let n2 : a / 256 % 16 < 16 = omega arith in
@@ -149,11 +149,11 @@ address-word a h =
     let d2 = digit-value (a / 256 % 16) n2 in
     let d3 = digit-value (a % 256 / 16) n3 in
     let d4 = digit-value (a % 256 % 16) n4 in
-    let v : value 16 (hex_word a) ≡ a = omega arith in
+    let v : value_of_digits 16 (hex_word a) ≡ a = omega arith in
     let all : list_all (is_digit_in 16) (hex_word a) ≡ true =
     and_from _ _ (digit-is (a / 256 / 16) n1) (and_from _ _ (digit-is (a / 256 % 16) n2) (and_from _ _ (digit-is (a % 256 / 16) n3) (and_from _ _ (digit-is (a % 256 % 16) n4) refl))) in
-    let small : ltb (value 16 (hex_word a)) 65536 ≡ true = lt-ltb _ 65536 (omega (arith, v)) in
-    cond-true (list_all (is_digit_in 16) (hex_word a) && ltb (value 16 (hex_word a)) 65536) (Some (value 16 (hex_word a))) None (and_from _ _ all small) ∙ ap Some v
+    let small : ltb (value_of_digits 16 (hex_word a)) 65536 ≡ true = lt-ltb _ 65536 (omega (arith, v)) in
+    cond-true (list_all (is_digit_in 16) (hex_word a) && ltb (value_of_digits 16 (hex_word a)) 65536) (Some (value_of_digits 16 (hex_word a))) None (and_from _ _ all small) ∙ ap Some v
 
 behind-word : (a : ℕ) (rest : List ℕ) → behind_blanks (hex_word a ++ rest) ≡ hex_word a ++ rest
 behind-word a rest =
@@ -172,7 +172,7 @@ colon-at a rest =
 pub store-line : (a : ℕ) (bytes : List ℕ) → a < 65536 → AreBytes bytes → store_of (hex_word a ++ 58 ∷ spaced bytes) ≡ Some (record { address = Some a; bytes = bytes })
 store-line a bytes h k =
     store_of-colon (hex_word a ++ 58 ∷ spaced bytes) 4 (sym (colon-at a (spaced bytes))) (omega arith)
-    ∙ ap (λ (o : Option (Option ℕ)). both o (bytes_of (spaced bytes))) (given-word a h)
+    ∙ ap (λ (o : Option (Option ℕ)). both o (hex_bytes (spaced bytes))) (given-word a h)
     ∙ ap (option_map (λ (bytes : List ℕ). record { address = Some a; bytes = bytes })) (bytes_of-spaced bytes k)
 
 pub words-line : (a : ℕ) (rest : List ℕ) → (word : List ℕ) × (others : List (List ℕ)) × (words (hex_word a ++ rest) ≡ word ∷ others)

@@ -5,14 +5,15 @@ use Rattle.std.specs.List.{before_first, after_first, list_any}
 use Rattle.a2_text.specs.Bytes.{number_in}
 use Rattle.a2_text.specs.Lines.{lines}
 use Rattle.a2_text.specs.Refusals.{◌otherwise◌}
+use Rattle.a2_text.specs.Signs.{sign}
 use Rattle.a2_text.specs.Words.{behind_blanks, words}
 use Rattle.a2_hex.specs.Images.{no_bytes, overlaid}
 use Rattle.a2_hex.specs.declared.fault.HexFault.{HexFault}
 use Rattle.a2_hex.specs.declared.fault.HexFault.TheVariants.{Digit, NoAddress, Outside}
 
 -- an address: 1 to 4 hexadecimal digits
-abbrev pub address_of : List ℕ → Option ℕ
-address_of digits = number_in 16 4 digits
+abbrev pub hex_address : List ℕ → Option ℕ
+hex_address digits = number_in 16 4 digits
 
 -- a byte: 1 or 2 hexadecimal digits
 unfoldable pub byte_of : List ℕ → Option ℕ
@@ -25,13 +26,13 @@ each (None ∷ values) = None
 each (Some value ∷ values) = option_map (λ others. value ∷ others) (each values)
 
 -- bytes with blanks between, and blanks at both ends or not
-unfoldable pub bytes_of : List ℕ → Option (List ℕ)
-bytes_of text = each (map byte_of (words text))
+unfoldable pub hex_bytes : List ℕ → Option (List ℕ)
+hex_bytes text = each (map byte_of (words text))
 
 -- nothing, or an address
 abbrev pub given : List ℕ → Option (Option ℕ)
 given [] = Some None
-given (c ∷ digits) = option_map Some (address_of (c ∷ digits))
+given (c ∷ digits) = option_map Some (hex_address (c ∷ digits))
 
 -- what stands before `:`, behind blanks
 unfoldable pub given_before : List ℕ → Option (Option ℕ)
@@ -50,7 +51,9 @@ both (Some address) bytes = option_map (λ bytes. record { address = address; by
 -- an address or none, `:`, and bytes
 unfoldable pub store_of : List ℕ → Option Store
 store_of text =
-    if list_any (λ c. c == 58) text then both (given_before (before_first (λ c. c == 58) text)) (bytes_of (after_first (λ c. c == 58) text)) else None
+    if list_any (λ c. c == sign ":") text
+    then both (given_before (before_first (λ c. c == sign ":") text)) (hex_bytes (after_first (λ c. c == sign ":") text))
+    else None
 
 -- what was loaded: the image, and the address at which a line without one goes on
 pub record Loaded : Type 0 where
@@ -68,13 +71,13 @@ after_bytes n image (Some at) bytes =
     if lies_outside at (length bytes) then Err (Outside n) else Ok (record { image = overlaid image at bytes; next = Some (at + length bytes) })
 
 -- a line of another form is refused, and a line without an address goes on at the next one
-abbrev pub after_store : ℕ → Loaded → Option Store → Result Loaded HexFault
-after_store n before None = Err (Digit n)
-after_store n before (Some store) = after_bytes n before.image (store.address otherwise before.next) store.bytes
+abbrev pub after_store_line : ℕ → Loaded → Option Store → Result Loaded HexFault
+after_store_line n before None = Err (Digit n)
+after_store_line n before (Some store) = after_bytes n before.image (store.address otherwise before.next) store.bytes
 
 -- after line n: as before where it is blank, and else with what it stores; or why it is refused
 unfoldable pub after_line : ℕ → Loaded → List ℕ → Result Loaded HexFault
-after_line n before line = if length (words line) == 0 then Ok before else after_store n before (store_of line)
+after_line n before line = if length (words line) == 0 then Ok before else after_store_line n before (store_of line)
 
 -- the second step, where the first gave something
 infixl 10 ◌>>=◌

@@ -2,6 +2,7 @@
 use Rattle.std.specs.Prelude.{ℕ, zero, suc, ◌+◌, ◌-◌, ◌%◌, ◌==◌, Bool, ◌&&◌, ◌||◌, not, List, [], ◌∷◌, ◌++◌, Option, Some, None, is_some, if◌then◌else◌}
 use Rattle.std.specs.List.{flat_map}
 use Rattle.a2_text.specs.Digits.{hex_pair, hex_word}
+use Rattle.a2_text.specs.Signs.{sign}
 
 -- a blank, and a byte of two digits
 abbrev pub after_blank : ℕ → List ℕ
@@ -28,7 +29,7 @@ begins_line image a = is_some (image a) && (a % 8 == 0 || not (is_some (image (a
 
 -- the line that begins here: the address, `:`, and the bytes up to a gap or the next address that is divisible by 8
 abbrev pub line_at : (ℕ → Option ℕ) → ℕ → List ℕ
-line_at image a = hex_word a ++ 58 ∷ spaced (run image a (8 - a % 8))
+line_at image a = hex_word a ++ sign ":" ∷ spaced (run image a (8 - a % 8))
 
 -- the lines that begin below an address, upwards
 unfoldable pub lines_below : (ℕ → Option ℕ) → ℕ → List (List ℕ)

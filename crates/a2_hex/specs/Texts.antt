@@ -5,18 +5,18 @@ use Rattle.a2_hex.specs.declared.fault.HexFault.{HexFault}
 use Rattle.a2_hex.specs.declared.fault.HexFault.TheVariants.{Digit, NoAddress, Outside, Memory}
 
 -- the line of a refusal, or 0 where it is of no line
-abbrev pub line_of : HexFault → ℕ
-line_of (Digit line) = line
-line_of (NoAddress line) = line
-line_of (Outside line) = line
-line_of Memory = 0
+abbrev pub hex_fault_line : HexFault → ℕ
+hex_fault_line (Digit line) = line
+hex_fault_line (NoAddress line) = line
+hex_fault_line (Outside line) = line
+hex_fault_line Memory = 0
 
 -- the text of a refusal, behind its line
-abbrev pub text_of : HexFault → List ℕ
-text_of (Digit line) = codes "H1 NOT HEX"
-text_of (NoAddress line) = codes "H2 NO ADDRESS"
-text_of (Outside line) = codes "H3 OUTSIDE RAM"
-text_of Memory = codes "NO MEMORY"
+abbrev pub hex_fault_words : HexFault → List ℕ
+hex_fault_words (Digit line) = codes "H1 NOT HEX"
+hex_fault_words (NoAddress line) = codes "H2 NO ADDRESS"
+hex_fault_words (Outside line) = codes "H3 OUTSIDE RAM"
+hex_fault_words Memory = codes "NO MEMORY"
 
-abbrev pub shown : HexFault → List ℕ
-shown fault = of_line (line_of fault) (text_of fault)
+abbrev pub hex_fault_text : HexFault → List ℕ
+hex_fault_text fault = of_line (hex_fault_line fault) (hex_fault_words fault)

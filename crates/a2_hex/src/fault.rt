@@ -1,7 +1,7 @@
 //! Why object lines are refused.
 
 ghost use Rattle.std.specs.Prelude.{◌≡◌, Some};
-ghost use Rattle.a2_hex.specs.Texts.{line_of, text_of, shown};
+ghost use Rattle.a2_hex.specs.Texts.{hex_fault_line, hex_fault_words, hex_fault_text};
 
 use a2_text::Refusal;
 use std::alloc::{AllocError, AllocFailed};
@@ -24,7 +24,7 @@ pub enum HexFault {
 impl HexFault {
     // The line of a refusal, or 0 where it is of no line.
     fn line(&self) -> usize
-        ensures { result ≡ line_of self.now }
+        ensures { result ≡ hex_fault_line self.now }
     {
         match self {
             HexFault::Digit(line) | HexFault::NoAddress(line) | HexFault::Outside(line) => *line,
@@ -34,7 +34,7 @@ impl HexFault {
 
     // The text of a refusal, behind its line.
     fn text(&self) -> &'static str
-        ensures { result.now ≡ text_of self.now }
+        ensures { result.now ≡ hex_fault_words self.now }
     {
         match self {
             HexFault::Digit(_) => "H1 NOT HEX",
@@ -47,7 +47,7 @@ impl HexFault {
 
 /// `LINE `, the line and a blank, where the refusal is of a line, and its text.
 impl fmt::Display for HexFault {
-    ghost output = { λ fault. Some (shown fault) };
+    ghost output = { λ fault. Some (hex_fault_text fault) };
 
     fn fmt<W: fmt::Write>(&self, f: &mut fmt::Formatter<W>) -> fmt::Result {
         Refusal {

@@ -2,7 +2,7 @@
 
 ghost use Rattle.std.specs.Prelude.{◌≡◌, ◌≢◌, ◌+◌, ◌≤◌, List, ℕ, length, false, Some, Ok, IfOk, IfErr};
 ghost use Rattle.a2_hex.specs.Images.{held, overlaid};
-ghost use Rattle.a2_hex.specs.ObjectLines.{bytes_of, lies_outside, after_line, image_of};
+ghost use Rattle.a2_hex.specs.ObjectLines.{hex_bytes, lies_outside, after_line, image_of};
 
 use crate::fault::HexFault;
 use crate::image::{Image, RAM_END};
@@ -13,7 +13,7 @@ use std::alloc::Allocator;
 // Puts bytes at the addresses from this one upwards, and returns the address behind them.
 fn lay<A: Allocator>(image: &mut Image<A>, address: u16, bytes: &[u8]) -> u16
     ghost all: { List ℕ }
-    requires bytes { bytes_of bytes.now ≡ Some all }
+    requires bytes { hex_bytes bytes.now ≡ Some all }
     requires room { lies_outside address (length all) ≡ false }
     ensures image { held image.new ≡ overlaid (held image.old) address all }
     ensures next { result ≡ address + length all }
@@ -35,7 +35,9 @@ fn load_line<A: Allocator>(
     number: usize,
     line: &[u8],
 ) -> Result<Option<u16>, HexFault>
-    ensures loaded { IfOk result (λ after. after_line number (record { image = held image.old; next = next }) line.now ≡ Ok (record { image = held image.new; next = after })) }
+    ensures loaded { IfOk result (λ after.
+        after_line number (record { image = held image.old; next = next }) line.now
+        ≡ Ok (record { image = held image.new; next = after })) }
     ensures refused { IfErr result (λ fault. after_line number (record { image = held image.old; next = next }) line.now ≡ Err fault) }
 {
     let Some(_) = first_word(line) else {

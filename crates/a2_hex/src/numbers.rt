@@ -8,7 +8,7 @@ use a2_text::number_in;
 /// The address that 1 to 4 hexadecimal digits of either case say, from 0 to $FFFF; none where `digits` is anything
 /// else, blanks included. This project's profile.
 pub fn address_of(digits: &[u8]) -> Option<u16>
-    ensures { result ≡ lines.address_of digits.now }
+    ensures { result ≡ lines.hex_address digits.now }
 {
     number_in(16, 4, digits)
 }

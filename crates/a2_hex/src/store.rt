@@ -2,7 +2,8 @@
 
 ghost use Rattle.std.specs.Prelude.{◌≡◌, ◌<◌, ◌≤◌, ◌==◌, ℕ, List, [], ◌∷◌, length, option_map, MatchOption, IfSome, IsNone, Some, None};
 ghost use Rattle.std.specs.List.{position};
-ghost use Rattle.a2_hex.specs.ObjectLines.{bytes_of, given_before, store_of};
+ghost use Rattle.a2_text.specs.Signs.{sign};
+ghost use Rattle.a2_hex.specs.ObjectLines.{hex_bytes, given_before, store_of};
 
 use crate::numbers::{address_of, byte_of};
 use a2_text::{behind_blanks, first_word};
@@ -22,7 +23,8 @@ pub struct StoreLine<'a> {
 /// The first byte of `text`, bytes of 1 or 2 hexadecimal digits with blanks between, and what stands behind it, which is
 /// shorter; none where the text is blank or its first word is no byte.
 pub fn first_byte(text: &[u8]) -> Option<(u8, &[u8])>
-    ensures bytes { MatchOption result (IfSome (bytes_of text.now) (λ bytes. bytes ≡ [])) (λ (byte, behind). bytes_of text.now ≡ option_map (λ others. byte ∷ others) (bytes_of behind.now)) }
+    ensures bytes { MatchOption result (IfSome (hex_bytes text.now) (λ bytes. bytes ≡ []))
+        (λ (byte, behind). hex_bytes text.now ≡ option_map (λ others. byte ∷ others) (hex_bytes behind.now)) }
     ensures shorter { IfSome result (λ (_, behind). length behind.now < length text.now) }
 {
     let (word, behind) = first_word(text)?;
@@ -33,7 +35,7 @@ pub fn first_byte(text: &[u8]) -> Option<(u8, &[u8])>
 /// How many bytes `text` has, 0 where it is blank; none where one of its words, which blanks part, is no byte of 1 or 2
 /// hexadecimal digits.
 pub fn count_bytes(text: &[u8]) -> Option<usize>
-    ensures { result ≡ option_map length (bytes_of text.now) }
+    ensures { result ≡ option_map length (hex_bytes text.now) }
 {
     let mut count = 0;
     let mut rest = text;
@@ -47,7 +49,7 @@ pub fn count_bytes(text: &[u8]) -> Option<usize>
 
 // Where the first `:` is.
 fn colon(text: &[u8]) -> Option<usize>
-    ensures is { result ≡ position (λ c. c == 58) text.now }
+    ensures is { result ≡ position (λ c. c == sign ":") text.now }
     ensures within { IfSome result (λ i. i < length text.now) }
 {
     text.iter().position(|c| *c == b':')
@@ -69,8 +71,9 @@ fn given_before(front: &[u8]) -> Option<Option<u16>>
 /// form.
 pub fn store_line(text: &[u8]) -> Option<StoreLine<'_>>
     ensures none { IsNone result → store_of text.now ≡ None }
-    ensures line { IfSome result (λ line. store_of text.now ≡ option_map (λ bytes. record { address = line.address; bytes = bytes }) (bytes_of line.bytes.now)) }
-    ensures count { IfSome result (λ line. option_map length (bytes_of line.bytes.now) ≡ Some line.count) }
+    ensures line { IfSome result (λ line.
+        store_of text.now ≡ option_map (λ bytes. record { address = line.address; bytes = bytes }) (hex_bytes line.bytes.now)) }
+    ensures count { IfSome result (λ line. option_map length (hex_bytes line.bytes.now) ≡ Some line.count) }
 {
     let end = colon(text)?;
     let bytes = &text[end + 1..];

@@ -23,7 +23,8 @@ const PIECE_LEN: usize = 4096;
 
 // The byte at an address, where a line begins there.
 fn begun<A: Allocator>(image: &Image<A>, address: u16) -> Option<u8>
-    ensures { MatchOption result (text.begins_line (held image.now) address ≡ false) (λ byte. (text.begins_line (held image.now) address ≡ true) × (held image.now address ≡ Some byte)) }
+    ensures { MatchOption result (text.begins_line (held image.now) address ≡ false)
+        (λ byte. (text.begins_line (held image.now) address ≡ true) × (held image.now address ≡ Some byte)) }
 {
     let byte = image.get(address)?;
     if address % 8 == 0 || image.get(address - 1).is_none() {

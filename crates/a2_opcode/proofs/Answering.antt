@@ -5,7 +5,7 @@ use Rattle.arrayvec.specs.ArrayVec.{ArrayVec}
 use Rattle.a2_opcode.specs.declared.Row.{Row}
 use Rattle.a2_opcode.specs.declared.Instr.{Instr}
 use Rattle.a2_opcode.specs.Table.{row, row_of, length_of}
-use Rattle.a2_opcode.specs.Encoding.{can_have, value_of, operand_of, encoded, decoded, IsFetchedFrom}
+use Rattle.a2_opcode.specs.Encoding.{can_have, value_of, operand_bytes, encoded, decoded, IsFetchedFrom}
 use Rattle.a2_opcode.proofs.RoundTrip.{encoded_by, decoded_by, decodes-back}
 use Rattle.a2_opcode.proofs.Fetching.{fetched-back}
 use Rattle.a2_opcode.proofs.Comparing.{le-test, gt-test}
@@ -55,14 +55,14 @@ encoded-missing i at is (Some b) e = cc
 
 pub encoded-is : (i : Instr) (at : ℕ) (r : Row) → row i.mnemonic i.mode ≡ Some r → (result : Option (ArrayVec ℕ))
     → MatchOption result (can_have i.mode at i.value ≡ false)
-    (λ b. (can_have i.mode at i.value ≡ true) × (b.items ≡ r.opcode ∷ operand_of i.mode at i.value))
+    (λ b. (can_have i.mode at i.value ≡ true) × (b.items ≡ r.opcode ∷ operand_bytes i.mode at i.value))
     → IsEncoding i at result
 unfolding encoded
 encoded-is i at r is None h =
-    ap (encoded_by i at) is ∙ ap (λ t. cond t (Some (r.opcode ∷ operand_of i.mode at i.value)) None) h
+    ap (encoded_by i at) is ∙ ap (λ t. cond t (Some (r.opcode ∷ operand_bytes i.mode at i.value)) None) h
 encoded-is i at r is (Some b) h =
     ap (encoded_by i at) is
-    ∙ ap (λ t. cond t (Some (r.opcode ∷ operand_of i.mode at i.value)) None) h.0
+    ∙ ap (λ t. cond t (Some (r.opcode ∷ operand_bytes i.mode at i.value)) None) h.0
     ∙ ap (λ l. Some l) (sym h.1)
 
 pub decodes-told : (i : Instr) (at : ℕ) → at < 65536 → i.value < 65536 → (result : Option (ArrayVec ℕ)) → IsEncoding i at result

@@ -4,7 +4,7 @@ use Rattle.std.proofs.Common.{sym, ap, ap₂, ◌∙◌, subst, arith}
 use Rattle.a2_opcode.specs.declared.Row.{Row}
 use Rattle.a2_opcode.specs.declared.Instr.{Instr}
 use Rattle.a2_opcode.specs.Table.{row_of, length_of, IsRowFor}
-use Rattle.a2_opcode.specs.Encoding.{value_of, can_have, operand_of, encoded, Fetched, no_byte, undocumented, instruction, bytes_from, fetched, Shows, IsFetchedFrom}
+use Rattle.a2_opcode.specs.Encoding.{value_of, can_have, operand_bytes, encoded, Fetched, no_byte, undocumented, instruction, bytes_from, fetched, Shows, IsFetchedFrom}
 use Rattle.a2_opcode.proofs.Lookup.{row-only, row_of-own}
 use Rattle.a2_opcode.proofs.RoundTrip.{coded, operand-length, value-back}
 
@@ -39,11 +39,11 @@ abbrev opcode_found : (ℕ → Option ℕ) → ℕ → Option ℕ → Fetched
 opcode_found peek at found = elim found [ None ↦ no_byte | Some opcode ↦ row_found peek at (row_of opcode) ]
 
 fetched-shown : (i : Instr) (at : ℕ) (r : Row) → at < 65536 → i.value < 65536 → IsRowFor i.mnemonic i.mode r
-    → can_have i.mode at i.value ≡ true → (peek : ℕ → Option ℕ) → Shows peek at (r.opcode ∷ operand_of i.mode at i.value)
+    → can_have i.mode at i.value ≡ true → (peek : ℕ → Option ℕ) → Shows peek at (r.opcode ∷ operand_bytes i.mode at i.value)
     → fetched peek at ≡ instruction r i.value
 unfolding fetched
 fetched-shown i at r a v is fits peek shown =
-    let operand : List ℕ = operand_of i.mode at i.value in
+    let operand : List ℕ = operand_bytes i.mode at i.value in
     let first : peek at ≡ Some r.opcode = ap peek (omega (arith, a)) ∙ shown zero (omega arith) in
     let many : length_of r.mode - 1 ≡ length operand = ap (λ m. length_of m - 1) is.mode_is ∙ sym (operand-length i.mode at i.value) in
     let rest : bytes_from peek (at + 1) (length operand) ≡ Some operand =

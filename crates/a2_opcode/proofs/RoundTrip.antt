@@ -8,7 +8,7 @@ use Rattle.a2_opcode.specs.declared.Row.{Row}
 use Rattle.a2_opcode.specs.declared.Instr.{Instr}
 use Rattle.a2_opcode.specs.declared.Mnemonic.{Mnemonic}
 use Rattle.a2_opcode.specs.Table.{row, row_of, length_of, IsRowOf, IsRowFor}
-use Rattle.a2_opcode.specs.Encoding.{branch_target, branch_distance, is_near, can_have, value_of, operand_of, encoded, decoded}
+use Rattle.a2_opcode.specs.Encoding.{branch_target, branch_distance, is_near, can_have, value_of, operand_bytes, encoded, decoded}
 use Rattle.a2_opcode.proofs.Lookup.{row-is, row-own, row_of-is, row_of-own}
 use Rattle.a2_opcode.proofs.Comparing.{lt-test, ge-test, lt-from, ge-from, le-from, same-key}
 
@@ -40,7 +40,7 @@ word-back value = omega arith
 
 -- the value that an operand's bytes stand for is the one they were made of
 pub value-back : (mode : Mode) (at value : ℕ) → at < 65536 → value < 65536 → can_have mode at value ≡ true
-    → value_of mode at (operand_of mode at value) ≡ value
+    → value_of mode at (operand_bytes mode at value) ≡ value
 value-back Implied at value a v h = sym (same-key value 0 h)
 value-back Accumulator at value a v h = sym (same-key value 0 h)
 value-back Immediate at value a v h = refl
@@ -56,7 +56,7 @@ value-back Indirect at value a v h = word-back value
 value-back Relative at value a v h = target-back at value a v h
 
 -- an operand has the bytes that its mode takes
-pub operand-length : (mode : Mode) (at value : ℕ) → length (operand_of mode at value) ≡ length_of mode - 1
+pub operand-length : (mode : Mode) (at value : ℕ) → length (operand_bytes mode at value) ≡ length_of mode - 1
 operand-length Implied at value = refl
 operand-length Accumulator at value = refl
 operand-length Immediate at value = refl
@@ -71,7 +71,7 @@ operand-length IndirectIndexed at value = refl
 operand-length Indirect at value = refl
 operand-length Relative at value = refl
 
-long-enough : (mode : Mode) (at value opcode : ℕ) → nat_le (length_of mode) (length (opcode ∷ operand_of mode at value)) ≡ true
+long-enough : (mode : Mode) (at value opcode : ℕ) → nat_le (length_of mode) (length (opcode ∷ operand_bytes mode at value)) ≡ true
 long-enough Implied at value opcode = refl
 long-enough Accumulator at value opcode = refl
 long-enough Immediate at value opcode = refl
@@ -91,7 +91,7 @@ abbrev pub encoded_by : Instr → ℕ → Option Row → Option (List ℕ)
 encoded_by i at found =
     elim found [
       | None ↦ None
-      | Some r ↦ if can_have i.mode at i.value then Some (r.opcode ∷ operand_of i.mode at i.value) else None
+      | Some r ↦ if can_have i.mode at i.value then Some (r.opcode ∷ operand_bytes i.mode at i.value) else None
     ]
 
 abbrev pub decoded_with : ℕ → List ℕ → ℕ → Mnemonic → Mode → Option Instr
@@ -108,10 +108,10 @@ pub record Coded (i : Instr) (at : ℕ) (bytes : List ℕ) : Type 0 where
   pub row : Row
   pub row_is : IsRowFor i.mnemonic i.mode row
   pub fits : can_have i.mode at i.value ≡ true
-  pub bytes_are : bytes ≡ row.opcode ∷ operand_of i.mode at i.value
+  pub bytes_are : bytes ≡ row.opcode ∷ operand_bytes i.mode at i.value
 
 coded-test : (i : Instr) (at : ℕ) (bytes : List ℕ) (r : Row) → IsRowFor i.mnemonic i.mode r → (b : Bool) → can_have i.mode at i.value ≡ b
-    → cond b (Some (r.opcode ∷ operand_of i.mode at i.value)) None ≡ Some bytes → Coded i at bytes
+    → cond b (Some (r.opcode ∷ operand_bytes i.mode at i.value)) None ≡ Some bytes → Coded i at bytes
 coded-test i at bytes r is true fits e = record { row = r; row_is = is; fits = fits; bytes_are = cc }
 coded-test i at bytes r is false fits e = cc
 
@@ -131,7 +131,7 @@ pub decodes-back : (i : Instr) (at : ℕ) (bytes : List ℕ) → at < 65536 → 
 unfolding decoded
 decodes-back i at bytes a v e =
     let is = coded i at bytes e in
-    let operand : List ℕ = operand_of i.mode at i.value in
+    let operand : List ℕ = operand_bytes i.mode at i.value in
     ap (λ (l : List ℕ). decoded l at) is.bytes_are
     ∙ ap (decoded_by is.row.opcode operand at) (row_of-own is.row is.row_is.listed)
     ∙ ap₂ (decoded_with is.row.opcode operand at) is.row_is.mnemonic_is is.row_is.mode_is
@@ -229,7 +229,7 @@ value-fits Relative at operand a b = branch-near at (slice_index operand 0) a b
 
 -- an operand's bytes, from the value that they say
 operand-back : (mode : Mode) (at : ℕ) (operand : List ℕ) → at < 65536 → slice_index operand 0 < 256 → length_of mode ≤ length operand + 1
-    → operand_of mode at (value_of mode at operand) ≡ take (length_of mode - 1) operand
+    → operand_bytes mode at (value_of mode at operand) ≡ take (length_of mode - 1) operand
 operand-back Implied at operand a b h = refl
 operand-back Accumulator at operand a b h = refl
 operand-back Immediate at operand a b h = byte-front operand h
@@ -272,7 +272,7 @@ encodes-test opcode operand at i a b r is true long e =
     let enough : length_of r.mode ≤ length operand + 1 = let le = le-from (length_of r.mode) (length (opcode ∷ operand)) long in omega (arith, le) in
     subst P same (
     ap (encoded_by made at) (row-own r is.listed)
-    ∙ ap (λ t. cond t (Some (r.opcode ∷ operand_of r.mode at (value_of r.mode at operand))) None) (value-fits r.mode at operand a b)
+    ∙ ap (λ t. cond t (Some (r.opcode ∷ operand_bytes r.mode at (value_of r.mode at operand))) None) (value-fits r.mode at operand a b)
     ∙ ap₂ (λ x xs. Some (x ∷ xs)) is.opcode_is (operand-back r.mode at operand a b enough)
     ∙ ap (λ xs. Some xs) (front r.mode opcode operand))
 encodes-test opcode operand at i a b r is false long e = cc

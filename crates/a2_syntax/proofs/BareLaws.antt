@@ -12,7 +12,7 @@ use Rattle.a2_syntax.specs.declared.source.Expr.{Expr}
 use Rattle.a2_syntax.specs.declared.source.Operand.{Operand}
 use Rattle.a2_syntax.specs.declared.source.Operand.TheVariants.{Nothing, Accumulator, Immediate, Plain, WithX, WithY, InParenthesesX, ParenthesesY, InParentheses}
 use Rattle.a2_syntax.specs.declared.source.Body.{Body}
-use Rattle.a2_syntax.specs.declared.source.Body.TheVariants.{Empty, Instr, Org, Equ, Dfb, Dw, Asc, Ds}
+use Rattle.a2_syntax.specs.declared.source.Body.TheVariants.{Instr, Org, Equ, Dfb, Dw, Asc, Ds}
 use Rattle.a2_syntax.specs.declared.source.Line.{Line}
 use Rattle.a2_syntax.specs.declared.operation.Operation.{Operation}
 use Rattle.a2_syntax.specs.declared.operation.Operation.TheVariants as operations
@@ -55,85 +55,25 @@ IsOperand-bare B pieces (InParentheses e) (es, round, h) = (es, round, IsExpr-ba
 IsOperandOf-bare : {A : Type 0} (B : Type 0) (m : Mnemonic) (pieces : List (List ℕ)) (o : Operand A) → IsOperandOf m pieces o → IsOperandOf {A = B} m pieces (bare_operand o)
 IsOperandOf-bare B m pieces Nothing h = h
 IsOperandOf-bare B m pieces Accumulator h = h
-IsOperandOf-bare B m pieces (Immediate e) h = IsOperand-bare B pieces (Immediate e) h
-IsOperandOf-bare B m pieces (Plain e) h = IsOperand-bare B pieces (Plain e) h
-IsOperandOf-bare B m pieces (WithX e) h = IsOperand-bare B pieces (WithX e) h
-IsOperandOf-bare B m pieces (WithY e) h = IsOperand-bare B pieces (WithY e) h
-IsOperandOf-bare B m pieces (InParenthesesX e) h = IsOperand-bare B pieces (InParenthesesX e) h
-IsOperandOf-bare B m pieces (ParenthesesY e) h = IsOperand-bare B pieces (ParenthesesY e) h
-IsOperandOf-bare B m pieces (InParentheses e) h = IsOperand-bare B pieces (InParentheses e) h
+IsOperandOf-bare B m pieces o h = IsOperand-bare B pieces o h
 
 IsOperation-bare : {A : Type 0} (B : Type 0) (o : Operation) (pieces : List (List ℕ)) (body : Body A) → IsOperation o pieces body → IsOperation {A = B} o pieces (bare_body body)
-IsOperation-bare B (operations.Instr m) pieces Empty h = absurd h
 IsOperation-bare B (operations.Instr m) pieces (Instr n o) h = (h.0, IsOperandOf-bare B m pieces o h.1)
-IsOperation-bare B (operations.Instr m) pieces (Org e) h = absurd h
-IsOperation-bare B (operations.Instr m) pieces (Equ e) h = absurd h
-IsOperation-bare B (operations.Instr m) pieces (Dfb es) h = absurd h
-IsOperation-bare B (operations.Instr m) pieces (Dw es) h = absurd h
-IsOperation-bare B (operations.Instr m) pieces (Asc bytes) h = absurd h
-IsOperation-bare B (operations.Instr m) pieces (Ds e) h = absurd h
-IsOperation-bare B operations.Org pieces Empty h = absurd h
-IsOperation-bare B operations.Org pieces (Instr n o) h = absurd h
 IsOperation-bare B operations.Org pieces (Org e) h = IsExpr-bare B pieces e h
-IsOperation-bare B operations.Org pieces (Equ e) h = absurd h
-IsOperation-bare B operations.Org pieces (Dfb es) h = absurd h
-IsOperation-bare B operations.Org pieces (Dw es) h = absurd h
-IsOperation-bare B operations.Org pieces (Asc bytes) h = absurd h
-IsOperation-bare B operations.Org pieces (Ds e) h = absurd h
-IsOperation-bare B operations.Equ pieces Empty h = absurd h
-IsOperation-bare B operations.Equ pieces (Instr n o) h = absurd h
-IsOperation-bare B operations.Equ pieces (Org e) h = absurd h
 IsOperation-bare B operations.Equ pieces (Equ e) h = IsExpr-bare B pieces e h
-IsOperation-bare B operations.Equ pieces (Dfb es) h = absurd h
-IsOperation-bare B operations.Equ pieces (Dw es) h = absurd h
-IsOperation-bare B operations.Equ pieces (Asc bytes) h = absurd h
-IsOperation-bare B operations.Equ pieces (Ds e) h = absurd h
-IsOperation-bare B operations.Dfb pieces Empty h = absurd h
-IsOperation-bare B operations.Dfb pieces (Instr n o) h = absurd h
-IsOperation-bare B operations.Dfb pieces (Org e) h = absurd h
-IsOperation-bare B operations.Dfb pieces (Equ e) h = absurd h
 IsOperation-bare B operations.Dfb pieces (Dfb es) h = AreExprs-bare B pieces es h
-IsOperation-bare B operations.Dfb pieces (Dw es) h = absurd h
-IsOperation-bare B operations.Dfb pieces (Asc bytes) h = absurd h
-IsOperation-bare B operations.Dfb pieces (Ds e) h = absurd h
-IsOperation-bare B operations.Dw pieces Empty h = absurd h
-IsOperation-bare B operations.Dw pieces (Instr n o) h = absurd h
-IsOperation-bare B operations.Dw pieces (Org e) h = absurd h
-IsOperation-bare B operations.Dw pieces (Equ e) h = absurd h
-IsOperation-bare B operations.Dw pieces (Dfb es) h = absurd h
 IsOperation-bare B operations.Dw pieces (Dw es) h = AreExprs-bare B pieces es h
-IsOperation-bare B operations.Dw pieces (Asc bytes) h = absurd h
-IsOperation-bare B operations.Dw pieces (Ds e) h = absurd h
-IsOperation-bare B operations.Asc pieces Empty h = absurd h
-IsOperation-bare B operations.Asc pieces (Instr n o) h = absurd h
-IsOperation-bare B operations.Asc pieces (Org e) h = absurd h
-IsOperation-bare B operations.Asc pieces (Equ e) h = absurd h
-IsOperation-bare B operations.Asc pieces (Dfb es) h = absurd h
-IsOperation-bare B operations.Asc pieces (Dw es) h = absurd h
 IsOperation-bare B operations.Asc pieces (Asc bytes) h = h
-IsOperation-bare B operations.Asc pieces (Ds e) h = absurd h
-IsOperation-bare B operations.Ds pieces Empty h = absurd h
-IsOperation-bare B operations.Ds pieces (Instr n o) h = absurd h
-IsOperation-bare B operations.Ds pieces (Org e) h = absurd h
-IsOperation-bare B operations.Ds pieces (Equ e) h = absurd h
-IsOperation-bare B operations.Ds pieces (Dfb es) h = absurd h
-IsOperation-bare B operations.Ds pieces (Dw es) h = absurd h
-IsOperation-bare B operations.Ds pieces (Asc bytes) h = absurd h
 IsOperation-bare B operations.Ds pieces (Ds e) h = IsExpr-bare B pieces e h
+IsOperation-bare B operation pieces body h = absurd h
 
 IsBody-bare : {A : Type 0} (B : Type 0) (text : List ℕ) (body : Body A) → IsBody text body → IsBody {A = B} text (bare_body body)
 IsBody-bare B text body (inl (over, e)) = inl (over, ap bare_body e)
 IsBody-bare B text body (inr (operation, pieces, has, is)) = inr (operation, pieces, has, IsOperation-bare B operation pieces body is)
 
 may_stand-bare : {A : Type 0} (B : Type 0) (label : Option (List ℕ)) (body : Body A) → may_stand {A = B} label (bare_body body) ≡ may_stand label body
-may_stand-bare B None Empty = refl
-may_stand-bare B None (Instr m o) = refl
-may_stand-bare B None (Org e) = refl
 may_stand-bare B None (Equ e) = refl
-may_stand-bare B None (Dfb es) = refl
-may_stand-bare B None (Dw es) = refl
-may_stand-bare B None (Asc bytes) = refl
-may_stand-bare B None (Ds e) = refl
+may_stand-bare B None other = refl
 may_stand-bare B (Some name) body = refl
 
 pub IsLine-bare : {A : Type 0} (B : Type 0) (text : List ℕ) (line : Line A) → IsLine text line → IsLine {A = B} text (bare_line line)

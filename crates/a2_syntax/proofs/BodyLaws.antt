@@ -13,7 +13,7 @@ use Rattle.a2_syntax.specs.declared.source.Expr.{Expr}
 use Rattle.a2_syntax.specs.declared.source.Operand.{Operand}
 use Rattle.a2_syntax.specs.declared.source.Operand.TheVariants.{Nothing, Accumulator, Immediate, Plain, WithX, WithY, InParenthesesX, ParenthesesY, InParentheses}
 use Rattle.a2_syntax.specs.declared.source.Body.{Body}
-use Rattle.a2_syntax.specs.declared.source.Body.TheVariants.{Empty, Instr, Org, Equ, Dfb, Dw, Asc, Ds}
+use Rattle.a2_syntax.specs.declared.source.Body.TheVariants.{Instr, Org, Equ, Dfb, Dw, Asc, Ds}
 use Rattle.a2_syntax.specs.declared.operation.Operation.TheVariants as operations
 use Rattle.a2_syntax.proofs.OperandLaws.{init, init-push, TheOne-map, expr-nil}
 
@@ -87,116 +87,62 @@ shift-one {A} m pieces s e = (inr (s, e), only) where
 pub operand_of-to : {A : Type 0} → (m : Mnemonic) (pieces : List (List ℕ)) → (is_shift m ≡ true → pieces ≡ [] → ⊥) → (o : Operand A) → IsOperand pieces o → IsOperandOf m pieces o
 operand_of-to m pieces never Nothing e = elim (cases_Bool (is_shift m)) [ inl s ↦ absurd (never s e) | inr s ↦ (s, e) ]
 operand_of-to m pieces never Accumulator h = inl h
-operand_of-to m pieces never (Immediate x) h = h
-operand_of-to m pieces never (Plain x) h = h
-operand_of-to m pieces never (WithX x) h = h
-operand_of-to m pieces never (WithY x) h = h
-operand_of-to m pieces never (InParenthesesX x) h = h
-operand_of-to m pieces never (ParenthesesY x) h = h
-operand_of-to m pieces never (InParentheses x) h = h
+operand_of-to m pieces never other h = h
 
 pub operand_of-from : {A : Type 0} → (m : Mnemonic) (pieces : List (List ℕ)) → (is_shift m ≡ true → pieces ≡ [] → ⊥) → (o : Operand A) → IsOperandOf m pieces o → IsOperand pieces o
 operand_of-from m pieces never Nothing h = h.1
 operand_of-from m pieces never Accumulator (inl h) = h
 operand_of-from m pieces never Accumulator (inr (s, e)) = absurd (never s e)
-operand_of-from m pieces never (Immediate x) h = h
-operand_of-from m pieces never (Plain x) h = h
-operand_of-from m pieces never (WithX x) h = h
-operand_of-from m pieces never (WithY x) h = h
-operand_of-from m pieces never (InParenthesesX x) h = h
-operand_of-from m pieces never (ParenthesesY x) h = h
-operand_of-from m pieces never (InParentheses x) h = h
+operand_of-from m pieces never other h = h
 
 pub operand_of-one : {A : Type 0} → (m : Mnemonic) (pieces : List (List ℕ)) → (is_shift m ≡ true → pieces ≡ [] → ⊥) → (o : Option (Operand A)) → TheOne (IsOperand pieces) o → TheOne (IsOperandOf m pieces) o
 operand_of-one m pieces never = TheOne-like (IsOperand pieces) (IsOperandOf m pieces) (operand_of-to m pieces never) (operand_of-from m pieces never)
 
 pub org-is : {A : Type 0} → (ps : List (List ℕ)) (b : Body A) → IsOperation operations.Org ps b → (e : Expr A) × IsExpr ps e × (b ≡ Org e)
-org-is ps Empty h = absurd h
-org-is ps (Instr m o) h = absurd h
 org-is ps (Org x) h = (x, h, refl)
-org-is ps (Equ x) h = absurd h
-org-is ps (Dfb x) h = absurd h
-org-is ps (Dw x) h = absurd h
-org-is ps (Asc x) h = absurd h
-org-is ps (Ds x) h = absurd h
+org-is ps other h = absurd h
 
 pub org-one : {A : Type 0} → (ps : List (List ℕ)) (o : Option (Expr A)) → TheOne (IsExpr ps) o → TheOne (IsOperation {A = A} operations.Org ps) (option_map Org o)
 org-one {A} ps o = TheOne-map (IsExpr ps) (IsOperation {A = A} operations.Org ps) Org o (λ e h. h) (org-is ps)
 
 pub equ-is : {A : Type 0} → (ps : List (List ℕ)) (b : Body A) → IsOperation operations.Equ ps b → (e : Expr A) × IsExpr ps e × (b ≡ Equ e)
-equ-is ps Empty h = absurd h
-equ-is ps (Instr m o) h = absurd h
-equ-is ps (Org x) h = absurd h
 equ-is ps (Equ x) h = (x, h, refl)
-equ-is ps (Dfb x) h = absurd h
-equ-is ps (Dw x) h = absurd h
-equ-is ps (Asc x) h = absurd h
-equ-is ps (Ds x) h = absurd h
+equ-is ps other h = absurd h
 
 pub equ-one : {A : Type 0} → (ps : List (List ℕ)) (o : Option (Expr A)) → TheOne (IsExpr ps) o → TheOne (IsOperation {A = A} operations.Equ ps) (option_map Equ o)
 equ-one {A} ps o = TheOne-map (IsExpr ps) (IsOperation {A = A} operations.Equ ps) Equ o (λ e h. h) (equ-is ps)
 
 pub dfb-is : {A : Type 0} → (ps : List (List ℕ)) (b : Body A) → IsOperation operations.Dfb ps b → (es : List (Expr A)) × AreExprs ps es × (b ≡ Dfb es)
-dfb-is ps Empty h = absurd h
-dfb-is ps (Instr m o) h = absurd h
-dfb-is ps (Org x) h = absurd h
-dfb-is ps (Equ x) h = absurd h
 dfb-is ps (Dfb x) h = (x, h, refl)
-dfb-is ps (Dw x) h = absurd h
-dfb-is ps (Asc x) h = absurd h
-dfb-is ps (Ds x) h = absurd h
+dfb-is ps other h = absurd h
 
 pub dfb-one : {A : Type 0} → (ps : List (List ℕ)) (o : Option (List (Expr A))) → TheOne (AreExprs ps) o → TheOne (IsOperation {A = A} operations.Dfb ps) (option_map Dfb o)
 dfb-one {A} ps o = TheOne-map (AreExprs ps) (IsOperation {A = A} operations.Dfb ps) Dfb o (λ es h. h) (dfb-is ps)
 
 pub dw-is : {A : Type 0} → (ps : List (List ℕ)) (b : Body A) → IsOperation operations.Dw ps b → (es : List (Expr A)) × AreExprs ps es × (b ≡ Dw es)
-dw-is ps Empty h = absurd h
-dw-is ps (Instr m o) h = absurd h
-dw-is ps (Org x) h = absurd h
-dw-is ps (Equ x) h = absurd h
-dw-is ps (Dfb x) h = absurd h
 dw-is ps (Dw x) h = (x, h, refl)
-dw-is ps (Asc x) h = absurd h
-dw-is ps (Ds x) h = absurd h
+dw-is ps other h = absurd h
 
 pub dw-one : {A : Type 0} → (ps : List (List ℕ)) (o : Option (List (Expr A))) → TheOne (AreExprs ps) o → TheOne (IsOperation {A = A} operations.Dw ps) (option_map Dw o)
 dw-one {A} ps o = TheOne-map (AreExprs ps) (IsOperation {A = A} operations.Dw ps) Dw o (λ es h. h) (dw-is ps)
 
 pub asc-is : {A : Type 0} → (ps : List (List ℕ)) (b : Body A) → IsOperation operations.Asc ps b → (bytes : List ℕ) × IsText ps bytes × (b ≡ Asc bytes)
-asc-is ps Empty h = absurd h
-asc-is ps (Instr m o) h = absurd h
-asc-is ps (Org x) h = absurd h
-asc-is ps (Equ x) h = absurd h
-asc-is ps (Dfb x) h = absurd h
-asc-is ps (Dw x) h = absurd h
 asc-is ps (Asc x) h = (x, h, refl)
-asc-is ps (Ds x) h = absurd h
+asc-is ps other h = absurd h
 
 pub asc-one : (A : Type 0) (ps : List (List ℕ)) (o : Option (List ℕ)) → TheOne (IsText ps) o → TheOne (IsOperation {A = A} operations.Asc ps) (option_map Asc o)
 asc-one A ps o = TheOne-map (IsText ps) (IsOperation {A = A} operations.Asc ps) Asc o (λ bytes h. h) (asc-is ps)
 
 pub ds-is : {A : Type 0} → (ps : List (List ℕ)) (b : Body A) → IsOperation operations.Ds ps b → (e : Expr A) × IsExpr ps e × (b ≡ Ds e)
-ds-is ps Empty h = absurd h
-ds-is ps (Instr m o) h = absurd h
-ds-is ps (Org x) h = absurd h
-ds-is ps (Equ x) h = absurd h
-ds-is ps (Dfb x) h = absurd h
-ds-is ps (Dw x) h = absurd h
-ds-is ps (Asc x) h = absurd h
 ds-is ps (Ds x) h = (x, h, refl)
+ds-is ps other h = absurd h
 
 pub ds-one : {A : Type 0} → (ps : List (List ℕ)) (o : Option (Expr A)) → TheOne (IsExpr ps) o → TheOne (IsOperation {A = A} operations.Ds ps) (option_map Ds o)
 ds-one {A} ps o = TheOne-map (IsExpr ps) (IsOperation {A = A} operations.Ds ps) Ds o (λ e h. h) (ds-is ps)
 
 pub instr-is : {A : Type 0} → (m : Mnemonic) (ps : List (List ℕ)) (b : Body A) → IsOperation (operations.Instr m) ps b → (o : Operand A) × IsOperandOf m ps o × (b ≡ Instr m o)
-instr-is m ps Empty h = absurd h
 instr-is m ps (Instr k o) h = (o, h.1, ap (λ x. Instr x o) h.0)
-instr-is m ps (Org x) h = absurd h
-instr-is m ps (Equ x) h = absurd h
-instr-is m ps (Dfb x) h = absurd h
-instr-is m ps (Dw x) h = absurd h
-instr-is m ps (Asc x) h = absurd h
-instr-is m ps (Ds x) h = absurd h
+instr-is m ps other h = absurd h
 
 pub instr-one : {A : Type 0} → (m : Mnemonic) (ps : List (List ℕ)) (o : Option (Operand A)) → TheOne (IsOperandOf m ps) o → TheOne (IsOperation (operations.Instr m) ps) (option_map (Instr m) o)
 instr-one m ps o = TheOne-map (IsOperandOf m ps) (IsOperation (operations.Instr m) ps) (Instr m) o (λ x h. (refl, h)) (instr-is m ps)

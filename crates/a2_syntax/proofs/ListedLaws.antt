@@ -6,7 +6,7 @@ use Rattle.std.proofs.lemmas.Bool.{agree_below_at, eqb-true, false≢true, and_f
 use Rattle.std.proofs.lemmas.List.{append_assoc, drop_at, get_or_past, length-replicate, length-take, take_all}
 use Rattle.std.proofs.lemmas.List.Sums.{AllPass-from_list_all}
 use Rattle.std.proofs.lemmas.List.Elements.{All-nil, All-cons}
-use Rattle.a2_text.specs.Bytes.{is_blank, capital, digit, value, is_digit_in}
+use Rattle.a2_text.specs.Bytes.{is_blank, capital, digit, value_of_digits, is_digit_in}
 use Rattle.a2_text.specs.Digits.{hex_digit, hex_pair, hex_word}
 use Rattle.a2_opcode.specs.declared.Mnemonic.{Mnemonic}
 use Rattle.a2_opcode.specs.declared.Mnemonic.TheVariants.{Adc, Asl, Lsr, Rol, Ror}
@@ -56,13 +56,13 @@ pair-digits byte h =
     let n2 : byte % 16 < 16 = omega arith in
     let d1 = digit-value (byte / 16) n1 in
     let d2 = digit-value (byte % 16) n2 in
-    let v : value 16 (hex_pair byte) ≡ byte = omega arith in
+    let v : value_of_digits 16 (hex_pair byte) ≡ byte = omega arith in
     let all : list_all (is_digit_in 16) (hex_pair byte) ≡ true = and_from _ _ (digit-is (byte / 16) n1) (and_from _ _ (digit-is (byte % 16) n2) refl) in
-    let small : ltb (value 16 (hex_pair byte)) 65536 ≡ true = lt-ltb _ 65536 (omega (arith, v)) in
+    let small : ltb (value_of_digits 16 (hex_pair byte)) 65536 ≡ true = lt-ltb _ 65536 (omega (arith, v)) in
     record {
       some = omega arith;
       names = AllPass-from_list_all is_name_byte (hex_pair byte) (and_from _ _ (digit-name (byte / 16) n1) (and_from _ _ (digit-name (byte % 16) n2) refl));
-      is = cond-true (list_all (is_digit_in 16) (hex_pair byte) && ltb (value 16 (hex_pair byte)) 65536) (Some (value 16 (hex_pair byte))) None (and_from _ _ all small) ∙ ap Some v;
+      is = cond-true (list_all (is_digit_in 16) (hex_pair byte) && ltb (value_of_digits 16 (hex_pair byte)) 65536) (Some (value_of_digits 16 (hex_pair byte))) None (and_from _ _ all small) ∙ ap Some v;
     }
 
 word-digits : (a : ℕ) → a < 65536 → Digits (hex_word a) a
@@ -75,14 +75,14 @@ word-digits a h =
     let d2 = digit-value (a / 256 % 16) n2 in
     let d3 = digit-value (a % 256 / 16) n3 in
     let d4 = digit-value (a % 256 % 16) n4 in
-    let v : value 16 (hex_word a) ≡ a = omega arith in
+    let v : value_of_digits 16 (hex_word a) ≡ a = omega arith in
     let all : list_all (is_digit_in 16) (hex_word a) ≡ true =
     and_from _ _ (digit-is (a / 256 / 16) n1) (and_from _ _ (digit-is (a / 256 % 16) n2) (and_from _ _ (digit-is (a % 256 / 16) n3) (and_from _ _ (digit-is (a % 256 % 16) n4) refl))) in
-    let small : ltb (value 16 (hex_word a)) 65536 ≡ true = lt-ltb _ 65536 (omega (arith, v)) in
+    let small : ltb (value_of_digits 16 (hex_word a)) 65536 ≡ true = lt-ltb _ 65536 (omega (arith, v)) in
     record {
       some = omega arith;
       names = AllPass-from_list_all is_name_byte (hex_word a) (and_from _ _ (digit-name (a / 256 / 16) n1) (and_from _ _ (digit-name (a / 256 % 16) n2) (and_from _ _ (digit-name (a % 256 / 16) n3) (and_from _ _ (digit-name (a % 256 % 16) n4) refl))));
-      is = cond-true (list_all (is_digit_in 16) (hex_word a) && ltb (value 16 (hex_word a)) 65536) (Some (value 16 (hex_word a))) None (and_from _ _ all small) ∙ ap Some v;
+      is = cond-true (list_all (is_digit_in 16) (hex_word a) && ltb (value_of_digits 16 (hex_word a)) 65536) (Some (value_of_digits 16 (hex_word a))) None (and_from _ _ all small) ∙ ap Some v;
     }
 
 -- a text's pieces, from its front

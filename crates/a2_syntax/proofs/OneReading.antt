@@ -139,7 +139,7 @@ AreExprs-one ps (x ∷ w ∷ ws) (y ∷ z ∷ zs) (f, b, e, h, more) (g, d, i, k
     ap (λ u. u ∷ w ∷ ws) (IsExpr-one f x y h (subst P same.0 k)) ∙ ap (λ u. y ∷ u) (AreExprs-one b (w ∷ ws) (z ∷ zs) more (subst Q same.1 back))
 
 -- which forms go with an expression in its place
-indexed-others : (c : ℕ) (pieces es : List (List ℕ)) → IsIndexed c pieces es → Others pieces
+indexed-others : (c : ℕ) (pieces es : List (List ℕ)) → IsIndexed (c ∷ []) pieces es → Others pieces
 indexed-others c pieces es (x, e, l) = record {
   some = λ n. indexed-nil es x (sym n ∙ e);
   letter = λ a k m. letter-indexed c pieces es a k (x, e, l);

@@ -76,7 +76,7 @@ outer-behind (e ∷ es) more h = or-true (is_outer e) _ (outer-behind es more h)
   or-true false b h = h
 
 -- no expression has a comma and a letter behind it
-pub expr-indexed : {A : Type 0} → (c : ℕ) (pieces es : List (List ℕ)) (e : Expr A) → IsExpr pieces e → IsIndexed c pieces es → ⊥
+pub expr-indexed : {A : Type 0} → (c : ℕ) (pieces es : List (List ℕ)) (e : Expr A) → IsExpr pieces e → IsIndexed (c ∷ []) pieces es → ⊥
 expr-indexed c pieces es e h (x, is, l) = false≢true (sym (expr-inner pieces e h) ∙ ap has_outer is ∙ outer-behind es (codes "," ∷ x ∷ []) refl)
 
 pub expr-enclosed : {A : Type 0} → (pieces es : List (List ℕ)) (e : Expr A) → IsExpr pieces e → IsEnclosed pieces es → ⊥
@@ -118,7 +118,7 @@ init-push (e ∷ f ∷ es) x = ap (λ z. e ∷ z) (init-push (f ∷ es) x)
 init-two : (es : List (List ℕ)) (a x : List ℕ) → init (es ++ a ∷ x ∷ []) ≡ es ++ a ∷ []
 init-two es a x = ap init (sym (append_assoc es (a ∷ []) (x ∷ []))) ∙ init-push (es ++ a ∷ []) x
 
-pub indexed-same : (c d : ℕ) (pieces es fs : List (List ℕ)) → IsIndexed c pieces es → IsIndexed d pieces fs → fs ≡ es
+pub indexed-same : (c d : ℕ) (pieces es fs : List (List ℕ)) → IsIndexed (c ∷ []) pieces es → IsIndexed (d ∷ []) pieces fs → fs ≡ es
 indexed-same c d pieces es fs (x, is, l) (y, js, m) =
     sym (init-push fs (codes ",")) ∙ ap init (sym (init-two fs (codes ",") y) ∙ ap init (sym js ∙ is) ∙ init-two es (codes ",") x) ∙ init-push es (codes ",")
 
@@ -126,22 +126,22 @@ pub enclosed-same : (pieces es fs : List (List ℕ)) → IsEnclosed pieces es �
 enclosed-same pieces es fs is js = sym (init-push fs (codes ")")) ∙ ap (λ z. init (drop 1 z)) (sym js ∙ is) ∙ init-push es (codes ")")
 
 -- a piece before the last, found
-pub indexed-some : (c : ℕ) (pieces front es : List (List ℕ)) (x : List ℕ) → pieces ≡ front ++ x ∷ [] → IsLetter c x → front ≡ es ++ codes "," ∷ [] → IsIndexed c pieces es
+pub indexed-some : (c : ℕ) (pieces front es : List (List ℕ)) (x : List ℕ) → pieces ≡ front ++ x ∷ [] → IsLetter (c ∷ []) x → front ≡ es ++ codes "," ∷ [] → IsIndexed (c ∷ []) pieces es
 indexed-some c pieces front es x e l f = (x, e ∙ ap (λ z. z ++ x ∷ []) f ∙ append_assoc es (codes "," ∷ []) (x ∷ []), l)
 
-pub indexed-none : (c : ℕ) (pieces front es : List (List ℕ)) (x : List ℕ) → pieces ≡ front ++ x ∷ [] → (front ≡ es ++ codes "," ∷ [] → ⊥) → IsIndexed c pieces es → ⊥
+pub indexed-none : (c : ℕ) (pieces front es : List (List ℕ)) (x : List ℕ) → pieces ≡ front ++ x ∷ [] → (front ≡ es ++ codes "," ∷ [] → ⊥) → IsIndexed (c ∷ []) pieces es → ⊥
 indexed-none c pieces front es x e none (y, is, m) = none (sym (init-push front x) ∙ ap init (sym e ∙ is) ∙ init-two es (codes ",") y)
 
-pub indexed-letter : (c : ℕ) (pieces front es : List (List ℕ)) (x : List ℕ) → pieces ≡ front ++ x ∷ [] → (IsLetter c x → ⊥) → IsIndexed c pieces es → ⊥
+pub indexed-letter : (c : ℕ) (pieces front es : List (List ℕ)) (x : List ℕ) → pieces ≡ front ++ x ∷ [] → (IsLetter (c ∷ []) x → ⊥) → IsIndexed (c ∷ []) pieces es → ⊥
 indexed-letter c pieces front es x e none (y, is, m) = none (ap (map capital) (sym (last-push front x) ∙ ap last (sym e ∙ is) ∙ last-two es (codes ",") y) ∙ m)
 
 -- the letter at the end tells the forms apart
-pub letters-apart : (c d : ℕ) (pieces es fs : List (List ℕ)) → IsIndexed c pieces es → IsIndexed d pieces fs → c ≡ d
+pub letters-apart : (c d : ℕ) (pieces es fs : List (List ℕ)) → IsIndexed (c ∷ []) pieces es → IsIndexed (d ∷ []) pieces fs → c ≡ d
 letters-apart c d pieces es fs (x, is, l) (y, js, m) =
     let same : x ≡ y = sym (last-two es (codes ",") x) ∙ ap last (sym is ∙ js) ∙ last-two fs (codes ",") y in
     ap (λ z. get_or z 0 0) (sym l ∙ ap (map capital) same ∙ m)
 
-pub enclosed-indexed : (c : ℕ) (pieces es fs : List (List ℕ)) → IsEnclosed pieces es → IsIndexed c pieces fs → c ≡ 41
+pub enclosed-indexed : (c : ℕ) (pieces es fs : List (List ℕ)) → IsEnclosed pieces es → IsIndexed (c ∷ []) pieces fs → c ≡ 41
 enclosed-indexed c pieces es fs is (y, js, m) =
     let same : y ≡ codes ")" = sym (last-two fs (codes ",") y) ∙ ap last (sym js ∙ is) ∙ last-push (codes "(" ∷ es) (codes ")") in
     ap (λ z. get_or z 0 0) (sym m ∙ ap (map capital) same)
@@ -174,7 +174,7 @@ no-star c h k = grind (arith, nat_tests)
 no-angle : (c : ℕ) → (c ≡ 60) ⊎ (c ≡ 62) → capital c ≡ 65 → ⊥
 no-angle c h k = grind (arith, nat_tests)
 
-no-letter-term : {A : Type 0} → (a : List ℕ) (t : Term A) → IsLetter 65 a → IsTerm a t → ⊥
+no-letter-term : {A : Type 0} → (a : List ℕ) (t : Term A) → IsLetter (65 ∷ []) a → IsTerm a t → ⊥
 no-letter-term [] t l h = (let never : ◌≡◌ {A = List ℕ} [] (65 ∷ []) = l in cc)
 no-letter-term (c ∷ d ∷ ds) t l h = omega (arith, ap length l)
 no-letter-term (c ∷ []) (Number n) l h = no-letter-number c n h (ap (λ z. get_or z 0 0) l)
@@ -182,7 +182,7 @@ no-letter-term (c ∷ []) (Named n) l h = no-letter-name c h.1 (ap (λ z. get_or
 no-letter-term (c ∷ []) Here l h = no-star c (ap (λ (z : List ℕ). get_or z 0 0) h) (ap (λ (z : List ℕ). get_or z 0 0) l)
 
 -- an accumulator is no expression
-pub expr-letter : {A : Type 0} → (pieces : List (List ℕ)) (a : List ℕ) (e : Expr A) → pieces ≡ a ∷ [] → IsLetter 65 a → IsExpr pieces e → ⊥
+pub expr-letter : {A : Type 0} → (pieces : List (List ℕ)) (a : List ℕ) (e : Expr A) → pieces ≡ a ∷ [] → IsLetter (65 ∷ []) a → IsExpr pieces e → ⊥
 expr-letter {A} pieces a e n l (rest, p, h) = letter-by e.part rest e.terms p h where
   terms-letter : (rest : List (List ℕ)) (ts : List (Signed A)) → rest ≡ a ∷ [] → AreTerms rest ts → ⊥
   terms-letter rest [] f h = h
@@ -199,7 +199,7 @@ expr-letter {A} pieces a e n l (rest, p, h) = letter-by e.part rest e.terms p h 
 -- which forms an operand may have, by what the code found
 pub record Others (pieces : List (List ℕ)) : Type 0 where
   pub some : pieces ≡ [] → ⊥
-  pub letter : (a : List ℕ) → pieces ≡ a ∷ [] → IsLetter 65 a → ⊥
+  pub letter : (a : List ℕ) → pieces ≡ a ∷ [] → IsLetter (65 ∷ []) a → ⊥
 
 pub record Bare (pieces : List (List ℕ)) : Type 0 where
   pub others : Others pieces
@@ -212,7 +212,7 @@ Form {A} pieces es f = (o : Operand A) → IsOperand pieces o → (e : Expr A) �
 moved : {A : Type 0} → (e : Expr A) (es fs : List (List ℕ)) → fs ≡ es → IsExpr fs e → IsExpr es e
 moved e es fs same h = let P : List (List ℕ) → Type 0 = λ x. IsExpr x e in subst P same h
 
-pub plain-form : {A : Type 0} → (pieces : List (List ℕ)) → Bare pieces → ((es : List (List ℕ)) → IsIndexed 88 pieces es → ⊥) → ((es : List (List ℕ)) → IsIndexed 89 pieces es → ⊥) → Form {A = A} pieces pieces Plain
+pub plain-form : {A : Type 0} → (pieces : List (List ℕ)) → Bare pieces → ((es : List (List ℕ)) → IsIndexed (88 ∷ []) pieces es → ⊥) → ((es : List (List ℕ)) → IsIndexed (89 ∷ []) pieces es → ⊥) → Form {A = A} pieces pieces Plain
 plain-form pieces b x y Nothing h = absurd (b.others.some h)
 plain-form pieces b x y Accumulator (a, e, l) = absurd (b.others.letter a e l)
 plain-form pieces b x y (Immediate e) (es, h, _) = absurd (b.hash es h)
@@ -223,10 +223,10 @@ plain-form pieces b x y (InParenthesesX e) (inner, es, h, _, _) = absurd (b.encl
 plain-form pieces b x y (ParenthesesY e) (front, es, h, _, _) = absurd (y front h)
 plain-form pieces b x y (InParentheses e) (es, h, _) = absurd (b.enclosed es h)
 
-apart : (pieces es fs : List (List ℕ)) → IsIndexed 88 pieces es → IsIndexed 89 pieces fs → ⊥
+apart : (pieces es fs : List (List ℕ)) → IsIndexed (88 ∷ []) pieces es → IsIndexed (89 ∷ []) pieces fs → ⊥
 apart pieces es fs h k = let never = letters-apart 88 89 pieces es fs h k in omega arith
 
-pub with_x-form : {A : Type 0} → (pieces es : List (List ℕ)) → Bare pieces → IsIndexed 88 pieces es → Form {A = A} pieces es WithX
+pub with_x-form : {A : Type 0} → (pieces es : List (List ℕ)) → Bare pieces → IsIndexed (88 ∷ []) pieces es → Form {A = A} pieces es WithX
 with_x-form pieces es b i Nothing h = absurd (b.others.some h)
 with_x-form pieces es b i Accumulator (a, e, l) = absurd (b.others.letter a e l)
 with_x-form pieces es b i (Immediate e) (fs, h, _) = absurd (b.hash fs h)
@@ -237,7 +237,7 @@ with_x-form pieces es b i (InParenthesesX e) (inner, fs, h, _, _) = absurd (b.en
 with_x-form pieces es b i (ParenthesesY e) (front, fs, h, _, _) = absurd (apart pieces es front i h)
 with_x-form pieces es b i (InParentheses e) (fs, h, _) = absurd (b.enclosed fs h)
 
-pub with_y-form : {A : Type 0} → (pieces es : List (List ℕ)) → Bare pieces → IsIndexed 89 pieces es → ((fs : List (List ℕ)) → IsEnclosed es fs → ⊥) → Form {A = A} pieces es WithY
+pub with_y-form : {A : Type 0} → (pieces es : List (List ℕ)) → Bare pieces → IsIndexed (89 ∷ []) pieces es → ((fs : List (List ℕ)) → IsEnclosed es fs → ⊥) → Form {A = A} pieces es WithY
 with_y-form pieces es b i n Nothing h = absurd (b.others.some h)
 with_y-form pieces es b i n Accumulator (a, e, l) = absurd (b.others.letter a e l)
 with_y-form pieces es b i n (Immediate e) (fs, h, _) = absurd (b.hash fs h)
@@ -248,7 +248,7 @@ with_y-form pieces es b i n (InParenthesesX e) (inner, fs, h, _, _) = absurd (b.
 with_y-form pieces es b i n (ParenthesesY e) (front, fs, h, k, _) = absurd (n fs (let P : List (List ℕ) → Type 0 = λ x. IsEnclosed x fs in subst P (indexed-same 89 89 pieces es front i h) k))
 with_y-form pieces es b i n (InParentheses e) (fs, h, _) = absurd (b.enclosed fs h)
 
-pub parentheses_y-form : {A : Type 0} → (pieces front es : List (List ℕ)) → Bare pieces → IsIndexed 89 pieces front → IsEnclosed front es → Form {A = A} pieces es ParenthesesY
+pub parentheses_y-form : {A : Type 0} → (pieces front es : List (List ℕ)) → Bare pieces → IsIndexed (89 ∷ []) pieces front → IsEnclosed front es → Form {A = A} pieces es ParenthesesY
 parentheses_y-form pieces front es b i n Nothing h = absurd (b.others.some h)
 parentheses_y-form pieces front es b i n Accumulator (a, e, l) = absurd (b.others.letter a e l)
 parentheses_y-form pieces front es b i n (Immediate e) (fs, h, _) = absurd (b.hash fs h)
@@ -259,34 +259,34 @@ parentheses_y-form pieces front es b i n (InParenthesesX e) (inner, fs, h, _, _)
 parentheses_y-form pieces front es b i n (ParenthesesY e) (gs, fs, h, k, x) = (e, moved e es fs (enclosed-same front es fs n (let P : List (List ℕ) → Type 0 = λ z. IsEnclosed z fs in subst P (indexed-same 89 89 pieces front gs i h) k)) x, refl)
 parentheses_y-form pieces front es b i n (InParentheses e) (fs, h, _) = absurd (b.enclosed fs h)
 
-pub not-both : (pieces es fs : List (List ℕ)) → IsEnclosed pieces es → IsIndexed 88 pieces fs → ⊥
+pub not-both : (pieces es fs : List (List ℕ)) → IsEnclosed pieces es → IsIndexed (88 ∷ []) pieces fs → ⊥
 not-both pieces es fs h k = let never = enclosed-indexed 88 pieces es fs h k in omega arith
 
-pub not-both-y : (pieces es fs : List (List ℕ)) → IsEnclosed pieces es → IsIndexed 89 pieces fs → ⊥
+pub not-both-y : (pieces es fs : List (List ℕ)) → IsEnclosed pieces es → IsIndexed (89 ∷ []) pieces fs → ⊥
 not-both-y pieces es fs h k = let never = enclosed-indexed 89 pieces es fs h k in omega arith
 
 pub not-hash : (pieces es fs : List (List ℕ)) → IsEnclosed pieces es → pieces ≡ codes "#" ∷ fs → ⊥
 not-hash pieces es fs h k = false≢true (ap (λ (z : List (List ℕ)). eqb (get_or (get_or z 0 []) 0 0) 35) (sym h ∙ k))
 
-pub in_parentheses-form : {A : Type 0} → (pieces es : List (List ℕ)) → Others pieces → IsEnclosed pieces es → ((fs : List (List ℕ)) → IsIndexed 88 es fs → ⊥) → Form {A = A} pieces es InParentheses
+pub in_parentheses-form : {A : Type 0} → (pieces es : List (List ℕ)) → Others pieces → IsEnclosed pieces es → ((fs : List (List ℕ)) → IsIndexed (88 ∷ []) es fs → ⊥) → Form {A = A} pieces es InParentheses
 in_parentheses-form pieces es b i n Nothing h = absurd (b.some h)
 in_parentheses-form pieces es b i n Accumulator (a, e, l) = absurd (b.letter a e l)
 in_parentheses-form pieces es b i n (Immediate e) (fs, h, _) = absurd (not-hash pieces es fs i h)
 in_parentheses-form pieces es b i n (Plain e) h = absurd (expr-enclosed pieces es e h i)
 in_parentheses-form pieces es b i n (WithX e) (fs, h, _) = absurd (not-both pieces es fs i h)
 in_parentheses-form pieces es b i n (WithY e) (fs, h, _) = absurd (not-both-y pieces es fs i h)
-in_parentheses-form pieces es b i n (InParenthesesX e) (inner, fs, h, k, _) = absurd (n fs (let P : List (List ℕ) → Type 0 = λ z. IsIndexed 88 z fs in subst P (enclosed-same pieces es inner i h) k))
+in_parentheses-form pieces es b i n (InParenthesesX e) (inner, fs, h, k, _) = absurd (n fs (let P : List (List ℕ) → Type 0 = λ z. IsIndexed (88 ∷ []) z fs in subst P (enclosed-same pieces es inner i h) k))
 in_parentheses-form pieces es b i n (ParenthesesY e) (front, fs, h, _, _) = absurd (not-both-y pieces es front i h)
 in_parentheses-form pieces es b i n (InParentheses e) (fs, h, k) = (e, moved e es fs (enclosed-same pieces es fs i h) k, refl)
 
-pub in_parentheses_x-form : {A : Type 0} → (pieces inner es : List (List ℕ)) → Others pieces → IsEnclosed pieces inner → IsIndexed 88 inner es → Form {A = A} pieces es InParenthesesX
+pub in_parentheses_x-form : {A : Type 0} → (pieces inner es : List (List ℕ)) → Others pieces → IsEnclosed pieces inner → IsIndexed (88 ∷ []) inner es → Form {A = A} pieces es InParenthesesX
 in_parentheses_x-form pieces inner es b i n Nothing h = absurd (b.some h)
 in_parentheses_x-form pieces inner es b i n Accumulator (a, e, l) = absurd (b.letter a e l)
 in_parentheses_x-form pieces inner es b i n (Immediate e) (fs, h, _) = absurd (not-hash pieces inner fs i h)
 in_parentheses_x-form pieces inner es b i n (Plain e) h = absurd (expr-enclosed pieces inner e h i)
 in_parentheses_x-form pieces inner es b i n (WithX e) (fs, h, _) = absurd (not-both pieces inner fs i h)
 in_parentheses_x-form pieces inner es b i n (WithY e) (fs, h, _) = absurd (not-both-y pieces inner fs i h)
-in_parentheses_x-form pieces inner es b i n (InParenthesesX e) (gs, fs, h, k, x) = (e, moved e es fs (indexed-same 88 88 inner es fs n (let P : List (List ℕ) → Type 0 = λ z. IsIndexed 88 z fs in subst P (enclosed-same pieces inner gs i h) k)) x, refl)
+in_parentheses_x-form pieces inner es b i n (InParenthesesX e) (gs, fs, h, k, x) = (e, moved e es fs (indexed-same 88 88 inner es fs n (let P : List (List ℕ) → Type 0 = λ z. IsIndexed (88 ∷ []) z fs in subst P (enclosed-same pieces inner gs i h) k)) x, refl)
 in_parentheses_x-form pieces inner es b i n (ParenthesesY e) (front, fs, h, _, _) = absurd (not-both-y pieces inner front i h)
 in_parentheses_x-form pieces inner es b i n (InParentheses e) (fs, h, k) = absurd (expr-indexed 88 inner es e (moved e inner fs (enclosed-same pieces inner fs i h) k) n)
 
@@ -298,10 +298,10 @@ inner-head : {A : Type 0} → (fs more : List (List ℕ)) (e : Expr A) → IsExp
 inner-head [] more e h = absurd (expr-nil [] e refl h)
 inner-head (f ∷ fs) more e h = front-false (is_outer f) (has_outer fs) (expr-inner (f ∷ fs) e h)
 
-pub indexed-hash : {A : Type 0} → (c : ℕ) (pieces es fs : List (List ℕ)) (e : Expr A) → pieces ≡ codes "#" ∷ es → IsIndexed c pieces fs → IsExpr fs e → ⊥
+pub indexed-hash : {A : Type 0} → (c : ℕ) (pieces es fs : List (List ℕ)) (e : Expr A) → pieces ≡ codes "#" ∷ es → IsIndexed (c ∷ []) pieces fs → IsExpr fs e → ⊥
 indexed-hash c pieces es fs e h (x, k, _) g = false≢true (sym (inner-head fs (codes "," ∷ x ∷ []) e g) ∙ ap (λ (z : List (List ℕ)). is_outer (head z)) (sym k ∙ h))
 
-pub indexed-enclosed-hash : (c : ℕ) (pieces es front fs : List (List ℕ)) → pieces ≡ codes "#" ∷ es → IsIndexed c pieces front → IsEnclosed front fs → ⊥
+pub indexed-enclosed-hash : (c : ℕ) (pieces es front fs : List (List ℕ)) → pieces ≡ codes "#" ∷ es → IsIndexed (c ∷ []) pieces front → IsEnclosed front fs → ⊥
 indexed-enclosed-hash c pieces es front fs h (x, k, _) g = false≢true (ap (λ (z : List (List ℕ)). eqb (get_or (get_or z 0 []) 0 0) 35) (sym (ap (λ (z : List (List ℕ)). z ++ codes "," ∷ x ∷ []) g) ∙ sym k ∙ h))
 
 pub hash-form : {A : Type 0} → (pieces es : List (List ℕ)) → Others pieces → pieces ≡ codes "#" ∷ es → Form {A = A} pieces es Immediate
@@ -316,16 +316,16 @@ hash-form pieces es b i (ParenthesesY e) (front, fs, h, k, _) = absurd (indexed-
 hash-form pieces es b i (InParentheses e) (fs, h, _) = absurd (not-hash pieces fs es h i)
 
 -- a letter alone
-pub letter-indexed : (c : ℕ) (pieces fs : List (List ℕ)) (a : List ℕ) → pieces ≡ a ∷ [] → IsIndexed c pieces fs → ⊥
+pub letter-indexed : (c : ℕ) (pieces fs : List (List ℕ)) (a : List ℕ) → pieces ≡ a ∷ [] → IsIndexed (c ∷ []) pieces fs → ⊥
 letter-indexed c pieces fs a e (x, k, _) = omega (arith, ap length e, ap length k, length-append fs (codes "," ∷ x ∷ []))
 
-pub letter-hash : (pieces es : List (List ℕ)) (a : List ℕ) → pieces ≡ a ∷ [] → IsLetter 65 a → pieces ≡ codes "#" ∷ es → ⊥
+pub letter-hash : (pieces es : List (List ℕ)) (a : List ℕ) → pieces ≡ a ∷ [] → IsLetter (65 ∷ []) a → pieces ≡ codes "#" ∷ es → ⊥
 letter-hash pieces es a e l h = false≢true (ap (λ (z : List ℕ). eqb (get_or z 0 0) 65) (sym (ap (λ (z : List (List ℕ)). map capital (head z)) h) ∙ ap (λ (z : List (List ℕ)). map capital (head z)) e ∙ l))
 
 pub letter-enclosed : (pieces es : List (List ℕ)) (a : List ℕ) → pieces ≡ a ∷ [] → IsEnclosed pieces es → ⊥
 letter-enclosed pieces es a e h = omega (arith, ap length e, ap length h, length-append es (codes ")" ∷ []))
 
-pub letter-form : {A : Type 0} → (pieces : List (List ℕ)) (a : List ℕ) → pieces ≡ a ∷ [] → IsLetter 65 a → (o : Operand A) → IsOperand pieces o → o ≡ Accumulator
+pub letter-form : {A : Type 0} → (pieces : List (List ℕ)) (a : List ℕ) → pieces ≡ a ∷ [] → IsLetter (65 ∷ []) a → (o : Operand A) → IsOperand pieces o → o ≡ Accumulator
 letter-form pieces a e l Nothing h = absurd (omega (arith, ap length e, ap length h))
 letter-form pieces a e l Accumulator h = refl
 letter-form pieces a e l (Immediate x) (fs, h, _) = absurd (letter-hash pieces fs a e l h)

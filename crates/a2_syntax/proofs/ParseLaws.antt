@@ -6,7 +6,7 @@ use Rattle.std.proofs.lemmas.List.Elements.{All-nil, All-cons, All-head, All-tai
 use Rattle.std.proofs.lemmas.Bool.{ltb-false}
 use Rattle.a2_text.specs.Lines.{lines}
 use Rattle.a2_text.specs.Refusals.{◌otherwise◌, refuse_if, first_line}
-use Rattle.a2_syntax.specs.Limits.{refuse_line}
+use Rattle.a2_syntax.specs.Limits.{refuse_long_line}
 use Rattle.a2_syntax.specs.declared.fault.Fault.{Fault}
 use Rattle.a2_syntax.specs.declared.fault.Fault.TheVariants.{TooLarge}
 use Rattle.a2_syntax.specs.Relations.{TheOne}
@@ -75,13 +75,13 @@ refuse-none : (b : Bool) (f : Fault) → refuse_if b f ≡ None → b ≡ false
 refuse-none false f h = refl
 refuse-none true f h = cc
 
-short-line : (n : ℕ) (line : List ℕ) → refuse_line n line ≡ None → length line ≤ 255
+short-line : (n : ℕ) (line : List ℕ) → refuse_long_line n line ≡ None → length line ≤ 255
 short-line n line h = ltb-false 255 (length line) (refuse-none (ltb 255 (length line)) (TooLarge n) h)
 
-first_line-short : (n : ℕ) (lines : List (List ℕ)) → first_line refuse_line n lines ≡ None → All (λ line. length line ≤ 255) lines
+first_line-short : (n : ℕ) (lines : List (List ℕ)) → first_line refuse_long_line n lines ≡ None → All (λ line. length line ≤ 255) lines
 first_line-short n [] h = All-nil (λ line. length line ≤ 255)
 first_line-short n (line ∷ more) h =
-    let p = otherwise-none (refuse_line n line) (first_line refuse_line (n + 1) more) h in
+    let p = otherwise-none (refuse_long_line n line) (first_line refuse_long_line (n + 1) more) h in
     All-cons (λ x. length x ≤ 255) line more (short-line n line p.0) (first_line-short (n + 1) more p.1)
 
 All-unmap : (xs : List (Bor (List ℕ))) → All (λ line. length line ≤ 255) (map (λ x. x.now) xs) → All (λ x. length x.now ≤ 255) xs
@@ -91,5 +91,5 @@ All-unmap (x ∷ xs) h =
     (All-unmap xs (All-tail (λ line. length line ≤ 255) x.now (map (λ y. y.now) xs) h))
 
 -- no line is too long
-pub none-long : (found : List (Bor (List ℕ))) → first_line refuse_line 1 (map (λ x. x.now) found) ≡ None → All (λ x. length x.now ≤ 255) found
+pub none-long : (found : List (Bor (List ℕ))) → first_line refuse_long_line 1 (map (λ x. x.now) found) ≡ None → All (λ x. length x.now ≤ 255) found
 none-long found h = All-unmap found (first_line-short 1 (map (λ x. x.now) found) h)

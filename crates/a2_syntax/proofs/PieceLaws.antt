@@ -9,7 +9,7 @@ use Rattle.std.proofs.lemmas.List.Sums.{prefix_len_passes, prefix_len_stops, pre
 use Rattle.a2_text.specs.Bytes.{is_blank}
 use Rattle.a2_syntax.specs.Names.{is_name_byte}
 use Rattle.a2_syntax.specs.Numbers.{is_quote, is_quotable}
-use Rattle.a2_syntax.specs.Pieces.{is_sign, is_mark, EndsRun, IsRun, IsPiece, IsBehindBlanks, is_over, Spells}
+use Rattle.a2_syntax.specs.Pieces.{is_sign, is_mark, EndsRun, IsNameRun, IsPiece, IsBehindBlanks, is_over, Spells}
 use Rattle.a2_text.specs.Words.{behind_blanks}
 use Rattle.a2_syntax.specs.Reading.{run_len, closed_len, quoted_len, marked_len, piece_len}
 
@@ -96,7 +96,7 @@ quote-stops : (q : ℕ) → is_quotable q q ≡ false
 quote-stops q = grind (arith, nat_tests)
 
 -- the piece at the front
-IsRun-front : (xs : List ℕ) → 0 < run_len xs → IsRun (take (run_len xs) xs) (drop (run_len xs) xs)
+IsRun-front : (xs : List ℕ) → 0 < run_len xs → IsNameRun (take (run_len xs) xs) (drop (run_len xs) xs)
 IsRun-front xs h =
     let n = length-take-le (run_len xs) xs (prefix_len-le-length is_name_byte xs) in
     (omega (arith, n), AllPass-front is_name_byte xs, ends (drop (run_len xs) xs) (Stops-drop is_name_byte xs))
@@ -110,7 +110,7 @@ stops-run [] s = tt
 stops-run (y ∷ ys) s = s
 
 -- a run is as long as the front of name bytes
-run_len-run : (run rest : List ℕ) → IsRun run rest → run_len (run ++ rest) ≡ length run
+run_len-run : (run rest : List ℕ) → IsNameRun run rest → run_len (run ++ rest) ≡ length run
 run_len-run run rest h = prefix_len-append is_name_byte run rest h.1 (stops-run rest h.2)
 
 piece_len-sign : (c : ℕ) (cs : List ℕ) → is_sign c ≡ true → piece_len (c ∷ cs) ≡ 1

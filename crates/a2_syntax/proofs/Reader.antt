@@ -1,6 +1,6 @@
 -- A reader of source texts by recursion: for any text that it reads, the lines that it finds are the text's, by one
 -- computation. No code follows it; it is for proofs about given texts.
-use Rattle.std.specs.Prelude.{◌≡◌, ℕ, suc, zero, ◌<◌, nat_lt, Bool, true, false, List, [], ◌∷◌, ◌++◌, length, map, take, drop, codes, Option, Some, None, option_map, is_some, unwrap_or, refl}
+use Rattle.std.specs.Prelude.{◌≡◌, ℕ, suc, zero, ◌<◌, nat_lt, true, false, List, [], ◌∷◌, ◌++◌, length, map, take, drop, codes, Option, Some, None, option_map, is_some, unwrap_or, refl}
 use Rattle.std.specs.List.{list_all}
 use Rattle.std.proofs.Common.{sym, ap, subst, inl, inr, arith}
 use Rattle.std.proofs.lemmas.Bool.{false≢true}
@@ -15,7 +15,7 @@ use Rattle.a2_opcode.specs.declared.Mnemonic.{Mnemonic}
 use Rattle.a2_syntax.specs.Bare.{BareLine}
 use Rattle.a2_syntax.specs.Names.{is_name}
 use Rattle.a2_syntax.specs.Numbers.{number, is_quote, is_quotable, code_in}
-use Rattle.a2_syntax.specs.Pieces.{IsQuoted, is_gap, is_over, Spells}
+use Rattle.a2_syntax.specs.Pieces.{is_gap, is_over, Spells}
 use Rattle.a2_syntax.specs.Limits.{size_refusal}
 use Rattle.a2_syntax.specs.Reading.{run_len, piece_len}
 use Rattle.a2_syntax.specs.Words.{letters_of}
@@ -23,15 +23,11 @@ use Rattle.a2_syntax.specs.Grammar.{IsTerm, IsSign, AreMoreTerms, AreTerms, IsEx
 use Rattle.a2_syntax.specs.Sources.{AreLines, IsSource}
 use Rattle.a2_syntax.specs.declared.operation.Operation.{Operation}
 use Rattle.a2_syntax.specs.declared.operation.Operation.TheVariants as operations
-use Rattle.a2_syntax.specs.declared.source.Term.{Term}
 use Rattle.a2_syntax.specs.declared.source.Term.TheVariants.{Number, Named, Here}
 use Rattle.a2_syntax.specs.declared.source.Part.TheVariants.{Whole, Low, High}
 use Rattle.a2_syntax.specs.declared.source.Expr.{Expr}
-use Rattle.a2_syntax.specs.declared.source.Operand.{Operand}
 use Rattle.a2_syntax.specs.declared.source.Operand.TheVariants.{Nothing, Accumulator, Immediate, Plain, WithX, WithY, InParenthesesX, ParenthesesY, InParentheses}
-use Rattle.a2_syntax.specs.declared.source.Body.{Body}
 use Rattle.a2_syntax.specs.declared.source.Body.TheVariants.{Empty, Instr, Org, Equ, Dfb, Dw, Asc, Ds}
-use Rattle.a2_syntax.specs.declared.source.Line.{Line}
 use Rattle.a2_syntax.proofs.PieceLaws.{Spells-over, Spells-more}
 use Rattle.a2_syntax.proofs.BodyLaws.{operand_of-to}
 use Rattle.a2_syntax.proofs.LineLaws.{HasOperation-from}
@@ -103,7 +99,7 @@ read_exprs {A} (suc most) pieces =
 -- Operands
 
 -- what stands before a comma and a register's letter
-abbrev pub read_indexed : (letter : ℕ) (pieces : List (List ℕ)) → Found (IsIndexed letter pieces)
+abbrev pub read_indexed : (letter : ℕ) (pieces : List (List ℕ)) → Found (IsIndexed (letter ∷ []) pieces)
 read_indexed letter [] = None
 read_indexed letter (comma ∷ []) = None
 read_indexed letter (comma ∷ x ∷ []) =

@@ -60,27 +60,27 @@ AreExprs pieces (e ∷ []) = IsExpr pieces e
 AreExprs pieces (e ∷ f ∷ es) = (front back : List (List ℕ)) × (pieces ≡ front ++ codes "," ∷ back) × IsExpr front e × AreExprs back (f ∷ es)
 
 -- the letter of a register, in either case
-abbrev pub IsLetter : ℕ → List ℕ → Type 0
-IsLetter c piece = map capital piece ≡ c ∷ []
+abbrev pub IsLetter : List ℕ → List ℕ → Type 0
+IsLetter letter piece = map capital piece ≡ letter
 
 -- a comma and the letter of a register behind these pieces
-abbrev pub IsIndexed : ℕ → List (List ℕ) → List (List ℕ) → Type 0
-IsIndexed c pieces es = (x : List ℕ) × (pieces ≡ es ++ codes "," ∷ x ∷ []) × IsLetter c x
+abbrev pub IsIndexed : List ℕ → List (List ℕ) → List (List ℕ) → Type 0
+IsIndexed letter pieces es = (x : List ℕ) × (pieces ≡ es ++ codes "," ∷ x ∷ []) × IsLetter letter x
 
 -- parentheses round these pieces
 abbrev pub IsEnclosed : List (List ℕ) → List (List ℕ) → Type 0
 IsEnclosed pieces es = pieces ≡ codes "(" ∷ es ++ codes ")" ∷ []
 
--- the nine forms of an operand; 88 is X, 89 is Y and 65 is A
+-- the nine forms of an operand
 abbrev pub IsOperand : {A : Type 0} → List (List ℕ) → Operand A → Type 0
 IsOperand pieces Nothing = pieces ≡ []
-IsOperand pieces Accumulator = (a : List ℕ) × (pieces ≡ a ∷ []) × IsLetter 65 a
+IsOperand pieces Accumulator = (a : List ℕ) × (pieces ≡ a ∷ []) × IsLetter (codes "A") a
 IsOperand pieces (Immediate e) = (es : List (List ℕ)) × (pieces ≡ codes "#" ∷ es) × IsExpr es e
 IsOperand pieces (Plain e) = IsExpr pieces e
-IsOperand pieces (WithX e) = (es : List (List ℕ)) × IsIndexed 88 pieces es × IsExpr es e
-IsOperand pieces (WithY e) = (es : List (List ℕ)) × IsIndexed 89 pieces es × IsExpr es e
-IsOperand pieces (InParenthesesX e) = (inner es : List (List ℕ)) × IsEnclosed pieces inner × IsIndexed 88 inner es × IsExpr es e
-IsOperand pieces (ParenthesesY e) = (front es : List (List ℕ)) × IsIndexed 89 pieces front × IsEnclosed front es × IsExpr es e
+IsOperand pieces (WithX e) = (es : List (List ℕ)) × IsIndexed (codes "X") pieces es × IsExpr es e
+IsOperand pieces (WithY e) = (es : List (List ℕ)) × IsIndexed (codes "Y") pieces es × IsExpr es e
+IsOperand pieces (InParenthesesX e) = (inner es : List (List ℕ)) × IsEnclosed pieces inner × IsIndexed (codes "X") inner es × IsExpr es e
+IsOperand pieces (ParenthesesY e) = (front es : List (List ℕ)) × IsIndexed (codes "Y") pieces front × IsEnclosed front es × IsExpr es e
 IsOperand pieces (InParentheses e) = (es : List (List ℕ)) × IsEnclosed pieces es × IsExpr es e
 
 -- the operations that shift a byte
@@ -139,7 +139,7 @@ IsStatement text line = (rest : List ℕ) × IsLabelled text line.label rest × 
 
 -- a line that begins with `*` is a comment
 abbrev pub IsStarred : {A : Type 0} → List ℕ → Line A → Type 0
-IsStarred text line = (comment : List ℕ) × (text ≡ 42 ∷ comment) × (line.label ≡ None) × (line.body ≡ Empty)
+IsStarred text line = (comment : List ℕ) × (text ≡ codes "*" ++ comment) × (line.label ≡ None) × (line.body ≡ Empty)
 
 -- a line of the source language
 abbrev pub IsLine : {A : Type 0} → List ℕ → Line A → Type 0

@@ -6,12 +6,12 @@ use Rattle.a2_syntax.specs.declared.fault.Fault.{Fault}
 use Rattle.a2_syntax.specs.declared.fault.Fault.TheVariants.{TooLarge}
 
 -- a line of more than 255 bytes
-abbrev pub refuse_line : ℕ → List ℕ → Option Fault
-refuse_line n line = refuse_if (nat_lt 255 (length line)) (TooLarge n)
+abbrev pub refuse_long_line : ℕ → List ℕ → Option Fault
+refuse_long_line n line = refuse_if (nat_lt 255 (length line)) (TooLarge n)
 
 -- the refusal of a text of more than 65,536 bytes, else of one of more than 4,096 lines, else of its first line that is too long
 abbrev pub size_refusal : List ℕ → Option Fault
 size_refusal text =
     refuse_if (nat_lt 65536 (length text)) (TooLarge 0) otherwise
     refuse_if (nat_lt 4096 (length (lines text))) (TooLarge 4097) otherwise
-    first_line refuse_line 1 (lines text)
+    first_line refuse_long_line 1 (lines text)

@@ -2,10 +2,11 @@
 use Rattle.std.specs.Prelude.{ℕ, Bool, false, ◌&&◌, ◌||◌, not, ◌==◌, nat_le, List, [], ◌∷◌, length}
 use Rattle.std.specs.List.{list_all}
 use Rattle.a2_text.specs.Bytes.{is_between, is_digit, capital}
+use Rattle.a2_text.specs.Signs.{sign}
 
 -- a letter or `_`
 abbrev pub begins_name : ℕ → Bool
-begins_name c = is_between 65 90 c || is_between 97 122 c || c == 95
+begins_name c = is_between (sign "A") (sign "Z") c || is_between (sign "a") (sign "z") c || c == sign "_"
 
 -- a letter, `_` or a digit
 abbrev pub is_name_byte : ℕ → Bool
@@ -14,4 +15,4 @@ is_name_byte c = begins_name c || is_digit c
 -- A name is a letter or `_`, then letters, digits and `_`, at most 32 bytes, but not `A` or `a` alone.
 abbrev pub is_name : List ℕ → Bool
 is_name [] = false
-is_name (c ∷ cs) = begins_name c && list_all is_name_byte cs && nat_le (length cs) 31 && not (length cs == 0 && capital c == 65)
+is_name (c ∷ cs) = begins_name c && list_all is_name_byte cs && nat_le (length cs) 31 && not (length cs == 0 && capital c == sign "A")

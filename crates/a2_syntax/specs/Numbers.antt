@@ -1,10 +1,10 @@
 -- Characters in quotes, and numbers. This project's profile.
-use Rattle.std.specs.Prelude.{ℕ, ◌+◌, Bool, ◌&&◌, ◌||◌, not, ◌==◌, List, [], ◌∷◌, Option, Some, None, if◌then◌else◌}
-use Rattle.a2_text.specs.Bytes.{is_between, number_in}
+use Rattle.std.specs.Prelude.{ℕ, ◌+◌, Bool, ◌&&◌, not, ◌==◌, List, [], ◌∷◌, Option, Some, None, codes, if◌then◌else◌}
+use Rattle.a2_text.specs.Bytes.{is_among, is_between, number_in}
+use Rattle.a2_text.specs.Signs.{sign}
 
--- `'` or `"`
 abbrev pub is_quote : ℕ → Bool
-is_quote c = c == 39 || c == 34
+is_quote c = is_among (codes "'\"") c
 
 -- a character that may stand in quotes of this kind: any that prints, but the quote
 abbrev pub is_quotable : ℕ → ℕ → Bool
@@ -12,19 +12,19 @@ is_quotable quote c = is_between 32 126 c && not (c == quote)
 
 -- what a character between such quotes stands for: its code, and between double quotes its code with bit 7 set
 abbrev pub code_in : ℕ → ℕ → ℕ
-code_in quote c = if quote == 34 then c + 128 else c
+code_in quote c = if quote == sign "\"" then c + 128 else c
 
 -- what a character and the closing quote stand for, behind the opening quote
-abbrev pub character : ℕ → List ℕ → Option ℕ
-character quote (c ∷ q ∷ []) = if is_quotable quote c && q == quote then Some (code_in quote c) else None
-character quote others = None
+abbrev pub quoted_character : ℕ → List ℕ → Option ℕ
+quoted_character quote (c ∷ q ∷ []) = if is_quotable quote c && q == quote then Some (code_in quote c) else None
+quoted_character quote others = None
 
 -- `$` and 1 to 4 hexadecimal digits, `%` and 1 to 16 binary digits, a character in quotes, or 1 to 5 decimal digits;
 -- at most 65,535
 abbrev pub number : List ℕ → Option ℕ
 number [] = None
 number (c ∷ cs) =
-    if c == 36 then number_in 16 4 cs else
-    if c == 37 then number_in 2 16 cs else
-    if is_quote c then character c cs else
+    if c == sign "$" then number_in 16 4 cs else
+    if c == sign "%" then number_in 2 16 cs else
+    if is_quote c then quoted_character c cs else
     number_in 10 5 (c ∷ cs)

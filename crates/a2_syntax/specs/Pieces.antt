@@ -1,17 +1,18 @@
 -- A text of pieces: signs, words and texts in quotes, with blanks between them. This project's profile.
-use Rattle.std.specs.Prelude.{◌≡◌, ℕ, ◌<◌, Bool, true, false, IsTrue, ◌||◌, ◌==◌, List, [], ◌∷◌, ◌++◌, length, ◌⊎◌}
+use Rattle.std.specs.Prelude.{◌≡◌, ℕ, ◌<◌, Bool, true, false, IsTrue, ◌||◌, ◌==◌, List, [], ◌∷◌, ◌++◌, length, ◌⊎◌, codes}
 use Rattle.std.specs.List.{AllPass}
-use Rattle.a2_text.specs.Bytes.{is_blank}
+use Rattle.a2_text.specs.Bytes.{is_among, is_blank}
+use Rattle.a2_text.specs.Signs.{sign}
 use Rattle.a2_syntax.specs.Names.{is_name_byte}
 use Rattle.a2_syntax.specs.Numbers.{is_quote, is_quotable}
 
--- # , ( ) < > + - *
+-- a character that is a piece by itself
 abbrev pub is_sign : ℕ → Bool
-is_sign c = c == 35 || c == 44 || c == 40 || c == 41 || c == 60 || c == 62 || c == 43 || c == 45 || c == 42
+is_sign c = is_among (codes "#,()<>+-*") c
 
--- `$` or `%`, the mark of a number's base
+-- the mark of a number's base
 abbrev pub is_mark : ℕ → Bool
-is_mark c = c == 36 || c == 37
+is_mark c = is_among (codes "$%") c
 
 -- no name byte comes next
 abbrev pub EndsRun : List ℕ → Type 0
@@ -19,8 +20,8 @@ EndsRun [] = Unit {0}
 EndsRun (c ∷ cs) = is_name_byte c ≡ false
 
 -- one name byte or more, and no further one
-abbrev pub IsRun : List ℕ → List ℕ → Type 0
-IsRun run rest = (0 < length run) × AllPass is_name_byte run × EndsRun rest
+abbrev pub IsNameRun : List ℕ → List ℕ → Type 0
+IsNameRun run rest = (0 < length run) × AllPass is_name_byte run × EndsRun rest
 
 -- characters between quotes of this kind
 abbrev pub IsQuoted : ℕ → List ℕ → List ℕ → Type 0
@@ -30,23 +31,23 @@ IsQuoted quote text piece = IsTrue (is_quote quote) × AllPass (is_quotable quot
 abbrev pub IsPiece : List ℕ → List ℕ → Type 0
 IsPiece piece rest =
     ((c : ℕ) × (piece ≡ c ∷ []) × IsTrue (is_sign c)) ⊎
-    (((c : ℕ) × (run : List ℕ) × (piece ≡ c ∷ run) × IsTrue (is_mark c) × IsRun run rest) ⊎
+    (((c : ℕ) × (run : List ℕ) × (piece ≡ c ∷ run) × IsTrue (is_mark c) × IsNameRun run rest) ⊎
     (((quote : ℕ) × (text : List ℕ) × IsQuoted quote text piece) ⊎
-    IsRun piece rest))
+    IsNameRun piece rest))
 
 -- text is blanks, and then rest
 abbrev pub IsBehindBlanks : List ℕ → List ℕ → Type 0
 IsBehindBlanks text rest = (gap : List ℕ) × AllPass is_blank gap × (text ≡ gap ++ rest)
 
--- nothing, or a comment, which may hold any byte
+-- nothing, or `;` and a comment, which may hold any byte
 abbrev pub is_over : List ℕ → Bool
 is_over [] = true
-is_over (c ∷ cs) = c == 59
+is_over (c ∷ cs) = c == sign ";"
 
--- nothing, a blank or a comment
+-- nothing, a blank, or the `;` of a comment
 abbrev pub is_gap : List ℕ → Bool
 is_gap [] = true
-is_gap (c ∷ cs) = is_blank c || c == 59
+is_gap (c ∷ cs) = is_blank c || c == sign ";"
 
 -- the pieces of a text, in which blanks may stand before each piece and at the end, and a comment behind them
 abbrev pub Spells : List ℕ → List (List ℕ) → Type 0

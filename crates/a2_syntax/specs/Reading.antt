@@ -1,6 +1,7 @@
 -- What stands at the front of a text, and kinds of operations. No public clause cites this file.
 use Rattle.std.specs.Prelude.{◌≡◌, ℕ, ◌+◌, Bool, false, ◌==◌, List, [], ◌∷◌, ◌++◌, drop, codes, Some, if◌then◌else◌}
 use Rattle.std.specs.List.{prefix_len, list_any}
+use Rattle.a2_text.specs.Signs.{sign}
 use Rattle.a2_syntax.specs.Names.{is_name_byte}
 use Rattle.a2_syntax.specs.Numbers.{is_quote, is_quotable}
 use Rattle.a2_syntax.specs.Pieces.{is_sign, is_mark}
@@ -46,7 +47,7 @@ abbrev pub ContinuesTerms : {A : Type 0} → List (List ℕ) → List (Signed A)
 ContinuesTerms {A} pieces found all = (more : List (Signed A)) × (all ≡ found ++ more) × TheOne (AreMoreTerms pieces) (Some more)
 
 abbrev pub is_comma : List ℕ → Bool
-is_comma (c ∷ []) = c == 44
+is_comma (c ∷ []) = c == sign ","
 is_comma piece = false
 
 abbrev pub has_comma : List (List ℕ) → Bool

@@ -17,7 +17,8 @@ fn more_terms<A: Allocator + Copy>(
     found: &mut Vec<Signed<A>, A>,
 ) -> Result<bool, AllocError>
     requires { length found.old.items + length (drop 1 pieces.now) ≤ 255 }
-    ensures read { IfOk result (λ is. is ≡ true → ContinuesTerms (map (λ x. x.now) (drop 1 pieces.now)) found.old.items found.new.items) }
+    ensures read { IfOk result (λ is. is ≡ true
+        → ContinuesTerms (map (λ x. x.now) (drop 1 pieces.now)) found.old.items found.new.items) }
     ensures none { IfOk result (λ is. is ≡ false → TheOne (AreMoreTerms {A = A} (map (λ x. x.now) (drop 1 pieces.now))) None) }
     ensures few { IfOk result (λ is. is ≡ true → length found.new.items ≤ 255) }
 {

@@ -1,7 +1,7 @@
 //! Why a source text is refused.
 
 ghost use Rattle.std.specs.Prelude.{◌≡◌, Some};
-ghost use Rattle.a2_syntax.specs.Texts.{line_of, text_of, shown};
+ghost use Rattle.a2_syntax.specs.Texts.{fault_line, fault_words, fault_text};
 
 use a2_text::Refusal;
 use std::alloc::{AllocError, AllocFailed};
@@ -43,7 +43,7 @@ pub enum Fault {
 impl Fault {
     /// The line of the refusal, counted from 1, or 0 where it is of no line.
     pub fn line(&self) -> u16
-        ensures { result ≡ line_of self.now }
+        ensures { result ≡ fault_line self.now }
     {
         match self {
             Fault::TooLarge(n)
@@ -63,7 +63,7 @@ impl Fault {
 
     // The text of a refusal, behind its line.
     fn text(&self) -> &'static str
-        ensures { result.now ≡ text_of self.now }
+        ensures { result.now ≡ fault_words self.now }
     {
         match self {
             Fault::TooLarge(_) => "E1 TOO LARGE",
@@ -85,7 +85,7 @@ impl Fault {
 
 /// `LINE `, the line and a blank, where the refusal is of a line, and its text.
 impl fmt::Display for Fault {
-    ghost output = { λ fault. Some (shown fault) };
+    ghost output = { λ fault. Some (fault_text fault) };
 
     fn fmt<W: fmt::Write>(&self, f: &mut fmt::Formatter<W>) -> fmt::Result {
         Refusal {

@@ -4,7 +4,7 @@ ghost use Rattle.std.specs.Prelude.{◌≡◌, ◌≢◌, ◌≤◌, length, map
 ghost use Rattle.std.specs.List.{All};
 ghost use Rattle.a2_text.specs.Lines as cut;
 ghost use Rattle.a2_text.specs.Refusals.{first_line};
-ghost use Rattle.a2_syntax.specs.Limits.{refuse_line, size_refusal};
+ghost use Rattle.a2_syntax.specs.Limits.{refuse_long_line, size_refusal};
 
 use crate::fault::Fault;
 use a2_text::cut;
@@ -40,8 +40,8 @@ pub fn lines<A: Allocator>(alloc: A, text: &[u8]) -> Result<Vec<&[u8], A>, Fault
 fn first_long(found: &[&[u8]]) -> Option<u16>
     requires { length found.now ≤ 4096 }
     ensures { MatchOption result
-        (first_line refuse_line 1 (map (λ x. x.now) found.now) ≡ None)
-        (λ n. first_line refuse_line 1 (map (λ x. x.now) found.now) ≡ Some (Fault.TooLarge n)) }
+        (first_line refuse_long_line 1 (map (λ x. x.now) found.now) ≡ None)
+        (λ n. first_line refuse_long_line 1 (map (λ x. x.now) found.now) ≡ Some (Fault.TooLarge n)) }
 {
     let mut n = 1;
     for line in found {

@@ -1,6 +1,7 @@
 //! A source line.
 
 ghost use Rattle.std.specs.Prelude.{◌≡◌, ◌≤◌, List, ℕ, not, length, None, ◌∷◌, IsTrue, ◌↔◌, IfOk};
+ghost use Rattle.a2_text.specs.Signs.{sign};
 ghost use Rattle.a2_syntax.specs.Relations.{TheOne};
 ghost use Rattle.a2_syntax.specs.Grammar.{IsBody, may_stand, IsLine};
 
@@ -47,7 +48,7 @@ fn needs_label<A: Allocator>(body: &Body<A>) -> bool
 
 // Whether a line begins with `*`.
 fn is_starred(text: &[u8]) -> bool
-    ensures { IsTrue result ↔ ((rest : List ℕ) × (text.now ≡ 42 ∷ rest)) }
+    ensures { IsTrue result ↔ ((rest : List ℕ) × (text.now ≡ sign "*" ∷ rest)) }
 {
     match text.split_first() {
         None => false,

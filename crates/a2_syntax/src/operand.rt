@@ -1,6 +1,6 @@
 //! The operands of instructions.
 
-ghost use Rattle.std.specs.Prelude.{◌≡◌, ◌↔◌, ◌≤◌, ◌∷◌, ◌++◌, [], List, ℕ, IsTrue, length, map, IfOk, IfSome, MatchOption};
+ghost use Rattle.std.specs.Prelude.{◌≡◌, ◌↔◌, ◌≤◌, ◌∷◌, ◌++◌, [], List, ℕ, IsTrue, length, map, codes, IfOk, IfSome, MatchOption};
 ghost use Rattle.std.specs.Option.{option_map};
 ghost use Rattle.a2_syntax.specs.Relations.{TheOne};
 ghost use Rattle.a2_syntax.specs.Grammar.{IsLetter, IsOperand, IsIndexed, IsEnclosed};
@@ -25,7 +25,7 @@ pub(crate) enum Shape {
 
 // Whether a piece is this letter, in either case.
 fn is_letter(piece: &[u8], c: u8) -> bool
-    ensures { IsTrue result ↔ IsLetter c piece.now }
+    ensures { IsTrue result ↔ IsLetter (c ∷ []) piece.now }
 {
     match piece {
         [x] => capital(*x) == c,
@@ -62,8 +62,8 @@ fn front_of<'a, 'b>(pieces: &'a [&'b [u8]], c: u8) -> Option<&'a [&'b [u8]]>
 // What stands before a comma and the letter of a register.
 fn indexed<'a, 'b>(pieces: &'a [&'b [u8]], c: u8) -> Option<&'a [&'b [u8]]>
     ensures is { MatchOption result
-        ((es : List (List ℕ)) → IsIndexed c (map (λ x. x.now) pieces.now) es → ⊥)
-        (λ r. IsIndexed c (map (λ x. x.now) pieces.now) (map (λ x. x.now) r.now)) }
+        ((es : List (List ℕ)) → IsIndexed (c ∷ []) (map (λ x. x.now) pieces.now) es → ⊥)
+        (λ r. IsIndexed (c ∷ []) (map (λ x. x.now) pieces.now) (map (λ x. x.now) r.now)) }
     ensures within { IfSome result (λ r. length r.now ≤ length pieces.now) }
 {
     match pieces.split_last() {
@@ -79,7 +79,7 @@ fn indexed<'a, 'b>(pieces: &'a [&'b [u8]], c: u8) -> Option<&'a [&'b [u8]]>
 }
 
 fn is_accumulator(pieces: &[&[u8]]) -> bool
-    ensures { IsTrue result ↔ ((a : List ℕ) × (map (λ x. x.now) pieces.now ≡ a ∷ []) × IsLetter 65 a) }
+    ensures { IsTrue result ↔ ((a : List ℕ) × (map (λ x. x.now) pieces.now ≡ a ∷ []) × IsLetter (codes "A") a) }
 {
     match pieces {
         [a] => is_letter(*a, b'A'),

@@ -17,8 +17,10 @@ fn parse_lines<'a, A: Allocator + Copy>(alloc: A, texts: &[&'a [u8]]) -> Result<
     requires few { length texts.now ≤ 4096 }
     requires short { All (λ text. length text.now ≤ 255) texts.now }
     ensures read { IfOk result (λ source. AreLines (map (λ x. x.now) texts.now) source) }
-    ensures only { IfOk result (λ source. (others : List BareLine) → AreLines (map (λ x. x.now) texts.now) others → others ≡ source) }
-    ensures refused { IfErr result (λ fault. fault ≢ Fault.Memory → (n : ℕ) × (fault ≡ Fault.Syntax n) × FirstUnread (map (λ x. x.now) texts.now) n) }
+    ensures only { IfOk result (λ source. (others : List BareLine)
+        → AreLines (map (λ x. x.now) texts.now) others → others ≡ source) }
+    ensures refused { IfErr result (λ fault. fault ≢ Fault.Memory
+        → (n : ℕ) × (fault ≡ Fault.Syntax n) × FirstUnread (map (λ x. x.now) texts.now) n) }
 {
     let mut parsed = Vec::with_capacity(alloc, texts.len())?;
     let mut pieces: Vec<&'a [u8], A> = Vec::new(alloc);
@@ -62,5 +64,6 @@ pub fn a_text_is_one_source()
 /// not in the grammar.
 pub fn a_text_has_one_refusal()
     ensures one { (text : List ℕ) (fault other : Fault) → IsTextRefusal text fault → IsTextRefusal text other → fault ≡ other }
-    ensures either { (text : List ℕ) → ((source : List BareLine) → IsSource text source → ⊥) → ((fault : Fault) → IsTextRefusal text fault → ⊥) → ⊥ }
+    ensures either { (text : List ℕ) → ((source : List BareLine) → IsSource text source → ⊥)
+        → ((fault : Fault) → IsTextRefusal text fault → ⊥) → ⊥ }
 {}

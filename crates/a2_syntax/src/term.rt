@@ -21,7 +21,7 @@ pub(crate) fn code_in(quote: u8, c: u8) -> u8
 }
 
 fn character(quote: u8, others: &[u8]) -> Option<u16>
-    ensures { result ≡ numbers.character quote others.now }
+    ensures { result ≡ numbers.quoted_character quote others.now }
 {
     match others {
         [c, q] if is_quotable(quote, *c) && *q == quote => Some(u16::from(code_in(quote, *c))),

@@ -1,6 +1,10 @@
 -- Kinds of bytes, and what digits stand for.
 use Rattle.std.specs.Prelude.{ℕ, ◌+◌, ◌-◌, ◌*◌, Bool, ◌&&◌, ◌||◌, ◌==◌, nat_le, nat_lt, List, length, fold, Option, Some, None, if◌then◌else◌}
-use Rattle.std.specs.List.{list_all}
+use Rattle.std.specs.List.{list_all, list_any}
+
+-- a number is in a list
+abbrev pub is_among : List ℕ → ℕ → Bool
+is_among ns n = list_any (λ m. m == n) ns
 
 abbrev pub is_between : ℕ → ℕ → ℕ → Bool
 is_between low high c = nat_le low c && nat_le c high
@@ -25,8 +29,8 @@ abbrev pub digit : ℕ → ℕ
 digit c = if is_digit c then c - 48 else capital c - 55
 
 -- what digits stand for in a base, the highest first
-abbrev pub value : ℕ → List ℕ → ℕ
-value base digits = fold (λ n c. n * base + digit c) 0 digits
+abbrev pub value_of_digits : ℕ → List ℕ → ℕ
+value_of_digits base digits = fold (λ n c. n * base + digit c) 0 digits
 
 -- a digit of the base
 abbrev pub is_digit_in : ℕ → ℕ → Bool
@@ -35,5 +39,5 @@ is_digit_in base c = is_hex_digit c && nat_lt (digit c) base
 -- one digit or more, up to a greatest number of them, where they stand for a number of two bytes
 abbrev pub number_in : ℕ → ℕ → List ℕ → Option ℕ
 number_in base most digits =
-    if nat_lt 0 (length digits) && nat_le (length digits) most && list_all (is_digit_in base) digits && nat_lt (value base digits) 65536
-    then Some (value base digits) else None
+    if nat_lt 0 (length digits) && nat_le (length digits) most && list_all (is_digit_in base) digits && nat_lt (value_of_digits base digits) 65536
+    then Some (value_of_digits base digits) else None

@@ -3,3 +3,4 @@ pub mod Lines
 pub mod Refusals
 pub mod Digits
 pub mod Words
+pub mod Signs

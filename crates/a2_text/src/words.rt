@@ -30,7 +30,8 @@ pub fn behind_blanks(text: &[u8]) -> &[u8]
 
 /// The first word of a text and what stands behind it, or none where the text is blank.
 pub fn first_word(text: &[u8]) -> Option<(&[u8], &[u8])>
-    ensures words { MatchOption result (word.words text.now ≡ []) (λ (first, behind). word.words text.now ≡ first.now ∷ word.words behind.now) }
+    ensures words { MatchOption result (word.words text.now ≡ [])
+        (λ (first, behind). word.words text.now ≡ first.now ∷ word.words behind.now) }
     ensures shorter { IfSome result (λ (_, behind). length behind.now < length text.now) }
 {
     let here = behind_blanks(text);

@@ -1,12 +1,12 @@
 use Rattle.std.proofs.Common.{◌≡◌, ◌+◌, ◌≤◌, List, ℕ, Some, length}
 use Rattle.a2_hex.specs.Images.{held, overlaid}
-use Rattle.a2_hex.specs.ObjectLines.{bytes_of}
+use Rattle.a2_hex.specs.ObjectLines.{hex_bytes}
 use Rattle.a2_hex.proofs.load.lay.Given as goal
 
 -- the bytes that are left go behind those that were put
 abbrev pub invariant-loop-byte : goal.invariant-loop-byte
 invariant-loop-byte g l =
-    (left : List ℕ) × (bytes_of l.rest ≡ Some left) × (overlaid (held l.image) l.next left ≡ overlaid (held l.fn.image) l.fn.address g.all)
+    (left : List ℕ) × (hex_bytes l.rest ≡ Some left) × (overlaid (held l.image) l.next left ≡ overlaid (held l.fn.image) l.fn.address g.all)
     × (l.next + length left ≡ l.fn.address + length g.all) × (l.fn.address ≤ l.next)
 
 abbrev pub decreases-loop-byte : goal.decreases-loop-byte

@@ -23,7 +23,7 @@ finish {A} pieces es f o r to from one is =
     let P : Option (Operand A) → Type 0 = λ x. TheOne (IsOperand pieces) x in
     subst P (sym is) (TheOne-map (IsExpr es) (IsOperand pieces) f o to from one)
 
-others : (pieces : List (Bor (List ℕ))) → (length pieces ≡ 0 → ⊥) → ((a : List ℕ) × (now pieces ≡ a ∷ []) × IsLetter 65 a → IsTrue false) → Others (now pieces)
+others : (pieces : List (Bor (List ℕ))) → (length pieces ≡ 0 → ⊥) → ((a : List ℕ) × (now pieces ≡ a ∷ []) × IsLetter (65 ∷ []) a → IsTrue false) → Others (now pieces)
 others pieces n h = record { some = λ e. n (sym (length-map pieces (λ x. x.now)) ∙ ap length e); letter = λ a e l. false≢true (h (a, e, l)) }
 
 pub returns-in-Some : goal.returns-in-Some
