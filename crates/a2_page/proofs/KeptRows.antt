@@ -1,5 +1,5 @@
 -- Rows of a page that is kept.
-use Rattle.std.specs.Prelude.{◌≡◌, ◌≢◌, ◌⊎◌, ℕ, ◌+◌, ◌*◌, ◌/◌, ◌%◌, ◌<◌, ◌≤◌, List, [], length, slice_index, slice_index_or, slice_set, drop, Bool, false, Option, Some, None, option_map, unwrap_or, refl}
+use Rattle.std.specs.Prelude.{◌≡◌, ◌≢◌, ◌⊎◌, ℕ, ◌+◌, ◌*◌, ◌/◌, ◌%◌, ◌<◌, ◌≤◌, List, [], length, slice_index, slice_index_or, slice_set, drop, ◌↔◌, Bool, true, false, Option, Some, None, option_map, unwrap_or, refl}
 use Rattle.std.proofs.Common.{sym, ap, ◌∙◌, subst, arith, inl, inr}
 use Rattle.std.proofs.lemmas.List.{ext_get_or, places, get_or-set_same, get_or-set_other, length-set}
 use Rattle.std.proofs.lemmas.Slice.{drop-put_mid}
@@ -7,6 +7,7 @@ use borrow.Rule.Slice.PartMut.{put_mid}
 use Rattle.a2_page.specs.declared.Page.{Page}
 use Rattle.a2_page.specs.Cells.{Cell, cell_at}
 use Rattle.a2_page.specs.Grid.{Grid, IsGrid, byte_in}
+use Rattle.a2_page.specs.Kept.{KeptPicture, IsStale, is_row_marked}
 use Rattle.a2_page.specs.Picture.{page_grid}
 use Rattle.a2_page.proofs.Finding.{cell_at-stands, StandsAt, none-some}
 use Rattle.a2_page.proofs.GridLemmas.{same_or_not}
@@ -104,6 +105,12 @@ reached-all marks bytes page reached =
     let h : IsGrid (page_grid page) = page_grid-is_grid page in
     ext_get_or [] (page_grid bytes) (page_grid page) (g.height ∙ sym h.height)
     (λ i lt. let small : i < 24 = omega (arith, lt, g.height) in reached i small (inl small))
+
+-- the rows below one of them are compared with a page's, and the marks of the others are as they were
+pub record ComparedTo (k : ℕ) (page : Grid) (old new : KeptPicture) : Type 0 where
+  pub rows : new.rows ≡ old.rows
+  pub marked : (r : ℕ) → r < k → r < 24 → (is_row_marked new r ≡ true) ↔ IsStale old page r
+  pub rest : (r : ℕ) → k ≤ r → is_row_marked new r ≡ is_row_marked old r
 
 abbrev place_of : Cell → Page × ℕ × ℕ
 place_of cell = (cell.page, cell.row, cell.column)

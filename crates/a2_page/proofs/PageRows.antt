@@ -7,7 +7,7 @@ use Rattle.a2_page.specs.declared.Half.TheVariants.{Above, Below}
 use Rattle.a2_page.specs.declared.Page.{Page}
 use Rattle.a2_page.specs.Cells.{numbers_from, base_of, address_of}
 use Rattle.a2_page.specs.Grid.{Grid, IsGrid, byte_in}
-use Rattle.a2_page.specs.Text.{line_of, lines_of, block_lines, block, block_digit}
+use Rattle.a2_page.specs.Text.{row_line, lines_of, block_lines, block, block_digit}
 use Rattle.a2_page.specs.Picture.{page_grid}
 use Rattle.a2_page.specs.declared.picture.Mark.TheVariants.{Block}
 use Rattle.a2_page.specs.Marks.{character}
@@ -72,31 +72,31 @@ row_is bytes row start row_ok size e =
 
 -- the line of the next row of a grid, and the lines after it
 pub lines_of-next : (show : ℕ → ℕ) (rows : Grid) (row : ℕ) → row < length rows
-    → lines_of show (drop row rows) ≡ line_of show (slice_index_or rows row []) ++ lines_of show (drop (row + 1) rows)
+    → lines_of show (drop row rows) ≡ row_line show (slice_index_or rows row []) ++ lines_of show (drop (row + 1) rows)
 lines_of-next show rows row lt = ap (lines_of show) (drop_more rows row [] lt)
 
 -- the two lines of blocks of the next row of a grid, and the lines after them
 pub block_lines-next : (rows : Grid) (row : ℕ) → row < length rows
     → block_lines (drop row rows)
-    ≡ line_of (character (Block Above)) (slice_index_or rows row [])
-    ++ (line_of (character (Block Below)) (slice_index_or rows row []) ++ block_lines (drop (row + 1) rows))
+    ≡ row_line (character (Block Above)) (slice_index_or rows row [])
+    ++ (row_line (character (Block Below)) (slice_index_or rows row []) ++ block_lines (drop (row + 1) rows))
 block_lines-next rows row lt = ap block_lines (drop_more rows row [] lt) ∙ two_lines (slice_index_or rows row [])
   where
     two_lines : (cells : List ℕ) → block_lines (cells ∷ drop (row + 1) rows)
-        ≡ line_of (character (Block Above)) cells ++ (line_of (character (Block Below)) cells ++ block_lines (drop (row + 1) rows))
+        ≡ row_line (character (Block Above)) cells ++ (row_line (character (Block Below)) cells ++ block_lines (drop (row + 1) rows))
     two_lines cells =
-        ap (λ xs. (xs ++ 10 ∷ []) ++ (line_of block_digit (map (λ byte. block byte Below) cells) ++ block_lines (drop (row + 1) rows)))
+        ap (λ xs. (xs ++ 10 ∷ []) ++ (row_line block_digit (map (λ byte. block byte Below) cells) ++ block_lines (drop (row + 1) rows)))
         (map-map block_digit (λ byte. block byte Above) cells)
-        ∙ ap (λ xs. line_of (character (Block Above)) cells ++ ((xs ++ 10 ∷ []) ++ block_lines (drop (row + 1) rows)))
+        ∙ ap (λ xs. row_line (character (Block Above)) cells ++ ((xs ++ 10 ∷ []) ++ block_lines (drop (row + 1) rows)))
         (map-map block_digit (λ byte. block byte Below) cells)
 
 -- the same of a page's rows, from one on or above one
 pub text_rows-next : (show : ℕ → ℕ) (bytes : List ℕ) (row : ℕ) (cells : List ℕ) → row < 24 → cells ≡ slice_index_or (page_grid bytes) row []
-    → lines_of show (drop row (page_grid bytes)) ≡ line_of show cells ++ lines_of show (drop (row + 1) (page_grid bytes))
+    → lines_of show (drop row (page_grid bytes)) ≡ row_line show cells ++ lines_of show (drop (row + 1) (page_grid bytes))
 text_rows-next show bytes row cells lt is =
     let g : IsGrid (page_grid bytes) = page_grid-is_grid bytes in
     lines_of-next show (page_grid bytes) row (omega (arith, g.height))
-    ∙ ap (λ xs. line_of show xs ++ lines_of show (drop (row + 1) (page_grid bytes))) (sym is)
+    ∙ ap (λ xs. row_line show xs ++ lines_of show (drop (row + 1) (page_grid bytes))) (sym is)
 
 pub text_rows-end : (show : ℕ → ℕ) (bytes : List ℕ) (row : ℕ) → 24 ≤ row → lines_of show (drop row (page_grid bytes)) ≡ []
 text_rows-end show bytes row le =
@@ -105,11 +105,11 @@ text_rows-end show bytes row le =
 
 pub block_rows-next : (bytes : List ℕ) (end row : ℕ) (cells : List ℕ) → end ≤ 24 → row < end → cells ≡ slice_index_or (page_grid bytes) row []
     → block_lines (drop row (take end (page_grid bytes)))
-    ≡ line_of (character (Block Above)) cells
-    ++ (line_of (character (Block Below)) cells ++ block_lines (drop (row + 1) (take end (page_grid bytes))))
+    ≡ row_line (character (Block Above)) cells
+    ++ (row_line (character (Block Below)) cells ++ block_lines (drop (row + 1) (take end (page_grid bytes))))
 block_rows-next bytes end row cells le lt is =
     let g : IsGrid (page_grid bytes) = page_grid-is_grid bytes in
     let high : length (take end (page_grid bytes)) ≡ end = length-take end (page_grid bytes) ∙ omega (arith, g.height) in
     block_lines-next (take end (page_grid bytes)) row (omega (arith, high))
-    ∙ ap (λ xs. line_of (character (Block Above)) xs ++ (line_of (character (Block Below)) xs ++ block_lines (drop (row + 1) (take end (page_grid bytes)))))
+    ∙ ap (λ xs. row_line (character (Block Above)) xs ++ (row_line (character (Block Below)) xs ++ block_lines (drop (row + 1) (take end (page_grid bytes)))))
     (get_or-take end (page_grid bytes) row [] lt ∙ sym is)

@@ -11,12 +11,12 @@ unfoldable pub page_grid : List ℕ → Grid
 page_grid bytes = grid_of (λ row column. slice_index bytes (128 * (row % 8) + 40 * (row / 8) + column))
 
 -- the page that is shown
-abbrev pub shown : Switches → Grid → Grid → Grid
-shown switches page1 page2 = if switches.page2 then page2 else page1
+abbrev pub shown_page : Switches → Grid → Grid → Grid
+shown_page switches page1 page2 = if switches.page2 then page2 else page1
 
 -- and that of a view
 abbrev pub shown_by : View → Grid
-shown_by view = shown view.switches (page_grid view.page1.now) (page_grid view.page2.now)
+shown_by view = shown_page view.switches (page_grid view.page1.now) (page_grid view.page2.now)
 
 -- the row of cells with which text begins: in text mode the first, in mixed mode row 20, and else none
 abbrev pub first_text_row : Switches → ℕ
@@ -34,11 +34,11 @@ lines_of_page switches rows =
 
 -- those of the shown page
 abbrev pub picture : Switches → Grid → Grid → List ℕ
-picture switches page1 page2 = lines_of_page switches (shown switches page1 page2)
+picture switches page1 page2 = lines_of_page switches (shown_page switches page1 page2)
 
 -- the attributes of the rows that are shown as text
 abbrev pub attribute_rows : Switches → Grid → Grid → List ℕ
-attribute_rows switches page1 page2 = attribute_lines (drop (first_text_row switches) (shown switches page1 page2))
+attribute_rows switches page1 page2 = attribute_lines (drop (first_text_row switches) (shown_page switches page1 page2))
 
 -- Small screens of 21 rows, of which the last says A
 

@@ -2,7 +2,7 @@
 
 ghost use Rattle.std.specs.Prelude.{◌≡◌, ◌<◌, ◌↔◌, ℕ, true, slice_set, slice_index_or, [], length, filter};
 ghost use Rattle.a2_stream.specs.Stream.{SendsOrBreaks};
-ghost use Rattle.a2_page.specs.Kept.{Fits, is_marked, after_store, after_switch, after_refresh, marked_rows};
+ghost use Rattle.a2_page.specs.Kept.{FitsPage, IsStale, IsCompared, is_row_marked, with_row_marked, after_switch, after_refresh, marked_rows};
 ghost use Rattle.a2_page.specs.Picture.{page_grid, picture, attribute_rows, shown_by};
 
 use crate::View;
@@ -22,10 +22,10 @@ pub struct Picture {
 }
 
 impl Model for Picture {
-    ghost use Rattle.a2_page.specs.Kept.{Kept};
+    ghost use Rattle.a2_page.specs.Kept.{KeptPicture};
     ghost use Rattle.a2_page.specs.Picture.{page_grid};
 
-    ghost Value = { Kept };
+    ghost Value = { KeptPicture };
 
     ghost view = { λ p. record { rows = page_grid p.page; marks = p.marks } };
 }
@@ -39,6 +39,14 @@ fn take_row(page: &mut [u8; 1024], from: &[u8; 1024], row: u8)
     page[start..start + 40].copy_from_slice(cells_in_row(from, row));
 }
 
+// Whether a row of one page is that of another.
+fn has_same_row(page: &[u8; 1024], other: &[u8; 1024], row: u8) -> bool
+    requires { row < 24 }
+    ensures { (result ≡ true) ↔ (slice_index_or (page_grid page.now) row [] ≡ slice_index_or (page_grid other.now) row []) }
+{
+    cells_in_row(page, row) == cells_in_row(other, row)
+}
+
 // How many of the rows are marked.
 fn count_marks(marks: &[bool; 24]) -> u8
     ensures { result ≡ length (filter (λ mark. mark) marks.now) }
@@ -49,7 +57,7 @@ fn count_marks(marks: &[bool; 24]) -> u8
 impl Picture {
     /// A picture of which every row is marked.
     pub fn new() -> Picture
-        ensures { (row : ℕ) → row < 24 → is_marked result row ≡ true }
+        ensures { (row : ℕ) → row < 24 → is_row_marked result row ≡ true }
     {
         Picture {
             page: [0; 1024],
@@ -60,7 +68,7 @@ impl Picture {
     /// Whether `row`, 0 to 23 from the top, may have changed since it was last taken.
     pub fn marked(&self, row: u8) -> bool
         requires { row < 24 }
-        ensures { result ≡ is_marked self.now row }
+        ensures { result ≡ is_row_marked self.now row }
     {
         self.marks[usize::from(row)]
     }
@@ -68,7 +76,7 @@ impl Picture {
     /// Takes note of a store at `address`, $0000 to $FFFF: the row of the cell there, on either page, is marked; where no
     /// cell is, nothing changes.
     pub fn stored(&mut self, address: u16)
-        ensures { self.new ≡ after_store address self.old }
+        ensures { self.new ≡ with_row_marked address self.old }
     {
         if let Some((_, row, _)) = cell(address) {
             self.marks[usize::from(row)] = true;
@@ -82,15 +90,43 @@ impl Picture {
         self.marks = [true; 24];
     }
 
-    /// Whether each row without a mark is that of the page that `view` shows.
-    pub fn fits(&self, view: &View) -> bool
-        ensures { (result ≡ true) ↔ Fits self.now (shown_by view.now) }
+    /// Whether `row`, 0 to 23 from the top, is marked or is not as the page that `view` shows has it.
+    pub fn is_stale(&self, view: &View, row: u8) -> bool
+        requires { row < 24 }
+        ensures { (result ≡ true) ↔ IsStale self.now (shown_by view.now) row }
+    {
+        self.marks[usize::from(row)] || !has_same_row(&self.page, shown_page(view), row)
+    }
+
+    /// Marks each row that is not as the page that `view` shows has it; so the picture fits, whatever was stored and however
+    /// the switches were set.
+    pub fn compare(&mut self, view: &View)
+        ensures compared { IsCompared (shown_by view.now) self.old self.new }
+        ensures fits { FitsPage self.new (shown_by view.now) }
     {
         let page = shown_page(view);
         for row in 0..24u8 {
-            if !self.marks[usize::from(row)]
-                && cells_in_row(&self.page, row) != cells_in_row(page, row)
-            {
+            if !has_same_row(&self.page, page, row) {
+                self.marks[usize::from(row)] = true;
+            }
+        }
+    }
+
+    /// Makes this picture equal to `other`, marks too.
+    pub fn copy_from(&mut self, other: &Picture)
+        ensures { self.new ≡ other.now }
+    {
+        self.page = other.page;
+        self.marks = other.marks;
+    }
+
+    /// Whether each row without a mark is that of the page that `view` shows.
+    pub fn fits(&self, view: &View) -> bool
+        ensures { (result ≡ true) ↔ FitsPage self.now (shown_by view.now) }
+    {
+        let page = shown_page(view);
+        for row in 0..24u8 {
+            if !self.marks[usize::from(row)] && !has_same_row(&self.page, page, row) {
                 return false;
             }
         }
@@ -100,7 +136,7 @@ impl Picture {
     /// Takes the marked rows of the page that `view` shows, clears the marks, and answers how many rows were marked, 0 to
     /// 24.
     pub fn refresh(&mut self, view: &View) -> u8
-        requires { Fits self.old (shown_by view.now) }
+        requires { FitsPage self.old (shown_by view.now) }
         ensures taken { self.new ≡ after_refresh (shown_by view.now) }
         ensures count { result ≡ marked_rows self.old }
     {
@@ -118,7 +154,7 @@ impl Picture {
     /// Refreshes this picture, and writes to `writer` what [`print`](crate::print) writes of `view`, in the same lines.
     /// Refused where a write fails: what went out then is a front of these lines, and the refresh has been done.
     pub fn print<W: Output>(&mut self, view: &View, writer: &mut W) -> Result<(), WriteFault>
-        requires { Fits self.old (shown_by view.now) }
+        requires { FitsPage self.old (shown_by view.now) }
         ensures taken { self.new ≡ after_refresh (shown_by view.now) }
         ensures sent { SendsOrBreaks (W.taker writer.old) (W.taker writer.new) result
             (picture view.now.switches (page_grid view.now.page1.now) (page_grid view.now.page2.now)) }
@@ -135,7 +171,7 @@ impl Picture {
         view: &View,
         writer: &mut W,
     ) -> Result<(), WriteFault>
-        requires { Fits self.old (shown_by view.now) }
+        requires { FitsPage self.old (shown_by view.now) }
         ensures taken { self.new ≡ after_refresh (shown_by view.now) }
         ensures sent { SendsOrBreaks (W.taker writer.old) (W.taker writer.new) result
             (attribute_rows view.now.switches (page_grid view.now.page1.now) (page_grid view.now.page2.now)) }

@@ -2,7 +2,7 @@
 
 ghost use Rattle.std.specs.Prelude.{◌≡◌, ◌<◌, ◌≤◌, length, slice_index_or, take, drop, []};
 ghost use Rattle.a2_stream.specs.Stream.{SendsOrBreaks};
-ghost use Rattle.a2_page.specs.Text.{line_of, lines_of, block, block_digit, block_lines, mark_of};
+ghost use Rattle.a2_page.specs.Text.{row_line, lines_of, block, block_digit, block_lines, mark_of};
 ghost use Rattle.a2_page.specs.Picture as screen;
 ghost use Rattle.a2_page.specs.Picture.{page_grid, graphics_lines, picture, attribute_rows};
 ghost use Rattle.a2_page.specs.Marks as marks;
@@ -45,7 +45,7 @@ pub(crate) enum Mark {
 
 pub(crate) fn shown_page<'a>(view: &View<'a>) -> &'a [u8; 1024]
     ensures { page_grid result.now ≡
-        screen.shown view.now.switches (page_grid view.now.page1.now) (page_grid view.now.page2.now) }
+        screen.shown_page view.now.switches (page_grid view.now.page1.now) (page_grid view.now.page2.now) }
 {
     if view.switches.page2 {
         view.page2
@@ -139,7 +139,7 @@ pub(crate) fn cells_in_row(page: &[u8; 1024], row: u8) -> &[u8]
 fn put_line<W: Output>(cells: &[u8], mark: Mark, writer: &mut W) -> Result<(), WriteFault>
     requires { length cells.now ≡ 40 }
     ensures { SendsOrBreaks (W.taker writer.old) (W.taker writer.new) result
-        (line_of (marks.character mark) cells.now) }
+        (row_line (marks.character mark) cells.now) }
 {
     let mut line: ArrayVec<u8, 41> = ArrayVec::new();
     for byte in cells {

@@ -2,7 +2,7 @@ use Rattle.std.specs.Prelude.{◌+◌, Bool, List, false, replicate, slice_index
 use Rattle.std.proofs.Common.{sym, ap, ◌∙◌, subst, arith}
 use Rattle.a2_page.specs.declared.kept.Picture.TheInside.{Inside}
 use Rattle.a2_page.specs.Grid.{Grid, IsGrid}
-use Rattle.a2_page.specs.Kept.{Kept}
+use Rattle.a2_page.specs.Kept.{KeptPicture}
 use Rattle.a2_page.specs.Picture.{page_grid}
 use Rattle.a2_page.proofs.PageRows.{page_grid-is_grid}
 use Rattle.a2_page.proofs.KeptRows.{Reached, reached-taken, reached-left, reached-all}
@@ -33,7 +33,7 @@ loop-row-preserved c = elim c.if-self-from.branch [
 
 pub returns-clause-taken : goal.returns-clause-taken
 returns-clause-taken c =
-    ap (λ (rows : Grid). let kept : Kept = record { rows = rows; marks = replicate 24 false } in kept)
+    ap (λ (rows : Grid). let kept : KeptPicture = record { rows = rows; marks = replicate 24 false } in kept)
     (reached-all c.self.inside.marks c.loop-row.self-inside.page c.shown_page-page.result.now
     (subst (λ k. Reached k c.self.inside.marks (page_grid c.loop-row.self-inside.page) (page_grid c.shown_page-page.result.now)) (omega (arith, c.loop-row-test.false, c.loop-row.auto.row-end)) c.loop-row.invariant.rows)
     ∙ c.shown_page-page.ensures)

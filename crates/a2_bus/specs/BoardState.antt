@@ -1,0 +1,30 @@
+-- What contracts see of a board: its bus, and the picture that it keeps of the screen. This project's profile.
+use Rattle.std.specs.Prelude.{ℕ, Bool, ◌&&◌, nat_le, if◌then◌else◌}
+use Rattle.a2_page.specs.Grid.{Grid}
+use Rattle.a2_page.specs.Kept.{KeptPicture, IsStale, with_row_marked, after_switch}
+use Rattle.a2_page.specs.Picture.{shown_page}
+use Rattle.a2_bus.specs.BusState.{BusState}
+use Rattle.a2_bus.specs.View.{memory_of}
+
+pub record BoardState : Type 0 where
+  pub bus : BusState
+  pub picture : KeptPicture
+
+-- the page that the screen of a bus shows
+abbrev pub page_shown : BusState → Grid
+page_shown bus = let memory = memory_of bus in shown_page memory.devices.switches memory.page1 memory.page2
+
+-- a row may have changed since it was last printed: it has a mark, or the kept row is not that of the shown page
+abbrev pub IsMarked : BusState → KeptPicture → ℕ → Type 0
+IsMarked bus picture row = IsStale picture (page_shown bus) row
+
+-- the address of a display switch
+abbrev pub is_switch : ℕ → Bool
+is_switch address = nat_le 0xC050 address && nat_le address 0xC057
+
+-- the picture after a read or a write of an address
+abbrev pub picture_after_read : ℕ → KeptPicture → KeptPicture
+picture_after_read address picture = if is_switch address then after_switch picture else picture
+
+abbrev pub picture_after_write : ℕ → KeptPicture → KeptPicture
+picture_after_write address picture = if is_switch address then after_switch picture else with_row_marked address picture

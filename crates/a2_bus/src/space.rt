@@ -1,0 +1,330 @@
+//! What the processor reads and writes: RAM, a keyboard and display switches. Apple II Reference Manual (1979), the memory map and pages 6, 12 and 79.
+
+ghost use Rattle.std.specs.Prelude.{◌≡◌, ◌<◌, ◌≤◌, ◌++◌, ◌∷◌, [], ◌+◌, ◌%◌, ℕ, length, All, IfOk, IsOk, OnErr, OnOk, ◌↔◌, List, None, slice_index, slice_range, replicate, unwrap_or, true, false};
+ghost use Rattle.a2_bus.specs.Devices.{Devices, keyboard_byte, key_taken, device_byte, after_access, keys_typed, switched};
+ghost use Rattle.a2_bus.specs.BusState.{BusState};
+ghost use Rattle.a2_bus.specs.View.{memory_of};
+ghost use Rattle.a2_bus.specs.PowerOn.{first_byte, first_devices, start_memory};
+ghost use Rattle.a2_hex.specs.Images.{held};
+ghost use Rattle.a2_page.specs.Grid.{with_part};
+ghost use Rattle.a2_page.specs.Picture.{page_grid};
+
+use crate::Bus;
+use crate::keys::{Keys, KeysFull};
+use crate::start::{put_first_bytes, put_image};
+use crate::zeros::zeroed;
+use a2_hex::{Image, RAM_END};
+use a2_page::{Switches, View};
+use arrayvec::ArrayVec;
+use std::alloc::{AllocError, Allocator, Global};
+use std::marker::Model;
+
+// The keyboard, and what clears its strobe.
+const KBD: u16 = 0xC000;
+
+const KBDSTRB: u16 = 0xC010;
+
+// The display switches.
+const TXTCLR: u16 = 0xC050;
+
+const TXTSET: u16 = 0xC051;
+
+const MIXCLR: u16 = 0xC052;
+
+const MIXSET: u16 = 0xC053;
+
+const LOWSCR: u16 = 0xC054;
+
+const HISCR: u16 = 0xC055;
+
+const LORES: u16 = 0xC056;
+
+const HIRES: u16 = 0xC057;
+
+// How many bytes of RAM are copied at once.
+const PIECE: usize = 2048;
+
+// Text of page 1.
+const FIRST_SWITCHES: Switches = Switches {
+    text: true,
+    mixed: false,
+    page2: false,
+    hires: false,
+};
+
+/// The machine's 48K of RAM from address 0 on, its keyboard at $C000 and $C010, and its display switches at $C050 to $C057;
+/// any other address gives 0 and takes nothing. Contracts see the bytes of RAM, the switches, the keys not yet taken (0 to
+/// 127 each, 4,096 at most) and the last key taken.
+#[derive(Drop)]
+pub struct AddressSpace<A: Allocator = Global> {
+    ram: Vec<u8, A>,
+    keys: ArrayVec<u8, 4096>,
+    last_key: u8,
+    switches: Switches,
+}
+
+impl<A: Allocator> Model for AddressSpace<A> {
+    ghost use Rattle.std.specs.Prelude.{◌≡◌, ◌<◌, length, ℕ, All};
+    ghost use Rattle.a2_bus.specs.BusState.{BusState};
+
+    ghost Value = { BusState };
+
+    ghost view = { λ b. record {
+      bytes = b.ram.items;
+      devices = record { switches = b.switches; keys = b.keys.items; last_key = b.last_key };
+    } };
+
+    ghost invariant = { λ b. (length b.ram.items ≡ 49152) × All (λ k. k < 128) b.keys.items };
+}
+
+impl<A: Allocator> AddressSpace<A> {
+    ghost use Rattle.std.specs.Borrow.{sem, follows, Array, u8 as byte};
+    ghost use Rattle.a2_bus.specs.contracts.space.AddressSpace.{the_row};
+    ghost use Rattle.a2_bus.specs.Lending.{with_bytes};
+
+    /// The machine at its start, with nothing loaded and its RAM in memory of `alloc`: page 1 blank, the window the whole
+    /// screen, the cursor at its top left, text of page 1 and no keys. This project's profile. Refused only for want of
+    /// memory.
+    pub fn new(alloc: A) -> Result<AddressSpace<A>, AllocError>
+        ensures memory { IfOk result (λ b. memory_of b ≡ start_memory (λ _. None) []) }
+        ensures bytes { IfOk result (λ b. (a : ℕ) → a < 49152 → slice_index b.bytes a ≡ first_byte a) }
+        ensures devices { IfOk result (λ b. b.devices ≡ first_devices []) }
+        ensures size { IfOk result (λ b. length b.bytes ≡ 49152) }
+    {
+        let mut ram = zeroed(alloc, usize::from(RAM_END))?;
+        put_first_bytes(&mut ram);
+        Ok(AddressSpace {
+            ram,
+            keys: ArrayVec::new(),
+            last_key: 0,
+            switches: FIRST_SWITCHES,
+        })
+    }
+
+    /// Makes this the machine at its start, whatever it was, with `image` laid over its RAM: at each address the image's
+    /// byte, or the start's where it has none. No key waits and none was taken. This project's profile.
+    pub fn load<C: Allocator>(&mut self, image: &Image<C>)
+        ensures memory { memory_of self.new ≡ start_memory (held image.now) [] }
+        ensures bytes { (a : ℕ) → a < 49152 → slice_index self.new.bytes a ≡ unwrap_or (held image.now a) (first_byte a) }
+        ensures devices { self.new.devices ≡ first_devices [] }
+        ensures size { length self.new.bytes ≡ 49152 }
+    {
+        put_image(&mut self.ram, image);
+        self.keys.clear();
+        self.last_key = 0;
+        self.switches = FIRST_SWITCHES;
+    }
+
+    /// The keys not yet taken, 4,096 at most and each from 0 to 127, the next one first.
+    pub fn waiting(&self) -> &[u8]
+        ensures keys { result.now ≡ self.now.devices.keys }
+        ensures codes { All (λ k. k < 128) self.now.devices.keys }
+        ensures room { length self.now.devices.keys ≤ 4096 }
+    {
+        self.keys.as_slice()
+    }
+
+    /// Types `keys`, in order, behind those that wait. Refused exactly where more than 4,096 would wait, and then nothing
+    /// changes. This project's profile.
+    pub fn type_keys(&mut self, keys: &Keys) -> Result<(), KeysFull>
+        ensures room { IsOk result ↔ (length self.old.devices.keys + length keys.now ≤ 4096) }
+        ensures typed { OnOk result (self.new ≡ record self.old { devices = keys_typed self.old.devices keys.now }) }
+        ensures kept { OnErr result (self.new ≡ self.old) }
+    {
+        let typed = self.keys.try_extend_from_slice(keys.bytes());
+        typed.map_err(|_| KeysFull)
+    }
+
+    /// Makes this space equal to `other` in all that contracts see of it: RAM, keys, the last key taken and switches.
+    pub fn copy_from<C: Allocator>(&mut self, other: &AddressSpace<C>)
+        ensures { self.new ≡ other.now }
+    {
+        copy_ram(self.ram.as_mut_slice(), other.ram.as_slice());
+        self.keys.truncate(0);
+        // No more keys wait there than there is room for here, so the call does not refuse.
+        let _ = self.keys.try_extend_from_slice(other.keys.as_slice());
+        self.last_key = other.last_key;
+        self.switches = other.switches;
+    }
+
+    /// Moves `count` bytes of RAM, those from the address `from` on, to `to` and on; no other byte changes. Both ranges
+    /// lie below $C000, and may overlap.
+    pub fn move_bytes(&mut self, from: u16, to: u16, count: u16)
+        requires from { from + count ≤ 49152 }
+        requires to { to + count ≤ 49152 }
+        ensures moved { self.new ≡ record self.old { bytes = with_part self.old.bytes to (slice_range self.old.bytes from (from + count)) } }
+        ensures size { length self.old.bytes ≡ 49152 }
+    {
+        let first = usize::from(from);
+        let end = first + usize::from(count);
+        self.ram.copy_within(first..end, usize::from(to));
+    }
+
+    /// Makes `count` bytes of RAM, those from `address` on, all of them `byte`; no other byte changes. The range lies
+    /// below $C000.
+    pub fn fill_bytes(&mut self, address: u16, count: u16, byte: u8)
+        requires { address + count ≤ 49152 }
+        ensures filled { self.new ≡ record self.old { bytes = with_part self.old.bytes address (replicate count byte) } }
+        ensures size { length self.old.bytes ≡ 49152 }
+    {
+        let first = usize::from(address);
+        let end = first + usize::from(count);
+        self.ram[first..end].fill(byte);
+    }
+
+    /// RAM, the 49,152 bytes from address 0 on, for a caller that reads and stores there alone.
+    pub fn ram_mut(&mut self) -> &mut [u8]
+        ensures* writes_back { sem 𝓛 (follows (the_row A.row A.Allocator) (Array byte 0) self.entry.ghost_name result.ghost_name (with_bytes self.old)) }
+        ensures bytes { result.now ≡ self.old.bytes }
+        ensures size { length self.old.bytes ≡ 49152 }
+    {
+        self.ram.as_mut_slice()
+    }
+
+    /// What a screen shows now: the bytes of both text pages, those between the cells too, and the switches. Apple II
+    /// Reference Manual (1979), pages 12 to 20.
+    pub fn view(&self) -> View<'_>
+        ensures bytes1 { result.page1.now ≡ slice_range self.now.bytes 0x0400 0x0800 }
+        ensures bytes2 { result.page2.now ≡ slice_range self.now.bytes 0x0800 0x0C00 }
+        ensures page1 { page_grid result.page1.now ≡ (memory_of self.now).page1 }
+        ensures page2 { page_grid result.page2.now ≡ (memory_of self.now).page2 }
+        ensures switches { result.switches ≡ self.now.devices.switches }
+    {
+        View {
+            page1: page_at(&self.ram, 0x0400),
+            page2: page_at(&self.ram, 0x0800),
+            switches: self.switches,
+        }
+    }
+
+    // What $C000 gives.
+    fn key(&self) -> u8
+        ensures { result ≡ keyboard_byte self.now.devices }
+    {
+        match self.keys.first() {
+            Some(key) => 128 + *key,
+            None => self.last_key,
+        }
+    }
+
+    // Takes the first waiting key.
+    fn take(&mut self)
+        ensures { self.new ≡ record self.old { devices = key_taken self.old.devices } }
+    {
+        if !self.keys.is_empty() {
+            self.last_key = self.keys.remove(0);
+        }
+    }
+
+    // What any access of an address above RAM does.
+    #[cold]
+    #[inline(never)]
+    fn touch(&mut self, address: u16)
+        ensures { self.new ≡ record self.old { devices = after_access self.old.devices address } }
+    {
+        match address {
+            KBDSTRB => self.take(),
+            TXTCLR => self.switches.text = false,
+            TXTSET => self.switches.text = true,
+            MIXCLR => self.switches.mixed = false,
+            MIXSET => self.switches.mixed = true,
+            LOWSCR => self.switches.page2 = false,
+            HISCR => self.switches.page2 = true,
+            LORES => self.switches.hires = false,
+            HIRES => self.switches.hires = true,
+            _ => {}
+        }
+    }
+
+    // A read of an address above RAM.
+    #[cold]
+    #[inline(never)]
+    fn read_above(&mut self, address: u16) -> u8
+        ensures byte { result ≡ device_byte self.old.devices address }
+        ensures left { self.new ≡ record self.old { devices = after_access self.old.devices address } }
+    {
+        let byte = if address == KBD { self.key() } else { 0 };
+        self.touch(address);
+        byte
+    }
+}
+
+// Makes RAM the bytes of another. Piece by piece: a C library moves large pieces in a way that is slower where both ends
+// stand in a cache near by.
+fn copy_ram(ram: &mut [u8], other: &[u8])
+    requires ram { length ram.old ≡ 49152 }
+    requires other { length other.now ≡ 49152 }
+    ensures { ram.new ≡ other.now }
+{
+    for piece in 0..usize::from(RAM_END) / PIECE {
+        let start = piece * PIECE;
+        let end = start + PIECE;
+        ram[start..end].copy_from_slice(&other[start..end]);
+    }
+}
+
+// The 1,024 bytes from an address on.
+fn page_at(ram: &[u8], start: usize) -> &[u8; 1024]
+    requires { start + 1024 ≤ length ram.now }
+    ensures { result.now ≡ slice_range ram.now start (start + 1024) }
+{
+    match ram[start..].first_chunk() {
+        Some(page) => page,
+        None => unreachable!(),
+    }
+}
+
+#[tactic(auto, unfolding(crate::specs::BusState::board_access))]
+impl<A: Allocator> Bus for AddressSpace<A> {
+    ghost use Rattle.std.specs.Prelude.{◌≡◌, ◌≤◌, length, slice_get};
+    ghost use Rattle.a2_bus.specs.BusState.{board_access};
+    ghost use Rattle.a2_bus.specs.Lawful.{board_lawful};
+
+    ghost state = { λ b. b };
+
+    ghost access = { board_access };
+
+    #[inline(always)]
+    fn read(&mut self, address: u16) -> u8
+        ensures value { result ≡ board_access.byte_at self.old address }
+        ensures left { self.new ≡ board_access.after_read self.old address }
+        ensures size { length self.old.bytes ≡ 49152 }
+    {
+        // Shows the prover how long RAM is before the access.
+        let _ = &self.ram;
+        if address < RAM_END {
+            self.ram[address as usize]
+        } else {
+            self.read_above(address)
+        }
+    }
+
+    #[inline(always)]
+    fn write(&mut self, address: u16, byte: u8)
+        ensures left { self.new ≡ board_access.after_write self.old address byte }
+        ensures size { length self.old.bytes ≡ 49152 }
+    {
+        // Shows the prover how long RAM is before the access.
+        let _ = &self.ram;
+        if address < RAM_END {
+            self.ram[address as usize] = byte;
+        } else {
+            self.touch(address);
+        }
+    }
+
+    #[inline(always)]
+    fn peek(&self, address: u16) -> Option<u8>
+        ensures value { result ≡ slice_get self.now.bytes address }
+        ensures room { 512 ≤ length self.now.bytes }
+        ensures size { length self.now.bytes ≡ 49152 }
+    {
+        if address < RAM_END {
+            Some(self.ram[address as usize])
+        } else {
+            None
+        }
+    }
+
+    ghost laws = { board_lawful };
+}
