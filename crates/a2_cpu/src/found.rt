@@ -4,17 +4,16 @@ ghost use Rattle.std.specs.Prelude.{◌≡◌, ◌+◌, ◌*◌, ◌%◌, ◌<�
 ghost use Rattle.a2_bus.specs.BusState.{BusState};
 ghost use Rattle.a2_cpu.specs.Place.{place_of, base_address, crosses_page};
 ghost use Rattle.a2_cpu.specs.Registers.{one_if};
-ghost use Rattle.a2_cpu.specs.View.{registers_of};
 ghost use Rattle.a2_cpu.specs.Live.{live_registers};
 ghost use Rattle.a2_cpu.specs.Operands.{operand_with};
-ghost use Rattle.a2_cpu.specs.Code.{byte_at, word_at, place_for, operand_for, operand_of, operand_at, found_for, found_at};
+ghost use Rattle.a2_cpu.specs.Code.{operand_byte_at, word_at, place_for, operand_for, operand_of, operand_at, found_for, found_at};
 
+use crate::GuardedStep;
 use crate::live::{Live, digit};
 use crate::modes::{
     Absolute, AbsoluteX, AbsoluteY, AtAddress, Bytes, IndexedIndirect, IndirectIndexed, Site,
     ZeroPage, ZeroPageX, ZeroPageY, branch_target, is_elsewhere,
 };
-use crate::{GuardedStep, Regs};
 use a2_bus::Bus;
 use a2_opcode::{Mnemonic, Mode, row_of};
 
@@ -51,7 +50,7 @@ pub(crate) struct Found {
 
 // The byte after an opcode.
 fn byte<B: Bus>(bus: &B, pc: u16) -> Option<u8>
-    ensures { result ≡ byte_at (slice_get (B.state bus.now).bytes) pc }
+    ensures { result ≡ operand_byte_at (slice_get (B.state bus.now).bytes) pc }
 {
     bus.peek(pc.wrapping_add(1))
 }
@@ -128,7 +127,7 @@ fn at_address<P: AtAddress, S: Bytes>(live: &Live, bytes: &S) -> Operand
 fn by_byte<P: AtAddress, B: Bus>(live: &Live, bus: &B) -> Option<Operand>
     ensures { operand_for result
         ≡ option_map (λ byte. operand_of B.access (B.state bus.now) (live_registers live.now) P.mode
-        (operand_with byte 0 live.now.pc P.mode)) (byte_at (slice_get (B.state bus.now).bytes) live.now.pc) }
+        (operand_with byte 0 live.now.pc P.mode)) (operand_byte_at (slice_get (B.state bus.now).bytes) live.now.pc) }
 {
     let byte = byte(bus, live.pc)?;
     let shown = Shown { bus, byte, word: 0 };
@@ -186,19 +185,18 @@ fn locate<B: Bus>(mode: Mode, live: &Live, bus: &B) -> Option<Operand>
 }
 
 /// The instruction at PC, or why there is none: the bus shows not all of its bytes, or its opcode is undocumented.
-pub(crate) fn find<B: Bus>(regs: &Regs, bus: &B) -> Result<Found, GuardedStep>
+pub(crate) fn find<B: Bus>(live: &Live, bus: &B) -> Result<Found, GuardedStep>
     ensures few { IfOk result (λ found. found.cycles < 512) }
     ensures found { found_for result
-        ≡ found_at B.access (B.state bus.now) (slice_get (B.state bus.now).bytes) (registers_of regs.now) }
+        ≡ found_at B.access (B.state bus.now) (slice_get (B.state bus.now).bytes) (live_registers live.now) }
 {
-    let Some(opcode) = bus.peek(regs.pc) else {
+    let Some(opcode) = bus.peek(live.pc) else {
         return Err(GuardedStep::Rom);
     };
     let Some(row) = row_of(opcode) else {
         return Err(GuardedStep::Opcode);
     };
-    let live = Live::of(regs);
-    let Some(Operand { place, base }) = locate(row.mode, &live, bus) else {
+    let Some(Operand { place, base }) = locate(row.mode, live, bus) else {
         return Err(GuardedStep::Rom);
     };
     let crossed = row.crosses && crosses(base, place);
@@ -206,6 +204,6 @@ pub(crate) fn find<B: Bus>(regs: &Regs, bus: &B) -> Result<Found, GuardedStep>
         mnemonic: row.mnemonic,
         place,
         cycles: u32::from(row.cycles) + u32::from(digit(crossed)),
-        next: regs.pc.wrapping_add(u16::from(row.mode.length())),
+        next: live.pc.wrapping_add(u16::from(row.mode.length())),
     })
 }

@@ -3,11 +3,13 @@
 ghost use Rattle.std.specs.Prelude.{◌≡◌, ℕ, Some, None, slice_get};
 ghost use Rattle.std.specs.List.{list_any};
 ghost use Rattle.a2_cpu.specs.GuardedBusStep.{guarded_bus_step};
-ghost use Rattle.a2_cpu.specs.View.{registers_of, before_step, guarded_answer_of, why_not};
+ghost use Rattle.a2_cpu.specs.View.{before_step, guarded_answer_of, why_not};
+ghost use Rattle.a2_cpu.specs.Live.{live_registers, before_live_step};
 ghost use Rattle.a2_cpu.specs.Code.{place_for, acting_stores, refused_at};
 
 use crate::found::{Place, find};
-use crate::writes::addresses;
+use crate::live::Live;
+use crate::writes::{Targets, targets_of};
 use crate::{GuardedStep, Protection, Regs};
 use a2_bus::Bus;
 use a2_opcode::Mnemonic;
@@ -16,16 +18,18 @@ use a2_opcode::Mnemonic;
 fn stores_at_protected<G: Protection>(
     mnemonic: Mnemonic,
     place: Place,
-    regs: &Regs,
+    live: &Live,
     guard: &G,
 ) -> bool
     ensures { result
         ≡ list_any (G.is_protected guard.now)
-        (acting_stores mnemonic (place_for place) (registers_of regs.now)) }
+        (acting_stores mnemonic (place_for place) (live_registers live.now)) }
 {
-    addresses(mnemonic, place, regs)
-        .iter()
-        .any(|address| guard.is_protected(*address))
+    match targets_of(mnemonic, place, live) {
+        Targets::None => false,
+        Targets::One(address) => guard.is_protected(address),
+        Targets::Two(first, second) => guard.is_protected(first) || guard.is_protected(second),
+    }
 }
 
 /// Why a mnemonic is refused, if it is.
@@ -33,18 +37,18 @@ fn stores_at_protected<G: Protection>(
 pub(crate) fn refusal<G: Protection>(
     mnemonic: Mnemonic,
     place: Place,
-    regs: &Regs,
+    live: &Live,
     guard: &G,
 ) -> Option<GuardedStep>
     ensures { result
         ≡ refused_at (G.is_protected guard.now) mnemonic (place_for place)
-        (registers_of regs.now) }
+        (live_registers live.now) }
 {
     match mnemonic {
         Mnemonic::Brk => Some(GuardedStep::Brk),
-        Mnemonic::Adc | Mnemonic::Sbc if regs.p.decimal() => Some(GuardedStep::Decimal),
+        Mnemonic::Adc | Mnemonic::Sbc if live.decimal => Some(GuardedStep::Decimal),
         _ => {
-            if stores_at_protected(mnemonic, place, regs, guard) {
+            if stores_at_protected(mnemonic, place, live, guard) {
                 Some(GuardedStep::Protected)
             } else {
                 None
@@ -66,8 +70,19 @@ pub fn guarded_refusal<B: Bus, G: Protection>(
         (guarded_bus_step (G.is_protected guard.now) B.access
         (before_step regs.now (B.state bus.now)))) }
 {
-    match find(regs, bus) {
-        Ok(found) => refusal(found.mnemonic, found.place, regs, guard),
+    live_refusal(&Live::of(regs), bus, guard)
+}
+
+/// The same as [`guarded_refusal`], of live registers.
+#[doc(hidden)]
+pub fn live_refusal<B: Bus, G: Protection>(live: &Live, bus: &B, guard: &G) -> Option<GuardedStep>
+    ensures { result
+        ≡ why_not (guarded_answer_of
+        (guarded_bus_step (G.is_protected guard.now) B.access
+        (before_live_step live.now (B.state bus.now)))) }
+{
+    match find(live, bus) {
+        Ok(found) => refusal(found.mnemonic, found.place, live, guard),
         Err(why) => Some(why),
     }
 }
