@@ -7,7 +7,7 @@ use Rattle.a2_bus.specs.Memory.{Memory, ram_byte}
 use Rattle.a2_services.specs.declared.Service.{Service}
 use Rattle.a2_services.specs.declared.Service.TheVariants.{Cout, Cout1, Crout, Home, Prbyte, Prhex, Setinv, Setnorm, Vtab, Clreol, Clreop, Rdkey, Keyin, Getln, Wait, Setcol, Plot, Hline, Vline, Scrn, Clrscr}
 use Rattle.a2_services.specs.World.{World}
-use Rattle.a2_services.specs.Put.{window_of, with_cursor_column, with_cursor_row, prompt, with_page1, after_put}
+use Rattle.a2_services.specs.Put.{window_of, with_cursor_column, with_cursor_row, prompt_character, with_page1, after_put}
 use Rattle.a2_services.specs.Services.{reach, output_reach, is_within, Reading, line_read, with_key_taken, back, effect, output, with_memory, with_a, with_x, digit_byte, served}
 use Rattle.a2_services.specs.Reading.{reading}
 use Rattle.a2_services.proofs.Lines.{ram_devices, put_devices}
@@ -61,11 +61,11 @@ effect-kept Keyin world b h = go world.memory.devices.keys
 effect-kept Getln world b h =
     let o : IsOutside b = outside_of b (or-left (output_reach b) (is_within 0x200 0x2FF b) h) in
     let memory = world.memory in
-    let start : Reading = record { memory = after_put (prompt memory) memory; len = 0 } in
+    let start : Reading = record { memory = after_put (prompt_character memory) memory; len = 0 } in
     let line = line_read memory.devices.keys start in
     returned-kept (with_x line.len (output line.memory world)) b ∙ base-kept b o line.memory
     ∙ line_read-kept b o (away (or-right (output_reach b) (is_within 0x200 0x2FF b) h)) (ram_byte memory b) memory.devices.keys start
-    (record { same = put-kept b o (prompt memory) memory; short = omega arith })
+    (record { same = put-kept b o (prompt_character memory) memory; short = omega arith })
   where
     or-left : (x y : Bool) → x || y ≡ false → x ≡ false
     or-left true y h = h
@@ -127,10 +127,10 @@ effect_fewer Keyin w = go w.memory.devices.keys refl
           fewer_taken w.memory.devices,
         )
 effect_fewer Getln w =
-    let start = after_put (prompt w.memory) w.memory in
+    let start = after_put (prompt_character w.memory) w.memory in
     let line = line_read w.memory.devices.keys (reading start 0) in
     let fewer : Fewer (length w.memory.devices.keys) line =
-    fewer_read (length w.memory.devices.keys) w.memory.devices.keys (reading start 0) (same_fewer _ _ (put_devices (prompt w.memory) w.memory)) in
+    fewer_read (length w.memory.devices.keys) w.memory.devices.keys (reading start 0) (same_fewer _ _ (put_devices (prompt_character w.memory) w.memory)) in
     omega (
       arith,
       same_fewer _ _ (ap (λ (x : Memory). x.devices) (returned_devices (with_x line.len (output line.memory w))) ∙ base_devices line.memory),

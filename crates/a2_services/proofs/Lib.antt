@@ -2,7 +2,6 @@ pub mod Kept
 pub mod Reaching
 pub mod Screens
 pub mod Painting
-pub mod Finding
 pub mod Fitting
 pub mod Lines
 pub mod Returning

@@ -9,7 +9,7 @@ use Rattle.a2_bus.specs.View.{memory_of}
 use Rattle.a2_bus.specs.Devices.{Devices, key_taken}
 use Rattle.a2_bus.specs.Memory.{Memory, with_ram}
 use Rattle.a2_bus.proofs.Agreement.{written, devices-with_grid}
-use Rattle.a2_services.specs.Put.{after_line_feed, after_return, after_backspace, after_character, after_put_unmasked, after_put, prompt, inverse_mask, with_cursor_row, with_cursor_column, window_of, cursor_row, cursor_column, screen_column, with_page1}
+use Rattle.a2_services.specs.Put.{after_line_feed, after_return, after_backspace, after_character, after_put_unmasked, after_put, prompt_character, inverse_mask, with_cursor_row, with_cursor_column, window_of, cursor_row, cursor_column, screen_column, with_page1}
 use Rattle.a2_page.specs.Grid.{with_byte}
 use Rattle.a2_services.specs.Services.{Reading, byte_of_key, after_byte, after_cancel, after_prompt, line_read, with_key_taken, cleared_to_end, lacks_keys, effect, back, with_a, with_memory}
 use Rattle.a2_services.specs.World.{World}
@@ -81,7 +81,7 @@ unfolding after_put
 put_devices byte m = put_unmasked_devices (if nat_le 0xA0 byte then by_digits 8 ◌&&◌ byte (inverse_mask m) else byte) m
 
 prompt_devices : (m : Memory) → (after_prompt m).devices ≡ m.devices
-prompt_devices m = put_devices (prompt m) (after_put 0x8D m) ∙ put_devices 0x8D m
+prompt_devices m = put_devices (prompt_character m) (after_put 0x8D m) ∙ put_devices 0x8D m
 
 cancel_devices : (m : Memory) → (after_cancel m).memory.devices ≡ m.devices
 cancel_devices m = prompt_devices (after_put 0xDC m) ∙ put_devices 0xDC m
@@ -191,12 +191,12 @@ fewer_keys m len key byte next first step = go m.devices.keys refl first
 
 -- What GETLN and RDKEY begin with
 
-pub line_from_prompt : (m n : Memory) (mark : ℕ) → mark ≡ prompt m → n ≡ after_put mark m
-    → rest_of n 0 ≡ line_read m.devices.keys (reading (after_put (prompt m) m) 0)
+pub line_from_prompt : (m n : Memory) (mark : ℕ) → mark ≡ prompt_character m → n ≡ after_put mark m
+    → rest_of n 0 ≡ line_read m.devices.keys (reading (after_put (prompt_character m) m) 0)
 line_from_prompt m n mark is step =
-    let whole : n ≡ after_put (prompt m) m = step ∙ ap (λ b. after_put b m) is in
+    let whole : n ≡ after_put (prompt_character m) m = step ∙ ap (λ b. after_put b m) is in
     ap (λ x. rest_of x 0) whole
-    ∙ ap (λ (d : Devices). line_read d.keys (reading (after_put (prompt m) m) 0)) (put_devices (prompt m) m)
+    ∙ ap (λ (d : Devices). line_read d.keys (reading (after_put (prompt_character m) m) 0)) (put_devices (prompt_character m) m)
 
 -- no key is there exactly where there is no first one
 pub lacks_unless : (m : Memory) (lacking : Bool) → is_some (first_of m.devices.keys) ≡ not lacking → lacking ≡ lacks_keys Keyin m

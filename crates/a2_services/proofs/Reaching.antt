@@ -8,7 +8,7 @@ use Rattle.a2_bus.specs.Memory.{Memory, ram_byte, with_ram, memory_access}
 use Rattle.a2_bus.proofs.Frame.{ram_byte-with_ram, ram_byte-page1, changed_by_writes}
 use Rattle.a2_cpu.specs.Instruction.{returned, after_pull}
 use Rattle.a2_services.specs.World.{World}
-use Rattle.a2_services.specs.Put.{window_of, cursor_column, cursor_row, with_cursor_column, with_cursor_row, screen_column, prompt, inverse_mask, with_page1, after_line_feed, after_return, after_backspace, after_character, after_put, after_put_unmasked, with_base_address}
+use Rattle.a2_services.specs.Put.{window_of, cursor_column, cursor_row, with_cursor_column, with_cursor_row, screen_column, prompt_character, inverse_mask, with_page1, after_line_feed, after_return, after_backspace, after_character, after_put, after_put_unmasked, with_base_address}
 use Rattle.a2_services.specs.Services.{output_reach, cleared_to_end, Reading, byte_of_key, after_byte, after_cancel, after_prompt, line_read, with_key_taken, back, output}
 use Rattle.a2_services.proofs.Kept.{off_base-kept, off_page-cleared}
 
@@ -96,7 +96,7 @@ module _ (b : ℕ) (outside : IsOutside b) where
   base-kept m = off_base-kept b (record { low = outside.base_low; high = outside.base_high }) m
 
   prompt-kept : (m : Memory) → ram_byte (after_prompt m) b ≡ ram_byte m b
-  prompt-kept m = put-kept (prompt m) (after_put 0x8D m) ∙ put-kept 0x8D m
+  prompt-kept m = put-kept (prompt_character m) (after_put 0x8D m) ∙ put-kept 0x8D m
 
   pub cleared_to_end-kept : (m : Memory) → ram_byte (cleared_to_end m) b ≡ ram_byte m b
   cleared_to_end-kept m = off_page-cleared b outside.page m

@@ -16,6 +16,6 @@ pub record LineFits (memory : Memory) : Type 0 where
   pub row : cursor_row memory < 24
 
 -- and its column
-pub record Fits (memory : Memory) : Type 0 where
+pub record CursorFits (memory : Memory) : Type 0 where
   pub line : LineFits memory
   pub column : screen_column memory < 40

@@ -38,8 +38,8 @@ abbrev pub inverse_mask : Memory → ℕ
 inverse_mask memory = ram_byte memory at.invflg
 
 -- the character that begins a line
-abbrev pub prompt : Memory → ℕ
-prompt memory = ram_byte memory at.prompt
+abbrev pub prompt_character : Memory → ℕ
+prompt_character memory = ram_byte memory at.prompt
 
 -- the cursor's column on the screen
 abbrev pub screen_column : Memory → ℕ

@@ -13,31 +13,31 @@ use Rattle.a2_services.specs.declared.rows.Takes.TheVariants as span
 use Rattle.a2_services.specs.declared.rows.Row.{Row}
 
 -- where it is called, what it needs, where it may store, and how long it takes
-abbrev pub entry : ℕ → Needs → Reach → Takes → Row
-entry address needs reach takes = record { address = address; needs = needs; reach = reach; takes = takes }
+abbrev pub row_at : ℕ → Needs → Reach → Takes → Row
+row_at address needs reach takes = record { address = address; needs = needs; reach = reach; takes = takes }
 
-abbrev pub row_of : Service → Row
-row_of Cout = entry 0xFDED need.Nothing reaches.Nowhere span.Hook
-row_of Cout1 = entry at.cout1 need.Cursor reaches.Screen span.Six
-row_of Crout = entry 0xFD8E need.Nothing reaches.Nowhere span.Hook
-row_of Home = entry 0xFC58 need.Window reaches.Screen span.Six
-row_of Prbyte = entry 0xFDDA need.Cursor reaches.Screen span.Six
-row_of Prhex = entry 0xFDE3 need.Cursor reaches.Screen span.Six
-row_of Setinv = entry 0xFE80 need.Nothing reaches.Mask span.Six
-row_of Setnorm = entry 0xFE84 need.Nothing reaches.Mask span.Six
-row_of Vtab = entry 0xFC22 need.Cursor reaches.Base span.Six
-row_of Clreol = entry 0xFC9C need.Cursor reaches.Page span.Six
-row_of Clreop = entry 0xFC42 need.Cursor reaches.BaseAndPage span.Six
-row_of Rdkey = entry 0xFD0C need.Nothing reaches.Nowhere span.Hook
-row_of Keyin = entry at.keyin need.Key reaches.Nowhere span.Six
-row_of Getln = entry 0xFD6A need.Line reaches.ScreenAndLine span.Six
-row_of Wait = entry 0xFCA8 need.Nothing reaches.Nowhere span.Wait
-row_of Setcol = entry 0xF864 need.Nothing reaches.Color span.Six
-row_of Plot = entry 0xF800 need.Block reaches.Page span.Six
-row_of Hline = entry 0xF819 need.Across reaches.Page span.Six
-row_of Vline = entry 0xF828 need.Down reaches.Page span.Six
-row_of Scrn = entry 0xF871 need.Block reaches.Nowhere span.Six
-row_of Clrscr = entry 0xF832 need.Nothing reaches.Graphics span.Six
+abbrev pub service_row : Service → Row
+service_row Cout = row_at 0xFDED need.Nothing reaches.Nowhere span.Hook
+service_row Cout1 = row_at at.cout1 need.Cursor reaches.Screen span.Six
+service_row Crout = row_at 0xFD8E need.Nothing reaches.Nowhere span.Hook
+service_row Home = row_at 0xFC58 need.Window reaches.Screen span.Six
+service_row Prbyte = row_at 0xFDDA need.Cursor reaches.Screen span.Six
+service_row Prhex = row_at 0xFDE3 need.Cursor reaches.Screen span.Six
+service_row Setinv = row_at 0xFE80 need.Nothing reaches.Mask span.Six
+service_row Setnorm = row_at 0xFE84 need.Nothing reaches.Mask span.Six
+service_row Vtab = row_at 0xFC22 need.Cursor reaches.Base span.Six
+service_row Clreol = row_at 0xFC9C need.Cursor reaches.Page span.Six
+service_row Clreop = row_at 0xFC42 need.Cursor reaches.BaseAndPage span.Six
+service_row Rdkey = row_at 0xFD0C need.Nothing reaches.Nowhere span.Hook
+service_row Keyin = row_at at.keyin need.Key reaches.Nowhere span.Six
+service_row Getln = row_at 0xFD6A need.Line reaches.ScreenAndLine span.Six
+service_row Wait = row_at 0xFCA8 need.Nothing reaches.Nowhere span.Wait
+service_row Setcol = row_at 0xF864 need.Nothing reaches.Color span.Six
+service_row Plot = row_at 0xF800 need.Block reaches.Page span.Six
+service_row Hline = row_at 0xF819 need.Across reaches.Page span.Six
+service_row Vline = row_at 0xF828 need.Down reaches.Page span.Six
+service_row Scrn = row_at 0xF871 need.Block reaches.Nowhere span.Six
+service_row Clrscr = row_at 0xF832 need.Nothing reaches.Graphics span.Six
 
 -- the services, in order
 abbrev pub services : List Service

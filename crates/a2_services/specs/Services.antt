@@ -18,15 +18,15 @@ use Rattle.a2_services.specs.declared.rows.Reach.{Reach}
 use Rattle.a2_services.specs.declared.rows.Reach.TheVariants as reaches
 use Rattle.a2_services.specs.declared.rows.Takes.{Takes}
 use Rattle.a2_services.specs.declared.rows.Takes.TheVariants as span
-use Rattle.a2_services.specs.Rows.{row_of, services}
+use Rattle.a2_services.specs.Rows.{service_row, services}
 use Rattle.a2_services.specs.Bytes.{carriage_return, backspace, cancel, backslash, blank, return_key, right_arrow_key}
 use Rattle.a2_services.specs.World.{World}
 use Rattle.a2_services.specs.Blocks.{painted, painted_across, painted_down, span_of, black}
-use Rattle.a2_services.specs.Put.{window_of, cursor_column, cursor_row, with_cursor_column, with_cursor_row, screen_column, prompt, with_page1, after_put, after_put_unmasked, with_base_address}
+use Rattle.a2_services.specs.Put.{window_of, cursor_column, cursor_row, with_cursor_column, with_cursor_row, screen_column, prompt_character, with_page1, after_put, after_put_unmasked, with_base_address}
 
 -- the service at an address, if there is one
 unfoldable pub service_at : ℕ → Option Service
-service_at address = find (λ service. (row_of service).address == address) services
+service_at address = find (λ service. (service_row service).address == address) services
 
 -- What a service needs
 
@@ -46,18 +46,17 @@ block_fits registers = nat_lt registers.a 48 && nat_lt registers.y 40
 
 -- window, cursor and registers are as they are needed
 abbrev pub lies_right : Needs → Registers → Memory → Bool
-lies_right need.Nothing registers memory = true
 lies_right need.Window registers memory = window_fits memory
 lies_right need.Cursor registers memory = window_fits memory && cursor_fits memory
-lies_right need.Key registers memory = true
 lies_right need.Line registers memory = window_fits memory && cursor_fits memory
 lies_right need.Block registers memory = block_fits registers
 lies_right need.Across registers memory = block_fits registers && nat_lt (ram_byte memory at.h2) 40
 lies_right need.Down registers memory = block_fits registers && nat_lt (ram_byte memory at.v2) 48
+lies_right _ registers memory = true
 
 -- window and cursor lie where the service needs them
 abbrev pub fits : Service → Registers → Memory → Bool
-fits service registers memory = lies_right (row_of service).needs registers memory
+fits service registers memory = lies_right (service_row service).needs registers memory
 
 -- RETURN is among the keys
 abbrev pub has_return : List ℕ → Bool
@@ -71,7 +70,7 @@ is_without _ keys = false
 
 -- the keys that the service needs are not there
 abbrev pub lacks_keys : Service → Memory → Bool
-lacks_keys service memory = is_without (row_of service).needs memory.devices.keys
+lacks_keys service memory = is_without (service_row service).needs memory.devices.keys
 
 -- Where a service may store
 
@@ -108,7 +107,7 @@ is_reached reaches.Graphics address = address == at.v2 || address == at.color ||
 
 -- the service may store at the address
 unfoldable pub reach : Service → ℕ → Bool
-reach service address = is_reached (row_of service).reach address
+reach service address = is_reached (service_row service).reach address
 
 -- Reading a line. Apple II Reference Manual (1979), chapter 2, GETLN
 
@@ -135,7 +134,7 @@ cleared_to_end memory =
 
 -- a new line, and a prompt at its start
 abbrev pub after_prompt : Memory → Memory
-after_prompt memory = after_put (prompt memory) (after_put carriage_return memory)
+after_prompt memory = after_put (prompt_character memory) (after_put carriage_return memory)
 
 -- the line given up: a backslash, and a new line
 abbrev pub after_cancel : Memory → Reading
@@ -229,7 +228,7 @@ effect Keyin world =
     ]
 effect Getln world =
     let memory = world.memory in
-    let line = line_read memory.devices.keys (record { memory = after_put (prompt memory) memory; len = 0 }) in
+    let line = line_read memory.devices.keys (record { memory = after_put (prompt_character memory) memory; len = 0 }) in
     back (with_x line.len (output line.memory world))
 effect Wait world = back (with_a 0 world)
 effect Setcol world = back (with_memory (with_ram world.memory at.color (17 * (world.registers.a % 16))) world)
@@ -246,4 +245,4 @@ effect Clrscr world = back (with_memory (with_ram (with_ram (with_page1 black wo
 -- the world after a call of a service that fits and lacks no keys
 unfoldable pub served : Service → World → World
 served service world =
-    record (effect service world) { cycles = world.cycles + cycles_of (row_of service).takes world.registers }
+    record (effect service world) { cycles = world.cycles + cycles_of (service_row service).takes world.registers }

@@ -5,12 +5,12 @@ ghost use Rattle.a2_page.specs.Window.{IsWindow};
 ghost use Rattle.a2_bus.specs.Memory.{memory_access};
 ghost use Rattle.a2_bus.specs.View.{memory_of};
 ghost use Rattle.a2_cpu.specs.Instruction.{returned};
-ghost use Rattle.a2_cpu.specs.View.{registers_of};
+ghost use Rattle.a2_cpu.specs.Live.{live_registers};
 ghost use Rattle.a2_services.specs.declared.Service.TheVariants.{Cout1, Home, Prbyte, Prhex, Keyin, Wait, Getln};
 ghost use Rattle.a2_services.specs.World.{world_of};
 ghost use Rattle.a2_services.specs.Put.{window_of, with_base_address};
 ghost use Rattle.a2_services.specs.Services.{fits as fits_of, lacks_keys as lacks_keys_of, cycles_of as cycles_by, digit_byte as digit_byte_of, wait_cycles as wait_cycles_of, with_memory};
-ghost use Rattle.a2_services.specs.Fits.{Fits, LineFits};
+ghost use Rattle.a2_services.specs.Fits.{CursorFits, LineFits};
 ghost use Rattle.a2_services.specs.Called.{IsCalled, IsServed, IsLeft, IsUnreached};
 
 use crate::blocks::{clrscr, hline, plot, scrn, setcol, vline};
@@ -23,57 +23,103 @@ use crate::put::put;
 use crate::rows::{Takes, row_of};
 use crate::screen::{clear, load, store, window};
 use crate::{Served, Service};
-use a2_bus::Board;
+use a2_bus::AddressSpace;
 use a2_bus::locations::{CH, CV, PROMPT};
-use a2_cpu::Regs;
+use a2_cpu::live::Live;
 use std::alloc::Allocator;
 
-/// One call of a service, as [`Service`] says of each: the registers and the board become what it leaves, and PC is
+// How long a hook takes.
+const HOOK_CYCLES: u32 = 5;
+
+/// One call of a service, as [`Service`] says of each: the registers and the address space become what it leaves, and PC is
 /// pulled as RTS does, or for a hook is where it leads. The answer is `Served::Next` with the cycles that it took. Apple II
 /// Reference Manual (1979), chapters 2 and 3; the exact effects are this project's profile.
 ///
 /// Where the service lacks something the answer is what [`refusal`] tells, and nothing changes. No byte of RAM changes outside
 /// the service's [`reach`](crate::reach).
-pub fn call<A: Allocator>(service: Service, regs: &mut Regs, board: &mut Board<A>) -> Served
-    ensures called { IsCalled service regs.old board.old regs.new board.new result }
+#[inline(always)]
+pub fn call<A: Allocator>(service: Service, live: &mut Live, space: &mut AddressSpace<A>) -> Served
+    ensures called { IsCalled service (live_registers live.old) space.old (live_registers live.new) space.new result }
 
-    // The flags stay as they are.
-    ensures flags { regs.new.p ≡ regs.old.p }
+    // The count of cycles is the caller's.
+    ensures cycles { live.new.cycles ≡ live.old.cycles }
 
     // No byte changes but where `reach` says.
-    ensures unreached { IsUnreached service board.old board.new }
+    ensures unreached { IsUnreached service space.old space.new }
 
     // RAM stays as long as it is, and no key is added.
-    ensures size { length board.new.bytes ≡ length board.old.bytes }
-    ensures keys { length board.new.devices.keys ≤ length board.old.devices.keys }
+    ensures size { length space.new.bytes ≡ length space.old.bytes }
+    ensures keys { length space.new.devices.keys ≤ length space.old.devices.keys }
 {
-    match refusal(service, regs, board) {
+    match service {
+        // What is called for each character and each block is done in place, by an arm that names it: so nothing is looked
+        // for but what that one service needs.
+        Service::Cout => call_in_place(Service::Cout, live, space),
+        Service::Crout => call_in_place(Service::Crout, live, space),
+        Service::Rdkey => call_in_place(Service::Rdkey, live, space),
+        Service::Plot => call_in_place(Service::Plot, live, space),
+        _ => call_apart(service, live, space),
+    }
+}
+
+// One call of a service that is looked up.
+#[inline(never)]
+fn call_apart<A: Allocator>(
+    service: Service,
+    live: &mut Live,
+    space: &mut AddressSpace<A>,
+) -> Served
+    ensures called { IsCalled service (live_registers live.old) space.old (live_registers live.new) space.new result }
+    ensures cycles { live.new.cycles ≡ live.old.cycles }
+    ensures unreached { IsUnreached service space.old space.new }
+    ensures size { length space.new.bytes ≡ length space.old.bytes }
+    ensures keys { length space.new.devices.keys ≤ length space.old.devices.keys }
+{
+    call_in_place(service, live, space)
+}
+
+// One call of a service, or why it is not made.
+#[inline(always)]
+fn call_in_place<A: Allocator>(
+    service: Service,
+    live: &mut Live,
+    space: &mut AddressSpace<A>,
+) -> Served
+    ensures called { IsCalled service (live_registers live.old) space.old (live_registers live.new) space.new result }
+    ensures cycles { live.new.cycles ≡ live.old.cycles }
+    ensures unreached { IsUnreached service space.old space.new }
+    ensures size { length space.new.bytes ≡ length space.old.bytes }
+    ensures keys { length space.new.devices.keys ≤ length space.old.devices.keys }
+{
+    match refusal(service, live, space) {
         Some(answer) => answer,
-        None => Served::Next(serve(service, regs, board)),
+        None => Served::Next(serve(service, live, space)),
     }
 }
 
 // A call that has what it needs: the cycles that it takes.
-fn serve<A: Allocator>(service: Service, regs: &mut Regs, board: &mut Board<A>) -> u32
-    requires fitting { fits_of service (registers_of regs.old) (memory_of board.old) ≡ true }
-    requires keyed { lacks_keys_of service (memory_of board.old) ≡ false }
-    ensures served { IsServed service regs.old board.old regs.new board.new result }
-    ensures flags { regs.new.p ≡ regs.old.p }
-    ensures size { length board.new.bytes ≡ 49152 }
+#[inline(always)]
+fn serve<A: Allocator>(service: Service, live: &mut Live, space: &mut AddressSpace<A>) -> u32
+    requires fitting { fits_of service (live_registers live.old) (memory_of space.old) ≡ true }
+    requires keyed { lacks_keys_of service (memory_of space.old) ≡ false }
+    ensures served { IsServed service (live_registers live.old) space.old (live_registers live.new) space.new result }
+    ensures cycles { live.new.cycles ≡ live.old.cycles }
+    ensures size { length space.new.bytes ≡ 49152 }
 {
-    let cycles = cycles_of(row_of(service).takes, regs);
-    act(service, regs, board);
+    let cycles = cycles_of(row_of(service).takes, live);
+    act(service, live, space);
     cycles
 }
 
 // How long a service takes.
-fn cycles_of(takes: Takes, regs: &Regs) -> u32
-    ensures { result ≡ cycles_by takes (registers_of regs.now) }
+#[inline(always)]
+fn cycles_of(takes: Takes, live: &Live) -> u32
+    ensures { result ≡ cycles_by takes (live_registers live.now) }
 {
     match takes {
-        Takes::Hook => 5,
+        Takes::Hook => HOOK_CYCLES,
         Takes::Six => 6,
-        Takes::Wait => wait_cycles(regs.a),
+        Takes::Wait => wait_cycles(live.a),
     }
 }
 
@@ -90,80 +136,81 @@ fn wait_cycles(a: u8) -> u32
 }
 
 // What a call that has what it needs leaves.
-fn act<A: Allocator>(service: Service, regs: &mut Regs, board: &mut Board<A>)
-    requires fitting { fits_of service (registers_of regs.old) (memory_of board.old) ≡ true }
-    requires keyed { lacks_keys_of service (memory_of board.old) ≡ false }
-    ensures left { IsLeft service regs.old board.old regs.new board.new }
-    ensures flags { regs.new.p ≡ regs.old.p }
-    ensures size { length board.new.bytes ≡ 49152 }
+#[inline(always)]
+fn act<A: Allocator>(service: Service, live: &mut Live, space: &mut AddressSpace<A>)
+    requires fitting { fits_of service (live_registers live.old) (memory_of space.old) ≡ true }
+    requires keyed { lacks_keys_of service (memory_of space.old) ≡ false }
+    ensures left { IsLeft service (live_registers live.old) space.old (live_registers live.new) space.new }
+    ensures cycles { live.new.cycles ≡ live.old.cycles }
+    ensures size { length space.new.bytes ≡ 49152 }
 {
     match service {
-        Service::Cout => cout(regs, board),
-        Service::Cout1 => cout1(regs, board),
-        Service::Crout => crout(regs, board),
-        Service::Home => home(regs, board),
-        Service::Prbyte => prbyte(regs, board),
-        Service::Prhex => prhex(regs, board),
-        Service::Setinv => setinv(regs, board),
-        Service::Setnorm => setnorm(regs, board),
-        Service::Vtab => vtab(regs, board),
-        Service::Clreol => clreol(regs, board),
-        Service::Clreop => clreop(regs, board),
-        Service::Rdkey => rdkey(regs, board),
-        Service::Keyin => keyin(regs, board),
-        Service::Getln => getln(regs, board),
-        Service::Wait => wait(regs, board),
-        Service::Setcol => setcol(regs, board),
-        Service::Plot => plot(regs, board),
-        Service::Hline => hline(regs, board),
-        Service::Vline => vline(regs, board),
-        Service::Scrn => scrn(regs, board),
-        Service::Clrscr => clrscr(regs, board),
+        Service::Cout => cout(live, space),
+        Service::Cout1 => cout1(live, space),
+        Service::Crout => crout(live, space),
+        Service::Home => home(live, space),
+        Service::Prbyte => prbyte(live, space),
+        Service::Prhex => prhex(live, space),
+        Service::Setinv => setinv(live, space),
+        Service::Setnorm => setnorm(live, space),
+        Service::Vtab => vtab(live, space),
+        Service::Clreol => clreol(live, space),
+        Service::Clreop => clreop(live, space),
+        Service::Rdkey => rdkey(live, space),
+        Service::Keyin => keyin(live, space),
+        Service::Getln => getln(live, space),
+        Service::Wait => wait(live, space),
+        Service::Setcol => setcol(live, space),
+        Service::Plot => plot(live, space),
+        Service::Hline => hline(live, space),
+        Service::Vline => vline(live, space),
+        Service::Scrn => scrn(live, space),
+        Service::Clrscr => clrscr(live, space),
     }
 }
 
-fn cout1<A: Allocator>(regs: &mut Regs, board: &mut Board<A>)
-    requires { Fits (memory_of board.old) }
-    ensures left { IsLeft Cout1 regs.old board.old regs.new board.new }
-    ensures flags { regs.new.p ≡ regs.old.p }
-    ensures size { length board.new.bytes ≡ 49152 }
+fn cout1<A: Allocator>(live: &mut Live, space: &mut AddressSpace<A>)
+    requires { CursorFits (memory_of space.old) }
+    ensures left { IsLeft Cout1 (live_registers live.old) space.old (live_registers live.new) space.new }
+    ensures cycles { live.new.cycles ≡ live.old.cycles }
+    ensures size { length space.new.bytes ≡ 49152 }
 {
-    put(board, regs.a);
-    end_output(regs, board);
+    put(space, live.a);
+    end_output(live, space);
 }
 
-fn home<A: Allocator>(regs: &mut Regs, board: &mut Board<A>)
-    requires { IsWindow (window_of (memory_of board.old)) }
-    ensures left { IsLeft Home regs.old board.old regs.new board.new }
-    ensures flags { regs.new.p ≡ regs.old.p }
-    ensures size { length board.new.bytes ≡ 49152 }
+fn home<A: Allocator>(live: &mut Live, space: &mut AddressSpace<A>)
+    requires { IsWindow (window_of (memory_of space.old)) }
+    ensures left { IsLeft Home (live_registers live.old) space.old (live_registers live.new) space.new }
+    ensures cycles { live.new.cycles ≡ live.old.cycles }
+    ensures size { length space.new.bytes ≡ 49152 }
 {
-    let edges = window(board);
-    clear(board, edges);
-    store(board, CH, 0);
-    store(board, CV, edges.top);
-    end_output(regs, board);
+    let edges = window(space);
+    clear(space, edges);
+    store(space, CH, 0);
+    store(space, CV, edges.top);
+    end_output(live, space);
 }
 
-fn prbyte<A: Allocator>(regs: &mut Regs, board: &mut Board<A>)
-    requires { Fits (memory_of board.old) }
-    ensures left { IsLeft Prbyte regs.old board.old regs.new board.new }
-    ensures flags { regs.new.p ≡ regs.old.p }
-    ensures size { length board.new.bytes ≡ 49152 }
+fn prbyte<A: Allocator>(live: &mut Live, space: &mut AddressSpace<A>)
+    requires { CursorFits (memory_of space.old) }
+    ensures left { IsLeft Prbyte (live_registers live.old) space.old (live_registers live.new) space.new }
+    ensures cycles { live.new.cycles ≡ live.old.cycles }
+    ensures size { length space.new.bytes ≡ 49152 }
 {
-    put(board, digit_byte(regs.a / 16));
-    put(board, digit_byte(regs.a % 16));
-    end_output(regs, board);
+    put(space, digit_byte(live.a / 16));
+    put(space, digit_byte(live.a % 16));
+    end_output(live, space);
 }
 
-fn prhex<A: Allocator>(regs: &mut Regs, board: &mut Board<A>)
-    requires { Fits (memory_of board.old) }
-    ensures left { IsLeft Prhex regs.old board.old regs.new board.new }
-    ensures flags { regs.new.p ≡ regs.old.p }
-    ensures size { length board.new.bytes ≡ 49152 }
+fn prhex<A: Allocator>(live: &mut Live, space: &mut AddressSpace<A>)
+    requires { CursorFits (memory_of space.old) }
+    ensures left { IsLeft Prhex (live_registers live.old) space.old (live_registers live.new) space.new }
+    ensures cycles { live.new.cycles ≡ live.old.cycles }
+    ensures size { length space.new.bytes ≡ 49152 }
 {
-    put(board, digit_byte(regs.a % 16));
-    end_output(regs, board);
+    put(space, digit_byte(live.a % 16));
+    end_output(live, space);
 }
 
 // The character of a hexadecimal digit, bit 7 set.
@@ -178,35 +225,35 @@ fn digit_byte(digit: u8) -> u8
     }
 }
 
-fn keyin<A: Allocator>(regs: &mut Regs, board: &mut Board<A>)
-    requires { lacks_keys_of Keyin (memory_of board.old) ≡ false }
-    ensures left { IsLeft Keyin regs.old board.old regs.new board.new }
-    ensures flags { regs.new.p ≡ regs.old.p }
-    ensures size { length board.new.bytes ≡ 49152 }
+fn keyin<A: Allocator>(live: &mut Live, space: &mut AddressSpace<A>)
+    requires { lacks_keys_of Keyin (memory_of space.old) ≡ false }
+    ensures left { IsLeft Keyin (live_registers live.old) space.old (live_registers live.new) space.new }
+    ensures cycles { live.new.cycles ≡ live.old.cycles }
+    ensures size { length space.new.bytes ≡ 49152 }
 {
-    let key = board.waiting()[0];
-    take_key(board);
-    regs.a = 0x80 + key;
-    return_from(regs, board);
+    let key = space.waiting()[0];
+    take_key(space);
+    live.a = 0x80 + key;
+    return_from(live, space);
 }
 
-fn wait<A: Allocator>(regs: &mut Regs, board: &Board<A>)
-    ensures left { IsLeft Wait regs.old board.now regs.new board.now }
-    ensures flags { regs.new.p ≡ regs.old.p }
-    ensures size { length board.now.bytes ≡ 49152 }
+fn wait<A: Allocator>(live: &mut Live, space: &AddressSpace<A>)
+    ensures left { IsLeft Wait (live_registers live.old) space.now (live_registers live.new) space.now }
+    ensures cycles { live.new.cycles ≡ live.old.cycles }
+    ensures size { length space.now.bytes ≡ 49152 }
 {
-    regs.a = 0;
-    return_from(regs, board);
+    live.a = 0;
+    return_from(live, space);
 }
 
-fn getln<A: Allocator>(regs: &mut Regs, board: &mut Board<A>)
-    requires { Fits (memory_of board.old) }
-    ensures left { IsLeft Getln regs.old board.old regs.new board.new }
-    ensures flags { regs.new.p ≡ regs.old.p }
-    ensures size { length board.new.bytes ≡ 49152 }
+fn getln<A: Allocator>(live: &mut Live, space: &mut AddressSpace<A>)
+    requires { CursorFits (memory_of space.old) }
+    ensures left { IsLeft Getln (live_registers live.old) space.old (live_registers live.new) space.new }
+    ensures cycles { live.new.cycles ≡ live.old.cycles }
+    ensures size { length space.new.bytes ≡ 49152 }
 {
-    let mark = load(board, PROMPT);
-    put(board, mark);
-    regs.x = read_line(board);
-    end_output(regs, board);
+    let mark = load(space, PROMPT);
+    put(space, mark);
+    live.x = read_line(space);
+    end_output(live, space);
 }

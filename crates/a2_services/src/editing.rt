@@ -3,17 +3,18 @@
 ghost use Rattle.std.specs.Prelude.{◌≡◌, ℕ, length};
 ghost use Rattle.a2_bus.specs.Memory.{with_ram};
 ghost use Rattle.a2_bus.specs.View.{memory_of};
+ghost use Rattle.a2_cpu.specs.Live.{live_registers};
 ghost use Rattle.a2_services.specs.declared.Service.TheVariants.{Setinv, Setnorm, Vtab, Clreol, Clreop};
 ghost use Rattle.a2_services.specs.Called.{IsLeft};
-ghost use Rattle.a2_services.specs.Fits.{Fits};
+ghost use Rattle.a2_services.specs.Fits.{CursorFits};
 ghost use Rattle.a2_services.specs.Services.{cleared_below};
 
 use crate::ends::{end_output, return_from};
 use crate::line::clear_to_end;
 use crate::screen::{Edges, clear, load, store, window};
-use a2_bus::Board;
+use a2_bus::AddressSpace;
 use a2_bus::locations::{CV, INVFLG};
-use a2_cpu::Regs;
+use a2_cpu::live::Live;
 use std::alloc::Allocator;
 
 /// The mask that makes characters inverse.
@@ -22,63 +23,63 @@ const INVERSE: u8 = 0x3F;
 /// The mask that leaves characters as they are.
 const NORMAL: u8 = 0xFF;
 
-pub(crate) fn setinv<A: Allocator>(regs: &mut Regs, board: &mut Board<A>)
-    ensures left { IsLeft Setinv regs.old board.old regs.new board.new }
-    ensures flags { regs.new.p ≡ regs.old.p }
-    ensures size { length board.new.bytes ≡ 49152 }
+pub(crate) fn setinv<A: Allocator>(live: &mut Live, space: &mut AddressSpace<A>)
+    ensures left { IsLeft Setinv (live_registers live.old) space.old (live_registers live.new) space.new }
+    ensures cycles { live.new.cycles ≡ live.old.cycles }
+    ensures size { length space.new.bytes ≡ 49152 }
 {
-    store(board, INVFLG, INVERSE);
-    return_from(regs, board);
+    store(space, INVFLG, INVERSE);
+    return_from(live, space);
 }
 
-pub(crate) fn setnorm<A: Allocator>(regs: &mut Regs, board: &mut Board<A>)
-    ensures left { IsLeft Setnorm regs.old board.old regs.new board.new }
-    ensures flags { regs.new.p ≡ regs.old.p }
-    ensures size { length board.new.bytes ≡ 49152 }
+pub(crate) fn setnorm<A: Allocator>(live: &mut Live, space: &mut AddressSpace<A>)
+    ensures left { IsLeft Setnorm (live_registers live.old) space.old (live_registers live.new) space.new }
+    ensures cycles { live.new.cycles ≡ live.old.cycles }
+    ensures size { length space.new.bytes ≡ 49152 }
 {
-    store(board, INVFLG, NORMAL);
-    return_from(regs, board);
+    store(space, INVFLG, NORMAL);
+    return_from(live, space);
 }
 
-pub(crate) fn vtab<A: Allocator>(regs: &mut Regs, board: &mut Board<A>)
-    requires { Fits (memory_of board.old) }
-    ensures left { IsLeft Vtab regs.old board.old regs.new board.new }
-    ensures flags { regs.new.p ≡ regs.old.p }
-    ensures size { length board.new.bytes ≡ 49152 }
+pub(crate) fn vtab<A: Allocator>(live: &mut Live, space: &mut AddressSpace<A>)
+    requires { CursorFits (memory_of space.old) }
+    ensures left { IsLeft Vtab (live_registers live.old) space.old (live_registers live.new) space.new }
+    ensures cycles { live.new.cycles ≡ live.old.cycles }
+    ensures size { length space.new.bytes ≡ 49152 }
 {
-    end_output(regs, board);
+    end_output(live, space);
 }
 
-pub(crate) fn clreol<A: Allocator>(regs: &mut Regs, board: &mut Board<A>)
-    requires { Fits (memory_of board.old) }
-    ensures left { IsLeft Clreol regs.old board.old regs.new board.new }
-    ensures flags { regs.new.p ≡ regs.old.p }
-    ensures size { length board.new.bytes ≡ 49152 }
+pub(crate) fn clreol<A: Allocator>(live: &mut Live, space: &mut AddressSpace<A>)
+    requires { CursorFits (memory_of space.old) }
+    ensures left { IsLeft Clreol (live_registers live.old) space.old (live_registers live.new) space.new }
+    ensures cycles { live.new.cycles ≡ live.old.cycles }
+    ensures size { length space.new.bytes ≡ 49152 }
 {
-    clear_to_end(board);
-    return_from(regs, board);
+    clear_to_end(space);
+    return_from(live, space);
 }
 
-pub(crate) fn clreop<A: Allocator>(regs: &mut Regs, board: &mut Board<A>)
-    requires { Fits (memory_of board.old) }
-    ensures left { IsLeft Clreop regs.old board.old regs.new board.new }
-    ensures flags { regs.new.p ≡ regs.old.p }
-    ensures size { length board.new.bytes ≡ 49152 }
+pub(crate) fn clreop<A: Allocator>(live: &mut Live, space: &mut AddressSpace<A>)
+    requires { CursorFits (memory_of space.old) }
+    ensures left { IsLeft Clreop (live_registers live.old) space.old (live_registers live.new) space.new }
+    ensures cycles { live.new.cycles ≡ live.old.cycles }
+    ensures size { length space.new.bytes ≡ 49152 }
 {
-    clear_to_end(board);
-    clear_below(board);
-    end_output(regs, board);
+    clear_to_end(space);
+    clear_below(space);
+    end_output(live, space);
 }
 
 // The window's rows below the cursor's become blank.
-fn clear_below<A: Allocator>(board: &mut Board<A>)
-    requires { Fits (memory_of board.old) }
-    ensures memory { memory_of board.new ≡ cleared_below (memory_of board.old) }
-    ensures fits { Fits (memory_of board.new) }
+fn clear_below<A: Allocator>(space: &mut AddressSpace<A>)
+    requires { CursorFits (memory_of space.old) }
+    ensures memory { memory_of space.new ≡ cleared_below (memory_of space.old) }
+    ensures fits { CursorFits (memory_of space.new) }
 {
-    let edges = window(board);
-    let top = load(board, CV) + 1;
+    let edges = window(space);
+    let top = load(space, CV) + 1;
     if top < edges.bottom {
-        clear(board, Edges { top, ..edges });
+        clear(space, Edges { top, ..edges });
     }
 }

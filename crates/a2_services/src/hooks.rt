@@ -1,6 +1,7 @@
 //! The hooks: steps that go on where two bytes of page 0 say.
 
 ghost use Rattle.std.specs.Prelude.{◌≡◌, ◌+◌, ◌<◌, ℕ, length};
+ghost use Rattle.a2_cpu.specs.Live.{live_registers};
 ghost use Rattle.a2_services.specs.declared.Service.TheVariants.{Cout, Crout, Rdkey};
 ghost use Rattle.a2_services.specs.World.{world_of};
 ghost use Rattle.a2_services.specs.Called.{IsLeft};
@@ -8,42 +9,46 @@ ghost use Rattle.a2_services.specs.Services.{through};
 
 use crate::bytes::RETURN;
 use crate::screen::load;
-use a2_bus::Board;
+use a2_bus::AddressSpace;
 use a2_bus::locations::{CSW, KSW};
-use a2_cpu::Regs;
+use a2_cpu::live::Live;
 use std::alloc::Allocator;
 
-pub(crate) fn cout<A: Allocator>(regs: &mut Regs, board: &Board<A>)
-    ensures left { IsLeft Cout regs.old board.now regs.new board.now }
-    ensures flags { regs.new.p ≡ regs.old.p }
-    ensures size { length board.now.bytes ≡ 49152 }
+#[inline(always)]
+pub(crate) fn cout<A: Allocator>(live: &mut Live, space: &AddressSpace<A>)
+    ensures left { IsLeft Cout (live_registers live.old) space.now (live_registers live.new) space.now }
+    ensures cycles { live.new.cycles ≡ live.old.cycles }
+    ensures size { length space.now.bytes ≡ 49152 }
 {
-    go_through(CSW, regs, board);
+    go_through(CSW, live, space);
 }
 
-pub(crate) fn crout<A: Allocator>(regs: &mut Regs, board: &Board<A>)
-    ensures left { IsLeft Crout regs.old board.now regs.new board.now }
-    ensures flags { regs.new.p ≡ regs.old.p }
-    ensures size { length board.now.bytes ≡ 49152 }
+#[inline(always)]
+pub(crate) fn crout<A: Allocator>(live: &mut Live, space: &AddressSpace<A>)
+    ensures left { IsLeft Crout (live_registers live.old) space.now (live_registers live.new) space.now }
+    ensures cycles { live.new.cycles ≡ live.old.cycles }
+    ensures size { length space.now.bytes ≡ 49152 }
 {
-    regs.a = RETURN;
-    go_through(CSW, regs, board);
+    live.a = RETURN;
+    go_through(CSW, live, space);
 }
 
-pub(crate) fn rdkey<A: Allocator>(regs: &mut Regs, board: &Board<A>)
-    ensures left { IsLeft Rdkey regs.old board.now regs.new board.now }
-    ensures flags { regs.new.p ≡ regs.old.p }
-    ensures size { length board.now.bytes ≡ 49152 }
+#[inline(always)]
+pub(crate) fn rdkey<A: Allocator>(live: &mut Live, space: &AddressSpace<A>)
+    ensures left { IsLeft Rdkey (live_registers live.old) space.now (live_registers live.new) space.now }
+    ensures cycles { live.new.cycles ≡ live.old.cycles }
+    ensures size { length space.now.bytes ≡ 49152 }
 {
-    go_through(KSW, regs, board);
+    go_through(KSW, live, space);
 }
 
 // PC becomes the word at a hook.
-fn go_through<A: Allocator>(hook: u16, regs: &mut Regs, board: &Board<A>)
+#[inline(always)]
+fn go_through<A: Allocator>(hook: u16, live: &mut Live, space: &AddressSpace<A>)
     requires { hook + 1 < 49152 }
-    ensures gone { (cycles : ℕ) → world_of regs.new board.now cycles ≡ through hook (world_of regs.old board.now cycles) }
-    ensures flags { regs.new.p ≡ regs.old.p }
-    ensures size { length board.now.bytes ≡ 49152 }
+    ensures gone { (cycles : ℕ) → world_of (live_registers live.new) space.now cycles ≡ through hook (world_of (live_registers live.old) space.now cycles) }
+    ensures cycles { live.new.cycles ≡ live.old.cycles }
+    ensures size { length space.now.bytes ≡ 49152 }
 {
-    regs.pc = u16::from_le_bytes([load(board, hook), load(board, hook + 1)]);
+    live.pc = u16::from_le_bytes([load(space, hook), load(space, hook + 1)]);
 }

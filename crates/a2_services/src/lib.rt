@@ -8,6 +8,7 @@
 //! two bytes of page 0 say.
 #![tactic(auto)]
 
+mod addresses;
 mod blocks;
 mod bytes;
 mod calls;

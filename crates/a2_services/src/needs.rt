@@ -2,10 +2,10 @@
 
 ghost use Rattle.std.specs.Prelude.{◌≡◌, length, not};
 ghost use Rattle.a2_bus.specs.View.{memory_of};
-ghost use Rattle.a2_cpu.specs.View.{registers_of};
+ghost use Rattle.a2_cpu.specs.Live.{live_registers};
 ghost use Rattle.a2_services.specs.declared.Service.TheVariants.{Keyin};
-ghost use Rattle.a2_services.specs.Called.{refusal_of};
-ghost use Rattle.a2_services.specs.Services.{fits as fits_of, block_fits as block_fits_of, window_fits as window_fits_of, cursor_fits as cursor_fits_of, lacks_keys as lacks_keys_of, has_return as has_return_of};
+ghost use Rattle.a2_services.specs.Called.{service_refusal, refused};
+ghost use Rattle.a2_services.specs.Services.{lies_right, is_without, block_fits as block_fits_of, window_fits as window_fits_of, cursor_fits as cursor_fits_of, lacks_keys as lacks_keys_of, has_return as has_return_of};
 
 use crate::bytes::RETURN_KEY;
 use crate::line::first_key;
@@ -14,8 +14,8 @@ use crate::rows::{Needs, row_of};
 use crate::screen::{load, window};
 use crate::{Served, Service};
 use a2_bus::locations::{CH, CV, H2, V2};
-use a2_bus::{Board, Bus};
-use a2_cpu::Regs;
+use a2_bus::{AddressSpace, Bus};
+use a2_cpu::live::Live;
 use std::alloc::Allocator;
 
 /// Why a call of a service would not be made: what it would answer in place of the cycles. `None` where it would be made.
@@ -28,49 +28,70 @@ use std::alloc::Allocator;
 /// Then `Served::Keys`, where keys that it needs are not waiting: for KEYIN a key, for GETLN a return ($0D), which need not
 /// be the first key. The other services need nothing. This project's profile.
 #[inline(always)]
-pub fn refusal<A: Allocator>(service: Service, regs: &Regs, board: &Board<A>) -> Option<Served>
-    ensures answer { result ≡ refusal_of service (registers_of regs.now) (memory_of board.now) }
-    ensures size { length board.now.bytes ≡ 49152 }
+pub fn refusal<A: Allocator>(
+    service: Service,
+    live: &Live,
+    space: &AddressSpace<A>,
+) -> Option<Served>
+    ensures answer { result ≡ service_refusal service (live_registers live.now) (memory_of space.now) }
+    ensures size { length space.now.bytes ≡ 49152 }
 {
-    if !fits(service, regs, board) {
+    refusal_for(row_of(service).needs, live, space)
+}
+
+/// Why a call of a service that needs this would not be made.
+#[inline(always)]
+pub(crate) fn refusal_for<A: Allocator>(
+    needs: Needs,
+    live: &Live,
+    space: &AddressSpace<A>,
+) -> Option<Served>
+    ensures answer { let memory = memory_of space.now in
+        result ≡ refused (lies_right needs (live_registers live.now) memory) (is_without needs memory.devices.keys) }
+    ensures size { length space.now.bytes ≡ 49152 }
+{
+    if !fits(needs, live, space) {
         Some(Served::Window)
-    } else if lacks_keys(service, board) {
+    } else if lacks_keys(needs, space) {
         Some(Served::Keys)
     } else {
         None
     }
 }
 
-// Window, cursor and registers are as a service needs them.
-fn fits<A: Allocator>(service: Service, regs: &Regs, board: &Board<A>) -> bool
-    ensures answer { result ≡ fits_of service (registers_of regs.now) (memory_of board.now) }
-    ensures size { length board.now.bytes ≡ 49152 }
+// Window, cursor and registers are as they are needed.
+#[inline(always)]
+fn fits<A: Allocator>(needs: Needs, live: &Live, space: &AddressSpace<A>) -> bool
+    ensures answer { result ≡ lies_right needs (live_registers live.now) (memory_of space.now) }
+    ensures size { length space.now.bytes ≡ 49152 }
 {
     // For the prover alone: a read tells how long RAM is.
-    let _ = board.peek(H2);
-    match row_of(service).needs {
+    let _ = space.peek(H2);
+    match needs {
         Needs::Nothing | Needs::Key => true,
-        Needs::Window => window_fits(board),
-        Needs::Cursor | Needs::Line => window_fits(board) && cursor_fits(board),
-        Needs::Block => block_fits(regs),
-        Needs::Across => block_fits(regs) && load(board, H2) < COLUMNS,
-        Needs::Down => block_fits(regs) && load(board, V2) < BLOCK_ROWS,
+        Needs::Window => window_fits(space),
+        Needs::Cursor | Needs::Line => window_fits(space) && cursor_fits(space),
+        Needs::Block => block_fits(live),
+        Needs::Across => block_fits(live) && load(space, H2) < COLUMNS,
+        Needs::Down => block_fits(live) && load(space, V2) < BLOCK_ROWS,
     }
 }
 
 // A is a row of blocks and Y a column.
-fn block_fits(regs: &Regs) -> bool
-    ensures { result ≡ block_fits_of (registers_of regs.now) }
+#[inline(always)]
+fn block_fits(live: &Live) -> bool
+    ensures { result ≡ block_fits_of (live_registers live.now) }
 {
-    regs.a < BLOCK_ROWS && regs.y < COLUMNS
+    live.a < BLOCK_ROWS && live.y < COLUMNS
 }
 
 // The window lies on the screen.
-fn window_fits<A: Allocator>(board: &Board<A>) -> bool
-    ensures answer { result ≡ window_fits_of (memory_of board.now) }
-    ensures size { length board.now.bytes ≡ 49152 }
+#[inline(always)]
+fn window_fits<A: Allocator>(space: &AddressSpace<A>) -> bool
+    ensures answer { result ≡ window_fits_of (memory_of space.now) }
+    ensures size { length space.now.bytes ≡ 49152 }
 {
-    let edges = window(board);
+    let edges = window(space);
     1 <= edges.width
         && u16::from(edges.left) + u16::from(edges.width) <= 40
         && edges.top < edges.bottom
@@ -78,36 +99,38 @@ fn window_fits<A: Allocator>(board: &Board<A>) -> bool
 }
 
 // The cursor lies on the screen.
-fn cursor_fits<A: Allocator>(board: &Board<A>) -> bool
-    ensures { result ≡ cursor_fits_of (memory_of board.now) }
+#[inline(always)]
+fn cursor_fits<A: Allocator>(space: &AddressSpace<A>) -> bool
+    ensures { result ≡ cursor_fits_of (memory_of space.now) }
 {
-    let left = window(board).left;
-    load(board, CV) < 24 && u16::from(left) + u16::from(load(board, CH)) < 40
+    let left = window(space).left;
+    load(space, CV) < 24 && u16::from(left) + u16::from(load(space, CH)) < 40
 }
 
-// The keys that a service needs are not waiting.
-fn lacks_keys<A: Allocator>(service: Service, board: &Board<A>) -> bool
-    ensures { result ≡ lacks_keys_of service (memory_of board.now) }
+// The keys that are needed are not waiting.
+#[inline(always)]
+fn lacks_keys<A: Allocator>(needs: Needs, space: &AddressSpace<A>) -> bool
+    ensures { result ≡ is_without needs (memory_of space.now).devices.keys }
 {
-    match row_of(service).needs {
-        Needs::Key => lacks_key(board),
-        Needs::Line => lacks_return(board),
+    match needs {
+        Needs::Key => lacks_key(space),
+        Needs::Line => lacks_return(space),
         _ => false,
     }
 }
 
 // No key waits.
-fn lacks_key<A: Allocator>(board: &Board<A>) -> bool
-    ensures { result ≡ lacks_keys_of Keyin (memory_of board.now) }
+fn lacks_key<A: Allocator>(space: &AddressSpace<A>) -> bool
+    ensures { result ≡ lacks_keys_of Keyin (memory_of space.now) }
 {
-    first_key(board).is_none()
+    first_key(space).is_none()
 }
 
 // No RETURN is among the waiting keys.
-fn lacks_return<A: Allocator>(board: &Board<A>) -> bool
-    ensures { result ≡ not (has_return_of (memory_of board.now).devices.keys) }
+fn lacks_return<A: Allocator>(space: &AddressSpace<A>) -> bool
+    ensures { result ≡ not (has_return_of (memory_of space.now).devices.keys) }
 {
-    !has_return(board.waiting())
+    !has_return(space.waiting())
 }
 
 // RETURN is among the keys.

@@ -5,88 +5,88 @@ ghost use Rattle.a2_cpu.specs.Arithmetic.{by_digits};
 ghost use Rattle.a2_bus.specs.Memory.{ram_byte, with_ram};
 ghost use Rattle.a2_bus.specs.View.{memory_of};
 ghost use Rattle.a2_services.specs.Put.{after_line_feed, after_return, after_backspace, after_character, after_put_unmasked, after_put, with_base_address};
-ghost use Rattle.a2_services.specs.Fits.{Fits, LineFits};
+ghost use Rattle.a2_services.specs.Fits.{CursorFits, LineFits};
 
 use crate::bytes::{BACKSPACE, LINE_FEED, RETURN};
 use crate::screen::{load, scroll, set_cell, store, window};
-use a2_bus::Board;
+use a2_bus::AddressSpace;
 use a2_bus::locations::{BASH, BASL, CH, CV, INVFLG};
 use a2_page::{Page, address};
 use std::alloc::Allocator;
 
 // The cursor goes down, or at the window's bottom the window scrolls.
 #[tactic(auto, unfolding(crate::specs::Put::after_line_feed))]
-fn feed<A: Allocator>(board: &mut Board<A>)
-    requires { LineFits (memory_of board.old) }
-    ensures { memory_of board.new ≡ after_line_feed (memory_of board.old) }
+fn feed<A: Allocator>(space: &mut AddressSpace<A>)
+    requires { LineFits (memory_of space.old) }
+    ensures { memory_of space.new ≡ after_line_feed (memory_of space.old) }
 {
-    let edges = window(board);
-    let row = load(board, CV);
+    let edges = window(space);
+    let row = load(space, CV);
     if row + 1 < edges.bottom {
-        store(board, CV, row + 1);
+        store(space, CV, row + 1);
     } else {
-        scroll(board, edges);
+        scroll(space, edges);
     }
 }
 
 // The cursor goes to the window's left edge, and down.
 #[tactic(auto, unfolding(crate::specs::Put::after_return))]
-fn return_line<A: Allocator>(board: &mut Board<A>)
-    requires { LineFits (memory_of board.old) }
-    ensures { memory_of board.new ≡ after_return (memory_of board.old) }
+fn return_line<A: Allocator>(space: &mut AddressSpace<A>)
+    requires { LineFits (memory_of space.old) }
+    ensures { memory_of space.new ≡ after_return (memory_of space.old) }
 {
-    store(board, CH, 0);
-    feed(board);
+    store(space, CH, 0);
+    feed(space);
 }
 
 // The cursor goes back.
 #[tactic(auto, unfolding(crate::specs::Put::after_backspace))]
-fn back<A: Allocator>(board: &mut Board<A>)
-    requires { Fits (memory_of board.old) }
-    ensures { memory_of board.new ≡ after_backspace (memory_of board.old) }
+fn back<A: Allocator>(space: &mut AddressSpace<A>)
+    requires { CursorFits (memory_of space.old) }
+    ensures { memory_of space.new ≡ after_backspace (memory_of space.old) }
 {
-    let edges = window(board);
-    let column = load(board, CH);
-    let row = load(board, CV);
+    let edges = window(space);
+    let column = load(space, CH);
+    let row = load(space, CV);
     if column > 0 {
-        store(board, CH, column - 1);
+        store(space, CH, column - 1);
     } else {
-        store(board, CH, edges.width - 1);
+        store(space, CH, edges.width - 1);
         if edges.top < row {
-            store(board, CV, row - 1);
+            store(space, CV, row - 1);
         }
     }
 }
 
 // The byte stands in the cursor's cell, and the cursor goes on.
 #[tactic(auto, unfolding(crate::specs::Put::after_character))]
-fn show<A: Allocator>(board: &mut Board<A>, byte: u8)
-    requires { Fits (memory_of board.old) }
-    ensures { memory_of board.new ≡ after_character byte (memory_of board.old) }
+fn show<A: Allocator>(space: &mut AddressSpace<A>, byte: u8)
+    requires { CursorFits (memory_of space.old) }
+    ensures { memory_of space.new ≡ after_character byte (memory_of space.old) }
 {
-    let edges = window(board);
-    let column = load(board, CH);
-    let row = load(board, CV);
-    set_cell(board, row, edges.left + column, byte);
-    store(board, CH, column + 1);
+    let edges = window(space);
+    let column = load(space, CH);
+    let row = load(space, CV);
+    set_cell(space, row, edges.left + column, byte);
+    store(space, CH, column + 1);
     if edges.width <= column + 1 {
-        return_line(board);
+        return_line(space);
     }
 }
 
 /// A byte is put as it is.
 #[tactic(auto, unfolding(crate::specs::Put::after_put_unmasked))]
-pub(crate) fn put_unmasked<A: Allocator>(board: &mut Board<A>, byte: u8)
-    requires { Fits (memory_of board.old) }
-    ensures memory { memory_of board.new ≡ after_put_unmasked byte (memory_of board.old) }
-    ensures fits { Fits (memory_of board.new) }
+pub(crate) fn put_unmasked<A: Allocator>(space: &mut AddressSpace<A>, byte: u8)
+    requires { CursorFits (memory_of space.old) }
+    ensures memory { memory_of space.new ≡ after_put_unmasked byte (memory_of space.old) }
+    ensures fits { CursorFits (memory_of space.new) }
 {
     match byte {
-        RETURN => return_line(board),
-        LINE_FEED => feed(board),
-        BACKSPACE => back(board),
+        RETURN => return_line(space),
+        LINE_FEED => feed(space),
+        BACKSPACE => back(space),
         0x80..0xA0 => {}
-        _ => show(board, byte),
+        _ => show(space, byte),
     }
 }
 
@@ -99,29 +99,29 @@ fn masked(byte: u8, mask: u8) -> u8
 
 /// A byte from $A0 on is put under the mask.
 #[tactic(auto, unfolding(crate::specs::Put::after_put))]
-pub(crate) fn put<A: Allocator>(board: &mut Board<A>, byte: u8)
-    requires { Fits (memory_of board.old) }
-    ensures memory { memory_of board.new ≡ after_put byte (memory_of board.old) }
-    ensures fits { Fits (memory_of board.new) }
+pub(crate) fn put<A: Allocator>(space: &mut AddressSpace<A>, byte: u8)
+    requires { CursorFits (memory_of space.old) }
+    ensures memory { memory_of space.new ≡ after_put byte (memory_of space.old) }
+    ensures fits { CursorFits (memory_of space.new) }
 {
-    let mask = load(board, INVFLG);
+    let mask = load(space, INVFLG);
     let byte = if byte >= 0xA0 {
         masked(byte, mask)
     } else {
         byte
     };
-    put_unmasked(board, byte);
+    put_unmasked(space, byte);
 }
 
 /// BASL and BASH hold the address of the window's left edge in the cursor's row.
 #[tactic(auto, unfolding(crate::specs::Put::with_base_address))]
-pub(crate) fn set_base<A: Allocator>(board: &mut Board<A>)
-    requires { LineFits (memory_of board.old) }
-    ensures { memory_of board.new ≡ with_base_address (memory_of board.old) }
+pub(crate) fn set_base<A: Allocator>(space: &mut AddressSpace<A>)
+    requires { LineFits (memory_of space.old) }
+    ensures { memory_of space.new ≡ with_base_address (memory_of space.old) }
 {
-    let edges = window(board);
-    let base = address(Page::One, load(board, CV), edges.left);
+    let edges = window(space);
+    let base = address(Page::One, load(space, CV), edges.left);
     let [low, high] = base.to_le_bytes();
-    store(board, BASL, low);
-    store(board, BASH, high);
+    store(space, BASL, low);
+    store(space, BASH, high);
 }

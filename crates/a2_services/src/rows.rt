@@ -1,10 +1,9 @@
 //! The services' rows: where each is called, what it needs, where it may store and how long it takes.
 
 ghost use Rattle.std.specs.Prelude.{◌≡◌};
-ghost use Rattle.a2_services.specs.Rows.{row_of as row_by, entry as entry_of};
+ghost use Rattle.a2_services.specs.Rows.{service_row as row_by, row_at as entry_of};
 
-use crate::Service;
-use a2_bus::locations::{COUT1, KEYIN};
+use crate::{Service, addresses as at};
 
 /// What a service needs of window, cursor, keys and registers.
 #[derive(Clone, Copy)]
@@ -70,35 +69,37 @@ pub struct Row {
 
 /// The row of a service. Apple II Reference Manual (1979), chapter 3, has the addresses; all else is this project's
 /// profile.
+#[inline(always)]
 pub fn row_of(service: Service) -> Row
     ensures { result ≡ row_by service }
 {
     match service {
-        Service::Cout => entry(0xFDED, Needs::Nothing, Reach::Nowhere, Takes::Hook),
-        Service::Cout1 => entry(COUT1, Needs::Cursor, Reach::Screen, Takes::Six),
-        Service::Crout => entry(0xFD8E, Needs::Nothing, Reach::Nowhere, Takes::Hook),
-        Service::Home => entry(0xFC58, Needs::Window, Reach::Screen, Takes::Six),
-        Service::Prbyte => entry(0xFDDA, Needs::Cursor, Reach::Screen, Takes::Six),
-        Service::Prhex => entry(0xFDE3, Needs::Cursor, Reach::Screen, Takes::Six),
-        Service::Setinv => entry(0xFE80, Needs::Nothing, Reach::Mask, Takes::Six),
-        Service::Setnorm => entry(0xFE84, Needs::Nothing, Reach::Mask, Takes::Six),
-        Service::Vtab => entry(0xFC22, Needs::Cursor, Reach::Base, Takes::Six),
-        Service::Clreol => entry(0xFC9C, Needs::Cursor, Reach::Page, Takes::Six),
-        Service::Clreop => entry(0xFC42, Needs::Cursor, Reach::BaseAndPage, Takes::Six),
-        Service::Rdkey => entry(0xFD0C, Needs::Nothing, Reach::Nowhere, Takes::Hook),
-        Service::Keyin => entry(KEYIN, Needs::Key, Reach::Nowhere, Takes::Six),
-        Service::Getln => entry(0xFD6A, Needs::Line, Reach::ScreenAndLine, Takes::Six),
-        Service::Wait => entry(0xFCA8, Needs::Nothing, Reach::Nowhere, Takes::Wait),
-        Service::Setcol => entry(0xF864, Needs::Nothing, Reach::Color, Takes::Six),
-        Service::Plot => entry(0xF800, Needs::Block, Reach::Page, Takes::Six),
-        Service::Hline => entry(0xF819, Needs::Across, Reach::Page, Takes::Six),
-        Service::Vline => entry(0xF828, Needs::Down, Reach::Page, Takes::Six),
-        Service::Scrn => entry(0xF871, Needs::Block, Reach::Nowhere, Takes::Six),
-        Service::Clrscr => entry(0xF832, Needs::Nothing, Reach::Graphics, Takes::Six),
+        Service::Cout => entry(at::COUT, Needs::Nothing, Reach::Nowhere, Takes::Hook),
+        Service::Cout1 => entry(at::COUT1, Needs::Cursor, Reach::Screen, Takes::Six),
+        Service::Crout => entry(at::CROUT, Needs::Nothing, Reach::Nowhere, Takes::Hook),
+        Service::Home => entry(at::HOME, Needs::Window, Reach::Screen, Takes::Six),
+        Service::Prbyte => entry(at::PRBYTE, Needs::Cursor, Reach::Screen, Takes::Six),
+        Service::Prhex => entry(at::PRHEX, Needs::Cursor, Reach::Screen, Takes::Six),
+        Service::Setinv => entry(at::SETINV, Needs::Nothing, Reach::Mask, Takes::Six),
+        Service::Setnorm => entry(at::SETNORM, Needs::Nothing, Reach::Mask, Takes::Six),
+        Service::Vtab => entry(at::VTAB, Needs::Cursor, Reach::Base, Takes::Six),
+        Service::Clreol => entry(at::CLREOL, Needs::Cursor, Reach::Page, Takes::Six),
+        Service::Clreop => entry(at::CLREOP, Needs::Cursor, Reach::BaseAndPage, Takes::Six),
+        Service::Rdkey => entry(at::RDKEY, Needs::Nothing, Reach::Nowhere, Takes::Hook),
+        Service::Keyin => entry(at::KEYIN, Needs::Key, Reach::Nowhere, Takes::Six),
+        Service::Getln => entry(at::GETLN, Needs::Line, Reach::ScreenAndLine, Takes::Six),
+        Service::Wait => entry(at::WAIT, Needs::Nothing, Reach::Nowhere, Takes::Wait),
+        Service::Setcol => entry(at::SETCOL, Needs::Nothing, Reach::Color, Takes::Six),
+        Service::Plot => entry(at::PLOT, Needs::Block, Reach::Page, Takes::Six),
+        Service::Hline => entry(at::HLINE, Needs::Across, Reach::Page, Takes::Six),
+        Service::Vline => entry(at::VLINE, Needs::Down, Reach::Page, Takes::Six),
+        Service::Scrn => entry(at::SCRN, Needs::Block, Reach::Nowhere, Takes::Six),
+        Service::Clrscr => entry(at::CLRSCR, Needs::Nothing, Reach::Graphics, Takes::Six),
     }
 }
 
 // A row of these four.
+#[inline(always)]
 fn entry(address: u16, needs: Needs, reach: Reach, takes: Takes) -> Row
     ensures { result ≡ entry_of address needs reach takes }
 {

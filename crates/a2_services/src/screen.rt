@@ -12,7 +12,7 @@ ghost use Rattle.a2_services.specs.Fits.{window_at};
 use crate::bytes::BLANK;
 use crate::locations::COLUMNS;
 use a2_bus::locations::{WNDBTM, WNDLFT, WNDTOP, WNDWDTH};
-use a2_bus::{Board, Bus};
+use a2_bus::{AddressSpace, Bus};
 use a2_page::{Page, address};
 use std::alloc::Allocator;
 
@@ -26,106 +26,109 @@ pub(crate) struct Edges {
 }
 
 /// The byte at an address of RAM.
-pub(crate) fn load<A: Allocator>(board: &Board<A>, address: u16) -> u8
+#[inline(always)]
+pub(crate) fn load<A: Allocator>(space: &AddressSpace<A>, address: u16) -> u8
     requires { address < 49152 }
-    ensures byte { result ≡ ram_byte (memory_of board.now) address }
-    ensures size { length board.now.bytes ≡ 49152 }
+    ensures byte { result ≡ ram_byte (memory_of space.now) address }
+    ensures size { length space.now.bytes ≡ 49152 }
 {
-    board.peek(address).unwrap_or(0)
+    space.peek(address).unwrap_or(0)
 }
 
 /// The byte at an address of RAM becomes another.
-pub(crate) fn store<A: Allocator>(board: &mut Board<A>, address: u16, byte: u8)
+#[inline(always)]
+pub(crate) fn store<A: Allocator>(space: &mut AddressSpace<A>, address: u16, byte: u8)
     requires { address < 49152 }
-    ensures { memory_of board.new ≡ with_ram (memory_of board.old) address byte }
+    ensures { memory_of space.new ≡ with_ram (memory_of space.old) address byte }
 {
-    board.write(address, byte);
+    space.write(address, byte);
 }
 
 /// The byte of a cell of page 1.
-pub(crate) fn cell<A: Allocator>(board: &Board<A>, row: u8, column: u8) -> u8
+pub(crate) fn cell<A: Allocator>(space: &AddressSpace<A>, row: u8, column: u8) -> u8
     requires row { row < 24 }
     requires column { column < 40 }
-    ensures { result ≡ byte_in (memory_of board.now).page1 row column }
+    ensures { result ≡ byte_in (memory_of space.now).page1 row column }
 {
-    load(board, address(Page::One, row, column))
+    load(space, address(Page::One, row, column))
 }
 
 /// The byte of a cell of page 1 becomes another.
-pub(crate) fn set_cell<A: Allocator>(board: &mut Board<A>, row: u8, column: u8, byte: u8)
+pub(crate) fn set_cell<A: Allocator>(space: &mut AddressSpace<A>, row: u8, column: u8, byte: u8)
     requires row { row < 24 }
     requires column { column < 40 }
-    ensures { let memory = memory_of board.old in
-        memory_of board.new ≡ with_page1 (with_byte memory.page1 row column byte) memory }
+    ensures { let memory = memory_of space.old in
+        memory_of space.new ≡ with_page1 (with_byte memory.page1 row column byte) memory }
 {
-    store(board, address(Page::One, row, column), byte);
+    store(space, address(Page::One, row, column), byte);
 }
 
 /// The window's edges, as its four locations say them.
-pub(crate) fn window<A: Allocator>(board: &Board<A>) -> Edges
-    ensures edges { window_at result ≡ window_of (memory_of board.now) }
-    ensures size { length board.now.bytes ≡ 49152 }
+#[inline(always)]
+pub(crate) fn window<A: Allocator>(space: &AddressSpace<A>) -> Edges
+    ensures edges { window_at result ≡ window_of (memory_of space.now) }
+    ensures size { length space.now.bytes ≡ 49152 }
 {
     Edges {
-        left: load(board, WNDLFT),
-        width: load(board, WNDWDTH),
-        top: load(board, WNDTOP),
-        bottom: load(board, WNDBTM),
+        left: load(space, WNDLFT),
+        width: load(space, WNDWDTH),
+        top: load(space, WNDTOP),
+        bottom: load(space, WNDBTM),
     }
 }
 
 /// A part of a row becomes blank.
-pub(crate) fn blank_part<A: Allocator>(board: &mut Board<A>, row: u8, left: u8, width: u8)
+pub(crate) fn blank_part<A: Allocator>(space: &mut AddressSpace<A>, row: u8, left: u8, width: u8)
     requires row { row < 24 }
     requires left { left < 40 }
     requires right { left + width ≤ 40 }
-    ensures { let memory = memory_of board.old in
-        memory_of board.new ≡ with_page1 (with_row_part memory.page1 row left (replicate width blank)) memory }
+    ensures { let memory = memory_of space.old in
+        memory_of space.new ≡ with_page1 (with_row_part memory.page1 row left (replicate width blank)) memory }
 {
-    board.fill_bytes(address(Page::One, row, left), u16::from(width), BLANK);
+    space.fill_bytes(address(Page::One, row, left), u16::from(width), BLANK);
 }
 
 /// A row becomes black blocks.
-pub(crate) fn black_row<A: Allocator>(board: &mut Board<A>, row: u8)
+pub(crate) fn black_row<A: Allocator>(space: &mut AddressSpace<A>, row: u8)
     requires row { row < 24 }
-    ensures { let memory = memory_of board.old in
-        memory_of board.new ≡ with_page1 (with_row_part memory.page1 row 0 (replicate 40 0)) memory }
+    ensures { let memory = memory_of space.old in
+        memory_of space.new ≡ with_page1 (with_row_part memory.page1 row 0 (replicate 40 0)) memory }
 {
-    board.fill_bytes(address(Page::One, row, 0), u16::from(COLUMNS), 0);
+    space.fill_bytes(address(Page::One, row, 0), u16::from(COLUMNS), 0);
 }
 
 /// A part of a row takes the bytes of the row below.
-pub(crate) fn copy_up<A: Allocator>(board: &mut Board<A>, row: u8, left: u8, width: u8)
+pub(crate) fn copy_up<A: Allocator>(space: &mut AddressSpace<A>, row: u8, left: u8, width: u8)
     requires row { row + 1 < 24 }
     requires left { left < 40 }
     requires right { left + width ≤ 40 }
-    ensures { let memory = memory_of board.old in
+    ensures { let memory = memory_of space.old in
         let below = slice_range (slice_index_or memory.page1 (row + 1) []) left (left + width) in
-        memory_of board.new ≡ with_page1 (with_row_part memory.page1 row left below) memory }
+        memory_of space.new ≡ with_page1 (with_row_part memory.page1 row left below) memory }
 {
     let below = address(Page::One, row + 1, left);
-    board.move_bytes(below, address(Page::One, row, left), u16::from(width));
+    space.move_bytes(below, address(Page::One, row, left), u16::from(width));
 }
 
 /// The window scrolls.
-pub(crate) fn scroll<A: Allocator>(board: &mut Board<A>, edges: Edges)
+pub(crate) fn scroll<A: Allocator>(space: &mut AddressSpace<A>, edges: Edges)
     requires { IsWindow (window_at edges) }
-    ensures { let memory = memory_of board.old in
-        memory_of board.new ≡ with_page1 (scrolled (window_at edges) memory.page1) memory }
+    ensures { let memory = memory_of space.old in
+        memory_of space.new ≡ with_page1 (scrolled (window_at edges) memory.page1) memory }
 {
     for row in edges.top..edges.bottom - 1 {
-        copy_up(board, row, edges.left, edges.width);
+        copy_up(space, row, edges.left, edges.width);
     }
-    blank_part(board, edges.bottom - 1, edges.left, edges.width);
+    blank_part(space, edges.bottom - 1, edges.left, edges.width);
 }
 
 /// The window becomes blank.
-pub(crate) fn clear<A: Allocator>(board: &mut Board<A>, edges: Edges)
+pub(crate) fn clear<A: Allocator>(space: &mut AddressSpace<A>, edges: Edges)
     requires { IsWindow (window_at edges) }
-    ensures { let memory = memory_of board.old in
-        memory_of board.new ≡ with_page1 (cleared (window_at edges) memory.page1) memory }
+    ensures { let memory = memory_of space.old in
+        memory_of space.new ≡ with_page1 (cleared (window_at edges) memory.page1) memory }
 {
     for row in edges.top..edges.bottom {
-        blank_part(board, row, edges.left, edges.width);
+        blank_part(space, row, edges.left, edges.width);
     }
 }

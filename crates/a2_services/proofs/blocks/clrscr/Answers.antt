@@ -2,6 +2,7 @@ use Rattle.std.proofs.Common.{◌∙◌, ap, arith}
 use Rattle.a2_bus.specs.Memory.{with_ram}
 use Rattle.a2_bus.specs.View.{memory_of}
 use Rattle.a2_bus.proofs.Viewing.{page1_is_grid}
+use Rattle.a2_cpu.specs.Live.{live_registers}
 use Rattle.a2_services.specs.Blocks.{black}
 use Rattle.a2_services.specs.Services.{effect}
 use Rattle.a2_services.proofs.Returning.{made_is}
@@ -9,20 +10,20 @@ use Rattle.a2_services.proofs.Screens.{turning_first, black_is, black_more, blac
 use Rattle.a2_services.proofs.blocks.clrscr.Goals as goal
 
 pub loop-row-init : goal.loop-row-init
-loop-row-init g c = turning_first black (memory_of c.args.board.now) 0 (page1_is_grid c.args.board.now)
+loop-row-init g c = turning_first black (memory_of c.args.space.now) 0 (page1_is_grid c.args.space.now)
 
 pub loop-row-preserved : goal.loop-row-preserved
 loop-row-preserved g c =
-    black_more black (memory_of c.args.board.now) (memory_of c.loop-row.board) _ c.loop-row.row black_is (page1_is_grid c.args.board.now)
+    black_more black (memory_of c.args.space.now) (memory_of c.loop-row.space) _ c.loop-row.row black_is (page1_is_grid c.args.space.now)
     c.loop-row.invariant (omega arith) c.black_row.ensures
 
 pub returns-clause-left : goal.returns-clause-left
 unfolding effect
 returns-clause-left g c =
-    λ cycles. made_is c.return_from.new.regs c.store-2.new.board _ _ c.args.regs.now c.args.board.now cycles (c.return_from.ensures.returned cycles)
+    λ cycles. made_is (live_registers c.return_from.new.live) c.store-2.new.space _ _ (live_registers c.args.live.now) c.args.space.now cycles (c.return_from.ensures.returned cycles)
     (c.store-2.ensures
     ∙ ap (λ m. with_ram m 0x2D 47)
     (c.store.ensures
     ∙ ap (λ m. with_ram m 0x30 0)
-    (black_all black (memory_of c.args.board.now) (memory_of c.loop-row.board) c.loop-row.row black_is (page1_is_grid c.args.board.now)
+    (black_all black (memory_of c.args.space.now) (memory_of c.loop-row.space) c.loop-row.row black_is (page1_is_grid c.args.space.now)
     c.loop-row.invariant (omega arith))))

@@ -5,4 +5,4 @@ use Rattle.a2_services.proofs.blocks.hline.Given as goal
 
 abbrev pub invariant-loop-column : goal.invariant-loop-column
 invariant-loop-column g l =
-    IsStepped (λ column memory. painted l.fn.regs.a column memory) (memory_of l.fn.board) (memory_of l.board) l.fn.regs.y l.column
+    IsStepped (λ column memory. painted l.fn.live.a column memory) (memory_of l.fn.space) (memory_of l.space) l.fn.live.y l.column

@@ -3,6 +3,7 @@ use Rattle.a2_page.specs.Text.{block}
 use Rattle.a2_bus.specs.Memory.{memory_access}
 use Rattle.a2_bus.specs.View.{memory_of}
 use Rattle.a2_cpu.specs.Instruction.{returned}
+use Rattle.a2_cpu.specs.Live.{live_registers}
 use Rattle.a2_services.specs.World.{world_of}
 use Rattle.a2_services.specs.Services.{effect, with_a}
 use Rattle.a2_services.proofs.Painting.{block_shown}
@@ -12,7 +13,7 @@ pub returns-clause-left : goal.returns-clause-left
 unfolding effect
 returns-clause-left g c =
     λ cycles.
-    let regs = c.args.regs.now in
+    let live = c.args.live.now in
     c.return_from.ensures.returned cycles
-    ∙ ap (λ a. returned memory_access (with_a a (world_of regs c.args.board.now cycles)))
-    (c.block-regs.ensures ∙ ap₂ block c.cell.ensures c.half_of.ensures ∙ sym (block_shown regs.a regs.y (memory_of c.args.board.now).page1))
+    ∙ ap (λ a. returned memory_access (with_a a (world_of (live_registers live) c.args.space.now cycles)))
+    (c.block-live.ensures ∙ ap₂ block c.cell.ensures c.half_of.ensures ∙ sym (block_shown live.a live.y (memory_of c.args.space.now).page1))

@@ -5,4 +5,4 @@ use Rattle.a2_services.proofs.blocks.vline.Given as goal
 
 abbrev pub invariant-loop-row : goal.invariant-loop-row
 invariant-loop-row g l =
-    IsStepped (λ row memory. painted row l.fn.regs.y memory) (memory_of l.fn.board) (memory_of l.board) l.fn.regs.a l.row
+    IsStepped (λ row memory. painted row l.fn.live.y memory) (memory_of l.fn.space) (memory_of l.space) l.fn.live.a l.row

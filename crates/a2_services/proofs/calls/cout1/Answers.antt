@@ -1,4 +1,5 @@
 use Rattle.std.proofs.Common.{ap}
+use Rattle.a2_cpu.specs.Live.{live_registers}
 use Rattle.a2_services.specs.Put.{with_base_address}
 use Rattle.a2_services.specs.Services.{effect}
 use Rattle.a2_services.proofs.Returning.{made_is}
@@ -7,5 +8,5 @@ use Rattle.a2_services.proofs.calls.cout1.Goals as goal
 pub returns-clause-left : goal.returns-clause-left
 unfolding effect
 returns-clause-left g c =
-    λ cycles. made_is c.end_output.new.regs c.end_output.new.board _ _ c.args.regs.now c.args.board.now cycles
+    λ cycles. made_is (live_registers c.end_output.new.live) c.end_output.new.space _ _ (live_registers c.args.live.now) c.args.space.now cycles
     (c.end_output.ensures.returned cycles) (ap with_base_address c.put.ensures.memory)

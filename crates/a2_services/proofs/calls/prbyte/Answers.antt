@@ -1,5 +1,6 @@
 use Rattle.std.proofs.Common.{◌∙◌, ap, ap₂}
 use Rattle.a2_bus.specs.View.{memory_of}
+use Rattle.a2_cpu.specs.Live.{live_registers}
 use Rattle.a2_services.specs.Put.{with_base_address, after_put}
 use Rattle.a2_services.specs.Services.{effect}
 use Rattle.a2_services.proofs.Returning.{made_is}
@@ -8,6 +9,6 @@ use Rattle.a2_services.proofs.calls.prbyte.Goals as goal
 pub returns-clause-left : goal.returns-clause-left
 unfolding effect
 returns-clause-left g c =
-    λ cycles. made_is c.end_output.new.regs c.end_output.new.board _ _ c.args.regs.now c.args.board.now cycles
+    λ cycles. made_is (live_registers c.end_output.new.live) c.end_output.new.space _ _ (live_registers c.args.live.now) c.args.space.now cycles
     (c.end_output.ensures.returned cycles)
-    (ap with_base_address (c.put-2.ensures.memory ∙ ap₂ after_put c.digit_byte-2.ensures (c.put.ensures.memory ∙ ap (λ b. after_put b (memory_of c.args.board.now)) c.digit_byte.ensures)))
+    (ap with_base_address (c.put-2.ensures.memory ∙ ap₂ after_put c.digit_byte-2.ensures (c.put.ensures.memory ∙ ap (λ b. after_put b (memory_of c.args.space.now)) c.digit_byte.ensures)))

@@ -1,3 +1,4 @@
+use Rattle.a2_cpu.specs.Live.{live_registers}
 use Rattle.a2_services.specs.Services.{effect}
 use Rattle.a2_services.proofs.Returning.{made_is}
 use Rattle.a2_services.proofs.editing.setnorm.Goals as goal
@@ -5,5 +6,5 @@ use Rattle.a2_services.proofs.editing.setnorm.Goals as goal
 pub returns-clause-left : goal.returns-clause-left
 unfolding effect
 returns-clause-left g c =
-    λ cycles. made_is c.return_from.new.regs c.store.new.board _ _ c.args.regs.now c.args.board.now cycles
+    λ cycles. made_is (live_registers c.return_from.new.live) c.store.new.space _ _ (live_registers c.args.live.now) c.args.space.now cycles
     (c.return_from.ensures.returned cycles) c.store.ensures

@@ -6,4 +6,4 @@ use Rattle.a2_services.proofs.line.first_key.Goals as goal
 
 pub returns-clause-key : goal.returns-clause-key
 returns-clause-key g c =
-    c.first.ensures.key ∙ ap first_of (c.waiting.ensures.keys ∙ ap (λ (d : Devices). d.keys) (sym (devices_seen c.args.board.now)))
+    c.first.ensures.key ∙ ap first_of (c.waiting.ensures.keys ∙ ap (λ (d : Devices). d.keys) (sym (devices_seen c.args.space.now)))

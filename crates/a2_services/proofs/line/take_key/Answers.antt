@@ -4,4 +4,4 @@ use Rattle.a2_services.proofs.Access.{strobe_read}
 use Rattle.a2_services.proofs.line.take_key.Goals as goal
 
 pub returns : goal.returns
-returns g c = ap memory_of c.read.ensures.left ∙ strobe_read c.args.board.now c.read.ensures.size
+returns g c = ap memory_of c.read.ensures.left ∙ strobe_read c.args.space.now c.read.ensures.size

@@ -7,4 +7,4 @@ use Rattle.a2_services.proofs.needs.lacks_return.Goals as goal
 
 pub returns : goal.returns
 returns g c =
-    ap not (c.has_return.ensures ∙ ap has_return (c.waiting.ensures.keys ∙ ap (λ (d : Devices). d.keys) (sym (devices_seen c.args.board.now))))
+    ap not (c.has_return.ensures ∙ ap has_return (c.waiting.ensures.keys ∙ ap (λ (d : Devices). d.keys) (sym (devices_seen c.args.space.now))))

@@ -5,4 +5,4 @@ use Rattle.a2_services.proofs.Fitting.{column_line}
 use Rattle.a2_services.proofs.put.return_line.Goals as goal
 
 pub feed-requires : goal.feed-requires
-feed-requires g c = subst LineFits (sym c.store.ensures) (column_line (memory_of c.args.board.now) 0 c.requires)
+feed-requires g c = subst LineFits (sym c.store.ensures) (column_line (memory_of c.args.space.now) 0 c.requires)

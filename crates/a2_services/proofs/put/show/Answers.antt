@@ -6,4 +6,4 @@ use Rattle.a2_services.proofs.put.show.Goals as goal
 
 pub return_line-requires : goal.return_line-requires
 return_line-requires g c =
-    subst LineFits (sym c.store.ensures) (column_line _ _ (subst LineFits (sym c.set_cell.ensures) (page_line (memory_of c.args.board.now) _ c.requires.line)))
+    subst LineFits (sym c.store.ensures) (column_line _ _ (subst LineFits (sym c.set_cell.ensures) (page_line (memory_of c.args.space.now) _ c.requires.line)))

@@ -8,7 +8,7 @@ use Rattle.a2_services.proofs.screen.black_row.Goals as goal
 
 pub returns : goal.returns
 returns g c =
-    let bus : BusState = c.args.board.now in
+    let bus : BusState = c.args.space.now in
     ap memory_of c.fill_bytes.ensures.filled
     ∙ ap₂ (λ a width. let laid : BusState = record bus { bytes = with_part bus.bytes a (replicate width 0) } in memory_of laid)
     c.address.ensures c.from.ensures

@@ -6,5 +6,5 @@ use Rattle.a2_services.proofs.screen.cell.Goals as goal
 
 pub returns : goal.returns
 returns g c =
-    c.load.ensures.byte ∙ ap (λ a. ram_byte (memory_of c.args.board.now) a) c.address.ensures
-    ∙ cell_seen (memory_of c.args.board.now) c.args.row c.args.column c.requires.row c.requires.column
+    c.load.ensures.byte ∙ ap (λ a. ram_byte (memory_of c.args.space.now) a) c.address.ensures
+    ∙ cell_seen (memory_of c.args.space.now) c.args.row c.args.column c.requires.row c.requires.column

@@ -8,15 +8,15 @@ use Rattle.a2_services.proofs.screen.clear.Goals as goal
 
 pub loop-row-init : goal.loop-row-init
 loop-row-init g c =
-    let m = memory_of c.args.board.now in
-    turning_first (cleared (window_at c.args.edges) m.page1) m c.args.edges.top (page1_is_grid c.args.board.now)
+    let m = memory_of c.args.space.now in
+    turning_first (cleared (window_at c.args.edges) m.page1) m c.args.edges.top (page1_is_grid c.args.space.now)
 
 pub loop-row-preserved : goal.loop-row-preserved
 loop-row-preserved g c =
-    clear_more (window_at c.args.edges) (memory_of c.args.board.now) (memory_of c.loop-row.board) _ c.loop-row.row c.requires
-    (page1_is_grid c.args.board.now) c.loop-row.invariant (omega arith) (omega arith) c.blank_part.ensures
+    clear_more (window_at c.args.edges) (memory_of c.args.space.now) (memory_of c.loop-row.space) _ c.loop-row.row c.requires
+    (page1_is_grid c.args.space.now) c.loop-row.invariant (omega arith) (omega arith) c.blank_part.ensures
 
 pub returns : goal.returns
 returns g c =
-    clear_all (window_at c.args.edges) (memory_of c.args.board.now) (memory_of c.loop-row.board) c.loop-row.row c.requires
-    (page1_is_grid c.args.board.now) c.loop-row.invariant (omega arith)
+    clear_all (window_at c.args.edges) (memory_of c.args.space.now) (memory_of c.loop-row.space) c.loop-row.row c.requires
+    (page1_is_grid c.args.space.now) c.loop-row.invariant (omega arith)

@@ -5,4 +5,4 @@ use Rattle.a2_services.proofs.Screens.{Turning}
 use Rattle.a2_services.proofs.screen.clear.Given as goal
 
 abbrev pub invariant-loop-row : goal.invariant-loop-row
-invariant-loop-row g l = let m = memory_of l.initial.board in Turning (cleared (window_at l.edges) m.page1) m (memory_of l.board) l.edges.top l.row
+invariant-loop-row g l = let m = memory_of l.initial.space in Turning (cleared (window_at l.edges) m.page1) m (memory_of l.space) l.edges.top l.row

@@ -8,7 +8,7 @@ use Rattle.a2_services.proofs.screen.copy_up.Goals as goal
 
 pub returns : goal.returns
 returns g c =
-    let bus : BusState = c.args.board.now in
+    let bus : BusState = c.args.space.now in
     let below : List ℕ = part_below (memory_of bus) c.args.row c.args.left c.args.width in
     let taken : slice_range bus.bytes c.address-below.result (c.address-below.result + c.from.result) ≡ below =
     ap₂ (λ a width. slice_range bus.bytes a (a + width)) c.address-below.ensures c.from.ensures

@@ -9,18 +9,18 @@ use Rattle.a2_services.proofs.screen.scroll.Goals as goal
 
 pub loop-row-init : goal.loop-row-init
 loop-row-init g c =
-    let m = memory_of c.args.board.now in
-    turning_first (scrolled (window_at c.args.edges) m.page1) m c.args.edges.top (page1_is_grid c.args.board.now)
+    let m = memory_of c.args.space.now in
+    turning_first (scrolled (window_at c.args.edges) m.page1) m c.args.edges.top (page1_is_grid c.args.space.now)
 
 pub loop-row-preserved : goal.loop-row-preserved
 loop-row-preserved g c =
-    scroll_more (window_at c.args.edges) (memory_of c.args.board.now) (memory_of c.loop-row.board) _ c.loop-row.row c.requires
-    (page1_is_grid c.args.board.now) c.loop-row.invariant (omega arith) (omega arith) c.copy_up.ensures
+    scroll_more (window_at c.args.edges) (memory_of c.args.space.now) (memory_of c.loop-row.space) _ c.loop-row.row c.requires
+    (page1_is_grid c.args.space.now) c.loop-row.invariant (omega arith) (omega arith) c.copy_up.ensures
 
 pub returns : goal.returns
 returns g c =
-    let n = memory_of c.loop-row.board in
+    let n = memory_of c.loop-row.space in
     let e : c.args.edges.bottom - 1 ≡ c.loop-row.row = omega arith in
-    scroll_all (window_at c.args.edges) (memory_of c.args.board.now) n (memory_of c.blank_part.new.board) c.loop-row.row c.requires
-    (page1_is_grid c.args.board.now) c.loop-row.invariant (omega arith)
+    scroll_all (window_at c.args.edges) (memory_of c.args.space.now) n (memory_of c.blank_part.new.space) c.loop-row.row c.requires
+    (page1_is_grid c.args.space.now) c.loop-row.invariant (omega arith)
     (c.blank_part.ensures ∙ ap (λ row. with_page1 (with_row_part n.page1 row c.args.edges.left (replicate c.args.edges.width 0xA0)) n) e)

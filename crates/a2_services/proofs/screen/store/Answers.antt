@@ -4,4 +4,4 @@ use Rattle.a2_services.proofs.Access.{written_to}
 use Rattle.a2_services.proofs.screen.store.Goals as goal
 
 pub returns : goal.returns
-returns g c = ap memory_of c.write.ensures.left ∙ written_to c.args.board.now c.args.address c.args.byte c.write.ensures.size c.requires
+returns g c = ap memory_of c.write.ensures.left ∙ written_to c.args.space.now c.args.address c.args.byte c.write.ensures.size c.requires
