@@ -12,7 +12,10 @@ use Rattle.a2_services.specs.declared.Service.{Service}
 use Rattle.a2_services.specs.declared.Service.TheVariants.{Cout, Cout1, Crout, Home, Prbyte, Prhex, Setinv, Setnorm, Vtab, Clreol, Clreop, Rdkey, Keyin, Getln, Wait, Setcol, Plot, Hline, Vline, Scrn, Clrscr}
 use Rattle.a2_services.specs.Rows.{services}
 use Rattle.a2_services.specs.Services.{reach}
-use Rattle.a2_services.proofs.Finding.{service_in}
+
+-- the service at a number
+abbrev service_in : ℕ → Service
+service_in place = slice_index_or services place Cout
 
 abbrev number : Service → ℕ
 number service = tag_of the_type service

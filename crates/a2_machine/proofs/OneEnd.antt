@@ -7,15 +7,15 @@ use Rattle.a2_machine.specs.declared.Cause.TheVariants.{Limit}
 use Rattle.a2_machine.specs.declared.Stop.{Stop}
 use Rattle.a2_machine.specs.declared.Stop.TheVariants as stop
 use Rattle.a2_machine.specs.Meaning.{End, stuck, world_at}
-use Rattle.a2_machine.specs.State.{Device, world_of, code_of, steps_left, EndsBy, IsRunTo, RunsToBreakpointsHaveOneEnd}
+use Rattle.a2_machine.specs.State.{Device, world_of_state, code_of, steps_left, EndsBy, IsRunTo, RunsToBreakpointsHaveOneEnd}
 use Rattle.a2_machine.proofs.Runs.{end-unique}
 
 -- what holds of each such run, whatever ended it
 record Went (limit : ℕ) (old new : Device) : Type 0 where
   more : old.state.steps ≤ new.state.steps
   within : new.state.steps - old.state.steps ≤ steps_left limit old.state
-  reached : world_of new.state ≡ world_at (code_of old.state) (world_of old.state) (new.state.steps - old.state.steps)
-  going : (k : ℕ) → k < new.state.steps - old.state.steps → stuck (code_of old.state) (world_at (code_of old.state) (world_of old.state) k) ≡ None
+  reached : world_of_state new.state ≡ world_at (code_of old.state) (world_of_state old.state) (new.state.steps - old.state.steps)
+  going : (k : ℕ) → k < new.state.steps - old.state.steps → stuck (code_of old.state) (world_at (code_of old.state) (world_of_state old.state) k) ≡ None
 
 went : (limit : ℕ) (old new : Device) (why : Stop) → EndsBy limit old new (new.state.steps - old.state.steps) why → Went limit old new
 went limit old new (stop.Cause cause) ran = record { more = ran.more; within = ran.end.within; reached = ran.end.reached; going = ran.end.first }
@@ -36,11 +36,11 @@ module _ (is_breakpoint : ℕ → Bool) (limit : ℕ) (old : Device) where
       later : Went limit old other
       later = went limit old other b y.ends
 
-      free : stuck (code_of old.state) (world_of new.state) ≡ None
+      free : stuck (code_of old.state) (world_of_state new.state) ≡ None
       free = ap (λ w. stuck (code_of old.state) w) x.ends.end.reached ∙ later.going (new.state.steps - old.state.steps) less
 
-      go : (stuck (code_of old.state) (world_of new.state) ≡ Some cause)
-          ⊎ ((stuck (code_of old.state) (world_of new.state) ≡ None) × (new.state.steps - old.state.steps ≡ steps_left limit old.state) × (cause ≡ Limit)) → ⊥
+      go : (stuck (code_of old.state) (world_of_state new.state) ≡ Some cause)
+          ⊎ ((stuck (code_of old.state) (world_of_state new.state) ≡ None) × (new.state.steps - old.state.steps ≡ steps_left limit old.state) × (cause ≡ Limit)) → ⊥
       go (inl is) = none≢some cause (sym free ∙ is)
       go (inr is) = omega (arith, is.1, less, later.within)
   not_before new other stop.Breakpoint b x y less =
@@ -67,9 +67,9 @@ module _ (is_breakpoint : ℕ → Bool) (limit : ℕ) (old : Device) where
     steps : new.state.steps ≡ other.state.steps
     steps = omega (arith, count, (went limit old new a x.ends).more, (went limit old other b y.ends).more)
 
-    worlds : world_of new.state ≡ world_of other.state
+    worlds : world_of_state new.state ≡ world_of_state other.state
     worlds =
-        (went limit old new a x.ends).reached ∙ ap (λ n. world_at (code_of old.state) (world_of old.state) n) count
+        (went limit old new a x.ends).reached ∙ ap (λ n. world_at (code_of old.state) (world_of_state old.state) n) count
         ∙ sym (went limit old other b y.ends).reached
 
   -- where one comes to a breakpoint, the other does
@@ -82,7 +82,7 @@ module _ (is_breakpoint : ℕ → Bool) (limit : ℕ) (old : Device) where
 
   stops : (new other : Device) (a b : Stop) → IsRunTo is_breakpoint limit old new a → IsRunTo is_breakpoint limit old other b → a ≡ b
   stops new other (stop.Cause c) (stop.Cause d) x y =
-      ap (λ (e : End). stop.Cause e.cause) (end-unique (code_of old.state) (world_of old.state) (steps_left limit old.state) _ _ x.ends.end y.ends.end)
+      ap (λ (e : End). stop.Cause e.cause) (end-unique (code_of old.state) (world_of_state old.state) (steps_left limit old.state) _ _ x.ends.end y.ends.end)
   stops new other (stop.Cause c) stop.Breakpoint x y = absurd (apart new other c x y)
   stops new other stop.Breakpoint (stop.Cause d) x y = absurd (apart other new d y x)
   stops new other stop.Breakpoint stop.Breakpoint x y = refl

@@ -5,6 +5,7 @@ use Rattle.std.proofs.Common.{sym, ap, ap₂, ◌∙◌, arith, inl, inr, true�
 use Rattle.std.proofs.lemmas.Bool.{cases_lt}
 use Rattle.std.proofs.lemmas.Bool.Decides.{nat_tests}
 use Rattle.std.proofs.lemmas.List.Folds.{list_any-append}
+use Rattle.a2_text.specs.Bytes.{is_among}
 use Rattle.a2_opcode.specs.declared.Instr.{Instr}
 use Rattle.a2_page.specs.Cells.{numbers_from}
 use Rattle.a2_bus.specs.Memory.{memory_access, ram_end}
@@ -16,7 +17,7 @@ use Rattle.a2_asm.specs.declared.program.Statement.{Statement}
 use Rattle.a2_asm.specs.Programs.{is_code}
 use Rattle.a2_machine.specs.declared.Cause.{Cause}
 use Rattle.a2_machine.specs.declared.Cause.TheVariants.{Returned, CodeWrite, Window, Keys}
-use Rattle.a2_machine.specs.Meaning.{Decoded, is_among, cause_of_refusal, return_address, stuck_at, stuck, next, statements}
+use Rattle.a2_machine.specs.Meaning.{Decoded, cause_of_refusal, return_address, stuck_at, stuck, next, statements}
 use Rattle.a2_machine.specs.ByteRun.{addresses_below}
 use Rattle.a2_machine.proofs.Marking.{among-low, among-high}
 use Rattle.a2_machine.proofs.Walks.{walked}

@@ -1,7 +1,10 @@
 //! The machine: a board with a processor, its guard, and its counts.
 
-ghost use Rattle.std.specs.Prelude.{◌≡◌, ◌≢◌, ◌+◌, ◌^◌, ◌<◌, ◌≤◌, ◌↔◌, ℕ, [], None, Some, Ok, IfOk, IfNone, IfSome, OnOk, OnErr, OnSome, IsOk, length, slice_range};
-ghost use Rattle.a2_page.specs.Picture.{page_grid};
+ghost use Rattle.std.specs.Prelude.{◌≡◌, ◌≢◌, ◌+◌, ◌^◌, ◌<◌, ◌≤◌, ◌↔◌, ℕ, [], true, None, Some, Ok, IfOk, IfNone, IfSome, OnOk, OnErr, OnSome, IsOk, length, slice_range};
+ghost use Rattle.a2_stream.specs.Stream.{SendsOrBreaks};
+ghost use Rattle.a2_page.specs.Kept.{is_row_marked, with_row_marked, after_switch};
+ghost use Rattle.a2_page.specs.Picture.{page_grid, picture, attribute_rows};
+ghost use Rattle.a2_bus.specs.BoardState.{IsMarked};
 ghost use Rattle.a2_bus.specs.Devices.{keys_typed};
 ghost use Rattle.a2_bus.specs.Memory.{ram_end, with_ram, peek as peek_of};
 ghost use Rattle.a2_bus.specs.View.{memory_of};
@@ -10,19 +13,21 @@ ghost use Rattle.a2_machine.specs.Meaning.{stuck};
 ghost use Rattle.a2_machine.specs.ProgramGuard.{guard_of_program};
 ghost use Rattle.a2_machine.specs.Start.{start_world};
 ghost use Rattle.a2_machine.specs.Start.{called_at};
-ghost use Rattle.a2_machine.specs.State.{world_of, code_of, cause_of, most_steps, steps_left, IsStep, IsRun, IsRunTo};
+ghost use Rattle.a2_machine.specs.State.{world_of_state, code_of, cause_of, most_steps, steps_left, IsStep, IsMachineRun, IsRunTo, after_print};
 ghost use Rattle.a2_machine.specs.declared.Stop.TheVariants.{Cause as StopCause, Breakpoint};
 
-use crate::advance::advance_by;
-use crate::turn::cause_at;
+use crate::step::cause_at;
+use crate::steps::make_steps;
 use crate::watch::Watch;
 use crate::{Cause, Stop};
 use a2_asm::Program;
 use a2_bus::locations::{LAST_RETURN, RETURN_ADDRESS};
 use a2_bus::{Board, Bus, Keys, KeysFull};
+use a2_cpu::live::Live;
 use a2_cpu::{Breakpoints, NoBreakpoints, Regs};
 use a2_hex::Image;
 use a2_page::View;
+use a2_stream::{Output, WriteFault};
 use std::alloc::{AllocError, Allocator, Global};
 use std::marker::Model;
 
@@ -66,12 +71,12 @@ pub struct Machine<A: Allocator = Global> {
 impl<A: Allocator> Model for Machine<A> {
     ghost use Rattle.std.specs.Prelude.{◌≤◌, ◌*◌};
     ghost use Rattle.a2_machine.specs.State.{Device, most_steps};
-    ghost use Rattle.a2_machine.specs.Turn.{most_cost};
+    ghost use Rattle.a2_machine.specs.Outcome.{most_cost};
 
     ghost Value = { Device };
 
     ghost view = { λ m. record {
-      state = record { regs = m.regs; bus = m.board; cycles = m.cycles; steps = m.steps; guard = m.watch };
+      state = record { regs = m.regs; bus = m.board.bus; picture = m.board.picture; cycles = m.cycles; steps = m.steps; guard = m.watch };
       made = m.made;
     } };
 
@@ -80,12 +85,13 @@ impl<A: Allocator> Model for Machine<A> {
 
 impl<A: Allocator + Copy> Machine<A> {
     /// The machine as it is switched on, in memory of `alloc`: nothing loaded, no keys, PC $0300, no guard, no steps and
-    /// no cycles. This project's profile. Refused only for want of memory.
+    /// no cycles, and every row marked. This project's profile. Refused only for want of memory.
     pub fn new(alloc: A) -> Result<Machine<A>, AllocError>
-        ensures world { IfOk result (λ m. world_of m.state ≡ start_world (λ _. None) 768 []) }
+        ensures world { IfOk result (λ m. world_of_state m.state ≡ start_world (λ _. None) 768 []) }
         ensures steps { IfOk result (λ m. m.state.steps ≡ 0) }
         ensures guard { IfOk result (λ m. m.state.guard ≡ None) }
         ensures made { IfOk result (λ m. m.made ≡ 0) }
+        ensures marked { IfOk result (λ m. (row : ℕ) → row < 24 → is_row_marked m.state.picture row ≡ true) }
     {
         let board = Board::new(alloc)?;
         let watch = Watch::new(alloc)?;
@@ -102,13 +108,14 @@ impl<A: Allocator + Copy> Machine<A> {
 
 impl<A: Allocator> Machine<A> {
     /// Makes this the machine as it is switched on, whatever it was, with `image` laid over its RAM and PC at `entry`
-    /// ($0000 to $FFFF): no keys, no guard, no steps and no cycles. Only `made` goes on counting. This project's
-    /// profile.
+    /// ($0000 to $FFFF): no keys, no guard, no steps and no cycles, and every row marked. Only `made` goes on counting. This
+    /// project's profile.
     pub fn boot<C: Allocator>(&mut self, image: &Image<C>, entry: u16)
-        ensures world { world_of self.new.state ≡ start_world (held image.now) entry [] }
+        ensures world { world_of_state self.new.state ≡ start_world (held image.now) entry [] }
         ensures steps { self.new.state.steps ≡ 0 }
         ensures guard { self.new.state.guard ≡ None }
         ensures made { self.new.made ≡ self.old.made }
+        ensures marked { self.new.state.picture ≡ after_switch self.old.state.picture }
     {
         self.board.load(image);
         self.watch.free();
@@ -183,6 +190,35 @@ impl<A: Allocator> Machine<A> {
         self.board.view()
     }
 
+    /// Whether `row`, 0 to 23 from the top, may have changed since the screen was last printed by this machine: a cell of it
+    /// was poked, the machine was booted, or what was last printed of it is not what the shown page has there now.
+    pub fn marked(&self, row: u8) -> bool
+        requires { row < 24 }
+        ensures { (result ≡ true) ↔ IsMarked self.now.state.bus self.now.state.picture row }
+    {
+        self.board.marked(row)
+    }
+
+    /// Writes to `writer` what [`a2_page::print`] writes of the view, in the same lines, and clears all marks. Refused where
+    /// a write fails: what went out then is a front of these lines, and no row is marked.
+    pub fn print<W: Output>(&mut self, writer: &mut W) -> Result<(), WriteFault>
+        ensures kept { self.new ≡ after_print self.old }
+        ensures sent { let memory = memory_of self.old.state.bus in SendsOrBreaks (W.taker writer.old) (W.taker writer.new) result
+            (picture memory.devices.switches memory.page1 memory.page2) }
+    {
+        self.board.print(writer)
+    }
+
+    /// Writes to `writer` what [`a2_page::print_attributes`] writes of the view, in the same lines, and clears all marks.
+    /// Refused where a write fails: what went out then is a front of these lines, and no row is marked.
+    pub fn print_attributes<W: Output>(&mut self, writer: &mut W) -> Result<(), WriteFault>
+        ensures kept { self.new ≡ after_print self.old }
+        ensures sent { let memory = memory_of self.old.state.bus in SendsOrBreaks (W.taker writer.old) (W.taker writer.new) result
+            (attribute_rows memory.devices.switches memory.page1 memory.page2) }
+    {
+        self.board.print_attributes(writer)
+    }
+
     /// Puts this machine where `other` is: registers, board, cycles and steps since the start. Guard and `made` stay.
     pub fn restore<C: Allocator>(&mut self, other: &Machine<C>)
         ensures { self.new ≡ (let guard = self.old.state.guard in let s = other.now.state in record self.old { state = record s { guard = guard } }) }
@@ -211,12 +247,14 @@ impl<A: Allocator> Machine<A> {
         self.board.peek(address)
     }
 
-    /// Puts `byte` into RAM at `address`, which is below $C000, whatever the guard. No step is made, and all else stays. This
-    /// project's profile.
+    /// Puts `byte` into RAM at `address`, which is below $C000, whatever the guard. No step is made; the row of a cell
+    /// there, on either page, is marked, and all else stays. This project's profile.
     pub fn poke(&mut self, address: u16, byte: u8)
         requires { address < ram_end }
         ensures memory { memory_of self.new.state.bus ≡ with_ram (memory_of self.old.state.bus) address byte }
-        ensures left { self.new ≡ (let s = self.old.state in record self.old { state = record s { bus = self.new.state.bus } }) }
+        ensures marked { self.new.state.picture ≡ with_row_marked address self.old.state.picture }
+        ensures left { self.new ≡ (let s = self.old.state in let new = self.new.state in
+            record self.old { state = record s { bus = new.bus; picture = new.picture } }) }
     {
         self.board.write(address, byte);
     }
@@ -224,7 +262,7 @@ impl<A: Allocator> Machine<A> {
     /// Puts PC at `address` ($0000 to $FFFF) and the stack as it is at the start: S = $FD, and at $01FE and $01FF the bytes
     /// $68 and $FF, which send a last RTS to $FF69. No step is made, and all else stays. This project's profile.
     pub fn set_pc(&mut self, address: u16)
-        ensures world { world_of self.new.state ≡ called_at address (world_of self.old.state) }
+        ensures world { world_of_state self.new.state ≡ called_at address (world_of_state self.old.state) }
         ensures left { self.new ≡ (let s = self.old.state in record self.old { state = record s { regs = self.new.state.regs; bus = self.new.state.bus } }) }
     {
         self.regs.pc = address;
@@ -241,9 +279,9 @@ impl<A: Allocator> Machine<A> {
         keeps_count(self.made);
         let left = MOST_STEPS - self.steps;
         let most = if limit < left { limit } else { left };
-        let done = advance_by(
+        let done = make_steps(
             &mut self.regs,
-            &mut self.board,
+            self.board.space_mut(),
             &self.watch,
             most,
             breakpoints,
@@ -256,9 +294,9 @@ impl<A: Allocator> Machine<A> {
 
     // Why the machine is stuck, leaving the greatest number of steps aside.
     fn stop(&self) -> Option<Cause>
-        ensures { result ≡ stuck (code_of self.now.state) (world_of self.now.state) }
+        ensures { result ≡ stuck (code_of self.now.state) (world_of_state self.now.state) }
     {
-        cause_at(&self.regs, &self.board, &self.watch)
+        cause_at(&Live::of(&self.regs), self.board.space(), &self.watch)
     }
 
     /// Makes one step, of an instruction or a service, and answers `None`; or answers the first of [`Cause`] that holds,
@@ -285,7 +323,7 @@ impl<A: Allocator> Machine<A> {
     /// to 1,000,000,000,000 since the start), and answers the first of [`Cause`] that then holds: `Cause::Limit` only
     /// where no other does. This project's profile.
     pub fn run(&mut self, limit: u32) -> Cause
-        ensures { IsRun limit self.old self.new result }
+        ensures { IsMachineRun limit self.old self.new result }
     {
         cause_in(self.run_to(limit, &NoBreakpoints))
     }

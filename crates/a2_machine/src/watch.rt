@@ -7,11 +7,10 @@ ghost use Rattle.std.specs.List.{list_any};
 ghost use Rattle.a2_bus.specs.Memory.{ram_end};
 ghost use Rattle.a2_services.specs.Services.{reach as reach_of};
 ghost use Rattle.a2_machine.specs.ByteRun.{addresses_below};
-ghost use Rattle.a2_machine.specs.Meaning.{is_among};
 ghost use Rattle.a2_machine.specs.Marks.{begins, begins_by, lies, first_mark, AreStarted};
 ghost use Rattle.a2_machine.specs.Watches.{ArePlainMarks};
 ghost use Rattle.a2_machine.specs.Blocking.{is_blocked, BlocksBy};
-ghost use Rattle.a2_machine.specs.Turn.{admits as admits_of, protected_by};
+ghost use Rattle.a2_machine.specs.Outcome.{admits as admits_of, protected_by};
 
 use a2_asm::{Program, Statement};
 use a2_cpu::Protection;
@@ -300,8 +299,8 @@ impl<A: Allocator> Watch<A> {
 }
 
 impl<A: Allocator> Protection for Watch<A> {
-    ghost use Rattle.a2_machine.specs.Meaning.{is_among};
-    ghost use Rattle.a2_machine.specs.Turn.{protected_by};
+    ghost use Rattle.a2_machine.specs.Outcome.{protected_by};
+    ghost use Rattle.a2_text.specs.Bytes.{is_among};
 
     ghost is_protected = { λ w. is_among (protected_by w) };
 
