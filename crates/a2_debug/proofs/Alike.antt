@@ -1,10 +1,11 @@
 -- Debuggers that look alike stand for one session, and show the same of it.
 use Rattle.std.proofs.Common.{◌≡◌, ℕ, zero, suc, List, [], ◌∷◌, ◌+◌, length, cond, Some, None, refl, sym, ap, ap₂, ◌∙◌, subst}
+use Rattle.a2_text.specs.Bytes.{is_among}
 use Rattle.a2_hex.specs.Images.{held}
 use Rattle.a2_asm.specs.Assembled.{Assembled}
 use Rattle.a2_asm.specs.Programs.{AreAlike}
 use Rattle.a2_machine.specs.declared.Cause.TheVariants.{Limit}
-use Rattle.a2_machine.specs.Meaning.{Code, is_among, stuck, next}
+use Rattle.a2_machine.specs.Meaning.{Code, stuck, next}
 use Rattle.a2_machine.specs.Output.{register_line}
 use Rattle.a2_machine.specs.ProgramGuard.{guard_of_program}
 use Rattle.a2_machine.specs.Start.{start_world}
@@ -14,8 +15,8 @@ use Rattle.a2_debug.specs.declared.Halt.{Halt}
 use Rattle.a2_debug.specs.declared.Halt.TheVariants.{Stopped, Break}
 use Rattle.a2_debug.specs.declared.Typed.{Typed}
 use Rattle.a2_debug.specs.Session.{Session, Halted, raised, appended, advanced, stepped, gone}
-use Rattle.a2_debug.specs.Stored.{Stored, keys_at, before, world_at, worlds_below, session_of, Moves}
-use Rattle.a2_debug.specs.Lines.{line_of, picture_of}
+use Rattle.a2_debug.specs.Stored.{Stored, keys_at, world_before_keys, world_with_keys, worlds_below, session_of, Moves}
+use Rattle.a2_debug.specs.Lines.{session_line, session_picture}
 use Rattle.a2_debug.specs.Laws.{LookAlike}
 use Rattle.a2_debug.proofs.Sessions.{count_is, oldest_is}
 
@@ -32,13 +33,13 @@ start-alike p q h =
     ap₂ (λ image entry. start_world image entry []) images h.entry_is
 
 module _ (p q : Assembled) (h : AreAlike p q) where
-  before-alike : (log : List Typed) (n : ℕ) → before p log n ≡ before q log n
-  unfolding before
+  before-alike : (log : List Typed) (n : ℕ) → world_before_keys p log n ≡ world_before_keys q log n
+  unfolding world_before_keys
   before-alike log zero = start-alike p q h
   before-alike log (suc n) = ap₂ (λ code world. next code (typed (keys_at log n) world)) (code-alike p q h) (before-alike log n)
 
-  world_at-alike : (log : List Typed) (n : ℕ) → world_at p log n ≡ world_at q log n
-  unfolding world_at
+  world_at-alike : (log : List Typed) (n : ℕ) → world_with_keys p log n ≡ world_with_keys q log n
+  unfolding world_with_keys
   world_at-alike log n = ap (λ world. typed (keys_at log n) world) (before-alike log n)
 
   worlds_below-alike : (log : List Typed) (n : ℕ) → worlds_below p log n ≡ worlds_below q log n
@@ -77,8 +78,8 @@ module _ (p q : Assembled) (h : AreAlike p q) where
 pub session-alike : (s t : Stored) → LookAlike s t → session_of s ≡ session_of t
 unfolding session_of
 session-alike s t h =
-    let last : world_at s.program s.log s.count ≡ world_at t.program t.log t.count =
-    world_at-alike s.program t.program h.programs s.log s.count ∙ ap₂ (λ log n. world_at t.program log n) h.log h.count in
+    let last : world_with_keys s.program s.log s.count ≡ world_with_keys t.program t.log t.count =
+    world_at-alike s.program t.program h.programs s.log s.count ∙ ap₂ (λ log n. world_with_keys t.program log n) h.log h.count in
     let earlier : worlds_below s.program s.log s.count ≡ worlds_below t.program t.log t.count =
     worlds_below-alike s.program t.program h.programs s.log s.count ∙ ap₂ (λ log n. worlds_below t.program log n) h.log h.count in
     λ i. record { last = last i; earlier = earlier i; breaks = h.breaks i; oldest = h.oldest i }
@@ -92,12 +93,12 @@ gone-alike s t n h =
     advanced-alike s.program t.program h.programs (session_of s).breaks n (session_of s)
     ∙ ap (λ session. gone t.program n session) (session-alike s t h)
 
-pub line-alike : (s t : Stored) → LookAlike s t → line_of s ≡ line_of t
+pub line-alike : (s t : Stored) → LookAlike s t → session_line s ≡ session_line t
 line-alike s t h =
     ap₂ (λ (session : Session) (n : ℕ). register_line session.last.registers n session.last.cycles) (session-alike s t h) h.count
 
-pub picture-alike : (s t : Stored) → LookAlike s t → picture_of s ≡ picture_of t
-unfolding picture_of
+pub picture-alike : (s t : Stored) → LookAlike s t → session_picture s ≡ session_picture t
+unfolding session_picture
 picture-alike s t h =
     ap (λ (session : Session). let memory = session.last.memory in page.picture memory.devices.switches memory.page1 memory.page2)
     (session-alike s t h)

@@ -4,7 +4,7 @@ use Rattle.std.specs.Prelude.{filter, ◌==◌}
 use Rattle.std.proofs.lemmas.Bool.{eq-eqb, ne_eqb, eqb-true, eqb-false}
 use Rattle.std.proofs.lemmas.List.{length-set, get_or-set_same, get_or-set_other, get_or-replicate}
 use Rattle.std.proofs.lemmas.Map.Views.{any-filter_same}
-use Rattle.a2_machine.specs.Meaning.{is_among}
+use Rattle.a2_text.specs.Bytes.{is_among}
 use Rattle.a2_debug.specs.Held.{AreMarked}
 
 pub none_marked : (marked : List Bool) → length marked ≡ 65536 → marked ≡ replicate 65536 false → AreMarked [] marked

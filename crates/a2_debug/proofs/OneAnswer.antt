@@ -4,7 +4,7 @@ use Rattle.std.proofs.Common.{◌≡◌, ◌⊎◌, ℕ, ◌+◌, ◌-◌, ◌%�
 use Rattle.std.proofs.lemmas.Bool.{false≢true}
 use Rattle.a2_text.specs.Bytes.{capital}
 use Rattle.a2_text.specs.Words.{words}
-use Rattle.a2_bus.specs.KeyText.{Spells}
+use Rattle.a2_bus.specs.KeyText.{SpellsKeys}
 use Rattle.a2_debug.specs.declared.fault.DebugFault.{DebugFault}
 use Rattle.a2_debug.specs.declared.fault.DebugFault.TheVariants as fault
 use Rattle.a2_debug.specs.declared.calls.Call.{Call}
@@ -16,9 +16,9 @@ use Rattle.a2_debug.specs.declared.commands.Verb.TheVariants.{Step, Go, Back, Br
 use Rattle.a2_debug.specs.Session.{Halted as End, stepped, gone}
 use Rattle.a2_debug.specs.Stored.{Stored, session_of, typed_at, up_to}
 use Rattle.a2_debug.specs.Marks.{marked, unmarked, at_place}
-use Rattle.a2_debug.specs.Calls.{Does, Ends, Sets, Run}
-use Rattle.a2_debug.specs.Lines.{letters_of, first_word, behind_word, number_in, only_word, halt_line}
-use Rattle.a2_debug.specs.Answers.{Says, SaysNone, done_text, IsText, IsDone, IsRefused, IsVerb, IsAnswered, IsTurnedDown}
+use Rattle.a2_debug.specs.Calls.{CallDoes, Ends, Sets, Run}
+use Rattle.a2_debug.specs.Lines.{verb_letters, first_word, behind_word, only_number, only_word, halt_line}
+use Rattle.a2_debug.specs.Answers.{Says, SaysNone, done_text, IsAnswerText, IsCallDone, IsCallRefused, IsVerb, IsDebugAnswer, IsLineRefused}
 use Rattle.a2_debug.specs.Laws.{LookAlike}
 use Rattle.a2_debug.proofs.Alike.{stepped-alike, gone-alike, line-alike, picture-alike, moves-alike, both-alike}
 use Rattle.a2_debug.proofs.Total.{spells_only}
@@ -41,13 +41,13 @@ Ran old n end (Refused why) new = (100_000_000 < old.count + n) × (why ≡ faul
 Ran old n end Done new = ⊥
 Ran old n end (Halted halt) new = Ends old n end (Halted halt) new
 
-step_ran : (old : Stored) (n : ℕ) (answer : Answer) (new : Stored) → Does old (call.Step n) answer new
+step_ran : (old : Stored) (n : ℕ) (answer : Answer) (new : Stored) → CallDoes old (call.Step n) answer new
     → Ran old n (stepped old.program n (session_of old)) answer new
 step_ran old n (Refused why) new h = h
 step_ran old n Done new h = h
 step_ran old n (Halted halt) new h = h
 
-go_ran : (old : Stored) (n : ℕ) (answer : Answer) (new : Stored) → Does old (call.Go n) answer new
+go_ran : (old : Stored) (n : ℕ) (answer : Answer) (new : Stored) → CallDoes old (call.Go n) answer new
     → Ran old n (gone old.program n (session_of old)) answer new
 go_ran old n (Refused why) new h = h
 go_ran old n Done new h = h
@@ -77,7 +77,7 @@ ran-one old other new next n end final (Halted halt) Done like same h k = absurd
 ran-one old other new next n end final Done b like same h k = absurd h
 
 typed-one : (old other new next : Stored) (keys : List ℕ) (a b : Answer) → LookAlike old other
-    → Does old (call.TypeKeys keys) a new → Does other (call.TypeKeys keys) b next → One a b new next
+    → CallDoes old (call.TypeKeys keys) a new → CallDoes other (call.TypeKeys keys) b next → One a b new next
 typed-one old other new next keys (Refused why) (Refused reason) like h k =
     refused-one old other new next why reason fault.Full like h.1 h.2 k.1 k.2
 typed-one old other new next keys (Refused why) Done like h k =
@@ -102,7 +102,7 @@ typed-one old other new next keys Done (Halted halt) like h k = absurd k
 typed-one old other new next keys (Halted halt) b like h k = absurd h
 
 back-one : (old other new next : Stored) (n : ℕ) (a b : Answer) → LookAlike old other
-    → Does old (call.Back n) a new → Does other (call.Back n) b next → One a b new next
+    → CallDoes old (call.Back n) a new → CallDoes other (call.Back n) b next → One a b new next
 back-one old other new next n (Refused why) (Refused reason) like h k =
     refused-one old other new next why reason fault.TooFar like h.1 h.2 k.1 k.2
 back-one old other new next n (Refused why) Done like h k =
@@ -148,7 +148,7 @@ sets-one old other new next found same a b like e h k =
     go (Err why) h k = (h.0 ∙ sym k.0, both-alike new next old other h.1 k.1 like)
 
 pub does-one : (old other new next : Stored) (c : Call) (a b : Answer) → LookAlike old other
-    → Does old c a new → Does other c b next → One a b new next
+    → CallDoes old c a new → CallDoes other c b next → One a b new next
 does-one old other new next (call.Step n) a b like h k =
     ran-one old other new next n _ _ a b like (stepped-alike old other n like) (step_ran old n a new h) (step_ran other n b next k)
 does-one old other new next (call.Go n) a b like h k =
@@ -185,7 +185,7 @@ plain (call.Back n) = call.Back n
 plain (call.SetBreak word) = call.SetBreak (record { ref_ptr = (0, 0); now = word.now })
 plain (call.ClearBreak word) = call.ClearBreak (record { ref_ptr = (0, 0); now = word.now })
 
-does-plain : (old : Stored) (c : Call) (answer : Answer) (new : Stored) → Does old c answer new → Does old (plain c) answer new
+does-plain : (old : Stored) (c : Call) (answer : Answer) (new : Stored) → CallDoes old c answer new → CallDoes old (plain c) answer new
 unfolding plain
 does-plain old (call.Step n) answer new h = h
 does-plain old (call.Go n) answer new h = h
@@ -194,22 +194,22 @@ does-plain old (call.Back n) answer new h = h
 does-plain old (call.SetBreak word) answer new h = h
 does-plain old (call.ClearBreak word) answer new h = h
 
-step-one : (rest : List ℕ) (n : ℕ) (d : Call) → number_in (words rest) ≡ Some n → Says Step rest d → plain (call.Step n) ≡ plain d
+step-one : (rest : List ℕ) (n : ℕ) (d : Call) → only_number (words rest) ≡ Some n → Says Step rest d → plain (call.Step n) ≡ plain d
 unfolding plain
 step-one rest n (call.Step m) h k = ap (λ x. call.Step x) (some-one n m (sym h ∙ k))
 step-one rest n d h k = absurd k
 
-go-one : (rest : List ℕ) (n : ℕ) (d : Call) → number_in (words rest) ≡ Some n → Says Go rest d → plain (call.Go n) ≡ plain d
+go-one : (rest : List ℕ) (n : ℕ) (d : Call) → only_number (words rest) ≡ Some n → Says Go rest d → plain (call.Go n) ≡ plain d
 unfolding plain
 go-one rest n (call.Go m) h k = ap (λ x. call.Go x) (some-one n m (sym h ∙ k))
 go-one rest n d h k = absurd k
 
-back_call-one : (rest : List ℕ) (n : ℕ) (d : Call) → number_in (words rest) ≡ Some n → Says Back rest d → plain (call.Back n) ≡ plain d
+back_call-one : (rest : List ℕ) (n : ℕ) (d : Call) → only_number (words rest) ≡ Some n → Says Back rest d → plain (call.Back n) ≡ plain d
 unfolding plain
 back_call-one rest n (call.Back m) h k = ap (λ x. call.Back x) (some-one n m (sym h ∙ k))
 back_call-one rest n d h k = absurd k
 
-keys-one : (rest keys : List ℕ) (d : Call) → Spells (drop 1 rest) keys → Says TypeKeys rest d → plain (call.TypeKeys keys) ≡ plain d
+keys-one : (rest keys : List ℕ) (d : Call) → SpellsKeys (drop 1 rest) keys → Says TypeKeys rest d → plain (call.TypeKeys keys) ≡ plain d
 unfolding plain
 keys-one rest keys (call.TypeKeys others) h k = ap (λ x. call.TypeKeys x) (spells_only (drop 1 rest) keys others h k.1)
 keys-one rest keys d h k = absurd k
@@ -262,7 +262,7 @@ by_letter (a ∷ b ∷ more) =
     cond (eqb b 84) Step (cond (eqb b 79) Go (cond (eqb b 65) Back
     (cond (eqb b 82) Break (cond (eqb b 76) Clear (cond (eqb b 89) TypeKeys Screen)))))
 
-spelled : (verb : Verb) → by_letter (letters_of verb) ≡ verb
+spelled : (verb : Verb) → by_letter (verb_letters verb) ≡ verb
 unfolding by_letter
 spelled Step = refl
 spelled Go = refl
@@ -275,7 +275,7 @@ spelled Screen = refl
 verb-one : (line : List ℕ) (verb other : Verb) → IsVerb line verb → IsVerb line other → verb ≡ other
 verb-one line verb other h k = sym (spelled verb) ∙ ap by_letter (h ∙ sym k) ∙ spelled other
 
-some_letters : (verb : Verb) → letters_of verb ≡ [] → ⊥
+some_letters : (verb : Verb) → verb_letters verb ≡ [] → ⊥
 some_letters Step e = (let bad : ⊥ = cc in bad)
 some_letters Go e = (let bad : ⊥ = cc in bad)
 some_letters Back e = (let bad : ⊥ = cc in bad)
@@ -300,25 +300,25 @@ done_text-alike TypeKeys new next like = refl
 done_text-alike Screen new next like = refl
 
 text-one : (verb : Verb) (answer : Answer) (new next : Stored) (text words : List ℕ) → LookAlike new next
-    → IsText verb answer new text → IsText verb answer next words → text ≡ words
+    → IsAnswerText verb answer new text → IsAnswerText verb answer next words → text ≡ words
 text-one verb (Halted halt) new next text words like h k = h ∙ ap (λ l. l ++ halt_line halt) (line-alike new next like) ∙ sym k
 text-one verb Done new next text words like h k = h ∙ done_text-alike verb new next like ∙ sym k
 text-one verb (Refused why) new next text words like h k = absurd h
 
 done-one : (verb : Verb) (rest text words : List ℕ) (old other new next : Stored) → LookAlike old other
-    → IsDone verb rest old text new → IsDone verb rest other words next → (text ≡ words) × LookAlike new next
+    → IsCallDone verb rest old text new → IsCallDone verb rest other words next → (text ≡ words) × LookAlike new next
 done-one verb rest text words old other new next like a b =
     let same : plain a.call ≡ plain b.call = call-one verb rest a.call b.call a.says b.says in
-    let does : Does other (plain a.call) b.answer next =
-    subst (λ c. Does other c b.answer next) (sym same) (does-plain other b.call b.answer next b.does) in
+    let does : CallDoes other (plain a.call) b.answer next =
+    subst (λ c. CallDoes other c b.answer next) (sym same) (does-plain other b.call b.answer next b.does) in
     let one : One a.answer b.answer new next =
     does-one old other new next (plain a.call) a.answer b.answer like (does-plain old a.call a.answer new a.does) does in (
-      text-one verb a.answer new next text words one.1 a.spelt (subst (λ answer. IsText verb answer next words) (sym one.0) b.spelt),
+      text-one verb a.answer new next text words one.1 a.spelt (subst (λ answer. IsAnswerText verb answer next words) (sym one.0) b.spelt),
       one.1,
     )
 
 pub one-answer : (line text words : List ℕ) (old other new next : Stored) → LookAlike old other
-    → IsAnswered line old text new → IsAnswered line other words next → (text ≡ words) × LookAlike new next
+    → IsDebugAnswer line old text new → IsDebugAnswer line other words next → (text ≡ words) × LookAlike new next
 one-answer line text words old other new next like (inl a) (inl b) = (a.1 ∙ sym b.1, both-alike new next old other a.2 b.2 like)
 one-answer line text words old other new next like (inl a) (inr (inl b)) = absurd (blank_none line Screen a.0 b.0)
 one-answer line text words old other new next like (inl a) (inr (inr (verb, is, b))) = absurd (blank_none line verb a.0 is)
@@ -332,24 +332,24 @@ one-answer line text words old other new next like (inr (inr (verb, is, a))) (in
     absurd (screen_says (behind_word line) a.call (subst (λ v. Says v (behind_word line) a.call) (verb-one line verb Screen is b.0) a.says))
 one-answer line text words old other new next like (inr (inr (verb, is, a))) (inr (inr (verb', is', b))) =
     done-one verb (behind_word line) text words old other new next like a
-    (subst (λ v. IsDone v (behind_word line) other words next) (sym (verb-one line verb verb' is is')) b)
+    (subst (λ v. IsCallDone v (behind_word line) other words next) (sym (verb-one line verb verb' is is')) b)
 
 done_unrefused : (verb : Verb) (rest text : List ℕ) (old other new : Stored) (why : DebugFault) → LookAlike old other
-    → IsDone verb rest old text new → IsRefused verb rest other why → ⊥
+    → IsCallDone verb rest old text new → IsCallRefused verb rest other why → ⊥
 done_unrefused verb rest text old other new why like a b = go b.cause
   where
-    go : (SaysNone verb rest × (why ≡ fault.Syntax)) ⊎ ((c : Call) × Says verb rest c × Does other c (Refused why) other) → ⊥
+    go : (SaysNone verb rest × (why ≡ fault.Syntax)) ⊎ ((c : Call) × Says verb rest c × CallDoes other c (Refused why) other) → ⊥
     go (inl none) = says_some verb rest a.call a.says none.0
     go (inr (c, says, does)) =
-        let there : Does other (plain a.call) (Refused why) other =
-        subst (λ d. Does other d (Refused why) other) (sym (call-one verb rest a.call c a.says says))
+        let there : CallDoes other (plain a.call) (Refused why) other =
+        subst (λ d. CallDoes other d (Refused why) other) (sym (call-one verb rest a.call c a.says says))
         (does-plain other c (Refused why) other does) in
         let one : One a.answer (Refused why) new other =
         does-one old other new other (plain a.call) a.answer (Refused why) like (does-plain old a.call a.answer new a.does) there in
-        subst (λ answer. IsText verb answer new text) one.0 a.spelt
+        subst (λ answer. IsAnswerText verb answer new text) one.0 a.spelt
 
 pub never-both : (line text : List ℕ) (old other new : Stored) (why : DebugFault) → LookAlike old other
-    → IsAnswered line old text new → IsTurnedDown line other why → ⊥
+    → IsDebugAnswer line old text new → IsLineRefused line other why → ⊥
 never-both line text old other new why like (inl a) (inl b) = b.0 a.0
 never-both line text old other new why like (inl a) (inr (inl b)) = blank_none line Screen a.0 b.0
 never-both line text old other new why like (inl a) (inr (inr (verb, some, is, b))) = blank_none line verb a.0 is
@@ -361,7 +361,7 @@ never-both line text old other new why like (inr (inr (verb, is, a))) (inr (inl 
     screen_says (behind_word line) a.call (subst (λ v. Says v (behind_word line) a.call) (verb-one line verb Screen is b.0) a.says)
 never-both line text old other new why like (inr (inr (verb, is, a))) (inr (inr (verb', some, is', b))) =
     done_unrefused verb (behind_word line) text old other new why like a
-    (subst (λ v. IsRefused v (behind_word line) other why) (sym (verb-one line verb verb' is is')) b)
+    (subst (λ v. IsCallRefused v (behind_word line) other why) (sym (verb-one line verb verb' is is')) b)
 
 fault_of : Answer → DebugFault
 fault_of (Refused why) = why
@@ -373,25 +373,25 @@ unfolding fault_of
 fault-one why reason e = ap fault_of e
 
 refusal-one : (verb : Verb) (rest : List ℕ) (old other : Stored) (why reason : DebugFault) → LookAlike old other
-    → IsRefused verb rest old why → IsRefused verb rest other reason → why ≡ reason
+    → IsCallRefused verb rest old why → IsCallRefused verb rest other reason → why ≡ reason
 refusal-one verb rest old other why reason like a b = go a.cause b.cause
   where
-    go : (SaysNone verb rest × (why ≡ fault.Syntax)) ⊎ ((c : Call) × Says verb rest c × Does old c (Refused why) old)
-        → (SaysNone verb rest × (reason ≡ fault.Syntax)) ⊎ ((c : Call) × Says verb rest c × Does other c (Refused reason) other)
+    go : (SaysNone verb rest × (why ≡ fault.Syntax)) ⊎ ((c : Call) × Says verb rest c × CallDoes old c (Refused why) old)
+        → (SaysNone verb rest × (reason ≡ fault.Syntax)) ⊎ ((c : Call) × Says verb rest c × CallDoes other c (Refused reason) other)
         → why ≡ reason
     go (inl none) (inl nor) = none.1 ∙ sym nor.1
     go (inl none) (inr (d, says, does)) = absurd (says_some verb rest d says none.0)
     go (inr (c, says, does)) (inl nor) = absurd (says_some verb rest c says nor.0)
     go (inr (c, says, does)) (inr (d, said, did)) =
-        let there : Does other (plain c) (Refused reason) other =
-        subst (λ x. Does other x (Refused reason) other) (sym (call-one verb rest c d says said))
+        let there : CallDoes other (plain c) (Refused reason) other =
+        subst (λ x. CallDoes other x (Refused reason) other) (sym (call-one verb rest c d says said))
         (does-plain other d (Refused reason) other did) in
         let one : One (Refused why) (Refused reason) old other =
         does-one old other old other (plain c) (Refused why) (Refused reason) like (does-plain old c (Refused why) old does) there in
         fault-one why reason one.0
 
 pub one-refusal : (line : List ℕ) (old other : Stored) (why reason : DebugFault) → LookAlike old other
-    → IsTurnedDown line old why → IsTurnedDown line other reason → why ≡ reason
+    → IsLineRefused line old why → IsLineRefused line other reason → why ≡ reason
 one-refusal line old other why reason like (inl a) (inl b) = a.2 ∙ sym b.2
 one-refusal line old other why reason like (inl a) (inr (inl b)) = a.2 ∙ sym b.2
 one-refusal line old other why reason like (inl a) (inr (inr (verb, some, is, b))) = absurd (a.1 verb is)
@@ -402,4 +402,4 @@ one-refusal line old other why reason like (inr (inr (verb, some, is, a))) (inl 
 one-refusal line old other why reason like (inr (inr (verb, some, is, a))) (inr (inl b)) = absurd (some (verb-one line verb Screen is b.0))
 one-refusal line old other why reason like (inr (inr (verb, some, is, a))) (inr (inr (verb', some', is', b))) =
     refusal-one verb (behind_word line) old other why reason like a
-    (subst (λ v. IsRefused v (behind_word line) other reason) (sym (verb-one line verb verb' is is')) b)
+    (subst (λ v. IsCallRefused v (behind_word line) other reason) (sym (verb-one line verb verb' is is')) b)

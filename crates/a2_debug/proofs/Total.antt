@@ -1,15 +1,15 @@
 -- Each line of a session is answered or refused, whatever the session is.
 use Rattle.std.proofs.Common.{◌≡◌, ◌≢◌, ◌⊎◌, ℕ, zero, suc, ◌+◌, ◌-◌, ◌%◌, ◌<◌, ◌≤◌, Bool, true, false, List, [], ◌∷◌, ◌++◌, length, map, Option, Some, None, Result, Ok, Err, refl, sym, ap, ◌∙◌, subst, inl, inr, arith, eqb, cond, ltb}
 use Rattle.std.proofs.lemmas.Bool.{eqb-true, eqb-false}
-use Rattle.a2_text.specs.Bytes.{capital}
+use Rattle.a2_text.specs.Bytes.{is_among, capital}
 use Rattle.a2_text.specs.Words.{words}
 use Rattle.a2_syntax.specs.Names.{is_name}
-use Rattle.a2_hex.specs.ObjectLines.{address_of}
-use Rattle.a2_asm.specs.Values.{Names, value_of}
-use Rattle.a2_bus.specs.KeyText.{escaped, BeginsWith, Spells}
+use Rattle.a2_hex.specs.ObjectLines.{hex_address}
+use Rattle.a2_asm.specs.Values.{Names, name_value}
+use Rattle.a2_bus.specs.KeyText.{escaped, BeginsWith, SpellsKeys}
 use Rattle.a2_bus.proofs.KeyReading.{begins_only, empty_begins}
 use Rattle.a2_machine.specs.declared.Cause.{Cause}
-use Rattle.a2_machine.specs.Meaning.{is_among, stuck}
+use Rattle.a2_machine.specs.Meaning.{stuck}
 use Rattle.a2_debug.specs.declared.fault.DebugFault.{DebugFault}
 use Rattle.a2_debug.specs.declared.fault.DebugFault.TheVariants as fault
 use Rattle.a2_debug.specs.declared.calls.Call.{Call}
@@ -21,13 +21,13 @@ use Rattle.a2_debug.specs.declared.commands.Verb.TheVariants.{Step, Go, Back, Br
 use Rattle.a2_debug.specs.Worlds.{guarded_code}
 use Rattle.a2_debug.specs.Session.{Halted as End, appended, advanced, stepped, gone, raised}
 use Rattle.a2_debug.specs.Stored.{Stored, session_of, typed_at, up_to, Moves, NoneAbove}
-use Rattle.a2_debug.specs.Marks.{found_or, place_of, marked, unmarked, at_place}
-use Rattle.a2_debug.specs.Calls.{Does, Sets, Run}
-use Rattle.a2_debug.specs.Lines.{letters_of, first_word, behind_word, number_in, only_word, line_of, halt_line, picture_of}
-use Rattle.a2_debug.specs.Answers.{Says, SaysNone, done_text, IsText, IsVerb, IsAnswered, IsTurnedDown}
+use Rattle.a2_debug.specs.Marks.{found_or, word_address, marked, unmarked, at_place}
+use Rattle.a2_debug.specs.Calls.{CallDoes, Sets, Run}
+use Rattle.a2_debug.specs.Lines.{verb_letters, first_word, behind_word, only_number, only_word, session_line, halt_line, session_picture}
+use Rattle.a2_debug.specs.Answers.{Says, SaysNone, done_text, IsAnswerText, IsVerb, IsDebugAnswer, IsLineRefused}
 use Rattle.a2_debug.proofs.Keys.{NoneAbove-weaker, NoneAbove-append, NoneAbove-typed_at, NoneAbove-up_to}
 use Rattle.a2_debug.proofs.Sessions.{session_next, session_typed, session_back}
-use Rattle.a2_debug.proofs.Advancing.{goes_on, stops_stuck, stops_marked}
+use Rattle.a2_debug.proofs.GoingOn.{goes_on, stops_stuck, stops_marked}
 
 -- Steps
 
@@ -104,11 +104,11 @@ came marks (suc m) s past =
 record IsDoable (old : Stored) (c : Call) : Type 0 where
   pub answer : Answer
   pub new : Stored
-  pub does : Does old c answer new
-  pub spelt : (verb : Verb) → (text : List ℕ) × IsText verb answer new text
+  pub does : CallDoes old c answer new
+  pub spelt : (verb : Verb) → (text : List ℕ) × IsAnswerText verb answer new text
 
 abbrev Outcome : Stored → Call → Type 0
-Outcome old c = IsDoable old c ⊎ ((why : DebugFault) × Does old c (Refused why) old)
+Outcome old c = IsDoable old c ⊎ ((why : DebugFault) × CallDoes old c (Refused why) old)
 
 either : (m n : ℕ) → (m ≤ n) ⊎ (n < m)
 either m n = grind (arith)
@@ -124,7 +124,7 @@ outcome old past (call.Step n) = go (either (old.count + n) 100_000_000)
           answer = Halted (stepped old.program n (session_of old)).halt;
           new = end.new;
           does = (low, end.session, refl, end.moves);
-          spelt = λ verb. (line_of end.new ++ halt_line (stepped old.program n (session_of old)).halt, refl);
+          spelt = λ verb. (session_line end.new ++ halt_line (stepped old.program n (session_of old)).halt, refl);
         })
     go (inr high) = inr (fault.Steps, (high, refl, refl))
 outcome old past (call.Go n) = go (either (old.count + n) 100_000_000)
@@ -136,7 +136,7 @@ outcome old past (call.Go n) = go (either (old.count + n) 100_000_000)
           answer = Halted (gone old.program n (session_of old)).halt;
           new = end.new;
           does = (low, end.session, refl, end.moves);
-          spelt = λ verb. (line_of end.new ++ halt_line (gone old.program n (session_of old)).halt, refl);
+          spelt = λ verb. (session_line end.new ++ halt_line (gone old.program n (session_of old)).halt, refl);
         })
     go (inr high) = inr (fault.Steps, (high, refl, refl))
 outcome old past (call.TypeKeys keys) = go (either (length old.log + length keys) 4096)
@@ -181,41 +181,41 @@ outcome old past (call.ClearBreak word) = go (at_place unmarked old.program.name
     go (Err why) e = inr (why, subst (λ (r : Result (List ℕ) DebugFault). Sets old r (Refused why) old) (sym e) (refl, refl))
 
 -- each call has an answer
-pub call_answers : (c : Call) (old : Stored) → NoneAbove old.count old.log → (answer : Answer) × (new : Stored) × Does old c answer new
+pub call_answers : (c : Call) (old : Stored) → NoneAbove old.count old.log → (answer : Answer) × (new : Stored) × CallDoes old c answer new
 call_answers c old past = go (outcome old past c)
   where
-    go : Outcome old c → (answer : Answer) × (new : Stored) × Does old c answer new
+    go : Outcome old c → (answer : Answer) × (new : Stored) × CallDoes old c answer new
     go (inl done) = (done.answer, done.new, done.does)
     go (inr refused) = (Refused refused.0, old, refused.1)
 
 -- Keys that a text spells
 
 abbrev Spelt : List ℕ → Type 0
-Spelt text = ((keys : List ℕ) × Spells text keys) ⊎ ((keys : List ℕ) → Spells text keys → ⊥)
+Spelt text = ((keys : List ℕ) × SpellsKeys text keys) ⊎ ((keys : List ℕ) → SpellsKeys text keys → ⊥)
 
-pub spells_only : (text xs ys : List ℕ) → Spells text xs → Spells text ys → xs ≡ ys
+pub spells_only : (text xs ys : List ℕ) → SpellsKeys text xs → SpellsKeys text ys → xs ≡ ys
 spells_only text [] [] h k = refl
 spells_only text [] (y ∷ ys) h k = absurd (empty_begins y k.0 (subst (λ (t : List ℕ). BeginsWith t y k.0) h k.1))
 spells_only text (x ∷ xs) [] h k = absurd (empty_begins x h.0 (subst (λ (t : List ℕ). BeginsWith t x h.0) k h.1))
 spells_only text (x ∷ xs) (y ∷ ys) h k =
     let same = begins_only text x y h.0 k.0 h.1 k.1 in
-    let rest : xs ≡ ys = spells_only k.0 xs ys (subst (λ (t : List ℕ). Spells t xs) same.same_rest h.2) k.2 in
+    let rest : xs ≡ ys = spells_only k.0 xs ys (subst (λ (t : List ℕ). SpellsKeys t xs) same.same_rest h.2) k.2 in
     ap (λ (n : ℕ). n ∷ xs) same.same_key ∙ ap (λ (l : List ℕ). y ∷ l) rest
 
 spelt_on : (text rest : List ℕ) (key : ℕ) → BeginsWith text key rest → Spelt rest → Spelt text
 spelt_on text rest key begins (inl found) = inl (key ∷ found.0, (rest, begins, found.1))
 spelt_on text rest key begins (inr none) = inr go
   where
-    go : (keys : List ℕ) → Spells text keys → ⊥
+    go : (keys : List ℕ) → SpellsKeys text keys → ⊥
     go [] h = empty_begins key rest (subst (λ (t : List ℕ). BeginsWith t key rest) h begins)
     go (k ∷ ks) h =
         let same = begins_only text key k rest h.0 begins h.1 in
-        none ks (subst (λ (t : List ℕ). Spells t ks) (sym same.same_rest) h.2)
+        none ks (subst (λ (t : List ℕ). SpellsKeys t ks) (sym same.same_rest) h.2)
 
 no_spelling : (c : ℕ) (cs : List ℕ) → ((key : ℕ) (rest : List ℕ) → BeginsWith (c ∷ cs) key rest → ⊥) → Spelt (c ∷ cs)
 no_spelling c cs none = inr go
   where
-    go : (keys : List ℕ) → Spells (c ∷ cs) keys → ⊥
+    go : (keys : List ℕ) → SpellsKeys (c ∷ cs) keys → ⊥
     go [] h = (let bad : ⊥ = cc in bad)
     go (k ∷ ks) h = none k h.0 h.1
 
@@ -287,9 +287,9 @@ same_list (x ∷ xs) (y ∷ ys) = go (eqb x y) refl (same_list xs ys)
     go false e _ = inr (λ all. (let first : x ≡ y = cc in eqb-false x y e first))
 
 abbrev Found : List ℕ → Type 0
-Found word = ((verb : Verb) × (letters_of verb ≡ word)) ⊎ ((verb : Verb) → letters_of verb ≡ word → ⊥)
+Found word = ((verb : Verb) × (verb_letters verb ≡ word)) ⊎ ((verb : Verb) → verb_letters verb ≡ word → ⊥)
 
-or_else : (word : List ℕ) (verb : Verb) → ((letters_of verb ≡ word → ⊥) → Found word) → (letters_of verb ≡ word) ⊎ (letters_of verb ≡ word → ⊥) → Found word
+or_else : (word : List ℕ) (verb : Verb) → ((verb_letters verb ≡ word → ⊥) → Found word) → (verb_letters verb ≡ word) ⊎ (verb_letters verb ≡ word → ⊥) → Found word
 or_else word verb next (inl e) = inl (verb, e)
 or_else word verb next (inr other) = next other
 
@@ -299,9 +299,9 @@ verb_in word =
     inr (none a b c d e f h))
     (same_list _ word)) (same_list _ word)) (same_list _ word)) (same_list _ word)) (same_list _ word)) (same_list _ word)) (same_list _ word)
   where
-    none : (letters_of Step ≡ word → ⊥) → (letters_of Go ≡ word → ⊥) → (letters_of Back ≡ word → ⊥) → (letters_of Break ≡ word → ⊥)
-        → (letters_of Clear ≡ word → ⊥) → (letters_of TypeKeys ≡ word → ⊥) → (letters_of Screen ≡ word → ⊥)
-        → (verb : Verb) → letters_of verb ≡ word → ⊥
+    none : (verb_letters Step ≡ word → ⊥) → (verb_letters Go ≡ word → ⊥) → (verb_letters Back ≡ word → ⊥) → (verb_letters Break ≡ word → ⊥)
+        → (verb_letters Clear ≡ word → ⊥) → (verb_letters TypeKeys ≡ word → ⊥) → (verb_letters Screen ≡ word → ⊥)
+        → (verb : Verb) → verb_letters verb ≡ word → ⊥
     none a b c d e f h Step is = a is
     none a b c d e f h Go is = b is
     none a b c d e f h Back is = c is
@@ -314,19 +314,19 @@ abbrev Asked : Verb → List ℕ → Type 0
 Asked verb rest = ((c : Call) × Says verb rest c) ⊎ SaysNone verb rest
 
 asked : (verb : Verb) (rest : List ℕ) → Asked verb rest
-asked Step rest = go (number_in (words rest)) refl
+asked Step rest = go (only_number (words rest)) refl
   where
-    go : (o : Option ℕ) → number_in (words rest) ≡ o → Asked Step rest
+    go : (o : Option ℕ) → only_number (words rest) ≡ o → Asked Step rest
     go (Some n) e = inl (call.Step n, e)
     go None e = inr e
-asked Go rest = go (number_in (words rest)) refl
+asked Go rest = go (only_number (words rest)) refl
   where
-    go : (o : Option ℕ) → number_in (words rest) ≡ o → Asked Go rest
+    go : (o : Option ℕ) → only_number (words rest) ≡ o → Asked Go rest
     go (Some n) e = inl (call.Go n, e)
     go None e = inr e
-asked Back rest = go (number_in (words rest)) refl
+asked Back rest = go (only_number (words rest)) refl
   where
-    go : (o : Option ℕ) → number_in (words rest) ≡ o → Asked Back rest
+    go : (o : Option ℕ) → only_number (words rest) ≡ o → Asked Back rest
     go (Some n) e = inl (call.Back n, e)
     go None e = inr e
 asked Break rest = go (only_word (words rest)) refl
@@ -342,7 +342,7 @@ asked Clear rest = go (only_word (words rest)) refl
 asked TypeKeys [] = inr (λ some keys h. omega (arith, some))
 asked TypeKeys (c ∷ cs) = go (spelt cs)
   where
-    fits : (keys : List ℕ) → Spells cs keys → (length keys ≤ 4096) ⊎ (4096 < length keys) → Asked TypeKeys (c ∷ cs)
+    fits : (keys : List ℕ) → SpellsKeys cs keys → (length keys ≤ 4096) ⊎ (4096 < length keys) → Asked TypeKeys (c ∷ cs)
     fits keys h (inl low) = inl (call.TypeKeys keys, (omega arith, h, low))
     fits keys h (inr high) = inr (λ some others k. subst (λ (l : List ℕ). 4096 < length l) (spells_only cs keys others h k) high)
 
@@ -354,7 +354,7 @@ asked Screen rest = inr tt
 -- Lines
 
 abbrev pub Met : List ℕ → Stored → Type 0
-Met line old = ((text : List ℕ) × (new : Stored) × IsAnswered line old text new) ⊎ ((why : DebugFault) × IsTurnedDown line old why)
+Met line old = ((text : List ℕ) × (new : Stored) × IsDebugAnswer line old text new) ⊎ ((why : DebugFault) × IsLineRefused line old why)
 
 -- each line is answered or refused
 pub met : (line : List ℕ) (old : Stored) → NoneAbove old.count old.log → Met line old
@@ -373,7 +373,7 @@ met line old past = go (first_word line) refl
         done (inr refused) = inr (refused.0, inr (inr (verb, other, is, record { cause = inr (found.0, found.1, refused.1) })))
 
     shown : IsVerb line Screen → (ws : List (List ℕ)) → words (behind_word line) ≡ ws → Met line old
-    shown is [] e = inl (picture_of old, old, inr (inl (is, e, refl, refl)))
+    shown is [] e = inl (session_picture old, old, inr (inl (is, e, refl, refl)))
     shown is (w ∷ ws) e = inr (fault.Syntax, inr (inl (is, λ nothing. (let bad : ⊥ = cc in bad), refl)))
 
     by_verb : (verb : Verb) → IsVerb line verb → Met line old
@@ -405,7 +405,7 @@ sets_past : (old new : Stored) (found : Result (List ℕ) DebugFault) (answer : 
 sets_past old new (Ok breaks) answer h past = subst (λ (s : Stored). NoneAbove s.count s.log) (sym h.2) past
 sets_past old new (Err why) answer h past = same_past old new h.1 past
 
-pub does_past : (old new : Stored) (c : Call) (answer : Answer) → Does old c answer new → NoneAbove old.count old.log → NoneAbove new.count new.log
+pub does_past : (old new : Stored) (c : Call) (answer : Answer) → CallDoes old c answer new → NoneAbove old.count old.log → NoneAbove new.count new.log
 does_past old new (call.Step n) (Halted halt) h past = moves_past old new n h.3 past
 does_past old new (call.Step n) Done h past = absurd h
 does_past old new (call.Step n) (Refused why) h past = same_past old new h.2 past
@@ -430,7 +430,7 @@ calls_answer (c ∷ calls) old past =
     let (answers, new, runs) = calls_answer calls mid (does_past old mid c answer does past) in
     (answer ∷ answers, new, (mid, does, runs))
 
-pub answered_past : (line : List ℕ) (old : Stored) (text : List ℕ) (new : Stored) → IsAnswered line old text new → NoneAbove old.count old.log → NoneAbove new.count new.log
+pub answered_past : (line : List ℕ) (old : Stored) (text : List ℕ) (new : Stored) → IsDebugAnswer line old text new → NoneAbove old.count old.log → NoneAbove new.count new.log
 answered_past line old text new (inl blank) past = same_past old new blank.2 past
 answered_past line old text new (inr (inl screen)) past = same_past old new screen.3 past
 answered_past line old text new (inr (inr obeyed)) past = does_past old new obeyed.2.call obeyed.2.answer obeyed.2.does past
@@ -445,19 +445,19 @@ cond_no : {T : Type 0} (b : Bool) (x y : Result T DebugFault) → (x ≡ Err fau
 cond_no true x y first second = first
 cond_no false x y first second = second
 
-place_no : (names : Names) (word : List ℕ) → place_of names word ≡ Err fault.Write → ⊥
-unfolding place_of
+place_no : (names : Names) (word : List ℕ) → word_address names word ≡ Err fault.Write → ⊥
+unfolding word_address
 place_no names [] e = (let bad : ⊥ = cc in bad)
 place_no names (c ∷ cs) e =
-    cond_no (eqb c 36) (found_or fault.Syntax (address_of cs)) (cond (is_name (c ∷ cs)) (found_or fault.Unknown (value_of names (c ∷ cs))) (Err fault.Syntax))
-    (found_no fault.Syntax (λ h. (let bad : ⊥ = cc in bad)) (address_of cs))
-    (cond_no (is_name (c ∷ cs)) (found_or fault.Unknown (value_of names (c ∷ cs))) (Err fault.Syntax)
-    (found_no fault.Unknown (λ h. (let bad : ⊥ = cc in bad)) (value_of names (c ∷ cs))) (λ h. (let bad : ⊥ = cc in bad)))
+    cond_no (eqb c 36) (found_or fault.Syntax (hex_address cs)) (cond (is_name (c ∷ cs)) (found_or fault.Unknown (name_value names (c ∷ cs))) (Err fault.Syntax))
+    (found_no fault.Syntax (λ h. (let bad : ⊥ = cc in bad)) (hex_address cs))
+    (cond_no (is_name (c ∷ cs)) (found_or fault.Unknown (name_value names (c ∷ cs))) (Err fault.Syntax)
+    (found_no fault.Unknown (λ h. (let bad : ⊥ = cc in bad)) (name_value names (c ∷ cs))) (λ h. (let bad : ⊥ = cc in bad)))
     e
 
 at_no : (change : List ℕ → ℕ → Result (List ℕ) DebugFault) → ((breaks : List ℕ) (a : ℕ) → change breaks a ≡ Err fault.Write → ⊥)
     → (names : Names) (word breaks : List ℕ) → at_place change names word breaks ≡ Err fault.Write → ⊥
-at_no change never names word breaks = go (place_of names word) (place_no names word)
+at_no change never names word breaks = go (word_address names word) (place_no names word)
   where
     go : (r : Result ℕ DebugFault) → (r ≡ Err fault.Write → ⊥)
         → (elim r as (λ _. Result (List ℕ) DebugFault) [ Err why ↦ Err why | Ok address ↦ change breaks address ]) ≡ Err fault.Write → ⊥
@@ -476,7 +476,7 @@ sets_no : (old : Stored) (found : Result (List ℕ) DebugFault) → (found ≡ E
 sets_no old (Ok breaks) other h = let same = h.0 in cc
 sets_no old (Err why) other h = let same = h.0 in let is : why ≡ fault.Write = cc in other (ap (λ f. Err f) is)
 
-does_no : (old : Stored) (c : Call) → Does old c (Refused fault.Write) old → ⊥
+does_no : (old : Stored) (c : Call) → CallDoes old c (Refused fault.Write) old → ⊥
 does_no old (call.Step n) h = let same = h.1 in cc
 does_no old (call.Go n) h = let same = h.1 in cc
 does_no old (call.TypeKeys keys) h = let same = h.1 in cc
@@ -485,11 +485,11 @@ does_no old (call.SetBreak word) h = sets_no old (at_place marked old.program.na
 does_no old (call.ClearBreak word) h = sets_no old (at_place unmarked old.program.names word.now old.breaks) (at_no unmarked unmarked_no old.program.names word.now old.breaks) h
 
 refused_no : (verb : Verb) (rest : List ℕ) (old : Stored)
-    → (SaysNone verb rest × (fault.Write ≡ fault.Syntax)) ⊎ ((c : Call) × Says verb rest c × Does old c (Refused fault.Write) old) → ⊥
+    → (SaysNone verb rest × (fault.Write ≡ fault.Syntax)) ⊎ ((c : Call) × Says verb rest c × CallDoes old c (Refused fault.Write) old) → ⊥
 refused_no verb rest old (inl none) = let same = none.1 in cc
 refused_no verb rest old (inr (c, says, does)) = does_no old c does
 
-pub never_by_write : (line : List ℕ) (old : Stored) → IsTurnedDown line old fault.Write → ⊥
+pub never_by_write : (line : List ℕ) (old : Stored) → IsLineRefused line old fault.Write → ⊥
 never_by_write line old (inl none) = let same = none.2 in cc
 never_by_write line old (inr (inl more)) = let same = more.2 in cc
 never_by_write line old (inr (inr (verb, other, is, refused))) = refused_no verb (behind_word line) old refused.cause

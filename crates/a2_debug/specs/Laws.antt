@@ -5,8 +5,8 @@ use Rattle.a2_debug.specs.declared.fault.DebugFault.{DebugFault}
 use Rattle.a2_debug.specs.declared.calls.Call.{Call}
 use Rattle.a2_debug.specs.declared.calls.Answer.{Answer}
 use Rattle.a2_debug.specs.Stored.{Stored, NoneAbove, session_of}
-use Rattle.a2_debug.specs.Calls.{Does, Run}
-use Rattle.a2_debug.specs.Answers.{IsAnswered, IsTurnedDown}
+use Rattle.a2_debug.specs.Calls.{CallDoes, Run}
+use Rattle.a2_debug.specs.Answers.{IsDebugAnswer, IsLineRefused}
 
 -- no key was typed later than now
 abbrev pub KeysArePast : Stored → Type 0
@@ -29,39 +29,39 @@ OneSession = (s t : Stored) → LookAlike s t → session_of s ≡ session_of t
 abbrev pub EachLineHasAnswer : Type 0
 EachLineHasAnswer =
     (line : List ℕ) (old : Stored) → KeysArePast old
-    → ((text : List ℕ) × (new : Stored) × IsAnswered line old text new) ⊎ ((why : DebugFault) × IsTurnedDown line old why)
+    → ((text : List ℕ) × (new : Stored) × IsDebugAnswer line old text new) ⊎ ((why : DebugFault) × IsLineRefused line old why)
 
 -- and leaves no key that was typed later than its count
 abbrev pub KeysStayPast : Type 0
-KeysStayPast = (line text : List ℕ) (old new : Stored) → IsAnswered line old text new → KeysArePast old → KeysArePast new
+KeysStayPast = (line text : List ℕ) (old new : Stored) → IsDebugAnswer line old text new → KeysArePast old → KeysArePast new
 
 -- no line is answered and refused
 abbrev pub NeverBoth : Type 0
 NeverBoth =
     (line text : List ℕ) (old other new : Stored) (why : DebugFault) → LookAlike old other
-    → IsAnswered line old text new → IsTurnedDown line other why → ⊥
+    → IsDebugAnswer line old text new → IsLineRefused line other why → ⊥
 
 -- a line has one answer at most, and what it leaves looks alike
 abbrev pub OneAnswer : Type 0
 OneAnswer =
     (line text words : List ℕ) (old other new next : Stored) → LookAlike old other
-    → IsAnswered line old text new → IsAnswered line other words next → (text ≡ words) × LookAlike new next
+    → IsDebugAnswer line old text new → IsDebugAnswer line other words next → (text ≡ words) × LookAlike new next
 
 -- and one refusal at most
-abbrev pub OneRefusal : Type 0
-OneRefusal =
+abbrev pub OneLineRefusal : Type 0
+OneLineRefusal =
     (line : List ℕ) (old other : Stored) (why reason : DebugFault) → LookAlike old other
-    → IsTurnedDown line old why → IsTurnedDown line other reason → why ≡ reason
+    → IsLineRefused line old why → IsLineRefused line other reason → why ≡ reason
 
 -- each call has an answer
 abbrev pub EachCallHasAnswer : Type 0
-EachCallHasAnswer = (call : Call) (old : Stored) → KeysArePast old → (answer : Answer) × (new : Stored) × Does old call answer new
+EachCallHasAnswer = (call : Call) (old : Stored) → KeysArePast old → (answer : Answer) × (new : Stored) × CallDoes old call answer new
 
 -- and only one, and what it leaves looks alike
 abbrev pub OneCallAnswer : Type 0
 OneCallAnswer =
     (call : Call) (answer also : Answer) (old other new next : Stored) → LookAlike old other
-    → Does old call answer new → Does other call also next → (answer ≡ also) × LookAlike new next
+    → CallDoes old call answer new → CallDoes other call also next → (answer ≡ also) × LookAlike new next
 
 -- each list of calls has answers
 abbrev pub EachListHasAnswers : Type 0

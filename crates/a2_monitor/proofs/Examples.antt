@@ -1,6 +1,6 @@
 -- Worked examples of the definitions, by computation.
 use Rattle.std.specs.Prelude.{◌≡◌, ℕ, ◌==◌, [], ◌∷◌, codes, Some, None, if◌then◌else◌, refl}
-use Rattle.a2_hex.specs.ObjectLines.{store_of, given_before, bytes_of, byte_of}
+use Rattle.a2_hex.specs.ObjectLines.{store_of, given_before, hex_bytes, byte_of}
 use Rattle.a2_opcode.specs.Encoding.{fetched, decoded}
 use Rattle.a2_opcode.specs.Listing.{listing}
 use Rattle.a2_opcode.specs.Table.{row_of, table}
@@ -10,7 +10,7 @@ use Rattle.a2_bus.specs.Memory.{Memory, ram_byte, with_ram}
 use Rattle.a2_monitor.specs.declared.fault.MonFault.TheVariants.{Backward, Outside}
 use Rattle.a2_monitor.specs.declared.parsing.Range.{Range}
 use Rattle.a2_monitor.specs.Commands.{command_of, nothing, examines, moves, verifies, lists, goes, stores}
-use Rattle.a2_monitor.specs.Sittings.{refusal_of, examined, differences, listed, stored, moved, bytes_at}
+use Rattle.a2_monitor.specs.Sittings.{command_refusal, examined, differences, listed, with_stored_bytes, moved, bytes_at}
 
 abbrev range : ℕ → ℕ → Range
 range first last = record { first = first; last = last }
@@ -30,15 +30,15 @@ unfolding command_of
 go_line = refl
 
 store_line : command_of (codes "300:a9 1") ≡ Some (stores (record { address = Some 0x300; bytes = 0xA9 ∷ 1 ∷ [] }))
-unfolding command_of store_of given_before bytes_of byte_of
+unfolding command_of store_of given_before hex_bytes byte_of
 store_line = refl
 
 store_on_line : command_of (codes " : 5") ≡ Some (stores (record { address = None; bytes = 5 ∷ [] }))
-unfolding command_of store_of given_before bytes_of byte_of
+unfolding command_of store_of given_before hex_bytes byte_of
 store_on_line = refl
 
 long_byte_line : command_of (codes "300:123") ≡ None
-unfolding command_of store_of given_before bytes_of byte_of
+unfolding command_of store_of given_before hex_bytes byte_of
 long_byte_line = refl
 
 blank_line : command_of (codes " \t ") ≡ Some nothing
@@ -72,12 +72,12 @@ module _ (devices : Devices) where
 
   -- the destination begins in the range
   move_example : bytes_at (moved (memory_with devices) (range 0x300 0x303) 0x301) 0x300 6 ≡ 0x11 ∷ 0x11 ∷ 0x11 ∷ 0x11 ∷ 0x11 ∷ 0 ∷ []
-  unfolding moved stored with_ram ram_byte cell_at
+  unfolding moved with_stored_bytes with_ram ram_byte cell_at
   move_example = refl
 
   -- it ends in the range
   down_example : bytes_at (moved (memory_with devices) (range 0x301 0x303) 0x300) 0x300 4 ≡ 0x22 ∷ 0x33 ∷ 0 ∷ 0 ∷ []
-  unfolding moved stored with_ram ram_byte cell_at
+  unfolding moved with_stored_bytes with_ram ram_byte cell_at
   down_example = refl
 
   verify_example : differences (memory_with devices) (range 0x300 0x301) 0x310 ≡ codes "0300- 11 (00)\n0301- 22 (00)\n"
@@ -90,34 +90,34 @@ module _ (devices : Devices) where
 
 -- What is refused
 
-backward_example : refusal_of (examines (range 0x30F 0x300)) 0 ≡ Some Backward
-unfolding refusal_of
+backward_example : command_refusal (examines (range 0x30F 0x300)) 0 ≡ Some Backward
+unfolding command_refusal
 backward_example = refl
 
-backward_first_example : refusal_of (moves 0xFFFF (range 0xC005 0xC000)) 0 ≡ Some Backward
-unfolding refusal_of
+backward_first_example : command_refusal (moves 0xFFFF (range 0xC005 0xC000)) 0 ≡ Some Backward
+unfolding command_refusal
 backward_first_example = refl
 
-outside_example : refusal_of (moves 0xBFFF (range 0x300 0x301)) 0 ≡ Some Outside
-unfolding refusal_of
+outside_example : command_refusal (moves 0xBFFF (range 0x300 0x301)) 0 ≡ Some Outside
+unfolding command_refusal
 outside_example = refl
 
-last_example : refusal_of (verifies 0xBFFF (range 0x300 0x300)) 0 ≡ None
-unfolding refusal_of
+last_example : command_refusal (verifies 0xBFFF (range 0x300 0x300)) 0 ≡ None
+unfolding command_refusal
 last_example = refl
 
-next_example : refusal_of (stores (record { address = None; bytes = 1 ∷ [] })) 0xC000 ≡ Some Outside
-unfolding refusal_of
+next_example : command_refusal (stores (record { address = None; bytes = 1 ∷ [] })) 0xC000 ≡ Some Outside
+unfolding command_refusal
 next_example = refl
 
-empty_example : refusal_of (stores (record { address = Some 0xC000; bytes = [] })) 0 ≡ None
-unfolding refusal_of
+empty_example : command_refusal (stores (record { address = Some 0xC000; bytes = [] })) 0 ≡ None
+unfolding command_refusal
 empty_example = refl
 
-list_outside_example : refusal_of (lists 0xC000) 0 ≡ Some Outside
-unfolding refusal_of
+list_outside_example : command_refusal (lists 0xC000) 0 ≡ Some Outside
+unfolding command_refusal
 list_outside_example = refl
 
-go_example : refusal_of (goes 0xFF69) 0 ≡ None
-unfolding refusal_of
+go_example : command_refusal (goes 0xFF69) 0 ≡ None
+unfolding command_refusal
 go_example = refl

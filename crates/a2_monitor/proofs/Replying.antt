@@ -13,20 +13,20 @@ use Rattle.a2_machine.proofs.Runs.{run-is_end, end-unique}
 use Rattle.a2_monitor.specs.declared.fault.MonFault.{MonFault}
 use Rattle.a2_monitor.specs.declared.fault.MonFault.TheVariants as fault
 use Rattle.a2_monitor.specs.Commands.{Command, command_of, nothing, examines, stores, moves, verifies, lists, goes}
-use Rattle.a2_monitor.specs.Sittings.{Sitting, Answers, IsFreeRun, refusal_of, with_memory, examined, differences, listed, stored, moved}
+use Rattle.a2_monitor.specs.Sittings.{Sitting, CommandDoes, IsFreeRun, command_refusal, sitting_with, examined, differences, listed, with_stored_bytes, moved}
 use Rattle.a2_monitor.specs.Answers.{IsAnswered, line_refusal}
 use Rattle.a2_monitor.specs.Replies.{IsReply}
-use Rattle.a2_monitor.specs.Texts.{shown}
+use Rattle.a2_monitor.specs.Texts.{monitor_fault_text}
 use Rattle.a2_monitor.proofs.AnswerLaws.{refusal_is}
 
 -- each command has an answer
-answered : (command : Command) (old : Sitting) → (text : List ℕ) × (new : Sitting) × Answers command old text new
+answered : (command : Command) (old : Sitting) → (text : List ℕ) × (new : Sitting) × CommandDoes command old text new
 answered nothing old = ([], old, (refl, refl))
 answered (examines range) old = (examined old.world.memory range, record old { next = range.first }, (refl, refl))
 answered (stores store) old =
     let at = unwrap_or store.address old.next in
-    ([], record (with_memory old (stored old.world.memory at store.bytes)) { next = at + length store.bytes }, (refl, refl))
-answered (moves to range) old = ([], with_memory old (moved old.world.memory range to), (refl, refl))
+    ([], record (sitting_with old (with_stored_bytes old.world.memory at store.bytes)) { next = at + length store.bytes }, (refl, refl))
+answered (moves to range) old = ([], sitting_with old (moved old.world.memory range to), (refl, refl))
 answered (verifies to range) old = (differences old.world.memory range to, old, (refl, refl))
 answered (lists at) old = (listed old.world.memory at 20, old, (refl, refl))
 answered (goes at) old =
@@ -36,23 +36,23 @@ answered (goes at) old =
       record { end = end; runs = run-is_end (bytes None) (called_at at old.world) (min 1_000_000 (most_steps - old.steps)); left = refl; lines = refl },
     )
 
-turned_down : (line : List ℕ) (old : Sitting) (why : MonFault) → line_refusal line old ≡ Some why → IsReply line old (shown why ++ codes "\n") old
+turned_down : (line : List ℕ) (old : Sitting) (why : MonFault) → line_refusal line old ≡ Some why → IsReply line old (monitor_fault_text why ++ codes "\n") old
 turned_down line old why h = inr (record { fault = why; refused = h; told = refl; kept = refl })
 
 -- and so has each line
 pub each-reply : (line : List ℕ) (old : Sitting) → (text : List ℕ) × (new : Sitting) × IsReply line old text new
 each-reply line old = go (command_of line) refl
   where
-    done : (command : Command) → command_of line ≡ Some command → (o : Option MonFault) → refusal_of command old.next ≡ o
+    done : (command : Command) → command_of line ≡ Some command → (o : Option MonFault) → command_refusal command old.next ≡ o
         → (text : List ℕ) × (new : Sitting) × IsReply line old text new
-    done command says (Some why) h = (shown why ++ codes "\n", old, turned_down line old why (refusal_is line old (Some command) says ∙ h))
+    done command says (Some why) h = (monitor_fault_text why ++ codes "\n", old, turned_down line old why (refusal_is line old (Some command) says ∙ h))
     done command says None h =
         let (text, new, answers) = answered command old in
         (text, new, inl (record { command = command; says = says; done = record { allowed = h; answers = answers } }))
 
     go : (o : Option Command) → command_of line ≡ o → (text : List ℕ) × (new : Sitting) × IsReply line old text new
-    go None h = (shown fault.Syntax ++ codes "\n", old, turned_down line old fault.Syntax (refusal_is line old None h))
-    go (Some command) h = done command h (refusal_of command old.next) refl
+    go None h = (monitor_fault_text fault.Syntax ++ codes "\n", old, turned_down line old fault.Syntax (refusal_is line old None h))
+    go (Some command) h = done command h (command_refusal command old.next) refl
 
 -- a command has one answer
 abbrev Same : List ℕ → List ℕ → Sitting → Sitting → Type 0
@@ -68,7 +68,7 @@ one-run at old new other text words a b =
     (a.lines ∙ ap (λ (e : End). register_line e.world.registers (old.steps + e.steps) e.world.cycles ++ cause_line e.cause) same) b.lines
     (a.left ∙ ap (λ (e : End). let s : Sitting = record { world = e.world; steps = old.steps + e.steps; next = old.next } in s) same) b.left
 
-one-answer : (command : Command) (old new other : Sitting) (text words : List ℕ) → Answers command old text new → Answers command old words other
+one-answer : (command : Command) (old new other : Sitting) (text words : List ℕ) → CommandDoes command old text new → CommandDoes command old words other
     → Same text words new other
 one-answer nothing old new other text words (a, c) (b, d) = both text words _ new other _ a b c d
 one-answer (examines range) old new other text words (a, c) (b, d) = both text words _ new other _ a b c d
@@ -92,9 +92,9 @@ pub one-reply : (line : List ℕ) (old new other : Sitting) (text words : List �
     → (text ≡ words) × (new ≡ other)
 one-reply line old new other text words (inl a) (inl b) =
     let same : a.command ≡ b.command = some-one a.command b.command (sym a.says ∙ b.says) in
-    one-answer b.command old new other text words (subst (λ (c : Command). Answers c old text new) same a.done.answers) b.done.answers
+    one-answer b.command old new other text words (subst (λ (c : Command). CommandDoes c old text new) same a.done.answers) b.done.answers
 one-reply line old new other text words (inl a) (inr b) = absurd (none-some b.fault (sym (answered-allowed line old new text a) ∙ b.refused))
 one-reply line old new other text words (inr a) (inl b) = absurd (none-some a.fault (sym (answered-allowed line old other words b) ∙ a.refused))
 one-reply line old new other text words (inr a) (inr b) =
     let same : a.fault ≡ b.fault = some-one a.fault b.fault (sym a.refused ∙ b.refused) in
-    both text words _ new other _ (a.told ∙ ap (λ why. shown why ++ codes "\n") same) b.told a.kept b.kept
+    both text words _ new other _ (a.told ∙ ap (λ why. monitor_fault_text why ++ codes "\n") same) b.told a.kept b.kept

@@ -5,7 +5,7 @@ use Rattle.a2_bus.specs.Memory.{Memory, ram_byte, ram_end}
 use Rattle.a2_bus.specs.View.{memory_of}
 use Rattle.a2_monitor.specs.declared.parsing.Range.{Range}
 use Rattle.a2_monitor.specs.Replies.{IsReply}
-use Rattle.a2_monitor.specs.Sittings.{Sitting, range_refusal, size_of, source_of, stored, moved}
+use Rattle.a2_monitor.specs.Sittings.{Sitting, range_refusal, size_of, source_of, with_stored_bytes, moved}
 
 -- each line has a reply
 abbrev pub EachLineHasReply : Type 0
@@ -21,13 +21,13 @@ OneReply =
 abbrev pub StoresEachByte : Type 0
 StoresEachByte =
     (bus : BusState) (at i : ℕ) (bytes : List ℕ) → length bus.bytes ≡ ram_end → at + length bytes ≤ ram_end → i < length bytes
-    → ram_byte (stored (memory_of bus) at bytes) (at + i) ≡ slice_index bytes i
+    → ram_byte (with_stored_bytes (memory_of bus) at bytes) (at + i) ≡ slice_index bytes i
 
 -- and each other byte stays
 abbrev pub StoresNoOther : Type 0
 StoresNoOther =
     (memory : Memory) (at other : ℕ) (bytes : List ℕ) → (other < at) ⊎ (at + length bytes ≤ other)
-    → ram_byte (stored memory at bytes) other ≡ ram_byte memory other
+    → ram_byte (with_stored_bytes memory at bytes) other ≡ ram_byte memory other
 
 -- where a range is moved, each byte of the destination is then the one that its source was
 abbrev pub MovesEachByte : Type 0

@@ -3,15 +3,15 @@ use Rattle.std.specs.Prelude.{◌≡◌, ◌⊎◌, ℕ, List, ◌++◌, codes, 
 use Rattle.a2_monitor.specs.declared.fault.MonFault.{MonFault}
 use Rattle.a2_monitor.specs.Answers.{IsAnswered, line_refusal}
 use Rattle.a2_monitor.specs.Sittings.{Sitting}
-use Rattle.a2_monitor.specs.Texts.{shown}
+use Rattle.a2_monitor.specs.Texts.{monitor_fault_text}
 
 -- a line is refused, by a line of text, and nothing changes
-pub record IsTurnedDown (line : List ℕ) (old : Sitting) (text : List ℕ) (new : Sitting) : Type 0 where
+pub record IsRefusalReply (line : List ℕ) (old : Sitting) (text : List ℕ) (new : Sitting) : Type 0 where
   pub fault : MonFault
   pub refused : line_refusal line old ≡ Some fault
-  pub told : text ≡ shown fault ++ codes "\n"
+  pub told : text ≡ monitor_fault_text fault ++ codes "\n"
   pub kept : new ≡ old
 
 -- a line's reply, and the sitting that it leaves
 abbrev pub IsReply : List ℕ → Sitting → List ℕ → Sitting → Type 0
-IsReply line old text new = IsAnswered line old text new ⊎ IsTurnedDown line old text new
+IsReply line old text new = IsAnswered line old text new ⊎ IsRefusalReply line old text new
