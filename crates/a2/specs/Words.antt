@@ -1,16 +1,13 @@
 -- The words of the command line. This project's profile.
 use Rattle.std.specs.Prelude.{◌≡◌, ◌⊎◌, ℕ, ◌<◌, ◌≤◌, Bool, true, false, List, [], codes, length, Option, Some, None, Result, Ok, Err}
-use Rattle.std.specs.Str.Parse.{IsNumeral, digits_value}
-use Rattle.a2_bus.specs.KeyText.{Spells}
+use Rattle.std.specs.Str.Parse.{digits_value}
+use Rattle.a2_bus.specs.KeyText.{SpellsKeys}
 use Rattle.a2_run.specs.declared.Options.{Options}
 use Rattle.a2_run.specs.declared.fault.RunFault.{RunFault}
+use Rattle.a2_run.specs.Limits.{IsStepLimit}
 use Rattle.a2_run.specs.Status.{fault_status}
 use Rattle.a2.specs.declared.words.WordsFault.{WordsFault}
 use Rattle.a2.specs.declared.words.WordsFault.TheVariants.{Words, Keys, Memory}
-
--- a word spells a number of steps: one to nine digits, at most 100,000,000
-abbrev pub IsStepLimit : List ℕ → Type 0
-IsStepLimit word = IsNumeral 10 word × (length word ≤ 9) × (digits_value 10 word ≤ 100000000)
 
 -- the most steps: without the option 1,000,000, with it the number that its word spells, and bad words where it spells none
 abbrev pub SaysLimit : Option (List ℕ) → Result ℕ WordsFault → Type 0
@@ -24,8 +21,8 @@ SaysLimit (Some word) (Err fault) = ¬ (IsStepLimit word) × (fault ≡ Words)
 abbrev pub SaysKeys : Option (List ℕ) → Result (List ℕ) WordsFault → Type 0
 SaysKeys None (Ok keys) = keys ≡ []
 SaysKeys None (Err fault) = ⊥
-SaysKeys (Some text) (Ok keys) = Spells text keys × (length keys ≤ 4096)
-SaysKeys (Some text) (Err fault) = ((keys : List ℕ) → Spells text keys → 4096 < length keys) × (fault ≡ Keys)
+SaysKeys (Some text) (Ok keys) = SpellsKeys text keys × (length keys ≤ 4096)
+SaysKeys (Some text) (Err fault) = ((keys : List ℕ) → SpellsKeys text keys → 4096 < length keys) × (fault ≡ Keys)
 
 -- a flag is on where its value is true, and off where that is false or there is none
 pub record IsFlag (value : Option (List ℕ)) (flag : Bool) : Type 0 where

@@ -1,14 +1,13 @@
 //! The words of the command line.
 
-ghost use Rattle.std.specs.Prelude.{◌≡◌, ◌≤◌, [], None, Some, Ok, IfErr, IfOk, SomeIff, codes, length, option_map};
-ghost use Rattle.std.specs.Str.Parse.{digits_value};
+ghost use Rattle.std.specs.Prelude.{◌≡◌, ◌≤◌, [], None, Some, Ok, IfErr, IfOk, codes, length, option_map};
 ghost use Rattle.clap.specs.Words.{first_value, found_of, one_text};
 ghost use Rattle.a2.specs.declared.words.Order.TheVariants.{Run};
 ghost use Rattle.a2.specs.declared.words.WordsFault.TheVariants.{Words};
-ghost use Rattle.a2.specs.Words.{IsFlag, IsStepLimit, RefusesRun, SaysKeys, SaysLimit, plain};
+ghost use Rattle.a2.specs.Words.{IsFlag, RefusesRun, SaysKeys, SaysLimit, plain};
 
 use a2_bus::Keys;
-use a2_run::Options;
+use a2_run::{Options, step_limit};
 use clap::error::ErrorKind;
 use clap::{Arg, ArgAction, ArgMatches, Command};
 use std::alloc::{AllocError, Global};
@@ -62,9 +61,6 @@ impl From<AllocError> for WordsFault {
 
 // Steps of a run without `--limit`.
 const DEFAULT_LIMIT: u32 = 1_000_000;
-
-// The most that `--limit` takes.
-const MOST_STEPS: u32 = 100_000_000;
 
 // A word that has to stand.
 fn needed<'a>(alloc: Global, name: &'a str) -> Arg<'a> {
@@ -140,24 +136,6 @@ fn word_of<'a>(found: &ArgMatches<'a>, name: &str) -> Result<&'a str, WordsFault
     found.get_str(name).ok_or(WordsFault::Words)
 }
 
-// A number of steps: 1 to 9 digits, at most 100,000,000.
-fn limit_of(word: &str) -> Option<u32>
-    ensures { SomeIff result (IsStepLimit word.now) (digits_value 10 word.now) }
-{
-    if word.len() > 9 {
-        return None;
-    }
-    if word.starts_with('+') {
-        return None;
-    }
-    let limit: u32 = word.parse().ok()?;
-    if limit <= MOST_STEPS {
-        Some(limit)
-    } else {
-        None
-    }
-}
-
 // Whether keys that begin with `-` are given as a word of their own, where they may stand behind `=` alone.
 fn has_loose_keys(words: &[String]) -> bool {
     let mut after_keys = false;
@@ -177,7 +155,7 @@ fn limit_given(word: Option<&str>) -> Result<u32, WordsFault>
 {
     match word {
         None => Ok(DEFAULT_LIMIT),
-        Some(word) => limit_of(word).ok_or(WordsFault::Words),
+        Some(word) => step_limit(word).ok_or(WordsFault::Words),
     }
 }
 

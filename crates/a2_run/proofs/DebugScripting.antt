@@ -16,15 +16,15 @@ use Rattle.a2_debug.specs.contracts.fault.DebugFault.{the_type}
 use Rattle.a2_debug.specs.declared.fault.DebugFault.{DebugFault}
 use Rattle.a2_debug.specs.declared.fault.DebugFault.TheVariants as debug
 use Rattle.a2_debug.specs.Stored.{Stored, NoneAbove, begun}
-use Rattle.a2_debug.specs.Answers.{LineAnswers}
-use Rattle.a2_debug.specs.Texts.{shown}
+use Rattle.a2_debug.specs.Answers.{DebugLineAnswers}
+use Rattle.a2_debug.specs.Texts.{debug_fault_text}
 use Rattle.a2_debug.proofs.Total.{Met, met, answered_past, never_by_write}
 use Rattle.a2_run.specs.declared.fault.RunFault.{RunFault}
 use Rattle.a2_run.specs.declared.fault.RunFault.TheVariants.{Source, Script, Read, Write, Memory}
 use Rattle.a2_run.specs.Answers.{read_of}
 use Rattle.a2_run.specs.Meaning.{IsProgramOf, IsRefused}
 use Rattle.a2_run.specs.Replies.{RepliesTo, AreReplied}
-use Rattle.a2_run.specs.Scripts.{refusal_of}
+use Rattle.a2_run.specs.Scripts.{script_fault}
 use Rattle.a2_run.specs.DebugScripts.{Meets, IsDebugText, DebugAnswers}
 use Rattle.a2_run.proofs.Fronts.{fronts, none≢some, program-front, refused-front}
 
@@ -39,26 +39,26 @@ text_of_line line old past = go (met line old past)
   where
     go : Met line old → (text : List ℕ) × (new : Stored) × Meets line old text new
     go (inl (text, new, is)) = (text, new, inl is)
-    go (inr (why, down)) = (shown why ++ codes "\n", old, inr (record { fault = why; refused = down; told = refl; kept = refl }))
+    go (inr (why, down)) = (debug_fault_text why ++ codes "\n", old, inr (record { fault = why; refused = down; told = refl; kept = refl }))
 
 pub stays_past : (line : List ℕ) (old : Stored) (text : List ℕ) (new : Stored) → Meets line old text new → IsPast old → IsPast new
 stays_past line old text new (inl is) past = answered_past line old text new is past
 stays_past line old text new (inr down) past = subst (λ (s : Stored). IsPast s) (sym down.kept) past
 
-pub line_done : (line : List ℕ) (old new : Stored) (a b : Taker) → LineAnswers line old new a b (Ok tt) → RepliesTo Meets line old new a b (Ok tt)
+pub line_done : (line : List ℕ) (old new : Stored) (a b : Taker) → DebugLineAnswers line old new a b (Ok tt) → RepliesTo Meets line old new a b (Ok tt)
 line_done line old new a b (text, is, sends) = (text, inl is, sends)
 
-line_broke : (line : List ℕ) (old new : Stored) (a b : Taker) → LineAnswers line old new a b (Err debug.Write)
+line_broke : (line : List ℕ) (old new : Stored) (a b : Taker) → DebugLineAnswers line old new a b (Err debug.Write)
     → (text : List ℕ) × Meets line old text new × Breaks a b text
 line_broke line old new a b (inl (down, same, unsent)) = absurd (never_by_write line old down)
 line_broke line old new a b (inr (is, (text, answered, breaks))) = (text, inl answered, breaks)
 
-pub line_failed : (line : List ℕ) (old new : Stored) (a b : Taker) (why : DebugFault) → why ≡ debug.Write → LineAnswers line old new a b (Err why)
+pub line_failed : (line : List ℕ) (old new : Stored) (a b : Taker) (why : DebugFault) → why ≡ debug.Write → DebugLineAnswers line old new a b (Err why)
     → (text : List ℕ) × Meets line old text new × Breaks a b text
-line_failed line old new a b why is h = line_broke line old new a b (subst (λ (w : DebugFault). LineAnswers line old new a b (Err w)) is h)
+line_failed line old new a b why is h = line_broke line old new a b (subst (λ (w : DebugFault). DebugLineAnswers line old new a b (Err w)) is h)
 
 pub line_told : (line : List ℕ) (old new : Stored) (a b c : Taker) (why : DebugFault) (answer : Result (Unit {0}) WriteFault) (told : List ℕ)
-    → (why ≡ debug.Write → ⊥) → LineAnswers line old new a b (Err why) → told ≡ shown why ++ codes "\n" → SendsOrBreaks b c answer told
+    → (why ≡ debug.Write → ⊥) → DebugLineAnswers line old new a b (Err why) → told ≡ debug_fault_text why ++ codes "\n" → SendsOrBreaks b c answer told
     → RepliesTo Meets line old new a c answer
 line_told line old new a b c why answer told other (inl (down, same, unsent)) is sends = (
   told,
@@ -149,10 +149,10 @@ debug_of_inputs (Some source) (Some script) text lines slice slice' a b r e e' f
 -- The faults of the call
 
 pub refused_script : (source script : List ℕ) (program : Assembled) (a : Taker) (fault : Fault) (why : RunFault) → IsProgramOf source program
-    → (fault ≢ refusal.Memory → size_refusal script ≡ Some fault) → why ≡ refusal_of fault → DebugAnswers {T = Unit {0}} source script a a (Err why)
+    → (fault ≢ refusal.Memory → size_refusal script ≡ Some fault) → why ≡ script_fault fault → DebugAnswers {T = Unit {0}} source script a a (Err why)
 refused_script source script program a fault why is h e = subst (λ (w : RunFault). DebugAnswers {T = Unit {0}} source script a a (Err w)) (sym e) (go fault h)
   where
-    go : (f : Fault) → (f ≢ refusal.Memory → size_refusal script ≡ Some f) → DebugAnswers {T = Unit {0}} source script a a (Err (refusal_of f))
+    go : (f : Fault) → (f ≢ refusal.Memory → size_refusal script ≡ Some f) → DebugAnswers {T = Unit {0}} source script a a (Err (script_fault f))
     go refusal.Memory told = Sends-nil a
     go refusal.NoCode told = (((program, is), told (λ e. (let bad : ⊥ = cc in bad))), Sends-nil a)
     go (refusal.TooLarge n) told = (((program, is), told (λ e. (let bad : ⊥ = cc in bad))), Sends-nil a)

@@ -8,7 +8,7 @@ use Rattle.a2_page.specs.Cells.{numbers_from, address_of}
 use Rattle.a2_page.specs.declared.Page.TheVariants.{One, Two}
 use Rattle.a2_page.specs.Grid.{Grid, grid_of}
 use Rattle.a2_page.specs.declared.Switches.{Switches}
-use Rattle.a2_page.specs.Text.{line_of, lines_of, blocks_of, text_lines, block_lines, glyph, attribute_mark, block_digit}
+use Rattle.a2_page.specs.Text.{row_line, lines_of, blocks_of, text_lines, block_lines, glyph, attribute_mark, block_digit}
 use Rattle.a2_page.specs.Picture as page
 use Rattle.a2_bus.specs.BusState.{BusState}
 use Rattle.a2_bus.specs.View.{memory_of}
@@ -49,7 +49,7 @@ length-blocks (row ∷ rows) = omega (arith, length-blocks rows)
 length-lines : (character : ℕ → ℕ) (rows : Grid) → AreNarrow rows → length (lines_of character rows) ≤ 41 * length rows
 length-lines character [] h = omega arith
 length-lines character (row ∷ rows) h =
-    omega (arith, length-append (line_of character row) (lines_of character rows), length-append (map character row) (10 ∷ []), length-map row character, h.0, length-lines character rows h.1)
+    omega (arith, length-append (row_line character row) (lines_of character rows), length-append (map character row) (10 ∷ []), length-map row character, h.0, length-lines character rows h.1)
 
 -- Two pages of 24 rows
 
@@ -93,7 +93,7 @@ if-asked false bytes most h = omega arith
 
 picture-few : (switches : Switches) (page1 page2 : Grid) → IsPage page1 → IsPage page2 → length (page.picture switches page1 page2) ≤ 2952
 picture-few switches page1 page2 f s =
-    let rows = page.shown switches page1 page2 in
+    let rows = page.shown_page switches page1 page2 in
     let is : IsPage rows = shown-page switches.page2 page1 page2 f s in
     let above = if switches.text then [] else page.graphics_lines switches (take (page.first_text_row switches) rows) in
     let below = text_lines (drop (page.first_text_row switches) rows) in
@@ -116,7 +116,7 @@ screen-few attr bus =
       length-append (page.picture switches memory.page1 memory.page2) (if attr then page.attribute_rows switches memory.page1 memory.page2 else []),
       picture-few switches memory.page1 memory.page2 first second,
       if-asked attr (page.attribute_rows switches memory.page1 memory.page2) 984
-          (text-few attribute_mark (page.first_text_row switches) (page.shown switches memory.page1 memory.page2) (shown-page switches.page2 memory.page1 memory.page2 first second)),
+          (text-few attribute_mark (page.first_text_row switches) (page.shown_page switches memory.page1 memory.page2) (shown-page switches.page2 memory.page1 memory.page2 first second)),
     )
 
 -- The register line and the cause line

@@ -8,7 +8,7 @@ use Rattle.a2_syntax.specs.Limits.{size_refusal}
 use Rattle.a2_asm.specs.Assembled.{Assembled}
 use Rattle.a2_asm.specs.Programs.{AreAlike}
 use Rattle.a2_debug.specs.Stored.{Stored, begun}
-use Rattle.a2_debug.specs.Texts.{shown}
+use Rattle.a2_debug.specs.Texts.{debug_fault_text}
 use Rattle.a2_debug.specs.Laws.{LookAlike}
 use Rattle.a2_debug.proofs.Alike.{alike-back, both-alike}
 use Rattle.a2_debug.proofs.OneAnswer.{one-answer, one-refusal, never-both}
@@ -30,7 +30,7 @@ meets-one line text words old other new next like (inl a) (inr b) = absurd (neve
 meets-one line text words old other new next like (inr a) (inl b) =
     absurd (never-both line words other old next a.fault (alike-back old other like) b a.refused)
 meets-one line text words old other new next like (inr a) (inr b) = (
-  a.told ∙ ap (λ why. shown why ++ codes "\n") (one-refusal line old other a.fault b.fault like a.refused b.refused) ∙ sym b.told,
+  a.told ∙ ap (λ why. debug_fault_text why ++ codes "\n") (one-refusal line old other a.fault b.fault like a.refused b.refused) ∙ sym b.told,
   both-alike new next old other a.kept b.kept like,
 )
 

@@ -5,9 +5,9 @@ use Rattle.a2_syntax.specs.declared.fault.Fault.{Fault}
 use Rattle.a2_syntax.specs.declared.fault.Fault.TheVariants as refusal
 use Rattle.a2_run.specs.declared.fault.RunFault.{RunFault}
 use Rattle.a2_run.specs.Meaning.{IsRefused}
-use Rattle.a2_run.specs.Started.{refusal_of, RefusesText}
+use Rattle.a2_run.specs.Started.{source_fault, RefusesText}
 
-refuses : (text : List ℕ) (fault : Fault) → (fault ≢ refusal.Memory → IsRefused text fault) → RefusesText text (refusal_of fault)
+refuses : (text : List ℕ) (fault : Fault) → (fault ≢ refusal.Memory → IsRefused text fault) → RefusesText text (source_fault fault)
 refuses text (refusal.TooLarge n) h = h (λ e. cc)
 refuses text (refusal.Syntax n) h = h (λ e. cc)
 refuses text (refusal.TooManyNames n) h = h (λ e. cc)
@@ -22,5 +22,5 @@ refuses text (refusal.Overlap n) h = h (λ e. cc)
 refuses text refusal.NoCode h = h (λ e. cc)
 refuses text refusal.Memory h = tt
 
-pub refuses-text : (text : List ℕ) (fault : Fault) (given : RunFault) → given ≡ refusal_of fault → (fault ≢ refusal.Memory → IsRefused text fault) → RefusesText text given
+pub refuses-text : (text : List ℕ) (fault : Fault) (given : RunFault) → given ≡ source_fault fault → (fault ≢ refusal.Memory → IsRefused text fault) → RefusesText text given
 refuses-text text fault given e h = subst (λ f. RefusesText text f) (sym e) (refuses text fault h)

@@ -6,8 +6,8 @@ use Rattle.a2_syntax.specs.Limits.{size_refusal}
 use Rattle.a2_asm.specs.Assembled.{Assembled}
 use Rattle.a2_debug.specs.declared.fault.DebugFault.{DebugFault}
 use Rattle.a2_debug.specs.Stored.{Stored, begun}
-use Rattle.a2_debug.specs.Answers.{IsAnswered, IsTurnedDown}
-use Rattle.a2_debug.specs.Texts.{shown}
+use Rattle.a2_debug.specs.Answers.{IsDebugAnswer, IsLineRefused}
+use Rattle.a2_debug.specs.Texts.{debug_fault_text}
 use Rattle.a2_run.specs.declared.fault.RunFault.{RunFault}
 use Rattle.a2_run.specs.declared.fault.RunFault.TheVariants.{Source, Script, Read, Write, Memory}
 use Rattle.a2_run.specs.Meaning.{IsProgramOf, IsRefused}
@@ -16,13 +16,13 @@ use Rattle.a2_run.specs.Replies.{AreReplied}
 -- a line is refused, by a line of text
 pub record IsRefusedBy (line : List ℕ) (old : Stored) (text : List ℕ) (new : Stored) : Type 0 where
   pub fault : DebugFault
-  pub refused : IsTurnedDown line old fault
-  pub told : text ≡ shown fault ++ codes "\n"
+  pub refused : IsLineRefused line old fault
+  pub told : text ≡ debug_fault_text fault ++ codes "\n"
   pub kept : new ≡ old
 
 -- a line's text, and what it leaves
 abbrev pub Meets : List ℕ → Stored → List ℕ → Stored → Type 0
-Meets line old text new = IsAnswered line old text new ⊎ IsRefusedBy line old text new
+Meets line old text new = IsDebugAnswer line old text new ⊎ IsRefusedBy line old text new
 
 -- the source has a program and the script is within the limits: the script's lines, answered by a debugger of that program
 pub record IsDebugText (source script output : List ℕ) : Type 0 where

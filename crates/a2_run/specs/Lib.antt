@@ -3,6 +3,7 @@ pub mod Answers
 pub mod Status
 pub mod Started
 pub mod Laws
+pub mod Limits
 pub mod Scripts
 pub mod Replies
 pub mod DebugScripts

@@ -6,6 +6,7 @@ mod debugging;
 mod fault;
 mod gathered;
 mod laws;
+mod limits;
 mod run;
 mod scripts;
 mod sources;
@@ -15,6 +16,7 @@ pub use laws::{
     a_debugging_script_has_one_output, a_free_run_is_the_guarded_run, a_script_has_one_output,
     a_text_is_refused_or_means_a_program, a_text_means_one_output,
 };
+pub use limits::{MOST_STEPS, step_limit};
 pub use run::{asm_text, debug_text, fault_status, mon_text, read_text, run_text, status};
 pub use sources::{program_of, started};
 

@@ -137,7 +137,8 @@ pub fn debug_text<A: Allocator + Copy, R: Input, S: Input, W: Output>(
     ensures meaning { IfSome (R.giver source.old).bytes (λ text. IfSome (S.giver script.old).bytes (λ lines.
         DebugAnswers text lines (W.taker writer.old) (W.taker writer.new) result)) }
     // Nothing is read past the 65,537th byte of either.
-    ensures fronts { TakesAtMost 65537 (R.giver source.old) (R.giver source.new) × TakesAtMost 65537 (S.giver script.old) (S.giver script.new) }
+    ensures fronts { TakesAtMost 65537 (R.giver source.old) (R.giver source.new)
+        × TakesAtMost 65537 (S.giver script.old) (S.giver script.new) }
     // Whatever the readers give, a fault other than of the writer means that nothing was written.
     ensures silent { NothingSent (W.taker writer.old) (W.taker writer.new) result }
     // A fault of a reader or of the writer comes exactly where one of its calls failed.

@@ -19,7 +19,7 @@ use std::alloc::{AllocError, Allocator};
 
 /// A fault of the script, but want of memory by itself.
 pub fn refusal(fault: Fault) -> RunFault
-    ensures { result ≡ scripts.refusal_of fault }
+    ensures { result ≡ scripts.script_fault fault }
 {
     match fault {
         Fault::Memory => RunFault::Memory,
@@ -33,7 +33,8 @@ fn answer<A: Allocator, W: Output>(
     line: &[u8],
     writer: &mut W,
 ) -> Result<(), WriteFault>
-    ensures { RepliesTo IsReply line.now (sitting_of session.old) (sitting_of session.new) (W.taker writer.old) (W.taker writer.new) result }
+    ensures { RepliesTo IsReply line.now (sitting_of session.old) (sitting_of session.new)
+        (W.taker writer.old) (W.taker writer.new) result }
 {
     let Err(fault) = session.line(line, writer) else {
         return Ok(());
@@ -50,7 +51,8 @@ fn answer_all<A: Allocator, W: Output>(
     lines: &[&[u8]],
     writer: &mut W,
 ) -> Result<(), WriteFault>
-    ensures { RepliesToAll IsReply (codes "*") (map (λ x. x.now) lines.now) (sitting_of session.old) (W.taker writer.old) (W.taker writer.new) result }
+    ensures { RepliesToAll IsReply (codes "*") (map (λ x. x.now) lines.now) (sitting_of session.old)
+        (W.taker writer.old) (W.taker writer.new) result }
 {
     for line in lines {
         put_all(&[b"*", line, b"\n"], writer)?;
@@ -73,7 +75,8 @@ pub fn answer_script<A: Allocator + Copy, W: Output>(
     script: &[u8],
     writer: &mut W,
 ) -> Result<(), RunFault>
-    ensures meaning { ScriptAnswers (is_refused_script script.now) (is_mon_text script.now) (W.taker writer.old) (W.taker writer.new) result }
+    ensures meaning { ScriptAnswers (is_refused_script script.now) (is_mon_text script.now)
+        (W.taker writer.old) (W.taker writer.new) result }
     ensures no_reader { is_read_fault result ≡ false }
 {
     let lines = match lines(alloc, script) {

@@ -1,0 +1,7 @@
+-- The most steps of a run, as a word of a command line says it. This project's profile.
+use Rattle.std.specs.Prelude.{ℕ, ◌≤◌, List, length}
+use Rattle.std.specs.Str.Parse.{IsNumeral, digits_value}
+
+-- a word spells a number of steps: one to nine digits, at most 100,000,000
+abbrev pub IsStepLimit : List ℕ → Type 0
+IsStepLimit word = IsNumeral 10 word × (length word ≤ 9) × (digits_value 10 word ≤ 100000000)
