@@ -6,7 +6,7 @@ use Rattle.std.specs.Borrow.{Bor}
 use Rattle.a2_asm.specs.declared.program.Statement.{Statement}
 use Rattle.a2_asm.specs.Values.{Names}
 use Rattle.a2_text.specs.Digits.{hex_word}
-use Rattle.a2_list.specs.Listing.{columns, bytes_row, more_rows, rows_of_line, of_line, behind_line, rows, name_row, name_rows}
+use Rattle.a2_list.specs.Listing.{columns, bytes_row, more_rows, rows_of_line, statement_of_line, behind_line, listing_rows, name_row, name_rows}
 
 pub more-none : (image : ℕ → Option ℕ) (a n left : ℕ) → image a ≡ None → more_rows image a n left ≡ []
 more-none image a n zero h = refl
@@ -24,17 +24,17 @@ more-next image a n (suc left) byte h some =
 
 -- the rows from a line on
 pub rows-next : (image : ℕ → Option ℕ) (statements : List Statement) (n i : ℕ) (items : List (Bor (List ℕ))) (d : Bor (List ℕ)) (own : Option Statement) (later : List Statement)
-    → own ≡ of_line n statements → later ≡ behind_line n statements → i < length items
-    → rows image statements n (drop i (map (λ x. x.now) items))
-    ≡ rows_of_line image own n (get_or items i d).now ++ rows image later (n + 1) (drop (i + 1) (map (λ x. x.now) items))
+    → own ≡ statement_of_line n statements → later ≡ behind_line n statements → i < length items
+    → listing_rows image statements n (drop i (map (λ x. x.now) items))
+    ≡ rows_of_line image own n (get_or items i d).now ++ listing_rows image later (n + 1) (drop (i + 1) (map (λ x. x.now) items))
 rows-next image statements n i items d own later is_own is_later low =
     let now = λ (x : Bor (List ℕ)). x.now in
     let count = length-map items now in
     let rest = drop (i + 1) (map now items) in
-    ap (λ (texts : List (List ℕ)). rows image statements n texts)
+    ap (λ (texts : List (List ℕ)). listing_rows image statements n texts)
     (drop_more (map now items) i [] (omega (arith, count, low)) ∙ ap (λ (line : List ℕ). line ∷ rest) (get_or-map now items i d [] low))
-    ∙ ap (λ (o : Option Statement). rows_of_line image o n (get_or items i d).now ++ rows image (behind_line n statements) (n + 1) rest) (sym is_own)
-    ∙ ap (λ (l : List Statement). rows_of_line image own n (get_or items i d).now ++ rows image l (n + 1) rest) (sym is_later)
+    ∙ ap (λ (o : Option Statement). rows_of_line image o n (get_or items i d).now ++ listing_rows image (behind_line n statements) (n + 1) rest) (sym is_own)
+    ∙ ap (λ (l : List Statement). rows_of_line image own n (get_or items i d).now ++ listing_rows image l (n + 1) rest) (sym is_later)
 
 -- the entry at an index of a map, seen through another form of it
 pub entry-at : {X Y Z : Type 0} (see : X → Y) (f : Y → Z) (found : Option X) (x : X) (ys : List Y) (i : ℕ) → option_map see found ≡ slice_get ys i → found ≡ Some x

@@ -1,3 +1,4 @@
 pub mod Listing
 pub mod Refused
 pub mod Status
+pub mod Words

@@ -48,18 +48,18 @@ more_rows byte_at a n (suc rows) =
     if is_some (byte_at a) then bytes_row (columns byte_at (a + 3) (min (n - 3) 3)) ++ more_rows byte_at (a + 3) (n - 3) rows else []
 
 -- the rows of a statement's bytes behind its first three
-abbrev pub rows_behind : (ℕ → Option ℕ) → Option Statement → List ℕ
-rows_behind byte_at None = []
-rows_behind byte_at (Some s) = more_rows byte_at s.addr s.length ((s.length - 1) / 3)
+abbrev pub further_rows : (ℕ → Option ℕ) → Option Statement → List ℕ
+further_rows byte_at None = []
+further_rows byte_at (Some s) = more_rows byte_at s.addr s.length ((s.length - 1) / 3)
 
 -- all rows of the line of a number
 abbrev pub rows_of_line : (ℕ → Option ℕ) → Option Statement → ℕ → List ℕ → List ℕ
-rows_of_line byte_at statement n text = line_row (first_columns byte_at statement) (decimal n) text ++ rows_behind byte_at statement
+rows_of_line byte_at statement n text = line_row (first_columns byte_at statement) (decimal n) text ++ further_rows byte_at statement
 
 -- the statement of a line, where these are its and those of later lines
-abbrev pub of_line : ℕ → List Statement → Option Statement
-of_line n [] = None
-of_line n (s ∷ others) = if s.line == n then Some s else None
+abbrev pub statement_of_line : ℕ → List Statement → Option Statement
+statement_of_line n [] = None
+statement_of_line n (s ∷ others) = if s.line == n then Some s else None
 
 -- the statements of later lines
 abbrev pub behind_line : ℕ → List Statement → List Statement
@@ -67,10 +67,10 @@ behind_line n [] = []
 behind_line n (s ∷ others) = if s.line == n then others else s ∷ others
 
 -- the rows of lines, from the line of a number on
-abbrev pub rows : (ℕ → Option ℕ) → List Statement → ℕ → List (List ℕ) → List ℕ
-rows byte_at statements n [] = []
-rows byte_at statements n (text ∷ texts) =
-    rows_of_line byte_at (of_line n statements) n text ++ rows byte_at (behind_line n statements) (n + 1) texts
+abbrev pub listing_rows : (ℕ → Option ℕ) → List Statement → ℕ → List (List ℕ) → List ℕ
+listing_rows byte_at statements n [] = []
+listing_rows byte_at statements n (text ∷ texts) =
+    rows_of_line byte_at (statement_of_line n statements) n text ++ listing_rows byte_at (behind_line n statements) (n + 1) texts
 
 -- the row of a name, as `FDED  COUT`
 unfoldable pub name_row : List ℕ → List ℕ → List ℕ
@@ -81,11 +81,11 @@ abbrev pub name_rows : Names → List ℕ
 name_rows names = flat_map (λ entry. name_row (hex_word entry.1) entry.0) names
 
 -- the rows of all lines, an empty line, and the names
-abbrev pub listing : Assembled → List (List ℕ) → List ℕ
-listing program texts = rows (held program.image) program.statements 1 texts ++ (codes "\n" ++ name_rows program.names)
+abbrev pub source_listing : Assembled → List (List ℕ) → List ℕ
+source_listing program texts = listing_rows (held program.image) program.statements 1 texts ++ (codes "\n" ++ name_rows program.names)
 
 -- the listing of a text that is accepted
 pub record IsListing (text output : List ℕ) : Type 0 where
   pub program : Assembled
   pub is_program : IsProgramOf text program
-  pub output_is : output ≡ listing program (lines text)
+  pub output_is : output ≡ source_listing program (lines text)

@@ -4,6 +4,6 @@ use Rattle.a2_run.specs.Status.{fault_status}
 use Rattle.a2_list.specs.declared.ListFault.{ListFault}
 use Rattle.a2_list.specs.declared.ListFault.TheVariants.{Words, Run}
 
-abbrev pub status_of : ListFault → ℕ
-status_of Words = 2
-status_of (Run fault) = fault_status fault
+abbrev pub listing_status : ListFault → ℕ
+listing_status Words = 2
+listing_status (Run fault) = fault_status fault

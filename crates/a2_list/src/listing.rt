@@ -111,7 +111,8 @@ fn put_parts<W: Output>(
     text: &[u8],
     writer: &mut W,
 ) -> Result<(), WriteFault>
-    ensures { SendsOrBreaks (W.taker writer.old) (W.taker writer.new) result (listing.row_of_parts front.now gap.now digits.now before.now text.now) }
+    ensures { SendsOrBreaks (W.taker writer.old) (W.taker writer.new) result
+        (listing.row_of_parts front.now gap.now digits.now before.now text.now) }
 {
     put_all(&[front, gap, digits, before, text, b"\n"], writer)
 }
@@ -198,7 +199,7 @@ fn put_behind<A: Allocator, W: Output>(
     statement: Option<Statement>,
     writer: &mut W,
 ) -> Result<(), WriteFault>
-    ensures { SendsOrBreaks (W.taker writer.old) (W.taker writer.new) result (listing.rows_behind (held image.now) statement) }
+    ensures { SendsOrBreaks (W.taker writer.old) (W.taker writer.new) result (listing.further_rows (held image.now) statement) }
 {
     let Some(statement) = statement else {
         return Ok(());
@@ -216,7 +217,8 @@ fn put_line<A: Allocator, W: Output>(
     text: &[u8],
     writer: &mut W,
 ) -> Result<(), WriteFault>
-    ensures { SendsOrBreaks (W.taker writer.old) (W.taker writer.new) result (listing.rows_of_line (held image.now) statement number text.now) }
+    ensures { SendsOrBreaks (W.taker writer.old) (W.taker writer.new) result
+        (listing.rows_of_line (held image.now) statement number text.now) }
 {
     put_first(image, statement, number, text, writer)?;
     put_behind(image, statement, writer)
@@ -224,7 +226,7 @@ fn put_line<A: Allocator, W: Output>(
 
 // The statement of a line, where these are its and those of later lines.
 fn of_line(number: usize, statements: &[Statement]) -> Option<Statement>
-    ensures { result ≡ listing.of_line number statements.now }
+    ensures { result ≡ listing.statement_of_line number statements.now }
 {
     match statements {
         [first, ..] if usize::from(first.line) == number => Some(*first),
@@ -250,7 +252,7 @@ fn put_lines<A: Allocator, W: Output>(
     writer: &mut W,
 ) -> Result<(), WriteFault>
     ensures { SendsOrBreaks (W.taker writer.old) (W.taker writer.new) result
-        (listing.rows (held image.now) statements.now 1 (map (λ x. x.now) texts.now)) }
+        (listing.listing_rows (held image.now) statements.now 1 (map (λ x. x.now) texts.now)) }
 {
     let mut number = 1usize;
     let mut rest = statements;
@@ -290,7 +292,7 @@ fn put_rows<A: Allocator, W: Output>(
     writer: &mut W,
 ) -> Result<(), WriteFault>
     ensures { SendsOrBreaks (W.taker writer.old) (W.taker writer.new) result
-        (listing.rows (held program.now.image) program.now.statements 1 (map (λ x. x.now) texts.now)) }
+        (listing.listing_rows (held program.now.image) program.now.statements 1 (map (λ x. x.now) texts.now)) }
 {
     put_lines(program.image(), program.statements(), texts, writer)
 }
@@ -324,7 +326,8 @@ fn put_listing<A: Allocator, W: Output>(
     texts: &[&[u8]],
     writer: &mut W,
 ) -> Result<(), WriteFault>
-    ensures { SendsOrBreaks (W.taker writer.old) (W.taker writer.new) result (listing.listing program.now (map (λ x. x.now) texts.now)) }
+    ensures { SendsOrBreaks (W.taker writer.old) (W.taker writer.new) result
+        (listing.source_listing program.now (map (λ x. x.now) texts.now)) }
 {
     put_rows(program, texts, writer)?;
     put_table(program, writer)

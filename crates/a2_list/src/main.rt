@@ -2,7 +2,7 @@
 #![tactic(auto)]
 
 ghost use Rattle.std.specs.Prelude.{◌≡◌};
-ghost use Rattle.a2_list.specs.Status.{status_of};
+ghost use Rattle.a2_list.specs.Status.{listing_status};
 
 mod listing;
 mod refused;
@@ -67,7 +67,7 @@ fn list(rt: &HostRuntime, source: &[u8]) -> Result<(), RunFault> {
 // Tells why there is no listing on standard error; the status. 2 for bad words, 1 for a refused source, 4 for a failed read or
 // write, 5 for want of memory.
 fn told(rt: &HostRuntime, fault: ListFault) -> u8
-    ensures { result ≡ status_of fault }
+    ensures { result ≡ listing_status fault }
 {
     let _ = eprintln!(rt; "{fault}");
     match fault {

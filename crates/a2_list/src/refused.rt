@@ -29,7 +29,8 @@ pub fn put_line_refused<A: Allocator, W: Output>(
     fault: Fault,
     writer: &mut W,
 ) -> Result<(), RunFault>
-    ensures line { Answers (λ _. ⊥) (λ _ output. output ≡ refused.line_shown source.now fault) (W.taker writer.old) (W.taker writer.new) result }
+    ensures line { Answers (λ _. ⊥) (λ _ output. output ≡ refused.line_shown source.now fault)
+        (W.taker writer.old) (W.taker writer.new) result }
     ensures no_reader { is_read_fault result ≡ false }
 {
     let texts = cut(alloc, source)?;

@@ -12,7 +12,7 @@ use Rattle.a2_machine.specs.declared.Cause.TheVariants.{Limit}
 use Rattle.a2_machine.specs.ByteRun.{bytes}
 use Rattle.a2_machine.specs.Meaning.{Code, End, IsEnd, stuck, next, world_at}
 use Rattle.a2_machine.specs.Output.{register_line, cause_line}
-use Rattle.a2_machine.specs.State.{Device, State, world_of, code_of, cause_of, most_steps, steps_left, IsStep}
+use Rattle.a2_machine.specs.State.{Device, MachineState, world_of_state, code_of, cause_of, most_steps, steps_left, IsStep}
 use Rattle.a2_machine.specs.State as machine
 use Rattle.a2_machine.proofs.Making.{cause_told, cause_none}
 use Rattle.a2_machine.proofs.RunFrom.{run_from}
@@ -27,22 +27,22 @@ none-some : {X : Type 0} (x : X) → None ≡ Some x → ⊥
 none-some x e = true≢false (sym (ap is_some e))
 
 -- below the greatest number of steps a machine's cause is why it is stuck
-cause-stuck : (d : Device) → d.state.steps < most_steps → cause_of d.state ≡ stuck (code_of d.state) (world_of d.state)
-cause-stuck d low = go (stuck (code_of d.state) (world_of d.state)) refl
+cause-stuck : (d : Device) → d.state.steps < most_steps → cause_of d.state ≡ stuck (code_of d.state) (world_of_state d.state)
+cause-stuck d low = go (stuck (code_of d.state) (world_of_state d.state)) refl
   where
-    go : (found : Option Cause) → stuck (code_of d.state) (world_of d.state) ≡ found → cause_of d.state ≡ stuck (code_of d.state) (world_of d.state)
+    go : (found : Option Cause) → stuck (code_of d.state) (world_of_state d.state) ≡ found → cause_of d.state ≡ stuck (code_of d.state) (world_of_state d.state)
     go None e = sym (cause_none d e low) ∙ sym e
     go (Some cause) e = sym (cause_told d cause e) ∙ sym e
 
 -- so many steps are made, and their lines went out
 pub record IsTraced (code : Code) (start : World) (a b : Taker) (d : Device) (n : ℕ) : Type 0 where
   pub steps : d.state.steps ≡ n
-  pub world : world_of d.state ≡ world_at code start n
+  pub world : world_of_state d.state ≡ world_at code start n
   pub code_is : code_of d.state ≡ code
   pub going : (k : ℕ) → k < n → stuck code (world_at code start k) ≡ None
   pub sent : Sends a b (step_lines code start n)
 
-pub traced-none : (d : Device) (a : Taker) → d.state.steps ≡ 0 → IsTraced (code_of d.state) (world_of d.state) a a d 0
+pub traced-none : (d : Device) (a : Taker) → d.state.steps ≡ 0 → IsTraced (code_of d.state) (world_of_state d.state) a a d 0
 unfolding world_at
 traced-none d a e = record { steps = e; world = refl; code_is = refl; going = λ k lt. absurd (omega (arith, lt)); sent = Sends-nil a }
 
@@ -60,35 +60,35 @@ below_next n P here before k lt = go (split k lt)
 steps-on : (code : Code) (start : World) (a b : Taker) (d : Device) (n : ℕ) → IsTraced code start a b d n → n < most_steps → None ≡ cause_of d.state
     → stuck code (world_at code start n) ≡ None
 steps-on code start a b d n h low none =
-    sym (subst (λ k. stuck k (world_of d.state) ≡ stuck code (world_at code start n)) (sym h.code_is) (ap (stuck code) h.world))
+    sym (subst (λ k. stuck k (world_of_state d.state) ≡ stuck code (world_at code start n)) (sym h.code_is) (ap (stuck code) h.world))
     ∙ sym (cause-stuck d (omega (arith, h.steps, low))) ∙ sym none
 
 -- the line of the next step, behind those before it
 next-lines : (code : Code) (start : World) (a b : Taker) (old new : Device) (n : ℕ) (front : List ℕ) → IsTraced code start a b old n → IsStep old new
-    → front ≡ padded (at_pc (world_of old.state))
+    → front ≡ padded (at_pc (world_of_state old.state))
     → step_lines code start n ++ (front ++ register_line (registers_of new.state.regs) new.state.steps new.state.cycles) ≡ step_lines code start (n + 1)
 unfolding world_at
 next-lines code start a b old new n front h step is =
     let one : suc n ≡ n + 1 = omega arith in
     let count : new.state.steps ≡ suc n = omega (arith, h.steps, step.steps) in
-    let after : world_of new.state ≡ world_at code start (suc n) = after_step code start a b old new n h step in
-    ap (λ (f : List ℕ). step_lines code start n ++ (f ++ register_line (world_of new.state).registers new.state.steps (world_of new.state).cycles)) (is ∙ ap (λ (w : World). padded (at_pc w)) h.world)
-    ∙ ap (λ (k : ℕ). step_lines code start n ++ (padded (at_pc (world_at code start n)) ++ register_line (world_of new.state).registers k (world_of new.state).cycles)) count
+    let after : world_of_state new.state ≡ world_at code start (suc n) = after_step code start a b old new n h step in
+    ap (λ (f : List ℕ). step_lines code start n ++ (f ++ register_line (world_of_state new.state).registers new.state.steps (world_of_state new.state).cycles)) (is ∙ ap (λ (w : World). padded (at_pc w)) h.world)
+    ∙ ap (λ (k : ℕ). step_lines code start n ++ (padded (at_pc (world_at code start n)) ++ register_line (world_of_state new.state).registers k (world_of_state new.state).cycles)) count
     ∙ ap (λ (w : World). step_lines code start n ++ (padded (at_pc (world_at code start n)) ++ register_line w.registers (suc n) w.cycles)) after
     ∙ ap (step_lines code start) one
   where
     after_step : (code : Code) (start : World) (a b : Taker) (old new : Device) (n : ℕ) → IsTraced code start a b old n → IsStep old new
-        → world_of new.state ≡ next code (world_at code start n)
-    after_step code start a b old new n h step = step.world ∙ ap (λ (k : Code). next k (world_of old.state)) h.code_is ∙ ap (next code) h.world
+        → world_of_state new.state ≡ next code (world_at code start n)
+    after_step code start a b old new n h step = step.world ∙ ap (λ (k : Code). next k (world_of_state old.state)) h.code_is ∙ ap (next code) h.world
 
 pub traced-next : (code : Code) (start : World) (a b e : Taker) (old new : Device) (n : ℕ) (front : List ℕ) → IsTraced code start a b old n → n < most_steps
-    → None ≡ cause_of old.state → IsStep old new → front ≡ padded (at_pc (world_of old.state))
+    → None ≡ cause_of old.state → IsStep old new → front ≡ padded (at_pc (world_of_state old.state))
     → Sends b e (front ++ register_line (registers_of new.state.regs) new.state.steps new.state.cycles) → IsTraced code start a e new (n + 1)
 unfolding world_at
 traced-next code start a b e old new n front h low none step is line =
     let one : suc n ≡ n + 1 = omega arith in record {
       steps = omega (arith, h.steps, step.steps);
-      world = step.world ∙ ap (λ (k : Code). next k (world_of old.state)) h.code_is ∙ ap (next code) h.world ∙ ap (world_at code start) one;
+      world = step.world ∙ ap (λ (k : Code). next k (world_of_state old.state)) h.code_is ∙ ap (next code) h.world ∙ ap (world_at code start) one;
       code_is = ap bytes step.guard ∙ h.code_is;
       going = subst (λ (m : ℕ). (k : ℕ) → k < m → stuck code (world_at code start k) ≡ None) one
           (below_next n (λ k. stuck code (world_at code start k) ≡ None) (steps-on code start a b old n h low none) h.going);
@@ -98,20 +98,20 @@ traced-next code start a b e old new n front h low none step is line =
 -- The end of the run
 
 pub end-stuck : (code : Code) (start : World) (a b : Taker) (d : Device) (n limit : ℕ) (cause : Cause) → IsTraced code start a b d n → n ≤ limit → n < most_steps
-    → Some cause ≡ cause_of d.state → IsEnd code start limit (record { world = world_of d.state; steps = n; cause = cause })
+    → Some cause ≡ cause_of d.state → IsEnd code start limit (record { world = world_of_state d.state; steps = n; cause = cause })
 end-stuck code start a b d n limit cause h within low e = record {
   within = within;
   reached = h.world;
   first = h.going;
-  cause = inl (subst (λ k. stuck k (world_of d.state) ≡ Some cause) h.code_is (sym (cause-stuck d (omega (arith, h.steps, low))) ∙ sym e));
+  cause = inl (subst (λ k. stuck k (world_of_state d.state) ≡ Some cause) h.code_is (sym (cause-stuck d (omega (arith, h.steps, low))) ∙ sym e));
 }
 
 pub end-limit : (code : Code) (start : World) (a b : Taker) (old new : Device) (limit : ℕ) (cause : Cause) → IsTraced code start a b old limit
-    → machine.IsRun 0 old new cause → IsEnd code start limit (record { world = world_of old.state; steps = limit; cause = cause })
+    → machine.IsMachineRun 0 old new cause → IsEnd code start limit (record { world = world_of_state old.state; steps = limit; cause = cause })
 unfolding world_at
 end-limit code start a b old new limit cause h run =
     let none : new.state.steps - old.state.steps ≡ 0 = omega (arith, run.end.within) in
-    let reached : world_of new.state ≡ world_of old.state = run.end.reached ∙ ap (world_at (code_of old.state) (world_of old.state)) none in
+    let reached : world_of_state new.state ≡ world_of_state old.state = run.end.reached ∙ ap (world_at (code_of old.state) (world_of_state old.state)) none in
     record {
       within = omega arith;
       reached = h.world;
@@ -123,21 +123,21 @@ end-limit code start a b old new limit cause h run =
     WhyAt w = (stuck (code_of old.state) w ≡ Some cause) ⊎ ((stuck (code_of old.state) w ≡ None) × (new.state.steps - old.state.steps ≡ steps_left 0 old.state) × (cause ≡ Limit))
 
     Why : Code → Type 0
-    Why k = (stuck k (world_of old.state) ≡ Some cause) ⊎ ((stuck k (world_of old.state) ≡ None) × (new.state.steps - old.state.steps ≡ steps_left 0 old.state) × (cause ≡ Limit))
+    Why k = (stuck k (world_of_state old.state) ≡ Some cause) ⊎ ((stuck k (world_of_state old.state) ≡ None) × (new.state.steps - old.state.steps ≡ steps_left 0 old.state) × (cause ≡ Limit))
 
-    why : Why code → (stuck code (world_of old.state) ≡ Some cause) ⊎ ((stuck code (world_of old.state) ≡ None) × (limit ≡ limit) × (cause ≡ Limit))
+    why : Why code → (stuck code (world_of_state old.state) ≡ Some cause) ⊎ ((stuck code (world_of_state old.state) ≡ None) × (limit ≡ limit) × (cause ≡ Limit))
     why (inl is) = inl is
     why (inr is) = inr (is.0, refl, is.2)
 
 -- the cause line goes out behind the lines, or breaks off
 pub traces-end : (code : Code) (start : World) (a b c : Taker) (d : Device) (n limit : ℕ) (cause : Cause) (r : Result Cause WriteFault) → IsTraced code start a b d n
-    → IsEnd code start limit (record { world = world_of d.state; steps = n; cause = cause }) → SendsOrBreaks b c r (cause_line cause) → IfOk r (λ told. told ≡ cause)
+    → IsEnd code start limit (record { world = world_of_state d.state; steps = n; cause = cause }) → SendsOrBreaks b c r (cause_line cause) → IfOk r (λ told. told ≡ cause)
     → Traces code start limit a c r
 traces-end code start a b c d n limit cause (Ok told) h is sent same =
-    let end : End = record { world = world_of d.state; steps = n; cause = cause } in
+    let end : End = record { world = world_of_state d.state; steps = n; cause = cause } in
     (trace code start end, record { end = end; is_end = is; cause_is = same; output_is = refl }, Sends-then a b c _ _ h.sent sent)
 traces-end code start a b c d n limit cause (Err _) h is broke same =
-    let end : End = record { world = world_of d.state; steps = n; cause = cause } in
+    let end : End = record { world = world_of_state d.state; steps = n; cause = cause } in
     (cause, trace code start end, record { end = end; is_end = is; cause_is = refl; output_is = refl }, Breaks-then a b c _ _ h.sent broke)
 
 -- The lines of more steps begin with those of fewer
@@ -186,7 +186,7 @@ lines-broken code start a c n limit going within broke =
     )
 
 pub traces-broken : (code : Code) (start : World) (a b e : Taker) (old new : Device) (n limit : ℕ) (front : List ℕ) (r : Result Cause WriteFault) → IsErr r
-    → IsTraced code start a b old n → n < limit → n < most_steps → None ≡ cause_of old.state → IsStep old new → front ≡ padded (at_pc (world_of old.state))
+    → IsTraced code start a b old n → n < limit → n < most_steps → None ≡ cause_of old.state → IsStep old new → front ≡ padded (at_pc (world_of_state old.state))
     → Breaks b e (front ++ register_line (registers_of new.state.regs) new.state.steps new.state.cycles) → Traces code start limit a e r
 traces-broken code start a b e old new n limit front (Ok _) failed h within low none step is broke = cc
 traces-broken code start a b e old new n limit front (Err _) failed h within low none step is broke =
@@ -198,8 +198,8 @@ traces-broken code start a b e old new n limit front (Err _) failed h within low
     le (subst (Breaks a e) (next-lines code start a b old new n front h step is) (Breaks-then a b e _ _ h.sent broke))
 
 -- the trace of a machine at the start of a program's run is that of the text
-pub trace-of : (text keys : List ℕ) (limit : ℕ) (free : Bool) (program : Assembled) (state : State) → IsProgramOf text program → IsStarted free program keys state
-    → (cause : Cause) (output : List ℕ) → IsTrace (code_of state) (world_of state) limit cause output → IsTraceOf text keys limit free cause output
+pub trace-of : (text keys : List ℕ) (limit : ℕ) (free : Bool) (program : Assembled) (state : MachineState) → IsProgramOf text program → IsStarted free program keys state
+    → (cause : Cause) (output : List ℕ) → IsTrace (code_of state) (world_of_state state) limit cause output → IsTraceOf text keys limit free cause output
 trace-of text keys limit free program state made started cause output is = record {
   program = program;
   is_program = made;

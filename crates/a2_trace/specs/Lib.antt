@@ -1,3 +1,4 @@
 pub mod Trace
 pub mod Traced
 pub mod Status
+pub mod Words

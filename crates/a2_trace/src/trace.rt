@@ -6,7 +6,7 @@ ghost use Rattle.a2_stream.specs.Stream.{SendsOrBreaks};
 ghost use Rattle.a2_bus.specs.View.{memory_of};
 ghost use Rattle.a2_cpu.specs.View.{registers_of};
 ghost use Rattle.a2_machine.specs.Output.{register_line, cause_line};
-ghost use Rattle.a2_machine.specs.State.{code_of, world_of};
+ghost use Rattle.a2_machine.specs.State.{code_of, world_of_state};
 ghost use Rattle.a2_run.specs.Answers.{Answers, is_read_fault};
 ghost use Rattle.a2_run.specs.Meaning.{IsRefused};
 ghost use Rattle.a2_trace.specs.Trace as trace;
@@ -89,7 +89,7 @@ fn instruction_line<A: Allocator>(machine: &Machine<A>, pc: u16) -> Listed
 // What stands at PC.
 #[tactic(auto, unfolding(crate::specs::Trace::at_pc))]
 fn at_pc<A: Allocator>(machine: &Machine<A>) -> Front
-    ensures text { result.items ≡ trace.at_pc (world_of machine.now.state) }
+    ensures text { result.items ≡ trace.at_pc (world_of_state machine.now.state) }
     ensures room { array_vec_len result ≤ 34 }
 {
     let pc = machine.regs().pc;
@@ -110,7 +110,7 @@ fn at_pc<A: Allocator>(machine: &Machine<A>) -> Front
 
 // The same with blanks behind it.
 fn front_of<A: Allocator>(machine: &Machine<A>) -> Front
-    ensures { result.items ≡ trace.padded (trace.at_pc (world_of machine.now.state)) }
+    ensures { result.items ≡ trace.padded (trace.at_pc (world_of_state machine.now.state)) }
 {
     let mut front = at_pc(machine);
     let gap = BLANKS.len() - front.len();
@@ -148,7 +148,7 @@ fn trace_run<A: Allocator, W: Output>(
     writer: &mut W,
 ) -> Result<Cause, WriteFault>
     requires { machine.old.state.steps ≡ 0 }
-    ensures { Traces (code_of machine.old.state) (world_of machine.old.state) limit (W.taker writer.old) (W.taker writer.new) result }
+    ensures { Traces (code_of machine.old.state) (world_of_state machine.old.state) limit (W.taker writer.old) (W.taker writer.new) result }
 {
     for _ in 0..limit {
         let front = front_of(machine);

@@ -1,15 +1,14 @@
 //! The words of the command line.
 
-ghost use Rattle.std.specs.Prelude.{◌≡◌, ◌≤◌, [], None, Ok, IfOk, false, length};
+ghost use Rattle.std.specs.Prelude.{◌≡◌, ◌<◌, ◌↔◌, map, drop, length, string_bytes, IfOk, IfErr};
+ghost use Rattle.a2_trace.specs.Words.{Asked, Asks, asked_of, nothing_asked, HaveBadKeys, IsFaultOf};
 
 use crate::TraceFault;
 use a2_bus::Keys;
+use a2_run::step_limit;
 
 /// The most steps of a run without `--limit`.
 const DEFAULT_LIMIT: u32 = 1_000_000;
-
-/// The most that `--limit` takes.
-const MOST_STEPS: u32 = 100_000_000;
 
 /// What the words ask for.
 #[derive(Drop)]
@@ -24,61 +23,55 @@ pub struct Order<'a> {
     pub free: bool,
 }
 
-// What the next word is.
-#[derive(Clone, Copy, PartialEq, Eq)]
-enum Awaited {
-    // An option, or the file.
-    Word,
-    // What stands behind `--keys`.
-    Keys,
-    // What stands behind `--limit`.
-    Limit,
-}
-
-// A number of steps: 1 to 9 digits, at most 100,000,000.
-fn limit_of(word: &str) -> Result<u32, TraceFault>
-    ensures { IfOk result (λ limit. limit ≤ 100000000) }
+// Takes what stands first, an option or the file, which is the last word; the words behind it.
+fn take<'a>(order: &mut Order<'a>, words: &'a [String]) -> Result<&'a [String], TraceFault>
+    requires { 0 < length words.now }
+    ensures fewer { IfOk result (λ rest. length rest.now < length words.now) }
+    ensures asked { IfOk result (λ rest. (asked : Asked) → Asks (asked_of order.old) (map string_bytes words.now) asked
+        ↔ Asks (asked_of order.new) (map string_bytes rest.now) asked) }
+    ensures refused { IfErr result (λ _. (asked : Asked) → Asks (asked_of order.old) (map string_bytes words.now) asked → ⊥) }
+    ensures keys { IfOk result (λ rest. HaveBadKeys (map string_bytes words.now) ↔ HaveBadKeys (map string_bytes rest.now)) }
+    ensures told { IfErr result (λ fault. IsFaultOf (map string_bytes words.now) fault) }
 {
-    if word.len() > 9 || word.starts_with('+') {
-        return Err(TraceFault::Words);
-    }
-    match word.parse() {
-        Ok(limit) if limit <= MOST_STEPS => Ok(limit),
+    match words {
+        [word, rest @ ..] if word.as_str() == "--free" => {
+            order.free = true;
+            Ok(rest)
+        }
+        [word, text, rest @ ..] if word.as_str() == "--keys" => {
+            let Some(keys) = Keys::parse(text.as_str()) else {
+                return Err(TraceFault::Keys);
+            };
+            order.keys = keys;
+            Ok(rest)
+        }
+        [word, number, rest @ ..] if word.as_str() == "--limit" => {
+            let Some(limit) = step_limit(number.as_str()) else {
+                return Err(TraceFault::Words);
+            };
+            order.limit = limit;
+            Ok(rest)
+        }
+        [file] if !file.as_str().starts_with('-') => {
+            order.file = Some(file.as_str());
+            Ok(&[])
+        }
         _ => Err(TraceFault::Words),
     }
 }
 
-// Takes an option or the file; what stands behind it. Nothing stands behind the file.
-fn take_word<'a>(order: &mut Order<'a>, word: &'a str) -> Result<Awaited, TraceFault> {
-    if order.file.is_some() {
-        return Err(TraceFault::Words);
-    }
-    match word {
-        "--free" => order.free = true,
-        "--keys" => return Ok(Awaited::Keys),
-        "--limit" => return Ok(Awaited::Limit),
-        _ if word.starts_with('-') => return Err(TraceFault::Words),
-        _ => order.file = Some(word),
-    }
-    Ok(Awaited::Word)
-}
-
-// Takes a word that is awaited; what the next one is.
-fn take<'a>(order: &mut Order<'a>, word: &'a str, awaited: Awaited) -> Result<Awaited, TraceFault> {
-    match awaited {
-        Awaited::Word => return take_word(order, word),
-        Awaited::Keys => order.keys = Keys::parse(word).ok_or(TraceFault::Keys)?,
-        Awaited::Limit => order.limit = limit_of(word)?,
-    }
-    Ok(Awaited::Word)
-}
-
 /// What `words` ask for. The first is the program's name. The options `--keys K`, `--limit N` and `--free` stand before
-/// the file; of two of one name the later counts. Without a file the standard input is traced. Refused are other words,
-/// and keys that are badly spelt. This project's profile.
+/// the file; of two of one name the later counts. Without a file the standard input is traced; without options the run is
+/// guarded, no keys wait, and it has at most 1,000,000 steps. Refused are keys that are badly spelt, by
+/// `TraceFault::Keys`, and other words, by `TraceFault::Words`; of two such words the first is told. This project's
+/// profile.
+#[tactic(auto, using(crate::proofs::WordLaws::same_fault))]
 pub fn order_of(words: &[String]) -> Result<Order<'_>, TraceFault>
-    // Without words: the standard input, guarded, with no keys and at most 1,000,000 steps.
-    ensures plain { length words.now ≤ 1 → result ≡ Ok (record { file = None; keys = []; limit = 1000000; free = false }) }
+    ensures asked { IfOk result (λ order. Asks nothing_asked (drop 1 (map string_bytes words.now)) (asked_of order)) }
+    ensures only { IfOk result (λ order.
+        (other : Asked) → Asks nothing_asked (drop 1 (map string_bytes words.now)) other → other ≡ asked_of order) }
+    ensures refused { IfErr result (λ _. (asked : Asked) → Asks nothing_asked (drop 1 (map string_bytes words.now)) asked → ⊥) }
+    ensures told { IfErr result (λ fault. IsFaultOf (drop 1 (map string_bytes words.now)) fault) }
 {
     let mut order = Order {
         file: None,
@@ -86,15 +79,12 @@ pub fn order_of(words: &[String]) -> Result<Order<'_>, TraceFault>
         limit: DEFAULT_LIMIT,
         free: false,
     };
-    if words.len() <= 1 {
-        return Ok(order);
+    let mut rest = match words {
+        [] => words,
+        [_, rest @ ..] => rest,
+    };
+    while !rest.is_empty() {
+        rest = take(&mut order, rest)?;
     }
-    let mut awaited = Awaited::Word;
-    for word in &words[1..] {
-        awaited = take(&mut order, word.as_str(), awaited)?;
-    }
-    match awaited {
-        Awaited::Word => Ok(order),
-        _ => Err(TraceFault::Words),
-    }
+    Ok(order)
 }
