@@ -2,11 +2,12 @@
 use Rattle.std.specs.Prelude.{◌≡◌, ℕ, ◌+◌, ◌*◌, ◌%◌, ◌==◌, Bool, true, false, List, Some, None, refl}
 use Rattle.std.specs.List.{list_all}
 use Rattle.std.proofs.Common.{ap, ◌∙◌, subst}
+use Rattle.a2_text.specs.Bytes.{is_among}
 use Rattle.a2_bus.specs.Memory.{Memory, ram_byte}
 use Rattle.a2_services.specs.declared.Service.{Service}
 use Rattle.a2_services.specs.Services.{service_at, served}
 use Rattle.a2_services.specs.World.{World}
-use Rattle.a2_machine.specs.Meaning.{Code, is_among, return_address, service_cause}
+use Rattle.a2_machine.specs.Meaning.{Code, return_address, service_cause}
 use Rattle.a2_machine.proofs.Walks.{walked, Leads, and_then}
 use Rattle.a2_lessons.specs.Routines.{Keeps, entered}
 use Rattle.a2_lessons.proofs.Keeping.{after_stores, keeps_on, keeps_stores}

@@ -6,7 +6,7 @@ use Rattle.a2_machine.specs.Meaning.{Code}
 use Rattle.a2_machine.proofs.Walks.{Leads}
 use Rattle.a2_machine.proofs.Computing.{computing}
 use Rattle.a2_lessons.specs.Routines.{routine, entered, Keeps, word}
-use Rattle.a2_lessons.specs.Filling.{filling, Fills, FillingFills}
+use Rattle.a2_lessons.specs.Filling.{filling, FillsRange, FillingFills}
 use Rattle.a2_lessons.proofs.Returning.{does, finishes, home_on}
 use Rattle.a2_lessons.proofs.Keeping.{keeps_stores, keeps_same, keeps_all, keeps_word}
 use Rattle.a2_lessons.proofs.Arrays.{cells, is_cell, is_below, Have, storing, stored_below}
@@ -62,7 +62,7 @@ round memory low high k w some index left =
 pub filling_fills : FillingFills
 unfolding computing
 filling_fills memory bytes stack low high =
-    does 0x300 filling memory _ _ (Fills memory)
+    does 0x300 filling memory _ _ (FillsRange memory)
     (counting code 0x304 0xFD left_count (Left memory) (count memory) 6 13 _ 2 4 2 _ (entered 0x300 memory) (omega arith) (bytes 0x08)
     (_, refl, (((refl, refl, refl, refl), refl, refl), record { value = refl; filled = none; rest = keeps_same memory _ _ _ refl all }))
     (λ k w some index left. round memory low high k w some index left)

@@ -5,6 +5,7 @@ use Rattle.std.specs.List.{list_any}
 use Rattle.std.proofs.Common.{sym, ap, ◌∙◌, arith, inl, inr, true≢false}
 use Rattle.std.proofs.lemmas.Bool.{cases_lt, lt-ltb}
 use Rattle.std.proofs.lemmas.Bool.Decides.{nat_tests}
+use Rattle.a2_text.specs.Bytes.{is_among}
 use Rattle.a2_opcode.specs.declared.Mnemonic.TheVariants.{Lda, Sta}
 use Rattle.a2_opcode.specs.declared.Mode.TheVariants.{AbsoluteX, AbsoluteY, IndirectIndexed}
 use Rattle.a2_opcode.specs.Table.{fixed, paged}
@@ -17,7 +18,7 @@ use Rattle.a2_cpu.specs.Place.{zero_page_word, is_other_page}
 use Rattle.a2_cpu.specs.Registers.{Registers, one_if}
 use Rattle.a2_cpu.specs.Stores.{stores_of}
 use Rattle.a2_services.specs.World.{World}
-use Rattle.a2_machine.specs.Meaning.{Code, Decoded, is_among}
+use Rattle.a2_machine.specs.Meaning.{Code, Decoded}
 use Rattle.a2_machine.proofs.Walks.{walked}
 use Rattle.a2_lessons.proofs.Stepping.{Stands, step}
 

@@ -3,6 +3,7 @@ use Rattle.std.specs.Prelude.{◌≡◌, ℕ, ◌+◌, ◌*◌, ◌<◌, ◌≤�
 use Rattle.std.specs.List.{list_all}
 use Rattle.std.proofs.Common.{sym, ap, ap₂, ◌∙◌, arith, true≢false}
 use Rattle.std.proofs.lemmas.Bool.Decides.{nat_tests}
+use Rattle.a2_text.specs.Bytes.{is_among}
 use Rattle.a2_page.specs.declared.Page.{Page}
 use Rattle.a2_page.specs.declared.Page.TheVariants.{One, Two}
 use Rattle.a2_page.specs.Cells.{Cell, cell_at, address_of}
@@ -11,7 +12,6 @@ use Rattle.a2_page.proofs.Finding.{StandsAt, cell_at-stands}
 use Rattle.a2_bus.specs.Memory.{Memory, grid, with_grid, ram_byte, with_ram}
 use Rattle.a2_bus.proofs.Frame.{ram_byte-with_ram}
 use Rattle.a2_services.specs.World.{World}
-use Rattle.a2_machine.specs.Meaning.{is_among}
 use Rattle.a2_lessons.specs.Routines.{Keeps, entered, word}
 
 -- the memory after stores in their order, each an address and a byte

@@ -1,9 +1,10 @@
 use Rattle.std.specs.Prelude.{◌≡◌, ◌<◌, ℕ, suc, ◌+◌, ◌*◌, ◌%◌, nat_le, [], ◌∷◌, true, false, refl}
 use Rattle.std.proofs.Common.{ap, ◌∙◌, arith}
+use Rattle.a2_text.specs.Bytes.{is_among}
 use Rattle.a2_bus.specs.Memory.{Memory, ram_byte}
 use Rattle.a2_cpu.specs.Registers.{one_if}
 use Rattle.a2_services.specs.World.{World}
-use Rattle.a2_machine.specs.Meaning.{Code, is_among}
+use Rattle.a2_machine.specs.Meaning.{Code}
 use Rattle.a2_machine.proofs.Walks.{Leads}
 use Rattle.a2_machine.proofs.Computing.{computing}
 use Rattle.a2_lessons.specs.Routines.{routine, entered, HasBytes, Keeps, word}

@@ -2,6 +2,7 @@
 use Rattle.std.specs.Prelude.{◌≡◌, ◌==◌, true, false, Option, Some, None, Ok, Err, if◌then◌else◌}
 use Rattle.std.specs.List.{list_any}
 use Rattle.std.proofs.Common.{ap, ◌∙◌}
+use Rattle.a2_text.specs.Bytes.{is_among}
 use Rattle.a2_bus.specs.Memory.{memory_access}
 use Rattle.a2_cpu.specs.BusStep.{refusal_of}
 use Rattle.a2_cpu.specs.Instruction.{performed}
@@ -11,7 +12,7 @@ use Rattle.a2_services.specs.World.{World}
 use Rattle.a2_services.specs.Services.{service_at, served}
 use Rattle.a2_machine.specs.declared.Cause.{Cause}
 use Rattle.a2_machine.specs.declared.Cause.TheVariants.{Returned, CodeWrite}
-use Rattle.a2_machine.specs.Meaning.{Code, Decoded, is_among, service_cause, instruction_cause, cause_of_refusal, return_address, found_at_pc, stuck, stuck_at, next, next_at}
+use Rattle.a2_machine.specs.Meaning.{Code, Decoded, service_cause, instruction_cause, cause_of_refusal, return_address, found_at_pc, stuck, stuck_at, next, next_at}
 use Rattle.a2_machine.proofs.Walks.{walked}
 
 -- a world that is not stuck goes on to the next one

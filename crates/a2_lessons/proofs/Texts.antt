@@ -14,7 +14,7 @@ use Rattle.a2_hex.specs.Images.{held}
 use Rattle.a2_asm.specs.declared.program.Statement.{Statement}
 use Rattle.a2_asm.specs.Layout.{names}
 use Rattle.a2_asm.specs.Bytes as laid
-use Rattle.a2_asm.specs.Pass.{rows, layout_refusal}
+use Rattle.a2_asm.specs.Pass.{source_rows, layout_refusal}
 use Rattle.a2_asm.specs.Refusals.{IsLayoutRefusal}
 use Rattle.a2_asm.specs.Programs.{IsProgram, instr_at, is_code}
 use Rattle.a2_asm.proofs.MadeLaws.{IsMade, made-of, refusal-of}
@@ -33,7 +33,7 @@ use Rattle.a2_run.specs.declared.fault.RunFault.{RunFault}
 use Rattle.a2_run.specs.declared.fault.RunFault.TheVariants as fault
 use Rattle.a2_run.specs.Answers.{Answers}
 use Rattle.a2_run.specs.Meaning.{IsRefused, IsRun, output_of}
-use Rattle.a2_lessons.specs.Runs.{Told, Writes, Runs}
+use Rattle.a2_lessons.specs.Runs.{Told, RunWrites, Runs}
 
 -- A text's lines, statements and image
 
@@ -41,10 +41,10 @@ abbrev pub source_of : List ℕ → List BareLine
 source_of text = unwrap_or (read_source text) []
 
 abbrev pub statements_of : List ℕ → List Statement
-statements_of text = laid.statements (names (rows (source_of text))) (rows (source_of text))
+statements_of text = laid.statements_of (names (source_rows (source_of text))) (source_rows (source_of text))
 
 abbrev pub image_of : List ℕ → ℕ → Option ℕ
-image_of text = laid.image (names (rows (source_of text))) (rows (source_of text))
+image_of text = laid.image (names (source_rows (source_of text))) (source_rows (source_of text))
 
 -- the code of a text's statements, with the addresses of its bytes listed
 abbrev pub code_of : List ℕ → Code
@@ -62,13 +62,13 @@ is_in_ram text = list_all (λ n. nat_lt n ram_end) (code_bytes (statements_of te
 abbrev pub entry_of : List ℕ → Option ℕ
 entry_of text =
     if is_some (read_source text) && (not (is_some (layout_refusal (source_of text))) && is_in_ram text)
-    then laid.entry (rows (source_of text)) else None
+    then laid.first_instruction (source_rows (source_of text)) else None
 
 record IsAccepted (text : List ℕ) (entry : ℕ) : Type 0 where
   read : IsSource text (source_of text)
   accepted : layout_refusal (source_of text) ≡ None
   in_ram : is_in_ram text ≡ true
-  begins : laid.entry (rows (source_of text)) ≡ Some entry
+  begins : laid.first_instruction (source_rows (source_of text)) ≡ Some entry
 
 accepted : (text : List ℕ) (entry : ℕ) → entry_of text ≡ Some entry → IsAccepted text entry
 accepted text entry e = go (read_source text) (layout_refusal (source_of text)) (is_in_ram text) refl refl refl e
@@ -77,7 +77,7 @@ accepted text entry e = go (read_source text) (layout_refusal (source_of text)) 
     never h = absurd (false≢true (ap is_some h))
 
     go : (found : Option (List BareLine)) (refused : Option Fault) (in_ram : Bool) → read_source text ≡ found → layout_refusal (source_of text) ≡ refused
-        → is_in_ram text ≡ in_ram → (if is_some found && (not (is_some refused) && in_ram) then laid.entry (rows (source_of text)) else None) ≡ Some entry → IsAccepted text entry
+        → is_in_ram text ≡ in_ram → (if is_some found && (not (is_some refused) && in_ram) then laid.first_instruction (source_rows (source_of text)) else None) ≡ Some entry → IsAccepted text entry
     go None refused in_ram is not_refused low h = never h
     go (Some source) (Some f) in_ram is not_refused low h = never h
     go (Some source) None false is not_refused low h = never h
@@ -138,7 +138,7 @@ one_run text keys entry steps limit last is walk stops within attr cause output 
 
 writes : (text keys : List ℕ) (entry steps limit : ℕ) (last : World) → IsAccepted text entry
     → walked (code_of text) (start_of text entry keys) steps ≡ Some last → stuck (code_of text) last ≡ Some Returned → steps ≤ limit
-    → (attr : Bool) → Writes text keys limit attr (output_of attr (record { world = last; steps = steps; cause = Returned }))
+    → (attr : Bool) → RunWrites text keys limit attr (output_of attr (record { world = last; steps = steps; cause = Returned }))
 writes text keys entry steps limit last is walk stops within attr old new result h = go result h
   where
     output : List ℕ
@@ -170,9 +170,9 @@ pub prints : (text keys : List ℕ) (entry steps limit : ℕ) (attr : Bool) (out
     → is_some (walked (code_of text) (start_of text entry keys) steps) ≡ true
     → stuck (code_of text) (last_of text entry keys steps) ≡ Some Returned
     → output_of attr (record { world = last_of text entry keys steps; steps = steps; cause = Returned }) ≡ output
-    → steps ≤ limit → Writes text keys limit attr output
+    → steps ≤ limit → RunWrites text keys limit attr output
 prints text keys entry steps limit attr output is walks stops is_output within =
-    subst (Writes text keys limit attr) is_output
+    subst (RunWrites text keys limit attr) is_output
     (writes text keys entry steps limit (last_of text entry keys steps) (accepted text entry is) (there _ walks) stops within attr)
   where
     there : (o : Option World) → is_some o ≡ true → o ≡ Some (unwrap_or o (start_of text entry keys))

@@ -1,11 +1,11 @@
 -- Three bytes summed by a subroutine: the word at $09 becomes the sum of the bytes at $06, $07 and $08.
 use Rattle.std.specs.Prelude.{◌≡◌, ℕ, ◌+◌, ◌*◌, ◌/◌, Bool, List, [], ◌∷◌}
+use Rattle.a2_text.specs.Bytes.{is_among}
 use Rattle.a2_opcode.specs.declared.Instr.{Instr}
 use Rattle.a2_opcode.specs.declared.Mnemonic.TheVariants.{Adc, Bcc, Clc, Inc, Jsr, Lda, Rts, Sta}
 use Rattle.a2_opcode.specs.declared.Mode.TheVariants.{Absolute, Immediate, Implied, Relative, ZeroPage}
 use Rattle.a2_bus.specs.Memory.{Memory, ram_byte}
 use Rattle.a2_services.specs.World.{World}
-use Rattle.a2_machine.specs.Meaning.{is_among}
 use Rattle.a2_lessons.specs.Routines.{op, HasBytes, Returns, Does, Keeps, word}
 
 abbrev pub byte_sum : List Instr

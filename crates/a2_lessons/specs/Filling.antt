@@ -15,7 +15,7 @@ filling =
     ∷ op Dey Implied 0 ∷ op Sta IndirectIndexed 0x06 ∷ op Jmp Absolute 0x304
     ∷ op Rts Implied 0 ∷ []
 
-pub record Fills (memory : Memory) (last : World) : Type 0 where
+pub record FillsRange (memory : Memory) (last : World) : Type 0 where
   pub filled : (i : ℕ) → i < ram_byte memory 0x08 → ram_byte last.memory (word memory 0x06 + i) ≡ ram_byte memory 0x09
   pub rest : Keeps memory (λ a. nat_le (word memory 0x06) a && nat_lt a (word memory 0x06 + ram_byte memory 0x08)) last
 
@@ -24,4 +24,4 @@ pub record Fills (memory : Memory) (last : World) : Type 0 where
 abbrev pub FillingFills : Type 0
 FillingFills =
     (memory : Memory) → HasBytes memory → Returns memory → 0xC00 ≤ word memory 0x06 → word memory 0x06 + ram_byte memory 0x08 ≤ ram_end
-    → Does 0x300 filling memory (ram_byte memory 0x08 * 4 + 4) (ram_byte memory 0x08 * 13 + 15) (Fills memory)
+    → Does 0x300 filling memory (ram_byte memory 0x08 * 4 + 4) (ram_byte memory 0x08 * 13 + 15) (FillsRange memory)

@@ -4,7 +4,7 @@ use Rattle.std.specs.List.{concat}
 use Rattle.a2_cpu.specs.Registers.{Registers}
 use Rattle.a2_machine.specs.declared.Cause.TheVariants.{Returned}
 use Rattle.a2_machine.specs.Output.{register_line, cause_line}
-use Rattle.a2_lessons.specs.Runs.{Writes, blank_rows}
+use Rattle.a2_lessons.specs.Runs.{RunWrites, blank_rows}
 
 -- examples/lesson-greeting.s
 abbrev pub greeting : List ℕ
@@ -35,4 +35,4 @@ greeting_output =
 
 -- with every limit from 39 steps on, whatever keys wait
 abbrev pub GreetingGreets : Type 0
-GreetingGreets = (keys : List ℕ) (limit : ℕ) → 39 ≤ limit → Writes greeting keys limit false greeting_output
+GreetingGreets = (keys : List ℕ) (limit : ℕ) → 39 ≤ limit → RunWrites greeting keys limit false greeting_output

@@ -1,11 +1,11 @@
 -- The larger of two bytes: $08 becomes the larger of the bytes at $06 and $07.
 use Rattle.std.specs.Prelude.{◌≡◌, ℕ, nat_le, if◌then◌else◌, List, [], ◌∷◌}
+use Rattle.a2_text.specs.Bytes.{is_among}
 use Rattle.a2_opcode.specs.declared.Instr.{Instr}
 use Rattle.a2_opcode.specs.declared.Mnemonic.TheVariants.{Bcs, Cmp, Lda, Rts, Sta}
 use Rattle.a2_opcode.specs.declared.Mode.TheVariants.{Implied, Relative, ZeroPage}
 use Rattle.a2_bus.specs.Memory.{Memory, ram_byte}
 use Rattle.a2_services.specs.World.{World}
-use Rattle.a2_machine.specs.Meaning.{is_among}
 use Rattle.a2_lessons.specs.Routines.{op, Returns, Does, Keeps}
 
 abbrev pub larger : List Instr

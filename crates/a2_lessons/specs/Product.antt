@@ -1,11 +1,11 @@
 -- A byte times a byte: the word at $08 becomes the product of the bytes at $06 and $07, by repeated addition.
 use Rattle.std.specs.Prelude.{◌≡◌, ◌+◌, ◌*◌, List, [], ◌∷◌}
+use Rattle.a2_text.specs.Bytes.{is_among}
 use Rattle.a2_opcode.specs.declared.Instr.{Instr}
 use Rattle.a2_opcode.specs.declared.Mnemonic.TheVariants.{Adc, Beq, Clc, Dex, Jmp, Lda, Ldx, Rts, Sta}
 use Rattle.a2_opcode.specs.declared.Mode.TheVariants.{Absolute, Implied, Immediate, Relative, ZeroPage}
 use Rattle.a2_bus.specs.Memory.{Memory, ram_byte}
 use Rattle.a2_services.specs.World.{World}
-use Rattle.a2_machine.specs.Meaning.{is_among}
 use Rattle.a2_lessons.specs.Routines.{op, HasBytes, Returns, Does, Keeps, word}
 
 abbrev pub product : List Instr

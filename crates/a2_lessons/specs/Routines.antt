@@ -21,13 +21,13 @@ listed_at here [] address = None
 listed_at here (i ∷ rest) address = if here == address then Some i else listed_at (here + length_of i.mode) rest address
 
 -- the addresses of its bytes
-abbrev pub bytes_of : ℕ → List Instr → List ℕ
-bytes_of here [] = []
-bytes_of here (i ∷ rest) = numbers_from here (length_of i.mode) ++ bytes_of (here + length_of i.mode) rest
+abbrev pub code_addresses : ℕ → List Instr → List ℕ
+code_addresses here [] = []
+code_addresses here (i ∷ rest) = numbers_from here (length_of i.mode) ++ code_addresses (here + length_of i.mode) rest
 
 -- the code of a routine, whose bytes are protected
 abbrev pub routine : ℕ → List Instr → Code
-routine org listing = statements (listed_at org listing) (bytes_of org listing)
+routine org listing = statements (listed_at org listing) (code_addresses org listing)
 
 -- the world in which a routine is entered: with this memory, and registers as at the start
 abbrev pub entered : ℕ → Memory → World

@@ -20,8 +20,8 @@ Told output old new (Err Write) = Breaks old new output
 Told output old new (Err Memory) = Sends old new []
 
 -- whatever a guarded run of the text may answer with these keys and this limit, it is that
-abbrev pub Writes : (text keys : List ℕ) (limit : ℕ) (attr : Bool) (output : List ℕ) → Type 0
-Writes text keys limit attr output =
+abbrev pub RunWrites : (text keys : List ℕ) (limit : ℕ) (attr : Bool) (output : List ℕ) → Type 0
+RunWrites text keys limit attr output =
     (old new : Taker) (result : Result Cause RunFault)
     → Answers (IsRefused text) (IsRun text keys limit (record { free = false; attr = attr })) old new result → Told output old new result
 
@@ -30,7 +30,7 @@ Writes text keys limit attr output =
 abbrev pub Runs : (text keys : List ℕ) (steps : ℕ) → (World → Type 0) → Type 0
 Runs text keys steps Q =
     (last : World) × Q last
-    × ((limit : ℕ) (attr : Bool) → steps ≤ limit → Writes text keys limit attr (output_of attr (record { world = last; steps = steps; cause = Returned })))
+    × ((limit : ℕ) (attr : Bool) → steps ≤ limit → RunWrites text keys limit attr (output_of attr (record { world = last; steps = steps; cause = Returned })))
 
 -- so many blank rows of a picture
 abbrev pub blank_rows : ℕ → List ℕ

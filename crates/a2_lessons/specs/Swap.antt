@@ -1,11 +1,11 @@
 -- Two bytes exchanged.
 use Rattle.std.specs.Prelude.{◌≡◌, List, [], ◌∷◌}
+use Rattle.a2_text.specs.Bytes.{is_among}
 use Rattle.a2_opcode.specs.declared.Instr.{Instr}
 use Rattle.a2_opcode.specs.declared.Mnemonic.TheVariants.{Lda, Ldx, Rts, Sta, Stx}
 use Rattle.a2_opcode.specs.declared.Mode.TheVariants.{Implied, ZeroPage}
 use Rattle.a2_bus.specs.Memory.{Memory, ram_byte}
 use Rattle.a2_services.specs.World.{World}
-use Rattle.a2_machine.specs.Meaning.{is_among}
 use Rattle.a2_lessons.specs.Routines.{op, Returns, Does, Keeps}
 
 abbrev pub swap : List Instr

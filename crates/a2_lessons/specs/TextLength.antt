@@ -1,11 +1,11 @@
 -- The length of a text that ends in 0: the text begins at the address in $06 and $07, and $08 becomes its length.
 use Rattle.std.specs.Prelude.{◌≡◌, ◌≢◌, ◌<◌, ℕ, ◌+◌, ◌-◌, ◌*◌, ◌%◌, List, [], ◌∷◌}
+use Rattle.a2_text.specs.Bytes.{is_among}
 use Rattle.a2_opcode.specs.declared.Instr.{Instr}
 use Rattle.a2_opcode.specs.declared.Mnemonic.TheVariants.{Beq, Iny, Jmp, Lda, Ldy, Rts, Sty}
 use Rattle.a2_opcode.specs.declared.Mode.TheVariants.{Absolute, Implied, Immediate, IndirectIndexed, Relative, ZeroPage}
 use Rattle.a2_bus.specs.Memory.{Memory, ram_byte, ram_end}
 use Rattle.a2_services.specs.World.{World}
-use Rattle.a2_machine.specs.Meaning.{is_among}
 use Rattle.a2_lessons.specs.Routines.{op, HasBytes, Returns, Does, Keeps, word}
 
 abbrev pub text_length : List Instr

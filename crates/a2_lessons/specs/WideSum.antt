@@ -1,11 +1,11 @@
 -- A 16-bit addition: the word at $0A becomes the sum of the words at $06 and $08.
 use Rattle.std.specs.Prelude.{◌≡◌, ◌+◌, ◌%◌, nat_le, List, [], ◌∷◌}
+use Rattle.a2_text.specs.Bytes.{is_among}
 use Rattle.a2_opcode.specs.declared.Instr.{Instr}
 use Rattle.a2_opcode.specs.declared.Mnemonic.TheVariants.{Clc, Lda, Adc, Sta, Rts}
 use Rattle.a2_opcode.specs.declared.Mode.TheVariants.{Implied, ZeroPage}
 use Rattle.a2_bus.specs.Memory.{Memory}
 use Rattle.a2_services.specs.World.{World}
-use Rattle.a2_machine.specs.Meaning.{is_among}
 use Rattle.a2_lessons.specs.Routines.{op, HasBytes, Returns, Does, Keeps, word}
 
 abbrev pub wide_sum : List Instr

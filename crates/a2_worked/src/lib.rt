@@ -1,9 +1,11 @@
-//! Worked examples that several crates of tests run: their texts, and the whole of what they give.
+//! Worked examples that several crates of tests run: their texts, the whole of what they give, and debuggers of them.
 #![tactic(auto)]
 
+mod debuggers;
 mod pages;
 mod sessions;
 
+pub use debuggers::debugger_of;
 pub use pages::{Grid, Rows, put_grid, put_page};
 pub use sessions::{DEBUGGER_OUTPUT, DEBUGGER_SCRIPT, MONITOR_SESSION, POLLS, SPINS, script_of};
 

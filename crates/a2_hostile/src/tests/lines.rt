@@ -1,12 +1,10 @@
 //! One line of a session whose writer fails at each place: what the line says has been done.
 
-use a2_asm::assemble;
 use a2_debug::{DebugFault, Debugger};
 use a2_machine::Machine;
 use a2_monitor::{MonFault, Session};
 use a2_stream::{Failing, Pinched, ToWrite};
-use a2_syntax::parse;
-use a2_worked::POLLS;
+use a2_worked::{POLLS, debugger_of};
 use std::process::Abort;
 use std::test::Fail;
 
@@ -92,19 +90,6 @@ fn refused_monitor_lines(rt: HostRuntime) -> Result<(), Fail> {
     Ok(())
 }
 
-fn debugger(rt: &impl AllocGlobal) -> Result<Debugger, DebugFault> {
-    let Ok(source) = parse(rt.alloc(), POLLS.as_bytes()) else {
-        return Err(DebugFault::Syntax);
-    };
-    let Ok(program) = assemble(rt.alloc(), &source) else {
-        return Err(DebugFault::Syntax);
-    };
-    let Ok(machine) = Machine::new(rt.alloc()) else {
-        return Err(DebugFault::Memory);
-    };
-    Debugger::new(rt.alloc(), machine, program)
-}
-
 // The line writes this, as far as it comes.
 fn debugs(
     rt: &(impl Abort + AllocGlobal),
@@ -140,7 +125,7 @@ const BACK: &str = "A=00 X=00 Y=00 P=30 S=FD PC=0300 STEPS=0 CYCLES=0\n";
 // to the start forgets the key.
 #[test]
 fn each_write_of_a_debugger_line_fails(rt: HostRuntime) -> Result<(), Fail> {
-    let mut session = match debugger(&rt) {
+    let mut session = match debugger_of(&rt, POLLS) {
         Ok(session) => session,
         Err(fault) => return Err(Fail::from(fault.text())),
     };

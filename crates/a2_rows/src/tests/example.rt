@@ -1,7 +1,9 @@
 //! How an example is run, and compared whole.
 
+use super::machines::{guarded, program_of};
 use a2_bus::Keys;
 use a2_machine::Cause;
+use a2_page::{print, print_attributes};
 use a2_run::{Options, RunFault, asm_text, run_text, status};
 use a2_stream::{FromRead, Input, Output, ToWrite};
 use a2_worked::{Grid, Rows, put_grid, put_page};
@@ -145,10 +147,44 @@ fn shows_under(
     Ok(())
 }
 
-/// The run gives what the example says; and where its guard stopped nothing, the free run gives the same.
+// After its first hundred steps and at its end the machine prints, by rows that it kept, what is printed of its view.
+fn prints_alike(rt: &(impl Abort + AllocGlobal), run: Run) -> Result<(), Fail> {
+    let program = program_of(rt, run.source.as_bytes())?;
+    let mut machine = guarded(rt, &program)?;
+    if run.options.free {
+        machine.free();
+    }
+    let keys = Keys::parse(run.keys).unwrap_or(Keys::new());
+    assert!(rt; machine.type_keys(&keys).is_ok());
+    let first = run.limit.min(100);
+    for limit in [first, run.limit - first] {
+        let _ = machine.run(limit);
+        let mut kept = Vec::new(rt.alloc());
+        let mut plain = Vec::new(rt.alloc());
+        assert_eq!(rt; machine.print(&mut ToWrite::new(&mut kept)), Ok(()));
+        assert_eq!(rt;
+            machine.print_attributes(&mut ToWrite::new(&mut kept)),
+            Ok(())
+        );
+        assert_eq!(rt;
+            print(&machine.view(), &mut ToWrite::new(&mut plain)),
+            Ok(())
+        );
+        assert_eq!(rt;
+            print_attributes(&machine.view(), &mut ToWrite::new(&mut plain)),
+            Ok(())
+        );
+        assert_eq!(rt; kept.as_slice(), plain.as_slice(), "{}", run.source);
+    }
+    Ok(())
+}
+
+/// The run gives what the example says; and where its guard stopped nothing, the free run gives the same. The machine prints
+/// its screen alike by kept rows and without.
 pub fn shows(rt: &(impl Abort + AllocGlobal), run: Run) -> Result<(), Fail> {
     let text = output_of(rt.alloc(), run)?;
     shows_under(rt, run, run.options, text.as_slice())?;
+    prints_alike(rt, run)?;
     if run.options.free || matches!(run.cause, Cause::CodeWrite | Cause::OffStatement) {
         return Ok(());
     }

@@ -3,18 +3,20 @@
 use a2_asm::{Program, a_source_has_one_layout, assemble};
 use a2_bus::Keys;
 use a2_machine::{Cause, Machine};
+use a2_stream::ToWrite;
 use a2_syntax::{Fault, parse};
 use a2_worked::FIVE_LINES;
 use std::alloc::AllocError;
 use std::test::Fail;
 
-fn program_of(rt: &impl AllocGlobal, text: &[u8]) -> Result<Program, Fault> {
+/// The program of a text.
+pub fn program_of(rt: &impl AllocGlobal, text: &[u8]) -> Result<Program, Fault> {
     let source = parse(rt.alloc(), text)?;
     assemble(rt.alloc(), &source)
 }
 
-// A machine under the guard of a program, at its start.
-fn guarded(rt: &impl AllocGlobal, program: &Program) -> Result<Machine, AllocError> {
+/// A machine under the guard of a program, at its start.
+pub fn guarded(rt: &impl AllocGlobal, program: &Program) -> Result<Machine, AllocError> {
     let mut machine = Machine::new(rt.alloc())?;
     machine.boot(program.image(), program.entry());
     machine.guard(program);
@@ -59,6 +61,31 @@ fn steps_of_a_machine(rt: HostRuntime) -> Result<(), Fail> {
     machine.boot(program.image(), program.entry());
     assert_eq!(rt; machine.run(3), Cause::Limit);
     assert_eq!(rt; (machine.steps(), machine.made()), (3, 8));
+    Ok(())
+}
+
+// Who looks again sees the rows that changed since: a poke marks its row, a run the row that it wrote.
+#[test]
+fn rows_that_changed(rt: HostRuntime) -> Result<(), Fail> {
+    let program = program_of(&rt, FIVE_LINES.as_bytes())?;
+    let mut machine = guarded(&rt, &program)?;
+    let mut shown = Vec::new(rt.alloc());
+    for row in 0..24u8 {
+        assert!(rt; machine.marked(row));
+    }
+    assert_eq!(rt; machine.print(&mut ToWrite::new(&mut shown)), Ok(()));
+    machine.poke(0x0480, 0xA0);
+    for row in 0..24u8 {
+        assert_eq!(rt; machine.marked(row), row == 1);
+    }
+    assert_eq!(rt; machine.print(&mut ToWrite::new(&mut shown)), Ok(()));
+    assert_eq!(rt; machine.run(9), Cause::Returned);
+    for row in 0..24u8 {
+        assert_eq!(rt; machine.marked(row), row == 0);
+    }
+    let mut other = Machine::new(rt.alloc())?;
+    other.copy_from(&machine);
+    assert!(rt; other.marked(0) && !other.marked(1));
     Ok(())
 }
 

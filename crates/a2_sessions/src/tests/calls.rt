@@ -1,11 +1,9 @@
 //! Calls of a debugger, one after another, with what each leaves of its counts.
 
-use a2_asm::assemble;
 use a2_bus::Keys;
 use a2_debug::{DebugFault, Debugger, Halt};
-use a2_machine::{Cause, Machine};
-use a2_syntax::parse;
-use a2_worked::{POLLS, SPINS};
+use a2_machine::Cause;
+use a2_worked::{POLLS, SPINS, debugger_of};
 use std::process::Abort;
 use std::test::Fail;
 
@@ -20,20 +18,6 @@ enum Call {
 /// The count, the oldest count that can be gone back to, the steps that the last `back` made again, and those made in
 /// all.
 type Counts = (u32, u32, u32, u128);
-
-/// A debugger of the source at its start.
-fn debugger(rt: &impl AllocGlobal, source: &str) -> Result<Debugger, DebugFault> {
-    let Ok(parsed) = parse(rt.alloc(), source.as_bytes()) else {
-        return Err(DebugFault::Syntax);
-    };
-    let Ok(program) = assemble(rt.alloc(), &parsed) else {
-        return Err(DebugFault::Syntax);
-    };
-    let Ok(machine) = Machine::new(rt.alloc()) else {
-        return Err(DebugFault::Memory);
-    };
-    Debugger::new(rt.alloc(), machine, program)
-}
 
 // Makes the call; answers its refusal, and refuses steps that end otherwise than by their limit.
 fn make(session: &mut Debugger, call: Call) -> Result<(), DebugFault> {
@@ -69,7 +53,7 @@ fn goes(
     source: &str,
     calls: &[(Call, Result<(), DebugFault>, Counts)],
 ) -> Result<(), Fail> {
-    let mut session = match debugger(rt, source) {
+    let mut session = match debugger_of(rt, source) {
         Ok(session) => session,
         Err(fault) => return Err(Fail::from(fault.text())),
     };
