@@ -1,4 +1,5 @@
-//! What the processor reads and writes: RAM, a keyboard and display switches. Apple II Reference Manual (1979), the memory map and pages 6, 12 and 79.
+//! What the processor reads and writes: RAM, a keyboard and display switches. Apple II Reference Manual (1979), the memory map
+//! and pages 6, 12 and 79.
 
 ghost use Rattle.std.specs.Prelude.{◌≡◌, ◌<◌, ◌≤◌, ◌++◌, ◌∷◌, [], ◌+◌, ◌%◌, ℕ, length, All, IfOk, IsOk, OnErr, OnOk, ◌↔◌, List, None, slice_index, slice_range, replicate, unwrap_or, true, false};
 ghost use Rattle.a2_bus.specs.Devices.{Devices, keyboard_byte, key_taken, device_byte, after_access, keys_typed, switched};
@@ -25,7 +26,7 @@ const KBD: u16 = 0xC000;
 const KBDSTRB: u16 = 0xC010;
 
 // The display switches.
-const TXTCLR: u16 = 0xC050;
+pub const TXTCLR: u16 = 0xC050;
 
 const TXTSET: u16 = 0xC051;
 
@@ -39,7 +40,7 @@ const HISCR: u16 = 0xC055;
 
 const LORES: u16 = 0xC056;
 
-const HIRES: u16 = 0xC057;
+pub const HIRES: u16 = 0xC057;
 
 // How many bytes of RAM are copied at once.
 const PIECE: usize = 2048;
@@ -152,7 +153,9 @@ impl<A: Allocator> AddressSpace<A> {
     pub fn move_bytes(&mut self, from: u16, to: u16, count: u16)
         requires from { from + count ≤ 49152 }
         requires to { to + count ≤ 49152 }
-        ensures moved { self.new ≡ record self.old { bytes = with_part self.old.bytes to (slice_range self.old.bytes from (from + count)) } }
+        ensures moved { self.new ≡ record self.old {
+          bytes = with_part self.old.bytes to (slice_range self.old.bytes from (from + count));
+        } }
         ensures size { length self.old.bytes ≡ 49152 }
     {
         let first = usize::from(from);
@@ -174,7 +177,8 @@ impl<A: Allocator> AddressSpace<A> {
 
     /// RAM, the 49,152 bytes from address 0 on, for a caller that reads and stores there alone.
     pub fn ram_mut(&mut self) -> &mut [u8]
-        ensures* writes_back { sem 𝓛 (follows (the_row A.row A.Allocator) (Array byte 0) self.entry.ghost_name result.ghost_name (with_bytes self.old)) }
+        ensures* writes_back { sem 𝓛 (follows (the_row A.row A.Allocator) (Array byte 0)
+            self.entry.ghost_name result.ghost_name (with_bytes self.old)) }
         ensures bytes { result.now ≡ self.old.bytes }
         ensures size { length self.old.bytes ≡ 49152 }
     {
