@@ -127,7 +127,8 @@ impl<A: Allocator> Machine<A> {
     /// Guards `program` from the next step on, in place of any earlier guard: an instruction begins only where one of
     /// its instruction statements does, and nothing is stored at the addresses of their bytes. This project's profile.
     pub fn guard<C: Allocator>(&mut self, program: &Program<C>)
-        ensures { self.new ≡ (let s = self.old.state in record self.old { state = record s { guard = Some (guard_of_program program.now) } }) }
+        ensures { self.new ≡ (let s = self.old.state in
+            record self.old { state = record s { guard = Some (guard_of_program program.now) } }) }
     {
         self.watch.set(program);
     }
@@ -221,7 +222,8 @@ impl<A: Allocator> Machine<A> {
 
     /// Puts this machine where `other` is: registers, board, cycles and steps since the start. Guard and `made` stay.
     pub fn restore<C: Allocator>(&mut self, other: &Machine<C>)
-        ensures { self.new ≡ (let guard = self.old.state.guard in let s = other.now.state in record self.old { state = record s { guard = guard } }) }
+        ensures { self.new ≡ (let guard = self.old.state.guard in let s = other.now.state in
+            record self.old { state = record s { guard = guard } }) }
     {
         self.board.copy_from(&other.board);
         self.regs = other.regs;
@@ -263,7 +265,8 @@ impl<A: Allocator> Machine<A> {
     /// $68 and $FF, which send a last RTS to $FF69. No step is made, and all else stays. This project's profile.
     pub fn set_pc(&mut self, address: u16)
         ensures world { world_of_state self.new.state ≡ called_at address (world_of_state self.old.state) }
-        ensures left { self.new ≡ (let s = self.old.state in record self.old { state = record s { regs = self.new.state.regs; bus = self.new.state.bus } }) }
+        ensures left { self.new ≡ (let s = self.old.state in
+            record self.old { state = record s { regs = self.new.state.regs; bus = self.new.state.bus } }) }
     {
         self.regs.pc = address;
         self.regs.s = 0xFD;
