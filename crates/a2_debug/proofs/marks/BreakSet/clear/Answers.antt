@@ -8,8 +8,9 @@ use Rattle.a2_debug.proofs.marks.BreakSet.clear.Goals as goal
 pub invariant_of-self : goal.invariant_of-self
 invariant_of-self g c =
     let kept = filter_same _ (λ mark. not (mark == c.args.address)) _ (λ x b f' k. search rules) _ _ c.retain.ensures.filtered in (
-      subst (λ (places : List ℕ). AreMarked places (slice_set c.self.inside.marked.items c.args.address false)) (sym kept)
-          (mark_cleared c.self.inside.places.items c.self.inside.marked.items c.args.address (omega arith) c.self.invariant.0),
+      subst (λ (places : List ℕ). AreMarked places (slice_set c.deref_mut.result.now c.args.address false)) (sym kept)
+          (mark_cleared c.self.inside.places.items c.deref_mut.result.now c.args.address (omega arith)
+          (subst (AreMarked c.self.inside.places.items) (sym c.deref_mut.ensures.value) c.self.invariant.0)),
       omega (arith, c.retain.ensures.capacity, c.self.invariant.1),
     )
 
