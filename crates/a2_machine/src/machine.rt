@@ -37,7 +37,7 @@ const MOST_STEPS: u64 = 1_000_000_000_000;
 /// The entry of a machine with nothing loaded.
 const FIRST_ENTRY: u16 = 0x0300;
 
-// A count of 64 bits is below 2^64, which the clauses of a field do not tell.
+// For the prover alone: a count of 64 bits is below 2^64, which the clauses of a field do not tell.
 fn keeps_count(count: u64)
     ensures { count < 2 ^ 64 }
 {

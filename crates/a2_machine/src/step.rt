@@ -41,7 +41,7 @@ fn outcome_of(step: GuardedStep) -> Outcome
     }
 }
 
-// A byte is below 256, which the clauses of a register behind a reference do not tell.
+// For the prover alone: a byte is below 256, which the clauses of a register behind a reference do not tell.
 #[inline(always)]
 fn keeps_range(byte: u8)
     ensures { byte < 256 }

@@ -46,7 +46,8 @@ pub(crate) fn rdkey<A: Allocator>(live: &mut Live, space: &AddressSpace<A>)
 #[inline(always)]
 fn go_through<A: Allocator>(hook: u16, live: &mut Live, space: &AddressSpace<A>)
     requires { hook + 1 < 49152 }
-    ensures gone { (cycles : ℕ) → world_of (live_registers live.new) space.now cycles ≡ through hook (world_of (live_registers live.old) space.now cycles) }
+    ensures gone { (cycles : ℕ) → world_of (live_registers live.new) space.now cycles
+        ≡ through hook (world_of (live_registers live.old) space.now cycles) }
     ensures cycles { live.new.cycles ≡ live.old.cycles }
     ensures size { length space.now.bytes ≡ 49152 }
 {
