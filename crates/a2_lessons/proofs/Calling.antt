@@ -1,7 +1,7 @@
 -- Calls of subroutines, the author's own or services: each call is one part of a run.
 use Rattle.std.specs.Prelude.{◌≡◌, ℕ, ◌+◌, ◌*◌, ◌%◌, ◌==◌, Bool, true, false, List, Some, None, refl}
 use Rattle.std.specs.List.{list_all}
-use Rattle.std.proofs.Common.{ap, ◌∙◌, subst}
+use Rattle.std.proofs.Common.{◌∙◌, subst}
 use Rattle.a2_text.specs.Bytes.{is_among}
 use Rattle.a2_bus.specs.Memory.{Memory, ram_byte}
 use Rattle.a2_services.specs.declared.Service.{Service}

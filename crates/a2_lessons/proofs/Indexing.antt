@@ -1,6 +1,6 @@
 -- Loads and stores by an index, at addresses that are not known by value: one step each. And what they cost in all where the
 -- index leads into another page.
-use Rattle.std.specs.Prelude.{◌≡◌, ◌<◌, ◌≤◌, ◌⊎◌, ℕ, ◌+◌, ◌-◌, ◌/◌, ◌%◌, ◌==◌, [], ◌∷◌, Bool, true, false, not, ◌||◌, nat_lt, Option, Some, None, if◌then◌else◌, refl}
+use Rattle.std.specs.Prelude.{◌≡◌, ◌<◌, ◌≤◌, ◌⊎◌, ℕ, ◌+◌, ◌-◌, ◌/◌, ◌%◌, ◌==◌, [], ◌∷◌, Bool, true, false, not, ◌||◌, nat_lt, Some, None, if◌then◌else◌, refl}
 use Rattle.std.specs.List.{list_any}
 use Rattle.std.proofs.Common.{sym, ap, ◌∙◌, arith, inl, inr, true≢false}
 use Rattle.std.proofs.lemmas.Bool.{cases_lt, lt-ltb}
@@ -10,7 +10,7 @@ use Rattle.a2_opcode.specs.declared.Mnemonic.TheVariants.{Lda, Sta}
 use Rattle.a2_opcode.specs.declared.Mode.TheVariants.{AbsoluteX, AbsoluteY, IndirectIndexed}
 use Rattle.a2_opcode.specs.Table.{fixed, paged}
 use Rattle.a2_bus.specs.Devices.{device_byte, after_access}
-use Rattle.a2_bus.specs.Memory.{Memory, ram_byte, with_ram, ram_end, memory_access}
+use Rattle.a2_bus.specs.Memory.{ram_byte, with_ram, ram_end, memory_access}
 use Rattle.a2_cpu.specs.BusStep.{refusal_of}
 use Rattle.a2_cpu.specs.Effect.{effect_of, to_a}
 use Rattle.a2_cpu.specs.Instruction.{performed, after_effect}

@@ -1,5 +1,5 @@
 -- Loops over a text: LDA (zp),Y at the top, BEQ leaves at the 0 behind the text, and Y goes up by one each round.
-use Rattle.std.specs.Prelude.{◌≡◌, ◌≢◌, ◌<◌, ◌≤◌, ℕ, suc, ◌+◌, ◌*◌, ◌%◌, ◌==◌, Bool, true, false, Some}
+use Rattle.std.specs.Prelude.{◌≡◌, ◌≢◌, ◌<◌, ℕ, suc, ◌+◌, ◌*◌, ◌%◌, ◌==◌, Bool, true, false, Some}
 use Rattle.std.proofs.Common.{sym, ap, ◌∙◌, arith}
 use Rattle.a2_opcode.specs.declared.Mnemonic.TheVariants.{Lda}
 use Rattle.a2_opcode.specs.declared.Mode.TheVariants.{IndirectIndexed}

@@ -1,11 +1,11 @@
-use Rattle.std.specs.Prelude.{◌≡◌, ◌<◌, ◌≤◌, ℕ, ◌+◌, ◌*◌, ◌/◌, ◌%◌, [], ◌∷◌, Bool, true, false, refl}
+use Rattle.std.specs.Prelude.{◌≡◌, ◌<◌, ℕ, ◌+◌, ◌*◌, ◌/◌, ◌%◌, [], ◌∷◌, true, false, refl}
 use Rattle.std.proofs.Common.{arith}
 use Rattle.a2_text.specs.Bytes.{is_among}
-use Rattle.a2_bus.specs.Memory.{Memory, ram_byte}
+use Rattle.a2_bus.specs.Memory.{ram_byte}
 use Rattle.a2_services.specs.World.{World}
 use Rattle.a2_machine.specs.Meaning.{Code}
 use Rattle.a2_machine.proofs.Computing.{computing}
-use Rattle.a2_lessons.specs.Routines.{routine, entered, HasBytes, Returns, Keeps, word}
+use Rattle.a2_lessons.specs.Routines.{routine, entered, Keeps}
 use Rattle.a2_lessons.specs.ByteSum.{byte_sum, changes, SumsBytes, ByteSumSums}
 use Rattle.a2_lessons.proofs.Returning.{does, finishes, home_on}
 use Rattle.a2_lessons.proofs.Keeping.{kept, keeps_all, keeps_same}

@@ -1,5 +1,5 @@
 -- Words that name a file behind --.
-use Rattle.std.proofs.Common.{sym, ap, subst, arith, ◌≡◌, ◌≤◌, ◌<◌, ◌∙◌, ℕ, List, [], ◌∷◌, length, map, codes, Some, refl, String, Global, string_bytes, get_or}
+use Rattle.std.proofs.Common.{sym, ap, arith, ◌≡◌, ◌≤◌, ◌<◌, ◌∙◌, List, [], ◌∷◌, length, map, codes, Some, String, Global, string_bytes, get_or}
 use Rattle.a2_list.specs.Words.{IsNamed}
 
 pub behind-end : (words : List (String Global)) (end file : String Global) → 3 ≤ length words → length words < 4

@@ -1,4 +1,4 @@
-use Rattle.std.proofs.Common.{sym, ap, subst, ◌∙◌, ◌≡◌, List, ℕ, Some, map, string_bytes}
+use Rattle.std.proofs.Common.{sym, subst, ◌∙◌, Some, map, string_bytes}
 use Rattle.std.proofs.lemmas.Slice.Eq.{bytes_eq-Decides}
 use Rattle.a2_list.specs.Words.{IsNamed}
 use Rattle.a2_list.proofs.WordLaws.{behind-end}

@@ -1,4 +1,4 @@
-use Rattle.std.specs.Prelude.{◌≡◌, ◌<◌, ◌/◌}
+use Rattle.std.specs.Prelude.{◌<◌, ◌/◌}
 use Rattle.std.proofs.Common.{◌∙◌, ap, arith}
 use Rattle.a2_bus.specs.Memory.{ram_byte, with_ram}
 use Rattle.a2_bus.specs.View.{memory_of}
