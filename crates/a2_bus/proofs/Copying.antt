@@ -7,17 +7,17 @@ use Rattle.std.proofs.lemmas.Slice.{take-put_mid}
 use borrow.Rule.Slice.PartMut.{put_mid}
 
 -- a piece more, behind those that are copied
-pub piece_copied : (ram other cells : List ℕ) (start k : ℕ) → start + 2048 ≤ length ram → start + 2048 ≤ length other → k ≡ 2048
+pub piece_copied : (ram other cells : List ℕ) (start k : ℕ) → start + 3072 ≤ length ram → start + 3072 ≤ length other → k ≡ 3072
     → cells ≡ take k (drop start other) → take start ram ≡ take start other
-    → take (start + 2048) (put_mid start k ram cells) ≡ take (start + 2048) other
+    → take (start + 3072) (put_mid start k ram cells) ≡ take (start + 3072) other
 piece_copied ram other cells start k fits there whole is done =
-    take-put_mid start k ram cells (start + 2048) (omega (arith, long)) (omega (arith, fits))
+    take-put_mid start k ram cells (start + 3072) (omega (arith, long)) (omega (arith, fits))
     ∙ ap (λ front. front ++ cells) done
     ∙ ap (λ back. take start other ++ back) piece
-    ∙ sym (take-add start 2048 other)
+    ∙ sym (take-add start 3072 other)
   where
-    piece : cells ≡ take 2048 (drop start other)
+    piece : cells ≡ take 3072 (drop start other)
     piece = is ∙ ap (λ n. take n (drop start other)) whole
 
-    long : length cells ≡ 2048
-    long = ap length piece ∙ length-take-le 2048 (drop start other) (omega (arith, there, length-drop start other))
+    long : length cells ≡ 3072
+    long = ap length piece ∙ length-take-le 3072 (drop start other) (omega (arith, there, length-drop start other))

@@ -43,7 +43,7 @@ const LORES: u16 = 0xC056;
 pub const HIRES: u16 = 0xC057;
 
 // How many bytes of RAM are copied at once.
-const PIECE: usize = 2048;
+const PIECE: usize = 3072;
 
 // Text of page 1.
 const FIRST_SWITCHES: Switches = Switches {

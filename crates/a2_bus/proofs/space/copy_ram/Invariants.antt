@@ -3,4 +3,4 @@ use Rattle.a2_bus.proofs.space.copy_ram.Given as goal
 
 -- the pieces so far are the other's
 abbrev pub invariant-loop-piece : goal.invariant-loop-piece
-invariant-loop-piece l = take (l.piece * 2048) l.ram ≡ take (l.piece * 2048) l.other
+invariant-loop-piece l = take (l.piece * 3072) l.ram ≡ take (l.piece * 3072) l.other
