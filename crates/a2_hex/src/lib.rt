@@ -6,8 +6,6 @@ mod image;
 mod load;
 mod numbers;
 mod store;
-#[cfg(test)]
-mod tests;
 mod write;
 
 pub use fault::HexFault;

@@ -125,6 +125,3 @@ pub enum Served {
     /// They lie there, but the keys that the service needs are not waiting, and nothing changed. [`refusal`] tells both.
     Keys,
 }
-
-#[cfg(test)]
-mod tests;

@@ -26,6 +26,3 @@ pub use source::{
     Body, Bytes, Expr, Exprs, Line, Name, Operand, Part, Signed, Source, Term, Terms,
 };
 pub use word::is_name;
-
-#[cfg(test)]
-mod tests;

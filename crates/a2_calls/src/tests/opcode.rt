@@ -2,7 +2,7 @@
 
 ghost use Rattle.std.specs.Prelude.{◌<◌, length};
 
-use crate::{
+use a2_opcode::{
     Instr, Mnemonic, Mode, decode, encode, list_line, row_for, row_of, table_is_a_function,
 };
 use std::process::Abort;

@@ -1,9 +1,9 @@
 //! Worked calls on a board as it starts: what they leave on the screen, in the registers and in the line.
 
-use crate::{Served, Service, call, reach, refusal, service_at};
 use a2_bus::{AddressSpace, Bus, Keys};
 use a2_cpu::Regs;
 use a2_cpu::live::Live;
+use a2_services::{Served, Service, call, reach, refusal, service_at};
 use std::test::Fail;
 
 // A board as it starts, with these keys waiting.

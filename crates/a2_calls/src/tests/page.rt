@@ -1,6 +1,9 @@
 //! Worked examples of cells and pictures.
 
-use super::*;
+use a2_page::{
+    Attribute, Half, Page, Picture, Switches, View, address, attribute_of, block, cell, glyph,
+    print, print_attributes, set_block,
+};
 use a2_stream::{Failing, Pinched, ToWrite, WriteFault};
 use std::test::Fail;
 

@@ -2,10 +2,10 @@
 
 ghost use Rattle.std.specs.Prelude.{◌≡◌, ◌==◌};
 
-use crate::run::{guarded_step, step};
-use crate::writes::writes;
-use crate::{GuardedStep, NoProtection, Protection, Regs, Status, Step, guarded_refusal};
 use a2_bus::{Bus, Flat};
+use a2_cpu::run::{guarded_step, step};
+use a2_cpu::writes::writes;
+use a2_cpu::{GuardedStep, NoProtection, Protection, Regs, Status, Step, guarded_refusal};
 use std::test::Fail;
 
 // One protected address.

@@ -1,8 +1,11 @@
 //! Readers and writers of std that count their calls, which no contract of std's sees.
 
-use super::*;
+use a2_stream::{
+    Endless, Failing, FromRead, Input, Output, Pinched, ReadFault, ToWrite, WriteFault, fill, put,
+    put_all,
+};
 use std::alloc::Global;
-use std::io::{Error, ErrorKind};
+use std::io::{Error, ErrorKind, Read, Write};
 use std::test::Fail;
 
 // The kinds that std's own loops try again, or that mean 'later', and one that means neither.

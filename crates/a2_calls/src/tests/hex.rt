@@ -1,6 +1,6 @@
 //! Worked examples of object lines.
 
-use crate::{HexFault, Image, address_of, byte_of, load_lines, write_lines};
+use a2_hex::{HexFault, Image, address_of, byte_of, load_lines, write_lines};
 use a2_stream::{Failing, Pinched, ToWrite, WriteFault};
 
 #[test]

@@ -1,11 +1,11 @@
 //! Worked texts.
 
-use crate::{
+use a2_opcode::Mnemonic;
+use a2_syntax::{
     Body, Expr, Fault, Operand, Part, Term, a_listed_operand_is_its_operand, a_listing_is_its_line,
     a_refused_text_is_no_source, a_text_has_one_refusal, a_text_is_one_source, is_name, lines,
     parse,
 };
-use a2_opcode::Mnemonic;
 use std::alloc::Global;
 
 fn fault_of(alloc: Global, text: &[u8]) -> Option<Fault> {

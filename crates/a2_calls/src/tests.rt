@@ -1,0 +1,11 @@
+//! Calls of one library each, with ample memory.
+
+mod bus;
+mod cpu;
+mod hex;
+mod live;
+mod opcode;
+mod page;
+mod services;
+mod stream;
+mod syntax;
