@@ -25,6 +25,11 @@ each [] = Some []
 each (None ∷ values) = None
 each (Some value ∷ values) = option_map (λ others. value ∷ others) (each values)
 
+-- the byte that the first of some words says
+abbrev pub first_byte_of : List (List ℕ) → Option ℕ
+first_byte_of [] = None
+first_byte_of (word ∷ others) = byte_of word
+
 -- bytes with blanks between, and blanks at both ends or not
 unfoldable pub hex_bytes : List ℕ → Option (List ℕ)
 hex_bytes text = each (map byte_of (words text))

@@ -1,9 +1,10 @@
 //! Lines that store bytes.
 
-ghost use Rattle.std.specs.Prelude.{◌≡◌, ◌<◌, ◌≤◌, ◌==◌, ℕ, List, [], ◌∷◌, length, option_map, MatchOption, IfSome, IsNone, Some, None};
+ghost use Rattle.std.specs.Prelude.{◌≡◌, ◌<◌, ◌≤◌, ◌==◌, ℕ, List, [], ◌∷◌, length, drop, option_map, MatchOption, IfSome, IsNone, Some, None};
 ghost use Rattle.std.specs.List.{position};
 ghost use Rattle.a2_text.specs.Signs.{sign};
-ghost use Rattle.a2_hex.specs.ObjectLines.{hex_bytes, given_before, store_of};
+ghost use Rattle.a2_text.specs.Words.{words};
+ghost use Rattle.a2_hex.specs.ObjectLines.{first_byte_of, hex_bytes, given_before, store_of};
 
 use crate::numbers::{address_of, byte_of};
 use a2_text::{behind_blanks, first_word};
@@ -25,6 +26,8 @@ pub struct StoreLine<'a> {
 pub fn first_byte(text: &[u8]) -> Option<(u8, &[u8])>
     ensures bytes { MatchOption result (IfSome (hex_bytes text.now) (λ bytes. bytes ≡ []))
         (λ (byte, behind). hex_bytes text.now ≡ option_map (λ others. byte ∷ others) (hex_bytes behind.now)) }
+    ensures first { option_map (λ (byte, _). byte) result ≡ first_byte_of (words text.now) }
+    ensures behind { IfSome result (λ (_, behind). words behind.now ≡ drop 1 (words text.now)) }
     ensures shorter { IfSome result (λ (_, behind). length behind.now < length text.now) }
 {
     let (word, behind) = first_word(text)?;
