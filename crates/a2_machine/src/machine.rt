@@ -265,8 +265,8 @@ impl<A: Allocator> Machine<A> {
     /// $68 and $FF, which send a last RTS to $FF69. No step is made, and all else stays. This project's profile.
     pub fn set_pc(&mut self, address: u16)
         ensures world { world_of_state self.new.state ≡ called_at address (world_of_state self.old.state) }
-        ensures left { self.new ≡ (let s = self.old.state in
-            record self.old { state = record s { regs = self.new.state.regs; bus = self.new.state.bus } }) }
+        ensures left { self.new ≡ (let s = self.old.state in let r = s.regs in let bus = self.new.state.bus in
+            record self.old { state = record s { regs = record r { pc = address; s = 0xFD }; bus = bus } }) }
     {
         self.regs.pc = address;
         self.regs.s = 0xFD;
