@@ -5,6 +5,7 @@ mod cuts;
 mod lines;
 mod memory;
 mod parts;
+mod perform_all;
 mod reads;
 mod texts;
 mod writes;

@@ -3,3 +3,4 @@
 mod calls;
 mod debugger;
 mod monitor;
+mod perform_all;
