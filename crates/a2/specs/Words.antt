@@ -1,11 +1,13 @@
 -- The words of the command line. This project's profile.
-use Rattle.std.specs.Prelude.{◌≡◌, ◌⊎◌, ℕ, ◌<◌, ◌≤◌, Bool, true, false, List, [], codes, length, Option, Some, None, Result, Ok, Err}
+use Rattle.std.specs.Prelude.{◌≡◌, ◌≢◌, ◌⊎◌, ℕ, ◌<◌, ◌≤◌, Bool, true, false, List, [], codes, length, Option, Some, None, Result, Ok, Err}
 use Rattle.std.specs.Str.Parse.{digits_value}
 use Rattle.a2_bus.specs.KeyText.{SpellsKeys}
 use Rattle.a2_run.specs.declared.Options.{Options}
 use Rattle.a2_run.specs.declared.fault.RunFault.{RunFault}
 use Rattle.a2_run.specs.Limits.{IsStepLimit}
 use Rattle.a2_run.specs.Status.{fault_status}
+use Rattle.a2.specs.declared.words.Order.{Order}
+use Rattle.a2.specs.declared.words.Order.TheVariants.{Run}
 use Rattle.a2.specs.declared.words.WordsFault.{WordsFault}
 use Rattle.a2.specs.declared.words.WordsFault.TheVariants.{Words, Keys, Memory}
 
@@ -38,6 +40,11 @@ RefusesRun file limit keys fault =
 -- a run without options: guarded, and without attribute rows
 abbrev pub plain : Options
 plain = record { free = false; attr = false }
+
+-- no order but that of no words leaves the file to the standard input
+abbrev pub NamesFile : Order → Type 0
+NamesFile (Run order) = order.source ≢ None
+NamesFile _ = Unit {0}
 
 -- the status of words that ask for nothing
 abbrev pub status_of_words : WordsFault → ℕ

@@ -1,6 +1,6 @@
 //! What the program does, over any files and streams.
 
-ghost use Rattle.std.specs.Prelude.{◌≡◌, ◌≤◌, [], ◌++◌, None, Result, IfErr, IfSome, codes, length};
+ghost use Rattle.std.specs.Prelude.{◌≡◌, ◌≢◌, ◌⊎◌, ◌<◌, ◌≤◌, [], ◌++◌, None, Result, IfErr, IfSome, IsOk, codes, length};
 ghost use Rattle.a2_machine.specs.declared.Cause.{Cause as Stop};
 ghost use Rattle.a2_run.specs.declared.fault.RunFault.{RunFault as Fault};
 ghost use Rattle.a2_run.specs.declared.fault.RunFault.TheVariants.{Read};
@@ -67,6 +67,7 @@ fn run_file<S: Shelf, R: Input, W: Output>(
         (R.giver input.old) (R.giver input.new) (W.taker output.old) (W.taker output.new) result }
     ensures silent { NothingSent (W.taker output.old) (W.taker output.new) result }
     ensures writer { (W.taker output.new).failures ≡ count_after (is_write_fault result) (W.taker output.old).failures }
+    ensures unread { order.now.source ≢ None → input.new ≡ input.old }
 {
     let Some(name) = order.source else {
         return run_text(
@@ -134,7 +135,9 @@ fn debug_files<S: Shelf, W: Output>(
 }
 
 // Tells the fault of an answer, if it has one.
-fn tell_fault<T, E: Output>(answer: &Result<T, RunFault>, complaints: &mut E) {
+fn tell_fault<T, E: Output>(answer: &Result<T, RunFault>, complaints: &mut E)
+    ensures { IsOk answer.now → complaints.new ≡ complaints.old }
+{
     if let Err(fault) = answer {
         complain(*fault, complaints);
     }
@@ -142,7 +145,8 @@ fn tell_fault<T, E: Output>(answer: &Result<T, RunFault>, complaints: &mut E) {
 
 // Tells the fault of an answer, if it has one; and the status.
 fn tell_done<E: Output>(answer: &Result<(), RunFault>, complaints: &mut E) -> u8
-    ensures { result ≡ done_status answer.now }
+    ensures status { result ≡ done_status answer.now }
+    ensures silent { IsOk answer.now → complaints.new ≡ complaints.old }
 {
     tell_fault(answer, complaints);
     match answer {
@@ -168,6 +172,10 @@ pub fn obey<S: Shelf, R: Input, W: Output, E: Output>(
         × RunsInput [] 1000000 plain (R.giver input.old) (R.giver input.new) (W.taker output.old) (W.taker output.new) answer }
     // Whatever the words: by 1, 2 or 5 nothing went out, and by 0 or 3 no write failed.
     ensures output { Tells result (W.taker output.old) (W.taker output.new) }
+    ensures few { result ≤ 5 }
+    // By 0 and 3 nothing is told, and with a word behind the name the input is not read.
+    ensures silent { result ≡ 0 ⊎ result ≡ 3 → complaints.new ≡ complaints.old }
+    ensures unread { 1 < length words.now → input.new ≡ input.old }
 {
     let order = match order_of(alloc, words) {
         Ok(order) => order,

@@ -1,10 +1,10 @@
 //! The words of the command line.
 
-ghost use Rattle.std.specs.Prelude.{◌≡◌, ◌≤◌, [], None, Some, Ok, IfErr, IfOk, codes, length, option_map};
+ghost use Rattle.std.specs.Prelude.{◌≡◌, ◌≢◌, ◌<◌, ◌≤◌, [], None, Some, Ok, IfErr, IfOk, codes, length, option_map};
 ghost use Rattle.clap.specs.Words.{first_value, found_of, one_text};
 ghost use Rattle.a2.specs.declared.words.Order.TheVariants.{Run};
 ghost use Rattle.a2.specs.declared.words.WordsFault.TheVariants.{Words};
-ghost use Rattle.a2.specs.Words.{IsFlag, RefusesRun, SaysKeys, SaysLimit, plain};
+ghost use Rattle.a2.specs.Words.{IsFlag, NamesFile, RefusesRun, SaysKeys, SaysLimit, plain};
 
 use a2_bus::Keys;
 use a2_run::{Options, step_limit};
@@ -196,7 +196,9 @@ fn options_in(found: &ArgMatches) -> Options
 
 // What the words of `run` ask for; bad keys are told last.
 fn run_order<'a>(found: &ArgMatches<'a>) -> Result<RunOrder<'a>, WordsFault>
-    ensures file { IfOk result (λ order. option_map (λ name. name.now) order.source ≡ first_value (found_of found.now) (codes "file")) }
+    // A file is named, and it is that of the words.
+    ensures file { IfOk result (λ order. (order.source ≢ None)
+        × (option_map (λ name. name.now) order.source ≡ first_value (found_of found.now) (codes "file"))) }
     ensures limit { IfOk result (λ order. SaysLimit (first_value (found_of found.now) (codes "limit")) (Ok order.limit)) }
     ensures keys { IfOk result (λ order. SaysKeys (first_value (found_of found.now) (codes "keys")) (Ok order.keys)) }
     ensures free { IfOk result (λ order. IsFlag (one_text (found_of found.now) (codes "free")) order.options.free) }
@@ -235,7 +237,9 @@ fn inner_order<'a>(
     words: &[String],
     name: &str,
     inner: &ArgMatches<'a>,
-) -> Result<Order<'a>, WordsFault> {
+) -> Result<Order<'a>, WordsFault>
+    ensures { IfOk result NamesFile }
+{
     match name {
         "asm" => Ok(Order::Asm {
             source: word_of(inner, "file")?,
@@ -256,7 +260,8 @@ fn inner_order<'a>(
 /// the command line, keys that are badly spelt, and want of memory. This project's profile.
 pub fn order_of<'a>(alloc: Global, words: &'a [String]) -> Result<Order<'a>, WordsFault>
     // Without words: the standard input, no keys, at most 1,000,000 steps, and no option.
-    ensures { length words.now ≤ 1 → result ≡ Ok (Run (record { source = None; keys = []; limit = 1000000; options = plain })) }
+    ensures plain { length words.now ≤ 1 → result ≡ Ok (Run (record { source = None; keys = []; limit = 1000000; options = plain })) }
+    ensures named { 1 < length words.now → IfOk result NamesFile }
 {
     if words.len() <= 1 {
         return Ok(Order::Run(plain_order()));
