@@ -11,7 +11,7 @@ use std::test::Fail;
 /// A line of a script, and what its fronts are answered, each up to so many bytes; the last answer is that of the line.
 type Line = (&'static str, &'static [(usize, &'static str)]);
 
-const MONITOR: [Line; 3] = [
+const MONITOR: [Line; 6] = [
     (
         "300:C8",
         &[
@@ -42,9 +42,42 @@ const MONITOR: [Line; 3] = [
             (7, "0400- C8 A0\n"),
         ],
     ),
+    (
+        "400<300.300V",
+        &[
+            (1, "0004- 00\n"),
+            (2, "0040- 00\n"),
+            (3, "0400- C8\n"),
+            (11, "M1 SYNTAX\n"),
+            (12, ""),
+        ],
+    ),
+    (
+        "BFFFL",
+        &[
+            (1, "000B- 00\n"),
+            (2, "00BF- 00\n"),
+            (3, "0BFF- 00\n"),
+            (4, "BFFF- 00\n"),
+            (5, "BFFF-   00         BRK\n"),
+        ],
+    ),
+    (
+        "FF69G",
+        &[
+            (1, "000F- 00\n"),
+            (2, "00FF- 00\n"),
+            (3, "0FF6- 00\n"),
+            (4, "M3 OUTSIDE RAM\n"),
+            (
+                5,
+                "A=00 X=00 Y=00 P=30 S=FD PC=FF69 STEPS=0 CYCLES=0\nSTOP RETURNED\n",
+            ),
+        ],
+    ),
 ];
 
-const DEBUGGER: [Line; 4] = [
+const DEBUGGER: [Line; 6] = [
     (
         "step 2",
         &[
@@ -73,6 +106,8 @@ const DEBUGGER: [Line; 4] = [
             ),
         ],
     ),
+    ("break L", &[(6, "G1 SYNTAX\n"), (7, "")]),
+    ("clear L", &[(6, "G1 SYNTAX\n"), (7, "")]),
 ];
 
 // What a front of so many bytes is answered.
@@ -151,10 +186,10 @@ fn each_cut_is_answered(
 
 #[test]
 fn cut_monitor_scripts(rt: HostRuntime) -> Result<(), Fail> {
-    each_cut_is_answered(&rt, Call::Monitor, &MONITOR, b'*', 28)
+    each_cut_is_answered(&rt, Call::Monitor, &MONITOR, b'*', 53)
 }
 
 #[test]
 fn cut_debugger_scripts(rt: HostRuntime) -> Result<(), Fail> {
-    each_cut_is_answered(&rt, Call::Debug, &DEBUGGER, b'>', 26)
+    each_cut_is_answered(&rt, Call::Debug, &DEBUGGER, b'>', 42)
 }
