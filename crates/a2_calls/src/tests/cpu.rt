@@ -6,6 +6,8 @@ use a2_bus::{Bus, Flat};
 use a2_cpu::run::{guarded_step, step};
 use a2_cpu::writes::writes;
 use a2_cpu::{GuardedStep, NoProtection, Protection, Regs, Status, Step, guarded_refusal};
+use std::alloc::Global;
+use std::process::Abort;
 use std::test::Fail;
 
 // One protected address.
@@ -29,17 +31,78 @@ fn put<B: Bus>(bus: &mut B, address: u16, bytes: &[u8]) {
     }
 }
 
-// What each byte does as an opcode at $0300 of zeros, with these flags.
-fn answers(rt: &HostRuntime, p: Status) -> Result<Vec<Step>, Fail> {
-    let mut answers = Vec::new(rt.alloc());
+// The manual's cycles of each opcode, in a row by its first digit and a column by its second: zeros
+// stand behind it, X and Y are 0, and no flag but D is set, so that BPL, BVC, BCC and BNE branch, to
+// their own page. B is BRK, and a dot stands where the manual has no opcode.
+const CYCLES: [&[u8]; 16] = [
+    b"B6...35.322..46.",
+    b"35...46.24...47.",
+    b"66..335.422.446.",
+    b"25...46.24...47.",
+    b"66...35.322.346.",
+    b"35...46.24...47.",
+    b"66...35.422.546.",
+    b"25...46.24...47.",
+    b".6..333.2.2.444.",
+    b"36..444.252..5..",
+    b"262.333.222.444.",
+    b"25..444.242.444.",
+    b"26..335.222.446.",
+    b"35...46.24...47.",
+    b"26..335.222.446.",
+    b"25...46.24...47.",
+];
+
+// ADC in its eight modes, then SBC.
+const ADDITIONS: [u8; 16] = [
+    0x61, 0x65, 0x69, 0x6D, 0x71, 0x75, 0x79, 0x7D, 0xE1, 0xE5, 0xE9, 0xED, 0xF1, 0xF5, 0xF9, 0xFD,
+];
+
+// What these tables say of an opcode, with D or without.
+fn wanted(opcode: u8, decimal: bool) -> Option<Step> {
+    let row = CYCLES.get(usize::from(opcode >> 4))?;
+    match *row.get(usize::from(opcode & 15))? {
+        b'.' => Some(Step::Opcode),
+        b'B' => Some(Step::Brk),
+        _ if decimal && ADDITIONS.contains(&opcode) => Some(Step::Decimal),
+        digit => Some(Step::Next(u32::from(digit & 15))),
+    }
+}
+
+// Whether all bytes are zeros but an opcode at $0300.
+fn is_all(opcode: u8, bus: &impl Bus) -> bool {
+    for address in 0..=0xFFFF {
+        let byte = if address == 0x300 { opcode } else { 0 };
+        if bus.peek(address) != Some(byte) {
+            return false;
+        }
+    }
+    true
+}
+
+// What each byte does as an opcode at $0300 of zeros, with these flags: it is what the tables say,
+// and a refusal leaves registers and memory as they were.
+fn answers(rt: &impl Abort, alloc: Global, p: Status) -> Result<Vec<Step>, Fail> {
+    let mut answers = Vec::new(alloc);
     for opcode in 0..=255 {
-        let mut bus = Flat::new(rt.alloc())?;
+        let mut bus = Flat::new(alloc)?;
         bus.write(0x300, opcode);
-        let mut regs = Regs {
+        let start = Regs {
             p,
             ..Regs::start(0x300)
         };
-        answers.push(step(&mut regs, &mut bus))?;
+        let mut regs = start;
+        let answer = step(&mut regs, &mut bus);
+        assert_eq!(rt;
+            Some(answer),
+            wanted(opcode, p.decimal()),
+            "opcode {opcode}"
+        );
+        if !matches!(answer, Step::Next(_)) {
+            assert_eq!(rt; regs, start, "opcode {opcode}");
+            assert!(rt; is_all(opcode, &bus), "opcode {opcode}");
+        }
+        answers.push(answer)?;
     }
     Ok(answers)
 }
@@ -58,7 +121,7 @@ fn count_of_next(answers: &[Step]) -> usize {
 #[test]
 fn each_opcode(rt: HostRuntime) -> Result<(), Fail> {
     for (p, next, decimal) in [(Status::none(), 150, 0), (Status::DECIMAL, 134, 16)] {
-        let all = answers(&rt, p)?;
+        let all = answers(&rt, rt.alloc(), p)?;
         assert_eq!(rt; count_of_next(&all), next);
         assert_eq!(rt; count_of(&all, Step::Decimal), decimal);
         assert_eq!(rt; count_of(&all, Step::Brk), 1);
