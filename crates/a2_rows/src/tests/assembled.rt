@@ -1,12 +1,11 @@
 //! What `asm` tells of texts: object lines, or the refusal beside them.
 
-use super::example::{RETURNS, answer_of, is_refused, tells, told};
+use super::example::{RETURNS, Run, Screen, is_refused, shows, tells, told};
 use a2_asm::assemble;
 use a2_hex::load_lines;
 use a2_machine::Cause;
-use a2_stream::{FromRead, ToWrite};
 use a2_syntax::parse;
-use a2_worked::FIVE_LINES;
+use a2_worked::{FIVE_LINES, FIVE_LINES_LAY, FIVE_LINES_LEAVE};
 use std::test::Fail;
 
 #[test]
@@ -124,8 +123,14 @@ fn end_of_ram(rt: HostRuntime) -> Result<(), Fail> {
     Ok(())
 }
 
-// What the fronts of the five lines give, up to so many bytes: what `asm` tells, and why a guarded run stops.
-const FRONTS: [(usize, &str, Option<Cause>); 16] = [
+// A guarded run that comes to the end of its statements.
+const OFF_STATEMENT: Run = Run {
+    cause: Cause::OffStatement,
+    ..RETURNS
+};
+
+// What fronts of the five lines give, each up to so many bytes: what `asm` tells, and their run if they are programs.
+const FRONTS: [(usize, &str, Option<Run>); 16] = [
     (5, "E12 NO INSTRUCTION\n", None),
     (10, "LINE 1 E2 SYNTAX\n", None),
     (16, "E12 NO INSTRUCTION\n", None),
@@ -134,21 +139,51 @@ const FRONTS: [(usize, &str, Option<Cause>); 16] = [
     (28, "LINE 3 E2 SYNTAX\n", None),
     (30, "LINE 3 E7 NO SUCH MODE\n", None),
     (32, "LINE 3 E2 SYNTAX\n", None),
-    (33, "0300:A9 0C\n", Some(Cause::OffStatement)),
-    (36, "0300:A9 C1\n", Some(Cause::OffStatement)),
+    (
+        33,
+        "0300:A9 0C\n",
+        Some(Run {
+            registers: "A=0C X=00 Y=00 P=30 S=FD PC=0302 STEPS=1 CYCLES=2",
+            ..OFF_STATEMENT
+        }),
+    ),
+    (
+        36,
+        "0300:A9 C1\n",
+        Some(Run {
+            registers: "A=C1 X=00 Y=00 P=B0 S=FD PC=0302 STEPS=1 CYCLES=2",
+            ..OFF_STATEMENT
+        }),
+    ),
     (38, "LINE 4 E2 SYNTAX\n", None),
     (40, "LINE 4 E7 NO SUCH MODE\n", None),
     (43, "LINE 4 E5 UNKNOWN NAME\n", None),
-    (46, "0300:A9 C1 20 ED FD\n", Some(Cause::OffStatement)),
+    (
+        46,
+        "0300:A9 C1 20 ED FD\n",
+        Some(Run {
+            screen: Screen::Text(&[(0, "A")]),
+            registers: "A=C1 X=00 Y=00 P=B0 S=FD PC=0305 STEPS=4 CYCLES=19",
+            ..OFF_STATEMENT
+        }),
+    ),
     (48, "LINE 5 E2 SYNTAX\n", None),
-    (50, "0300:A9 C1 20 ED FD 60\n", Some(Cause::Returned)),
+    (
+        50,
+        FIVE_LINES_LAY,
+        Some(Run {
+            screen: Screen::Text(&[(0, "A")]),
+            registers: FIVE_LINES_LEAVE,
+            ..RETURNS
+        }),
+    ),
 ];
 
 // What a front of so many bytes gives.
-fn given_by(cut: usize) -> (&'static str, Option<Cause>) {
-    for (last, wanted, cause) in FRONTS {
+fn given_by(cut: usize) -> (&'static str, Option<Run>) {
+    for (last, wanted, run) in FRONTS {
         if cut <= last {
-            return (wanted, cause);
+            return (wanted, run);
         }
     }
     ("", None)
@@ -158,21 +193,15 @@ fn given_by(cut: usize) -> (&'static str, Option<Cause>) {
 fn cut_sources(rt: HostRuntime) -> Result<(), Fail> {
     assert_eq!(rt; FIVE_LINES.len(), 50);
     for cut in 0..51usize {
-        let front = FIVE_LINES.as_bytes().get(..cut).ok_or("too short")?;
-        let (wanted, cause) = given_by(cut);
-        let Some(cause) = cause else {
-            is_refused(&rt, front, wanted)?;
-            continue;
-        };
-        tells(&rt, front, wanted)?;
-        let mut output = Vec::new(rt.alloc());
-        let answer = answer_of(
-            rt.alloc(),
-            RETURNS,
-            &mut FromRead::new(front),
-            &mut ToWrite::new(&mut output),
-        );
-        assert_eq!(rt; answer, Ok(cause), "after {cut} bytes");
+        let source = FIVE_LINES.get(..cut).ok_or("too short")?;
+        let (wanted, run) = given_by(cut);
+        match run {
+            None => is_refused(&rt, source.as_bytes(), wanted)?,
+            Some(run) => {
+                tells(&rt, source.as_bytes(), wanted)?;
+                shows(&rt, Run { source, ..run })?;
+            }
+        }
     }
     Ok(())
 }

@@ -2,14 +2,14 @@
 
 use super::example::{RETURNS, Run, Screen, shows, tells};
 use a2_machine::Cause;
-use a2_worked::{FIVE_LINES, FIVE_LINES_LEAVE};
+use a2_worked::{FIVE_LINES, FIVE_LINES_LAY, FIVE_LINES_LEAVE};
 use std::test::Fail;
 
 const PRINTED_A: Screen = Screen::Text(&[(0, "A")]);
 
 #[test]
 fn five_lines(rt: HostRuntime) -> Result<(), Fail> {
-    tells(&rt, FIVE_LINES.as_bytes(), "0300:A9 C1 20 ED FD 60\n")?;
+    tells(&rt, FIVE_LINES.as_bytes(), FIVE_LINES_LAY)?;
     shows(
         &rt,
         Run {
