@@ -119,47 +119,50 @@ fn lines_to_the_last_column_and_row(rt: HostRuntime) -> Result<(), Fail> {
     )
 }
 
+// Sources, and the registers that they leave.
+const PAST_THE_LAST: [(&str, &str); 9] = [
+    (
+        " ORG $300\n LDA #48\n JSR $F800",
+        "A=30 X=00 Y=00 P=30 S=FB PC=F800 STEPS=2 CYCLES=8",
+    ),
+    (
+        " ORG $300\n LDY #40\n JSR $F800",
+        "A=00 X=00 Y=28 P=30 S=FB PC=F800 STEPS=2 CYCLES=8",
+    ),
+    (
+        " ORG $300\n LDA #48\n JSR $F819",
+        "A=30 X=00 Y=00 P=30 S=FB PC=F819 STEPS=2 CYCLES=8",
+    ),
+    (
+        " ORG $300\n LDY #40\n JSR $F819",
+        "A=00 X=00 Y=28 P=30 S=FB PC=F819 STEPS=2 CYCLES=8",
+    ),
+    (
+        " ORG $300\n LDA #48\n JSR $F828",
+        "A=30 X=00 Y=00 P=30 S=FB PC=F828 STEPS=2 CYCLES=8",
+    ),
+    (
+        " ORG $300\n LDY #40\n JSR $F828",
+        "A=00 X=00 Y=28 P=30 S=FB PC=F828 STEPS=2 CYCLES=8",
+    ),
+    (
+        " ORG $300\n LDA #48\n JSR $F871",
+        "A=30 X=00 Y=00 P=30 S=FB PC=F871 STEPS=2 CYCLES=8",
+    ),
+    (
+        " ORG $300\n LDY #40\n JSR $F871",
+        "A=00 X=00 Y=28 P=30 S=FB PC=F871 STEPS=2 CYCLES=8",
+    ),
+    (
+        " ORG $300\n LDA #255\n LDY #255\n JSR $F800",
+        "A=FF X=00 Y=FF P=B0 S=FB PC=F800 STEPS=3 CYCLES=10",
+    ),
+];
+
 // Each entry that takes a row in A and a column in Y.
 #[test]
 fn row_or_column_past_the_last(rt: HostRuntime) -> Result<(), Fail> {
-    for (source, registers) in [
-        (
-            " ORG $300\n LDA #48\n JSR $F800",
-            "A=30 X=00 Y=00 P=30 S=FB PC=F800 STEPS=2 CYCLES=8",
-        ),
-        (
-            " ORG $300\n LDY #40\n JSR $F800",
-            "A=00 X=00 Y=28 P=30 S=FB PC=F800 STEPS=2 CYCLES=8",
-        ),
-        (
-            " ORG $300\n LDA #48\n JSR $F819",
-            "A=30 X=00 Y=00 P=30 S=FB PC=F819 STEPS=2 CYCLES=8",
-        ),
-        (
-            " ORG $300\n LDY #40\n JSR $F819",
-            "A=00 X=00 Y=28 P=30 S=FB PC=F819 STEPS=2 CYCLES=8",
-        ),
-        (
-            " ORG $300\n LDA #48\n JSR $F828",
-            "A=30 X=00 Y=00 P=30 S=FB PC=F828 STEPS=2 CYCLES=8",
-        ),
-        (
-            " ORG $300\n LDY #40\n JSR $F828",
-            "A=00 X=00 Y=28 P=30 S=FB PC=F828 STEPS=2 CYCLES=8",
-        ),
-        (
-            " ORG $300\n LDA #48\n JSR $F871",
-            "A=30 X=00 Y=00 P=30 S=FB PC=F871 STEPS=2 CYCLES=8",
-        ),
-        (
-            " ORG $300\n LDY #40\n JSR $F871",
-            "A=00 X=00 Y=28 P=30 S=FB PC=F871 STEPS=2 CYCLES=8",
-        ),
-        (
-            " ORG $300\n LDA #255\n LDY #255\n JSR $F800",
-            "A=FF X=00 Y=FF P=B0 S=FB PC=F800 STEPS=3 CYCLES=10",
-        ),
-    ] {
+    for (source, registers) in PAST_THE_LAST {
         shows(
             &rt,
             Run {
@@ -199,52 +202,55 @@ fn line_that_ends_past_the_last(rt: HostRuntime) -> Result<(), Fail> {
     Ok(())
 }
 
+// Sources, what they show, and the registers that they leave.
+const REACH_CODE: [(&str, Screen, &str); 8] = [
+    (
+        " ORG $400\n JSR $F800",
+        Screen::Text(&[(0, " @8")]),
+        "A=00 X=00 Y=00 P=30 S=FB PC=F800 STEPS=1 CYCLES=6",
+    ),
+    (
+        " ORG $400\n LDA #48\n JSR $F800",
+        Screen::Text(&[(0, ")0 @8")]),
+        "A=30 X=00 Y=00 P=30 S=FB PC=F800 STEPS=2 CYCLES=8",
+    ),
+    (
+        " ORG $400\n JSR $F819",
+        Screen::Text(&[(0, " Y8")]),
+        "A=00 X=00 Y=00 P=30 S=FB PC=F819 STEPS=1 CYCLES=6",
+    ),
+    (
+        " ORG $400\n JSR $F828",
+        Screen::Text(&[(0, " (8")]),
+        "A=00 X=00 Y=00 P=30 S=FB PC=F828 STEPS=1 CYCLES=6",
+    ),
+    (
+        " ORG $400\n JSR $F832",
+        Screen::Text(&[(0, " 28")]),
+        "A=00 X=00 Y=00 P=30 S=FB PC=F832 STEPS=1 CYCLES=6",
+    ),
+    (
+        " ORG $30\n JSR $F864",
+        Screen::Text(&[]),
+        "A=00 X=00 Y=00 P=30 S=FB PC=F864 STEPS=1 CYCLES=6",
+    ),
+    (
+        " ORG $30\n JSR $F832",
+        Screen::Text(&[]),
+        "A=00 X=00 Y=00 P=30 S=FB PC=F832 STEPS=1 CYCLES=6",
+    ),
+    (
+        " ORG $2D\n JSR $F832",
+        Screen::Text(&[]),
+        "A=00 X=00 Y=00 P=30 S=FB PC=F832 STEPS=1 CYCLES=6",
+    ),
+];
+
 // Code in page 1, wherever the block is, and even where it is no block; at $30 for SETCOL; at $2D and at $30 for CLRSCR.
 // Rows show the program's own bytes.
 #[test]
 fn blocks_that_reach_code(rt: HostRuntime) -> Result<(), Fail> {
-    for (source, screen, registers) in [
-        (
-            " ORG $400\n JSR $F800",
-            Screen::Text(&[(0, " @8")]),
-            "A=00 X=00 Y=00 P=30 S=FB PC=F800 STEPS=1 CYCLES=6",
-        ),
-        (
-            " ORG $400\n LDA #48\n JSR $F800",
-            Screen::Text(&[(0, ")0 @8")]),
-            "A=30 X=00 Y=00 P=30 S=FB PC=F800 STEPS=2 CYCLES=8",
-        ),
-        (
-            " ORG $400\n JSR $F819",
-            Screen::Text(&[(0, " Y8")]),
-            "A=00 X=00 Y=00 P=30 S=FB PC=F819 STEPS=1 CYCLES=6",
-        ),
-        (
-            " ORG $400\n JSR $F828",
-            Screen::Text(&[(0, " (8")]),
-            "A=00 X=00 Y=00 P=30 S=FB PC=F828 STEPS=1 CYCLES=6",
-        ),
-        (
-            " ORG $400\n JSR $F832",
-            Screen::Text(&[(0, " 28")]),
-            "A=00 X=00 Y=00 P=30 S=FB PC=F832 STEPS=1 CYCLES=6",
-        ),
-        (
-            " ORG $30\n JSR $F864",
-            Screen::Text(&[]),
-            "A=00 X=00 Y=00 P=30 S=FB PC=F864 STEPS=1 CYCLES=6",
-        ),
-        (
-            " ORG $30\n JSR $F832",
-            Screen::Text(&[]),
-            "A=00 X=00 Y=00 P=30 S=FB PC=F832 STEPS=1 CYCLES=6",
-        ),
-        (
-            " ORG $2D\n JSR $F832",
-            Screen::Text(&[]),
-            "A=00 X=00 Y=00 P=30 S=FB PC=F832 STEPS=1 CYCLES=6",
-        ),
-    ] {
+    for (source, screen, registers) in REACH_CODE {
         shows(
             &rt,
             Run {

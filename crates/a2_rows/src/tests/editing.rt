@@ -101,43 +101,46 @@ fn base_of_a_row(rt: HostRuntime) -> Result<(), Fail> {
     )
 }
 
+// Sources, and the registers that they leave.
+const NO_WINDOW: [(&str, &str); 8] = [
+    (
+        " ORG $300\n LDA #0\n STA $21\n JSR $FDE3",
+        "A=00 X=00 Y=00 P=32 S=FB PC=FDE3 STEPS=3 CYCLES=11",
+    ),
+    (
+        " ORG $300\n LDA #0\n STA $21\n JSR $FC22",
+        "A=00 X=00 Y=00 P=32 S=FB PC=FC22 STEPS=3 CYCLES=11",
+    ),
+    (
+        " ORG $300\n LDA #0\n STA $21\n JSR $FC9C",
+        "A=00 X=00 Y=00 P=32 S=FB PC=FC9C STEPS=3 CYCLES=11",
+    ),
+    (
+        " ORG $300\n LDA #0\n STA $21\n JSR $FC42",
+        "A=00 X=00 Y=00 P=32 S=FB PC=FC42 STEPS=3 CYCLES=11",
+    ),
+    (
+        " ORG $300\n LDA #24\n STA $25\n JSR $FDE3",
+        "A=18 X=00 Y=00 P=30 S=FB PC=FDE3 STEPS=3 CYCLES=11",
+    ),
+    (
+        " ORG $300\n LDA #24\n STA $25\n JSR $FC22",
+        "A=18 X=00 Y=00 P=30 S=FB PC=FC22 STEPS=3 CYCLES=11",
+    ),
+    (
+        " ORG $300\n LDA #24\n STA $25\n JSR $FC9C",
+        "A=18 X=00 Y=00 P=30 S=FB PC=FC9C STEPS=3 CYCLES=11",
+    ),
+    (
+        " ORG $300\n LDA #24\n STA $25\n JSR $FC42",
+        "A=18 X=00 Y=00 P=30 S=FB PC=FC42 STEPS=3 CYCLES=11",
+    ),
+];
+
 // A window of no columns, and a cursor below the screen, for each of the four that need both.
 #[test]
 fn window_that_does_not_fit(rt: HostRuntime) -> Result<(), Fail> {
-    for (source, registers) in [
-        (
-            " ORG $300\n LDA #0\n STA $21\n JSR $FDE3",
-            "A=00 X=00 Y=00 P=32 S=FB PC=FDE3 STEPS=3 CYCLES=11",
-        ),
-        (
-            " ORG $300\n LDA #0\n STA $21\n JSR $FC22",
-            "A=00 X=00 Y=00 P=32 S=FB PC=FC22 STEPS=3 CYCLES=11",
-        ),
-        (
-            " ORG $300\n LDA #0\n STA $21\n JSR $FC9C",
-            "A=00 X=00 Y=00 P=32 S=FB PC=FC9C STEPS=3 CYCLES=11",
-        ),
-        (
-            " ORG $300\n LDA #0\n STA $21\n JSR $FC42",
-            "A=00 X=00 Y=00 P=32 S=FB PC=FC42 STEPS=3 CYCLES=11",
-        ),
-        (
-            " ORG $300\n LDA #24\n STA $25\n JSR $FDE3",
-            "A=18 X=00 Y=00 P=30 S=FB PC=FDE3 STEPS=3 CYCLES=11",
-        ),
-        (
-            " ORG $300\n LDA #24\n STA $25\n JSR $FC22",
-            "A=18 X=00 Y=00 P=30 S=FB PC=FC22 STEPS=3 CYCLES=11",
-        ),
-        (
-            " ORG $300\n LDA #24\n STA $25\n JSR $FC9C",
-            "A=18 X=00 Y=00 P=30 S=FB PC=FC9C STEPS=3 CYCLES=11",
-        ),
-        (
-            " ORG $300\n LDA #24\n STA $25\n JSR $FC42",
-            "A=18 X=00 Y=00 P=30 S=FB PC=FC42 STEPS=3 CYCLES=11",
-        ),
-    ] {
+    for (source, registers) in NO_WINDOW {
         shows(
             &rt,
             Run {
@@ -151,47 +154,50 @@ fn window_that_does_not_fit(rt: HostRuntime) -> Result<(), Fail> {
     Ok(())
 }
 
+// Sources, what they show, and the registers that they leave.
+const REACH_CODE: [(&str, Screen, &str); 7] = [
+    (
+        " ORG $32\n JSR $FE80",
+        Screen::Text(&[]),
+        "A=00 X=00 Y=00 P=30 S=FB PC=FE80 STEPS=1 CYCLES=6",
+    ),
+    (
+        " ORG $32\n JSR $FE84",
+        Screen::Text(&[]),
+        "A=00 X=00 Y=00 P=30 S=FB PC=FE84 STEPS=1 CYCLES=6",
+    ),
+    (
+        " ORG $28\n JSR $FC22",
+        Screen::Text(&[]),
+        "A=00 X=00 Y=00 P=30 S=FB PC=FC22 STEPS=1 CYCLES=6",
+    ),
+    (
+        " ORG $28\n JSR $FC42",
+        Screen::Text(&[]),
+        "A=00 X=00 Y=00 P=30 S=FB PC=FC42 STEPS=1 CYCLES=6",
+    ),
+    (
+        " ORG $400\n JSR $FC9C",
+        Screen::Text(&[(0, " \\<")]),
+        "A=00 X=00 Y=00 P=30 S=FB PC=FC9C STEPS=1 CYCLES=6",
+    ),
+    (
+        " ORG $400\n JSR $FC42",
+        Screen::Text(&[(0, " B<")]),
+        "A=00 X=00 Y=00 P=30 S=FB PC=FC42 STEPS=1 CYCLES=6",
+    ),
+    (
+        " ORG $400\n JSR $FDE3",
+        Screen::Text(&[(0, " #=")]),
+        "A=00 X=00 Y=00 P=30 S=FB PC=FDE3 STEPS=1 CYCLES=6",
+    ),
+];
+
 // Code at $32 for the masks, at $28 for VTAB and CLREOP, and in page 1 for CLREOL, CLREOP and PRHEX. The row shows the
 // program's own bytes.
 #[test]
 fn services_that_reach_code(rt: HostRuntime) -> Result<(), Fail> {
-    for (source, screen, registers) in [
-        (
-            " ORG $32\n JSR $FE80",
-            Screen::Text(&[]),
-            "A=00 X=00 Y=00 P=30 S=FB PC=FE80 STEPS=1 CYCLES=6",
-        ),
-        (
-            " ORG $32\n JSR $FE84",
-            Screen::Text(&[]),
-            "A=00 X=00 Y=00 P=30 S=FB PC=FE84 STEPS=1 CYCLES=6",
-        ),
-        (
-            " ORG $28\n JSR $FC22",
-            Screen::Text(&[]),
-            "A=00 X=00 Y=00 P=30 S=FB PC=FC22 STEPS=1 CYCLES=6",
-        ),
-        (
-            " ORG $28\n JSR $FC42",
-            Screen::Text(&[]),
-            "A=00 X=00 Y=00 P=30 S=FB PC=FC42 STEPS=1 CYCLES=6",
-        ),
-        (
-            " ORG $400\n JSR $FC9C",
-            Screen::Text(&[(0, " \\<")]),
-            "A=00 X=00 Y=00 P=30 S=FB PC=FC9C STEPS=1 CYCLES=6",
-        ),
-        (
-            " ORG $400\n JSR $FC42",
-            Screen::Text(&[(0, " B<")]),
-            "A=00 X=00 Y=00 P=30 S=FB PC=FC42 STEPS=1 CYCLES=6",
-        ),
-        (
-            " ORG $400\n JSR $FDE3",
-            Screen::Text(&[(0, " #=")]),
-            "A=00 X=00 Y=00 P=30 S=FB PC=FDE3 STEPS=1 CYCLES=6",
-        ),
-    ] {
+    for (source, screen, registers) in REACH_CODE {
         shows(
             &rt,
             Run {

@@ -406,12 +406,8 @@ BREAK
     )
 }
 
-/// Two sessions of the manual, as the files of `examples` have them.
-#[test]
-fn sessions_of_the_manual(rt: HostRuntime) -> Result<(), Fail> {
-    debugs(
-        &rt,
-        "PRBYTE EQU $FDDA
+/// Prints 5A in place of 64.
+const WRONG_TOTAL: &str = "PRBYTE EQU $FDDA
  ORG $300
  LDA #0
  LDX #3
@@ -422,9 +418,10 @@ NEXT CLC
 DONE JSR PRBYTE
  RTS
 TABLE DFB 10,20,30,40
-",
-        b"break DONE\ngo 100\nback 2\nstep 1\nstep 1\n",
-        b">break DONE
+";
+
+/// Looks for its fault from where it shows.
+const TOTAL_SESSION: &[u8] = b">break DONE
 >go 100
 A=5A X=00 Y=00 P=32 S=FD PC=030B STEPS=14 CYCLES=36
 BREAK
@@ -436,13 +433,13 @@ STOP LIMIT
 >step 1
 A=5A X=00 Y=00 P=32 S=FD PC=030B STEPS=14 CYCLES=36
 STOP LIMIT
-",
-    )?;
-    debugs(
-        &rt,
-        "COUT EQU $FDED\n ORG $300\nWAIT LDA $C000\n BPL WAIT\nSEEN JSR COUT\n RTS\n",
-        b"break SEEN\nstep 10\ntype Q\ngo 100\nback 3\ngo 6\ntype R\ngo 100\n",
-        b">break SEEN
+";
+
+/// Waits for a key.
+const WAITS: &str = "COUT EQU $FDED\n ORG $300\nWAIT LDA $C000\n BPL WAIT\nSEEN JSR COUT\n RTS\n";
+
+/// Types one key, and another from before it.
+const KEYS_SESSION: &[u8] = b">break SEEN
 >step 10
 A=00 X=00 Y=00 P=32 S=FD PC=0300 STEPS=10 CYCLES=35
 STOP LIMIT
@@ -459,6 +456,21 @@ STOP LIMIT
 >go 100
 A=D2 X=00 Y=00 P=B0 S=FD PC=0305 STEPS=18 CYCLES=62
 BREAK
-",
+";
+
+/// Two sessions of the manual, as the files of `examples` have them.
+#[test]
+fn sessions_of_the_manual(rt: HostRuntime) -> Result<(), Fail> {
+    debugs(
+        &rt,
+        WRONG_TOTAL,
+        b"break DONE\ngo 100\nback 2\nstep 1\nstep 1\n",
+        TOTAL_SESSION,
+    )?;
+    debugs(
+        &rt,
+        WAITS,
+        b"break SEEN\nstep 10\ntype Q\ngo 100\nback 3\ngo 6\ntype R\ngo 100\n",
+        KEYS_SESSION,
     )
 }
