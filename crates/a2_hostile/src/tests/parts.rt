@@ -3,17 +3,17 @@
 
 use super::memory::MOST;
 use crate::ration::Ration;
-use a2_asm::assemble;
+use a2_asm::{Program, assemble};
 use a2_bus::{Board, Bus, Flat, Keys};
 use a2_cpu::Regs;
 use a2_debug::{DebugFault, Debugger};
 use a2_hex::{HexFault, Image, load_lines, write_lines};
 use a2_machine::{Cause, Machine};
 use a2_monitor::Session;
-use a2_opcode::Mnemonic;
+use a2_opcode::{Instr, Mnemonic, Mode};
 use a2_stream::ToWrite;
-use a2_syntax::{Body, Fault, Line, Operand, lines, parse};
-use a2_worked::{DEBUGGER_SCRIPT, MONITOR_SESSION, POLLS};
+use a2_syntax::{Body, Expr, Exprs, Fault, Line, Operand, Part, Signed, Term, lines, parse};
+use a2_worked::{MONITOR_SESSION, POLLS, put_page};
 use std::alloc::{Allocator, Global};
 use std::process::Abort;
 use std::test::Fail;
@@ -53,6 +53,45 @@ fn lines_of_a_text(rt: HostRuntime) -> Result<(), Fail> {
     Err(Fail::from("no ration is enough"))
 }
 
+/// A term without a sign.
+#[derive(Clone, Copy)]
+enum Plain {
+    Number(u16),
+    Named(&'static str),
+    Here,
+}
+
+fn is_term<A: Allocator>(found: &Signed<A>, wanted: Plain) -> bool {
+    match (&found.term, wanted) {
+        (Term::Number(number), Plain::Number(wanted)) => !found.minus && *number == wanted,
+        (Term::Named(name), Plain::Named(wanted)) => !found.minus && name.get() == wanted,
+        (Term::Here, Plain::Here) => !found.minus,
+        _ => false,
+    }
+}
+
+// Whether the expression is the sum of these terms, whole.
+fn is_sum<A: Allocator>(found: &Expr<A>, wanted: &[Plain]) -> bool {
+    let terms = found.terms.get();
+    for (term, plain) in terms.iter().zip(wanted) {
+        if !is_term(term, *plain) {
+            return false;
+        }
+    }
+    found.part == Part::Whole && terms.len() == wanted.len()
+}
+
+// Whether each expression is one of these terms, in order.
+fn are_terms<A: Allocator>(found: &Exprs<A>, wanted: &[Plain]) -> bool {
+    let found = found.get();
+    for (expr, plain) in found.iter().zip(wanted) {
+        if !is_sum(expr, &[*plain]) {
+            return false;
+        }
+    }
+    found.len() == wanted.len()
+}
+
 // Whether these are the lines of the source above.
 fn are_its_lines<A: Allocator>(lines: &[Line<A>]) -> bool {
     match lines {
@@ -79,10 +118,10 @@ fn are_its_lines<A: Allocator>(lines: &[Line<A>]) -> bool {
             },
         ] => {
             name.get() == "L"
-                && target.terms.get().len() == 2
-                && words.get().len() == 2
-                && bytes.get().len() == 2
-                && count.terms.get().len() == 1
+                && is_sum(target, &[Plain::Named("L"), Plain::Number(3)])
+                && are_terms(words, &[Plain::Named("L"), Plain::Here])
+                && are_terms(bytes, &[Plain::Number(1), Plain::Number(2)])
+                && is_sum(count, &[Plain::Number(2)])
                 && text.get() == b"A".as_slice()
         }
         _ => false,
@@ -117,6 +156,35 @@ fn holds<A: Allocator>(
     Ok(())
 }
 
+/// The jump of the source.
+const JUMP: Instr = Instr {
+    mnemonic: Mnemonic::Jmp,
+    mode: Mode::Absolute,
+    value: 0x303,
+};
+
+// Whether this is the program of the source above.
+fn is_its_program<A: Allocator>(
+    rt: &(impl Abort + AllocGlobal),
+    program: &Program<A>,
+) -> Result<(), Fail> {
+    holds(rt, program.image(), OBJECT_LINES)?;
+    let wanted = [
+        (1, 0x300, 3, Some(JUMP)),
+        (2, 0x303, 4, None),
+        (3, 0x307, 2, None),
+        (4, 0x309, 2, None),
+        (5, 0x30B, 1, None),
+    ];
+    assert_eq!(rt; program.statements().len(), wanted.len());
+    for (found, wanted) in program.statements().iter().zip(wanted) {
+        assert_eq!(rt; (found.line, found.addr, found.length, found.instr), wanted);
+    }
+    assert_eq!(rt; program.name("L"), Some(0x300));
+    assert_eq!(rt; (program.names().len(), program.entry()), (1, 0x300));
+    Ok(())
+}
+
 #[test]
 fn program_of_a_source(rt: HostRuntime) -> Result<(), Fail> {
     let ration = Ration::new(rt.alloc(), u64::MAX);
@@ -126,10 +194,7 @@ fn program_of_a_source(rt: HostRuntime) -> Result<(), Fail> {
         match assemble(&ration, &source) {
             Err(fault) => is_refused(&rt, &ration, fault == Fault::Memory),
             Ok(program) => {
-                holds(&rt, program.image(), OBJECT_LINES)?;
-                assert_eq!(rt; program.statements().len(), 5);
-                assert_eq!(rt; program.name("L"), Some(0x300));
-                assert_eq!(rt; (program.names().len(), program.entry()), (1, 0x300));
+                is_its_program(&rt, &program)?;
                 assert!(rt; are_its_lines(source.lines()));
                 return is_granted(&rt, &ration, calls);
             }
@@ -192,6 +257,43 @@ fn first_byte(address: u16) -> u8 {
     }
 }
 
+// A blank screen as it is printed, and then its attribute rows.
+fn is_blank(rt: &(impl Abort + AllocGlobal), output: &[u8]) -> Result<(), Fail> {
+    let mut wanted = Vec::new(rt.alloc());
+    put_page(&mut wanted, &[], b' ')?;
+    put_page(&mut wanted, &[], b'.')?;
+    assert_eq!(rt; output, wanted.as_slice());
+    Ok(())
+}
+
+// The devices at the start. Each row is marked, and none is behind a print. Looking and printing take no memory.
+fn board_begins<A: Allocator>(
+    rt: &(impl Abort + AllocGlobal),
+    board: &mut Board<A>,
+) -> Result<(), Fail> {
+    assert!(rt; board.waiting().is_empty());
+    assert_eq!(rt; board.peek(0xC000), None);
+    let shown = board.view().switches;
+    assert_eq!(rt;
+        (shown.text, shown.mixed, shown.page2, shown.hires),
+        (true, false, false, false)
+    );
+    for row in 0..24u8 {
+        assert!(rt; board.marked(row));
+    }
+    let mut output = Vec::new(rt.alloc());
+    assert_eq!(rt; board.print(&mut ToWrite::new(&mut output)), Ok(()));
+    assert_eq!(rt;
+        board.print_attributes(&mut ToWrite::new(&mut output)),
+        Ok(())
+    );
+    for row in 0..24u8 {
+        assert!(rt; !board.marked(row));
+    }
+    assert_eq!(rt; board.read(0xC000), 0);
+    is_blank(rt, output.as_slice())
+}
+
 #[test]
 fn board_at_the_start(rt: HostRuntime) -> Result<(), Fail> {
     let ration = Ration::new(rt.alloc(), 0);
@@ -207,7 +309,7 @@ fn board_at_the_start(rt: HostRuntime) -> Result<(), Fail> {
                         "at {address}"
                     );
                 }
-                assert!(rt; board.waiting().is_empty());
+                board_begins(&rt, &mut board)?;
                 // Loading, typing, reading and writing take no memory.
                 let image = load_lines(rt.alloc(), b"300:60")?;
                 board.load(&image);
@@ -262,6 +364,36 @@ const SERVICES: &[u8] = b" JSR $F832
  RTS
 ";
 
+// The same of a machine, with its registers and counts.
+fn machine_begins<A: Allocator>(
+    rt: &(impl Abort + AllocGlobal),
+    machine: &mut Machine<A>,
+) -> Result<(), Fail> {
+    assert_eq!(rt; machine.regs(), Regs::start(0x300));
+    assert_eq!(rt;
+        (machine.steps(), machine.cycles(), machine.made()),
+        (0, 0, 0)
+    );
+    let shown = machine.view().switches;
+    assert_eq!(rt;
+        (shown.text, shown.mixed, shown.page2, shown.hires),
+        (true, false, false, false)
+    );
+    for row in 0..24u8 {
+        assert!(rt; machine.marked(row));
+    }
+    let mut output = Vec::new(rt.alloc());
+    assert_eq!(rt; machine.print(&mut ToWrite::new(&mut output)), Ok(()));
+    assert_eq!(rt;
+        machine.print_attributes(&mut ToWrite::new(&mut output)),
+        Ok(())
+    );
+    for row in 0..24u8 {
+        assert!(rt; !machine.marked(row));
+    }
+    is_blank(rt, output.as_slice())
+}
+
 #[test]
 fn machine_at_the_start(rt: HostRuntime) -> Result<(), Fail> {
     let source = parse(rt.alloc(), SERVICES)?;
@@ -273,11 +405,7 @@ fn machine_at_the_start(rt: HostRuntime) -> Result<(), Fail> {
         match Machine::new(&ration) {
             Err(_) => is_refused(&rt, &ration, true),
             Ok(mut machine) => {
-                assert_eq!(rt; machine.regs(), Regs::start(0x300));
-                assert_eq!(rt;
-                    (machine.steps(), machine.cycles(), machine.made()),
-                    (0, 0, 0)
-                );
+                machine_begins(&rt, &mut machine)?;
                 for address in 0..0xC000u16 {
                     assert_eq!(rt;
                         machine.peek(address),
@@ -304,6 +432,40 @@ fn machine_at_the_start(rt: HostRuntime) -> Result<(), Fail> {
     Err(Fail::from("no ration is enough"))
 }
 
+/// A line of each kind, behind which the count is 2: 2 + 3 steps, and 2 that were made again.
+const DEBUGGER_LINES: [&str; 7] = [
+    "break L", "go 10", "clear L", "type Q", "step 3", "back 3", "screen",
+];
+
+/// What they answer, but for the blank screen behind it.
+const DEBUGGER_ANSWERS: &str = "A=00 X=00 Y=00 P=32 S=FD PC=0300 STEPS=2 CYCLES=7
+BREAK
+A=D1 X=00 Y=00 P=B0 S=FD PC=0303 STEPS=5 CYCLES=18
+STOP LIMIT
+A=00 X=00 Y=00 P=32 S=FD PC=0300 STEPS=2 CYCLES=7
+";
+
+// Each line is answered whole.
+fn answers_each_line<A: Allocator>(
+    rt: &(impl Abort + AllocGlobal),
+    session: &mut Debugger<A>,
+) -> Result<(), Fail> {
+    let mut output = Vec::new(rt.alloc());
+    for line in DEBUGGER_LINES {
+        assert_eq!(rt;
+            session.line(line.as_bytes(), &mut ToWrite::new(&mut output)),
+            Ok(()),
+            "{line}"
+        );
+    }
+    let mut wanted = Vec::new(rt.alloc());
+    wanted.extend_from_slice(DEBUGGER_ANSWERS.as_bytes())?;
+    put_page(&mut wanted, &[], b' ')?;
+    assert_eq!(rt; output.as_slice(), wanted.as_slice());
+    assert_eq!(rt; (session.count(), session.made()), (2, 7));
+    Ok(())
+}
+
 // Machine and program go with a call that is refused, so each call has new ones.
 #[test]
 fn debugger_at_the_start(rt: HostRuntime) -> Result<(), Fail> {
@@ -323,11 +485,7 @@ fn debugger_at_the_start(rt: HostRuntime) -> Result<(), Fail> {
                     (0, 0, 0)
                 );
                 // No line takes memory.
-                let mut output = Vec::new(rt.alloc());
-                for line in DEBUGGER_SCRIPT.lines() {
-                    let _ = session.line(line.as_bytes(), &mut ToWrite::new(&mut output));
-                }
-                assert_eq!(rt; (session.count(), session.made()), (8, 16));
+                answers_each_line(&rt, &mut session)?;
                 return is_granted(&rt, &ration, calls);
             }
         }
