@@ -121,6 +121,73 @@ const STEPPED: &str = "A=D1 X=00 Y=00 P=B0 S=FD PC=0303 STEPS=3 CYCLES=11\nSTOP 
 
 const BACK: &str = "A=00 X=00 Y=00 P=30 S=FD PC=0300 STEPS=0 CYCLES=0\n";
 
+const POLLED: &str = "A=00 X=00 Y=00 P=32 S=FD PC=0300 STEPS=2 CYCLES=7\nSTOP LIMIT\n";
+
+const POLLED_AGAIN: &str = "A=D1 X=00 Y=00 P=B0 S=FD PC=0300 STEPS=4 CYCLES=14\nSTOP LIMIT\n";
+
+const SIXTY_FOUR_KEYS: &str =
+    "type QQQQQQQQQQQQQQQQQQQQQQQQQQQQQQQQQQQQQQQQQQQQQQQQQQQQQQQQQQQQQQQQ";
+
+// A session after two steps with as many breakpoints and as many typed keys as fit.
+fn filled(rt: &(impl Abort + AllocGlobal)) -> Result<Debugger, Fail> {
+    let mut session = match debugger_of(rt, POLLS) {
+        Ok(session) => session,
+        Err(fault) => return Err(Fail::from(fault.text())),
+    };
+    debugs(rt, &mut session, "step 2", POLLED, None);
+    for low in 0..=255u8 {
+        let line = format!(in rt.alloc(); "break $10{low:02X}")?;
+        debugs(rt, &mut session, line.as_str(), "", None);
+    }
+    for _ in 0..64usize {
+        debugs(rt, &mut session, SIXTY_FOUR_KEYS, "", None);
+    }
+    Ok(session)
+}
+
+// A line that is refused does nothing and writes nothing, whatever the writer: no breakpoint is set at L, and the next
+// line answers as if the refused ones were not there.
+#[test]
+fn refused_debugger_lines(rt: HostRuntime) -> Result<(), Fail> {
+    let mut session = filled(&rt)?;
+    let before = (
+        session.regs(),
+        session.cycles(),
+        session.count(),
+        session.made(),
+    );
+    for (line, fault) in [
+        ("back", DebugFault::Syntax),
+        ("break L", DebugFault::Full),
+        ("break NOPE", DebugFault::Unknown),
+        ("clear NOPE", DebugFault::Unknown),
+        ("back 3", DebugFault::TooFar),
+        ("type R", DebugFault::Full),
+        ("step 99999999", DebugFault::Steps),
+        ("go 99999999", DebugFault::Steps),
+    ] {
+        let mut output = Vec::new(rt.alloc());
+        let mut writer = Pinched::new(ToWrite::new(&mut output), 1, 0, Failing::Refuses);
+        assert_eq!(rt;
+            session.line(line.as_bytes(), &mut writer),
+            Err(fault),
+            "{line}"
+        );
+        assert!(rt; output.is_empty(), "{line}");
+    }
+    assert_eq!(rt;
+        (
+            session.regs(),
+            session.cycles(),
+            session.count(),
+            session.made()
+        ),
+        before
+    );
+    debugs(&rt, &mut session, "go 2", POLLED_AGAIN, None);
+    Ok(())
+}
+
 // The steps are made, the breakpoint is kept, and the counts go on from where the whole answer leaves them. Going back
 // to the start forgets the key.
 #[test]
