@@ -1,4 +1,4 @@
-//! The Monitor's services: each call of one as a single step on the registers and the board.
+//! The Monitor's services: each call of one as a single step on the registers and the address space.
 //!
 //! The names, addresses and purposes are those of the Apple II Reference Manual (1979), chapter 3, "The System
 //! Monitor", chapter 2, "Conversation with Apples", on standard output, the text window, standard input and GETLN, and
@@ -65,9 +65,12 @@ pub enum Service {
     Rdkey,
     /// KEYIN, $FD1B: takes the first waiting key; A = that key with bit 7 set.
     Keyin,
-    /// GETLN, $FD6A: puts the prompt of $33 and takes keys up to a return, each with bit 7 set; the line is left at
-    /// $0200, and X = its length. Keys are echoed unmasked. The left arrow takes the last byte back, the right arrow
-    /// takes the byte that the cursor stands on, and control X or the 256th byte begins the line anew.
+    /// GETLN, $FD6A: puts the prompt of $33 and takes keys up to a return; the line is left at $0200, and X = its
+    /// length without the return. A key stands for itself with bit 7 set, the right arrow for the byte that the cursor
+    /// stands on, and a byte from $E0 on loses $20, so small letters become capitals. Keys are echoed unmasked. The
+    /// left arrow takes the last byte back, or where there is none puts a return and the prompt; control X, or the
+    /// 256th byte, puts `\`, a return and the prompt, and the line begins anew. The return makes the cursor's row blank
+    /// from the cursor to the window's right edge, and is put.
     Getln,
     /// WAIT, $FCA8: A = 0, after (14 + 27a + 5a²) / 2 cycles, where a is A before the call; after 167,293 where a is 0.
     Wait,
