@@ -10,7 +10,7 @@ use Rattle.a2_services.specs.declared.Served.TheVariants as answer
 use Rattle.a2_services.specs.Services.{fits, lacks_keys, effect, served, reach}
 use Rattle.a2_services.specs.World.{world_of}
 
--- what a call answers that is not made: where window or cursor do not fit, else where keys lack
+-- what a call answers that is not made: where window, cursor or blocks do not fit, else where keys lack
 abbrev pub refused : Bool → Bool → Option Served
 refused fitting lacking = if not fitting then Some answer.Window else if lacking then Some answer.Keys else None
 
@@ -39,8 +39,8 @@ pub record IsSame (registers : Registers) (bus : BusState) (new_registers : Regi
   pub same_registers : new_registers ≡ registers
   pub same_bus : new_bus ≡ bus
 
--- the answer is Window exactly where window or cursor do not fit, Keys exactly where they fit and keys lack, and with both
--- of them nothing changed; else the call was made
+-- the answer is Window exactly where window, cursor or blocks do not fit, Keys exactly where they fit and keys lack,
+-- and with both of them nothing changed; else the call was made
 abbrev pub IsCalled : Service → Registers → BusState → Registers → BusState → Served → Type 0
 IsCalled service registers bus new_registers new_bus (answer.Next cycles) = IsCallMade service registers bus new_registers new_bus cycles
 IsCalled service registers bus new_registers new_bus answer.Window =

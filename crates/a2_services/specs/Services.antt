@@ -54,7 +54,7 @@ lies_right need.Across registers memory = block_fits registers && nat_lt (ram_by
 lies_right need.Down registers memory = block_fits registers && nat_lt (ram_byte memory at.v2) 48
 lies_right _ registers memory = true
 
--- window and cursor lie where the service needs them
+-- window, cursor and blocks lie where the service needs them
 abbrev pub fits : Service → Registers → Memory → Bool
 fits service registers memory = lies_right (service_row service).needs registers memory
 
