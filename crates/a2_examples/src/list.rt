@@ -1,8 +1,5 @@
 //! The examples, in the order of the manual.
 
-ghost use Rattle.std.specs.Prelude.{◌≡◌};
-ghost use Rattle.a2_examples.specs.declared.list.Kind.TheVariants.{Run, Monitor, Debug};
-
 use a2_run::Options;
 
 /// What an example's file is, and so how it is shown.
@@ -51,28 +48,19 @@ const FREE: Options = Options {
 };
 
 // A source, run with these keys.
-fn run(name: &'static str, keys: &'static str, options: Options) -> Example
-    ensures name { result.name.now ≡ name.now }
-    ensures kind { result.kind ≡ Run keys.entry options }
-{
+fn run(name: &'static str, keys: &'static str, options: Options) -> Example {
     let kind = Kind::Run { keys, options };
     Example { name, kind }
 }
 
 // A script of Monitor lines.
-fn session(name: &'static str) -> Example
-    ensures name { result.name.now ≡ name.now }
-    ensures kind { result.kind ≡ Monitor }
-{
+fn session(name: &'static str) -> Example {
     let kind = Kind::Monitor;
     Example { name, kind }
 }
 
 // A script of debugger lines, of this source.
-fn debugging(name: &'static str, source: &'static str) -> Example
-    ensures name { result.name.now ≡ name.now }
-    ensures kind { result.kind ≡ Debug source.entry }
-{
+fn debugging(name: &'static str, source: &'static str) -> Example {
     let kind = Kind::Debug { source };
     Example { name, kind }
 }

@@ -1,6 +1,6 @@
 //! One example's name, and what its run or its session shows.
 
-ghost use Rattle.std.specs.Prelude.{IfOk, IfErr, IfSome};
+ghost use Rattle.std.specs.Prelude.{IfOk, IfSome};
 ghost use Rattle.a2_stream.specs.Stream.{SendsOrBreaks};
 ghost use Rattle.a2_examples.specs.Shown.{title, ShowsRun, ShowsSession, ShowsDebugging};
 

@@ -60,8 +60,15 @@ fn list(rt: &HostRuntime, source: &[u8]) -> Result<(), RunFault> {
         Ok(rows) => rows,
         Err(_) => return Err(RunFault::Memory),
     };
-    list_source(rt.alloc(), source, &mut ToWrite::new(&mut rows))?;
-    rows.flush().map_err(|_| RunFault::Write)
+    let answer = list_source(rt.alloc(), source, &mut ToWrite::new(&mut rows));
+    let is_broken = answer.is_ok() && rows.flush().is_err();
+    // What a failed write left is given up: dropped as they are, `rows` would write it again.
+    let _ = rows.into_parts();
+    if is_broken {
+        Err(RunFault::Write)
+    } else {
+        answer
+    }
 }
 
 // Tells why there is no listing on standard error; the status. 2 for bad words, 1 for a refused source, 4 for a failed read or

@@ -1,7 +1,6 @@
 //! The line of a source that is refused.
 
 ghost use Rattle.std.specs.Prelude.{◌≡◌, map, option_map, false};
-ghost use Rattle.a2_text.specs.Lines.{lines};
 ghost use Rattle.a2_run.specs.Answers.{Answers, is_read_fault};
 ghost use Rattle.a2_list.specs.Refused as refused;
 

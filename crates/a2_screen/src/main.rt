@@ -17,10 +17,14 @@ fn show(rt: &HostRuntime) -> Result<Cause, RunFault> {
         Ok(rows) => rows,
         Err(_) => return Err(RunFault::Memory),
     };
-    let cause = show_source(rt.alloc(), text.as_slice(), &mut ToWrite::new(&mut rows))?;
-    match rows.flush() {
-        Ok(()) => Ok(cause),
-        Err(_) => Err(RunFault::Write),
+    let answer = show_source(rt.alloc(), text.as_slice(), &mut ToWrite::new(&mut rows));
+    let is_broken = answer.is_ok() && rows.flush().is_err();
+    // What a failed write left is given up: dropped as they are, `rows` would write it again.
+    let _ = rows.into_parts();
+    if is_broken {
+        Err(RunFault::Write)
+    } else {
+        answer
     }
 }
 

@@ -63,17 +63,21 @@ fn trace_order(rt: &HostRuntime, order: &Order) -> Result<Cause, RunFault> {
         Ok(lines) => lines,
         Err(_) => return Err(RunFault::Memory),
     };
-    let cause = trace_source(
+    let answer = trace_source(
         rt.alloc(),
         text.as_slice(),
         &order.keys,
         order.limit,
         order.free,
         &mut ToWrite::new(&mut lines),
-    )?;
-    match lines.flush() {
-        Ok(()) => Ok(cause),
-        Err(_) => Err(RunFault::Write),
+    );
+    let is_broken = answer.is_ok() && lines.flush().is_err();
+    // What a failed write left is given up: dropped as they are, `lines` would write it again.
+    let _ = lines.into_parts();
+    if is_broken {
+        Err(RunFault::Write)
+    } else {
+        answer
     }
 }
 

@@ -10,7 +10,7 @@ ghost use Rattle.a2_machine.specs.State.{code_of, world_of_state};
 ghost use Rattle.a2_run.specs.Answers.{Answers, is_read_fault};
 ghost use Rattle.a2_run.specs.Meaning.{IsRefused};
 ghost use Rattle.a2_trace.specs.Trace as trace;
-ghost use Rattle.a2_trace.specs.Trace.{IsTrace, IsTraceOf};
+ghost use Rattle.a2_trace.specs.Trace.{IsTraceOf};
 ghost use Rattle.a2_trace.specs.Traced.{Traces};
 
 use a2_bus::Keys;
