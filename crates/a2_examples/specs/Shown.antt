@@ -4,7 +4,7 @@ use Rattle.a2_stream.specs.Stream.{Taker, Sends}
 use Rattle.a2_machine.specs.declared.Cause.{Cause}
 use Rattle.a2_run.specs.declared.Options.{Options}
 use Rattle.a2_run.specs.Meaning.{IsRun}
-use Rattle.a2_run.specs.Scripts.{is_mon_text}
+use Rattle.a2_run.specs.Scripts.{IsMonText}
 use Rattle.a2_run.specs.DebugScripts.{IsDebugText}
 
 -- a name and LF
@@ -20,7 +20,7 @@ pub record ShowsRun (name text keys : List ℕ) (options : Options) (cause : Cau
 -- the title went out, and then the output of the script of Monitor lines
 pub record ShowsSession (name script : List ℕ) (old new : Taker) : Type 0 where
   pub output : List ℕ
-  pub is_text : is_mon_text script output
+  pub is_text : IsMonText script output
   pub sent : Sends old new (title name ++ output)
 
 -- the title went out, and then the output of the script of debugger lines, of this source

@@ -31,7 +31,7 @@ use Rattle.a2_machine.proofs.Walks.{walked, Leads, ends}
 use Rattle.a2_machine.proofs.Protected.{code_bytes, guarded, same_walk, same_cause}
 use Rattle.a2_run.specs.declared.fault.RunFault.{RunFault}
 use Rattle.a2_run.specs.declared.fault.RunFault.TheVariants as fault
-use Rattle.a2_run.specs.Answers.{Answers}
+use Rattle.a2_run.specs.Answers.{Answers, OfSource}
 use Rattle.a2_run.specs.Meaning.{IsRefused, IsRun, output_of}
 use Rattle.a2_lessons.specs.Runs.{Told, RunWrites, Runs}
 
@@ -147,10 +147,10 @@ writes text keys entry steps limit last is walk stops within attr old new result
     one : (cause : Cause) (other : List ℕ) → IsRun text keys limit (record { free = false; attr = attr }) cause other → (cause ≡ Returned) × (other ≡ output)
     one = one_run text keys entry steps limit last is walk stops within attr
 
-    go : (result : Result Cause RunFault) → Answers (IsRefused text) (IsRun text keys limit (record { free = false; attr = attr })) old new result → Told output old new result
+    go : (result : Result Cause RunFault) → Answers (OfSource (IsRefused text)) (IsRun text keys limit (record { free = false; attr = attr })) old new result → Told output old new result
     go (Ok cause) (other, run, sent) = let is = one cause other run in (is.0, subst (Sends old new) is.1 sent)
     go (Err (fault.Source f)) (refused, sent) = not_refused text entry is f refused
-    go (Err (fault.Script f)) h = h
+    go (Err (fault.Script f)) h = h.0
     go (Err fault.Read) h = h
     go (Err fault.Write) (cause, other, run, broken) = subst (Breaks old new) (one cause other run).1 broken
     go (Err fault.Memory) h = h

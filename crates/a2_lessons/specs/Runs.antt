@@ -6,7 +6,7 @@ use Rattle.a2_machine.specs.declared.Cause.{Cause}
 use Rattle.a2_machine.specs.declared.Cause.TheVariants.{Returned}
 use Rattle.a2_run.specs.declared.fault.RunFault.{RunFault}
 use Rattle.a2_run.specs.declared.fault.RunFault.TheVariants.{Source, Script, Read, Write, Memory}
-use Rattle.a2_run.specs.Answers.{Answers}
+use Rattle.a2_run.specs.Answers.{Answers, OfSource}
 use Rattle.a2_run.specs.Meaning.{IsRefused, IsRun, output_of}
 
 -- the run returned and its whole output went out; or a read failed or there was no memory, and nothing went out; or a write
@@ -23,7 +23,7 @@ Told output old new (Err Memory) = Sends old new []
 abbrev pub RunWrites : (text keys : List ℕ) (limit : ℕ) (attr : Bool) (output : List ℕ) → Type 0
 RunWrites text keys limit attr output =
     (old new : Taker) (result : Result Cause RunFault)
-    → Answers (IsRefused text) (IsRun text keys limit (record { free = false; attr = attr })) old new result → Told output old new result
+    → Answers (OfSource (IsRefused text)) (IsRun text keys limit (record { free = false; attr = attr })) old new result → Told output old new result
 
 -- A run of the text with these keys returns after so many steps, with every limit that allows them, in a world of which this
 -- holds, and writes the screen and the registers of that world.

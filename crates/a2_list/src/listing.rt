@@ -8,7 +8,7 @@ ghost use Rattle.a2_stream.specs.Stream.{SendsOrBreaks};
 ghost use Rattle.a2_hex.specs.Images.{held};
 ghost use Rattle.a2_hex.specs.ObjectText.{after_blank, run};
 ghost use Rattle.a2_asm.specs.Entries.{entries};
-ghost use Rattle.a2_run.specs.Answers.{Answers, is_read_fault};
+ghost use Rattle.a2_run.specs.Answers.{Answers, OfSource, is_read_fault};
 ghost use Rattle.a2_run.specs.Meaning.{IsRefused};
 ghost use Rattle.a2_list.specs.Listing as listing;
 ghost use Rattle.a2_list.specs.Listing.{IsListing};
@@ -341,7 +341,7 @@ pub fn list_source<A: Allocator + Copy, W: Output>(
     source: &[u8],
     writer: &mut W,
 ) -> Result<(), RunFault>
-    ensures meaning { Answers (IsRefused source.now) (λ _. IsListing source.now) (W.taker writer.old) (W.taker writer.new) result }
+    ensures meaning { Answers (OfSource (IsRefused source.now)) (λ _. IsListing source.now) (W.taker writer.old) (W.taker writer.new) result }
     ensures no_reader { is_read_fault result ≡ false }
 {
     let program = program_of(alloc, source)?;

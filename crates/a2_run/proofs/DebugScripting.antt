@@ -21,12 +21,13 @@ use Rattle.a2_debug.specs.Texts.{debug_fault_text}
 use Rattle.a2_debug.proofs.Total.{Met, met, answered_past, never_by_write}
 use Rattle.a2_run.specs.declared.fault.RunFault.{RunFault}
 use Rattle.a2_run.specs.declared.fault.RunFault.TheVariants.{Source, Script, Read, Write, Memory}
-use Rattle.a2_run.specs.Answers.{read_of}
+use Rattle.a2_run.specs.Answers.{read_of, Answers}
 use Rattle.a2_run.specs.Meaning.{IsProgramOf, IsRefused}
 use Rattle.a2_run.specs.Replies.{RepliesTo, AreReplied}
 use Rattle.a2_run.specs.Scripts.{script_fault}
-use Rattle.a2_run.specs.DebugScripts.{Meets, IsDebugText, DebugAnswers}
+use Rattle.a2_run.specs.DebugScripts.{Meets, IsDebugText, IsDebugRefusal}
 use Rattle.a2_run.proofs.Fronts.{fronts, none≢some, program-front, refused-front}
+use Rattle.a2_run.proofs.Reading.{Answers-wider}
 
 -- Lines
 
@@ -126,33 +127,39 @@ program_of_read : (source : List ℕ) (program : Assembled) → IsProgramOf (rea
 unfolding read_of
 program_of_read source program h = program-front 65537 source program enough h
 
-answers_of_read : {T : Type 0} (source script : List ℕ) (a b : Taker) (r : Result T RunFault) → DebugAnswers (read_of source) (read_of script) a b r → DebugAnswers source script a b r
-answers_of_read source script a b (Ok value) p = (p.0, text_of_read source script p.0 p.1, p.2)
-answers_of_read source script a b (Err (Source fault)) p = (source_of_read source fault p.0, p.1)
-answers_of_read source script a b (Err (Script fault)) p =
-    (((p.0.0.0, program_of_read source p.0.0.0 p.0.0.1), script_of_read script fault p.0.1), p.1)
-answers_of_read source script a b (Err Read) p = p
-answers_of_read source script a b (Err Write) p = (p.0, text_of_read source script p.0 p.1, p.2)
-answers_of_read source script a b (Err Memory) p = p
+refusal_of_read : (source script : List ℕ) (w : RunFault) → IsDebugRefusal (read_of source) (read_of script) w → IsDebugRefusal source script w
+refusal_of_read source script (Source fault) p = source_of_read source fault p
+refusal_of_read source script (Script fault) p = ((p.0.0, program_of_read source p.0.0 p.0.1), script_of_read script fault p.1)
+refusal_of_read source script Read p = p
+refusal_of_read source script Write p = p
+refusal_of_read source script Memory p = p
+
+-- the answers of a call for a source with a script
+abbrev pub AreAnswers : List ℕ → List ℕ → Taker → Taker → Result (Unit {0}) RunFault → Type 0
+AreAnswers source script a b r = Answers (IsDebugRefusal source script) (λ _. IsDebugText source script) a b r
+
+answers_of_read : (source script : List ℕ) (a b : Taker) (r : Result (Unit {0}) RunFault) → AreAnswers (read_of source) (read_of script) a b r → AreAnswers source script a b r
+answers_of_read source script a b r p =
+    Answers-wider _ _ _ _ a b r (refusal_of_read source script) (λ _ output. text_of_read source script output) p
 
 -- the meaning of what was read is that of the inputs
-pub debug_of_inputs : {T : Type 0} (source script : Option (List ℕ)) (text lines slice slice' : List ℕ) (a b : Taker) (r : Result T RunFault)
+pub debug_of_inputs : (source script : Option (List ℕ)) (text lines slice slice' : List ℕ) (a b : Taker) (r : Result (Unit {0}) RunFault)
     → IfSome source (λ input. text ≡ read_of input) → IfSome script (λ input. lines ≡ read_of input) → slice ≡ text → slice' ≡ lines
-    → DebugAnswers slice slice' a b r
-    → IfSome source (λ s. IfSome script (λ t. DebugAnswers s t a b r))
+    → AreAnswers slice slice' a b r
+    → IfSome source (λ s. IfSome script (λ t. AreAnswers s t a b r))
 debug_of_inputs None script text lines slice slice' a b r e e' f f' p = tt
 debug_of_inputs (Some source) None text lines slice slice' a b r e e' f f' p = tt
 debug_of_inputs (Some source) (Some script) text lines slice slice' a b r e e' f f' p =
     answers_of_read source script a b r
-    (subst (λ (s : List ℕ). DebugAnswers s (read_of script) a b r) (f ∙ e) (subst (λ (t : List ℕ). DebugAnswers slice t a b r) (f' ∙ e') p))
+    (subst (λ (s : List ℕ). AreAnswers s (read_of script) a b r) (f ∙ e) (subst (λ (t : List ℕ). AreAnswers slice t a b r) (f' ∙ e') p))
 
 -- The faults of the call
 
 pub refused_script : (source script : List ℕ) (program : Assembled) (a : Taker) (fault : Fault) (why : RunFault) → IsProgramOf source program
-    → (fault ≢ refusal.Memory → size_refusal script ≡ Some fault) → why ≡ script_fault fault → DebugAnswers {T = Unit {0}} source script a a (Err why)
-refused_script source script program a fault why is h e = subst (λ (w : RunFault). DebugAnswers {T = Unit {0}} source script a a (Err w)) (sym e) (go fault h)
+    → (fault ≢ refusal.Memory → size_refusal script ≡ Some fault) → why ≡ script_fault fault → AreAnswers source script a a (Err why)
+refused_script source script program a fault why is h e = subst (λ (w : RunFault). AreAnswers source script a a (Err w)) (sym e) (go fault h)
   where
-    go : (f : Fault) → (f ≢ refusal.Memory → size_refusal script ≡ Some f) → DebugAnswers {T = Unit {0}} source script a a (Err (script_fault f))
+    go : (f : Fault) → (f ≢ refusal.Memory → size_refusal script ≡ Some f) → AreAnswers source script a a (Err (script_fault f))
     go refusal.Memory told = Sends-nil a
     go refusal.NoCode told = (((program, is), told (λ e. (let bad : ⊥ = cc in bad))), Sends-nil a)
     go (refusal.TooLarge n) told = (((program, is), told (λ e. (let bad : ⊥ = cc in bad))), Sends-nil a)
@@ -167,12 +174,13 @@ refused_script source script program a fault why is h e = subst (λ (w : RunFaul
     go (refusal.Outside n) told = (((program, is), told (λ e. (let bad : ⊥ = cc in bad))), Sends-nil a)
     go (refusal.Overlap n) told = (((program, is), told (λ e. (let bad : ⊥ = cc in bad))), Sends-nil a)
 
-pub script_broke : {T : Type 0} (source script : List ℕ) (program : Assembled) (cut : List (List ℕ)) (old : Stored) (a b : Taker) (r : Result T RunFault)
+pub script_broke : (source script : List ℕ) (program : Assembled) (cut : List (List ℕ)) (old : Stored) (a b : Taker) (r : Result (Unit {0}) RunFault)
     → IsProgramOf source program → size_refusal script ≡ None → cut ≡ lines script → old ≡ begun program 0
-    → IsErr r → IsErrAnd r (λ why. why ≡ Write) → (output : List ℕ) × AreReplied Meets (codes ">") cut old output × Breaks a b output → DebugAnswers source script a b r
+    → IsErr r → IsErrAnd r (λ why. why ≡ Write) → (output : List ℕ) × AreReplied Meets (codes ">") cut old output × Breaks a b output → AreAnswers source script a b r
 script_broke source script program cut old a b (Ok value) is fits same start err why h = cc
-script_broke {T} source script program cut old a b (Err fault) is fits same start err why (output, are, breaks) =
-    subst (λ (w : RunFault). DebugAnswers {T = T} source script a b (Err w)) (sym why) (
+script_broke source script program cut old a b (Err fault) is fits same start err why (output, are, breaks) =
+    subst (λ (w : RunFault). AreAnswers source script a b (Err w)) (sym why) (
+      tt,
       output,
       record {
         program = program;

@@ -9,7 +9,7 @@ use Rattle.a2_machine.specs.declared.Cause.TheVariants.{CodeWrite, OffStatement}
 use Rattle.a2_run.specs.declared.Options.{Options}
 use Rattle.a2_run.specs.declared.fault.RunFault.{RunFault}
 use Rattle.a2_run.specs.Meaning.{IsProgramOf, IsRefused, IsRun, AreObjectLines}
-use Rattle.a2_run.specs.Scripts.{is_refused_script, is_mon_text}
+use Rattle.a2_run.specs.Scripts.{IsRefusedScript, IsMonText}
 use Rattle.a2_run.specs.DebugScripts.{IsDebugText, IsDebugRefusal}
 
 -- where a text's guarded run ends by neither CODE WRITE nor OFF STATEMENT, its free run has the same cause and output
@@ -70,19 +70,19 @@ EachProgramHasObjectLines = (text : List ℕ) (program : Assembled) → IsProgra
 
 -- a script has one refusal at most
 abbrev pub OneScriptRefusal : Type 0
-OneScriptRefusal = (script : List ℕ) (fault other : Fault) → is_refused_script script fault → is_refused_script script other → fault ≡ other
+OneScriptRefusal = (script : List ℕ) (fault other : Fault) → IsRefusedScript script fault → IsRefusedScript script other → fault ≡ other
 
 -- a script that has one has no output
 abbrev pub RefusedScriptHasNoOutput : Type 0
-RefusedScriptHasNoOutput = (script output : List ℕ) (fault : Fault) → is_refused_script script fault → is_mon_text script output → ⊥
+RefusedScriptHasNoOutput = (script output : List ℕ) (fault : Fault) → IsRefusedScript script fault → IsMonText script output → ⊥
 
 -- and a script that has none has an output
 abbrev pub EachScriptHasOutput : Type 0
-EachScriptHasOutput = (script : List ℕ) → size_refusal script ≡ None → (output : List ℕ) × is_mon_text script output
+EachScriptHasOutput = (script : List ℕ) → size_refusal script ≡ None → (output : List ℕ) × IsMonText script output
 
 -- and only one
 abbrev pub OneScriptOutput : Type 0
-OneScriptOutput = (script output other : List ℕ) → is_mon_text script output → is_mon_text script other → output ≡ other
+OneScriptOutput = (script output other : List ℕ) → IsMonText script output → IsMonText script other → output ≡ other
 
 -- a source with a script of debugger lines has one refusal at most
 abbrev pub OneDebugRefusal : Type 0

@@ -2,9 +2,9 @@
 
 ghost use Rattle.std.specs.Prelude.{◌≡◌, false, IfOk, map, codes};
 ghost use Rattle.a2_debug.specs.Stored.{begun, NoneAbove};
-ghost use Rattle.a2_run.specs.Answers.{is_read_fault};
+ghost use Rattle.a2_run.specs.Answers.{Answers, is_read_fault};
 ghost use Rattle.a2_run.specs.Replies.{RepliesTo, RepliesToAll};
-ghost use Rattle.a2_run.specs.DebugScripts.{DebugAnswers, Meets};
+ghost use Rattle.a2_run.specs.DebugScripts.{IsDebugRefusal, IsDebugText, Meets};
 
 use crate::RunFault;
 use crate::scripts::refusal;
@@ -12,7 +12,7 @@ use crate::sources::program_of;
 use a2_asm::Program;
 use a2_debug::{DebugFault, Debugger};
 use a2_machine::Machine;
-use a2_stream::{Output, WriteFault, put, put_all};
+use a2_stream::{Output, WriteFault, put_all};
 use a2_syntax::lines;
 use std::alloc::{AllocError, Allocator};
 
@@ -65,7 +65,7 @@ pub fn debug_script<A: Allocator + Copy, W: Output>(
     script: &[u8],
     writer: &mut W,
 ) -> Result<(), RunFault>
-    ensures meaning { DebugAnswers source.now script.now (W.taker writer.old) (W.taker writer.new) result }
+    ensures meaning { Answers (IsDebugRefusal source.now script.now) (λ _. IsDebugText source.now script.now) (W.taker writer.old) (W.taker writer.new) result }
     ensures no_reader { is_read_fault result ≡ false }
 {
     let program = program_of(alloc, source)?;

@@ -2,10 +2,10 @@
 
 ghost use Rattle.std.specs.Prelude.{◌≡◌, IfOk, IfSome, take};
 ghost use Rattle.a2_stream.specs.Stream.{count_after, TakesAtMost};
-ghost use Rattle.a2_run.specs.Answers.{read_of, Answers, is_read_fault, is_unread, is_write_fault, NothingSent};
+ghost use Rattle.a2_run.specs.Answers.{read_of, Answers, OfSource, OfScript, is_read_fault, is_unread, is_write_fault, NothingSent};
 ghost use Rattle.a2_run.specs.Meaning.{IsRefused, IsRun, AreObjectLines};
-ghost use Rattle.a2_run.specs.DebugScripts.{DebugAnswers, ReadsFail};
-ghost use Rattle.a2_run.specs.Scripts.{ScriptAnswers, is_mon_text, is_refused_script};
+ghost use Rattle.a2_run.specs.DebugScripts.{IsDebugRefusal, IsDebugText, ReadsFail};
+ghost use Rattle.a2_run.specs.Scripts.{IsMonText, IsRefusedScript};
 ghost use Rattle.a2_run.specs.Status.{status_of, fault_status as status_of_fault, refusal_status as status_of_refusal};
 
 use crate::debugging::debug_script;
@@ -66,7 +66,7 @@ pub fn run_text<A: Allocator + Copy, R: Input, W: Output>(
 ) -> Result<Cause, RunFault>
     // What is written is the meaning of what is read.
     ensures meaning { IfSome (R.giver reader.old).bytes (λ input.
-        Answers (IsRefused input) (IsRun input keys.now limit options) (W.taker writer.old) (W.taker writer.new) result) }
+        Answers (OfSource (IsRefused input)) (IsRun input keys.now limit options) (W.taker writer.old) (W.taker writer.new) result) }
     // Nothing is read past the 65,537th byte.
     ensures front { TakesAtMost 65537 (R.giver reader.old) (R.giver reader.new) }
     // Whatever the reader gives, a fault other than of the writer means that nothing was written.
@@ -88,7 +88,7 @@ pub fn asm_text<A: Allocator + Copy, R: Input, W: Output>(
 ) -> Result<(), RunFault>
     // What is written is the meaning of what is read.
     ensures meaning { IfSome (R.giver reader.old).bytes (λ input.
-        Answers (IsRefused input) (λ _. AreObjectLines input) (W.taker writer.old) (W.taker writer.new) result) }
+        Answers (OfSource (IsRefused input)) (λ _. AreObjectLines input) (W.taker writer.old) (W.taker writer.new) result) }
     // Nothing is read past the 65,537th byte.
     ensures front { TakesAtMost 65537 (R.giver reader.old) (R.giver reader.new) }
     // Whatever the reader gives, a fault other than of the writer means that nothing was written.
@@ -110,7 +110,7 @@ pub fn mon_text<A: Allocator + Copy, R: Input, W: Output>(
 ) -> Result<(), RunFault>
     // What is written is the meaning of what is read.
     ensures meaning { IfSome (R.giver reader.old).bytes (λ input.
-        ScriptAnswers (is_refused_script input) (is_mon_text input) (W.taker writer.old) (W.taker writer.new) result) }
+        Answers (OfScript (IsRefusedScript input)) (λ _. IsMonText input) (W.taker writer.old) (W.taker writer.new) result) }
     // Nothing is read past the 65,537th byte.
     ensures front { TakesAtMost 65537 (R.giver reader.old) (R.giver reader.new) }
     // Whatever the reader gives, a fault other than of the writer means that nothing was written.
@@ -135,7 +135,7 @@ pub fn debug_text<A: Allocator + Copy, R: Input, S: Input, W: Output>(
 ) -> Result<(), RunFault>
     // What is written is the meaning of what is read.
     ensures meaning { IfSome (R.giver source.old).bytes (λ text. IfSome (S.giver script.old).bytes (λ lines.
-        DebugAnswers text lines (W.taker writer.old) (W.taker writer.new) result)) }
+        Answers (IsDebugRefusal text lines) (λ _. IsDebugText text lines) (W.taker writer.old) (W.taker writer.new) result)) }
     // Nothing is read past the 65,537th byte of either.
     ensures fronts { TakesAtMost 65537 (R.giver source.old) (R.giver source.new)
         × TakesAtMost 65537 (S.giver script.old) (S.giver script.new) }

@@ -1,14 +1,11 @@
 //! A script of Monitor lines in, its answers out.
 
-ghost use Rattle.std.specs.Prelude.{◌≡◌, ◌≢◌, false, IfOk, IfErr, List, ℕ, length, map, codes};
-ghost use Rattle.a2_text.specs.Lines as cut;
-ghost use Rattle.a2_syntax.specs.Limits.{size_refusal};
+ghost use Rattle.std.specs.Prelude.{◌≡◌, false, IfOk, map, codes};
 ghost use Rattle.a2_monitor.specs.Sittings.{sitting_of};
-ghost use Rattle.a2_run.specs.Answers.{is_read_fault};
-ghost use Rattle.a2_run.specs.Scripts as scripts;
+ghost use Rattle.a2_run.specs.Answers.{Answers, OfScript, is_read_fault};
 ghost use Rattle.a2_monitor.specs.Replies.{IsReply};
 ghost use Rattle.a2_run.specs.Replies.{RepliesTo, RepliesToAll};
-ghost use Rattle.a2_run.specs.Scripts.{ScriptAnswers, is_refused_script, is_mon_text, start_sitting};
+ghost use Rattle.a2_run.specs.Scripts.{IsRefusedScript, IsMonText, script_fault, start_sitting};
 
 use crate::RunFault;
 use a2_machine::Machine;
@@ -19,7 +16,7 @@ use std::alloc::{AllocError, Allocator};
 
 /// A fault of the script, but want of memory by itself.
 pub fn refusal(fault: Fault) -> RunFault
-    ensures { result ≡ scripts.script_fault fault }
+    ensures { result ≡ script_fault fault }
 {
     match fault {
         Fault::Memory => RunFault::Memory,
@@ -75,7 +72,7 @@ pub fn answer_script<A: Allocator + Copy, W: Output>(
     script: &[u8],
     writer: &mut W,
 ) -> Result<(), RunFault>
-    ensures meaning { ScriptAnswers (is_refused_script script.now) (is_mon_text script.now)
+    ensures meaning { Answers (OfScript (IsRefusedScript script.now)) (λ _. IsMonText script.now)
         (W.taker writer.old) (W.taker writer.new) result }
     ensures no_reader { is_read_fault result ≡ false }
 {

@@ -7,7 +7,7 @@ ghost use Rattle.a2_bus.specs.View.{memory_of};
 ghost use Rattle.a2_cpu.specs.View.{registers_of};
 ghost use Rattle.a2_machine.specs.Output.{register_line, cause_line};
 ghost use Rattle.a2_machine.specs.State.{code_of, world_of_state};
-ghost use Rattle.a2_run.specs.Answers.{Answers, is_read_fault};
+ghost use Rattle.a2_run.specs.Answers.{Answers, OfSource, is_read_fault};
 ghost use Rattle.a2_run.specs.Meaning.{IsRefused};
 ghost use Rattle.a2_trace.specs.Trace as trace;
 ghost use Rattle.a2_trace.specs.Trace.{IsTraceOf};
@@ -173,7 +173,7 @@ pub fn trace_source<A: Allocator + Copy, W: Output>(
     free: bool,
     writer: &mut W,
 ) -> Result<Cause, RunFault>
-    ensures meaning { Answers (IsRefused source.now) (IsTraceOf source.now keys.now limit free)
+    ensures meaning { Answers (OfSource (IsRefused source.now)) (IsTraceOf source.now keys.now limit free)
         (W.taker writer.old) (W.taker writer.new) result }
     ensures no_reader { is_read_fault result ≡ false }
 {
