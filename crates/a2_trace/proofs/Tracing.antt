@@ -1,6 +1,6 @@
 -- The steps of a run that is traced, one after another.
 use Rattle.std.specs.Prelude.{◌≡◌, ◌⊎◌, ℕ, zero, suc, ◌+◌, ◌-◌, ◌<◌, ◌≤◌, List, [], ◌++◌, Option, Some, None, is_some, IsErr, IfOk, Bool, Result, Ok, Err, refl}
-use Rattle.std.proofs.Common.{sym, ap, ◌∙◌, subst, arith, inl, inr, true≢false, append_assoc}
+use Rattle.std.proofs.Common.{sym, ap, ap₂, ◌∙◌, subst, arith, inl, inr, true≢false, append_assoc}
 use Rattle.std.proofs.lemmas.List.{append-nil}
 use Rattle.a2_stream.specs.Stream.{Taker, Sends, Breaks, SendsOrBreaks}
 use Rattle.a2_stream.proofs.Joined.{Sends-nil, Sends-then, Breaks-then, Breaks-more}
@@ -18,8 +18,9 @@ use Rattle.a2_machine.proofs.Making.{cause_told, cause_none}
 use Rattle.a2_machine.proofs.RunFrom.{run_from}
 use Rattle.a2_machine.proofs.Runs.{run-is_end}
 use Rattle.a2_asm.specs.Assembled.{Assembled}
-use Rattle.a2_run.specs.Meaning.{IsProgramOf, start_of_run}
-use Rattle.a2_run.specs.Started.{IsStarted}
+use Rattle.a2_run.specs.Meaning.{IsProgramOf, code_of_run, start_of_run}
+use Rattle.a2_run.specs.Started.{IsStarted, guard_of_run}
+use Rattle.a2_run.proofs.Runs.{meant, sound-of}
 use Rattle.a2_trace.specs.Trace.{at_pc, padded, step_line, step_lines, trace, IsTrace, IsTraceOf}
 use Rattle.a2_trace.specs.Traced.{Traces}
 
@@ -197,12 +198,47 @@ traces-broken code start a b e old new n limit front (Err _) failed h within low
     (below_next n (λ k. stuck code (world_at code start k) ≡ None) (steps-on code start a b old n h low none) h.going))
     le (subst (Breaks a e) (next-lines code start a b old new n front h step is) (Breaks-then a b e _ _ h.sent broke))
 
+-- The trace of the text's run
+
+-- each end of the one code's runs from a start is an end of the other's
+abbrev EndAlike : Code → Code → World → Type 0
+EndAlike code other start = (limit : ℕ) (end : End) → IsEnd code start limit end → IsEnd other start limit end
+
+-- so both go through the same worlds: a run that is limited to so many steps ends at the last of them
+same-world : (code other : Code) (start : World) (n : ℕ) → EndAlike code other start → ((k : ℕ) → k < n → stuck code (world_at code start k) ≡ None)
+    → world_at code start n ≡ world_at other start n
+same-world code other start n alike going =
+    let end = run_from code start 0 n in
+    let is = run-is_end code start n in
+    let late : n ≤ end.steps = end-late code start n n end is going (omega arith) in
+    let all : end.steps ≡ n = omega (arith, is.within, late) in
+    subst (λ (k : ℕ). world_at code start k ≡ world_at other start k) all (sym is.reached ∙ (alike n end is).reached)
+
+same-lines : (code other : Code) (start : World) (n : ℕ) → EndAlike code other start → ((k : ℕ) → k < n → stuck code (world_at code start k) ≡ None)
+    → step_lines code start n ≡ step_lines other start n
+same-lines code other start zero alike going = refl
+same-lines code other start (suc n) alike going =
+    let before : (k : ℕ) → k < n → stuck code (world_at code start k) ≡ None = λ k lt. going k (omega (arith, lt)) in
+    ap (λ (l : List ℕ). l ++ step_line (world_at code start n) (world_at code start (suc n)) (suc n)) (same-lines code other start n alike before)
+    ∙ ap₂ (λ (v w : World). step_lines other start n ++ step_line v w (suc n)) (same-world code other start n alike before) (same-world code other start (suc n) alike going)
+
+same-trace : (code other : Code) (start : World) (limit : ℕ) (cause : Cause) (output : List ℕ) → EndAlike code other start
+    → IsTrace code start limit cause output → IsTrace other start limit cause output
+same-trace code other start limit cause output alike is = record {
+  end = is.end;
+  is_end = alike limit is.end is.is_end;
+  cause_is = is.cause_is;
+  output_is = is.output_is ∙ ap (λ (l : List ℕ). l ++ cause_line is.end.cause) (same-lines code other start is.end.steps alike is.is_end.first);
+}
+
 -- the trace of a machine at the start of a program's run is that of the text
 pub trace-of : (text keys : List ℕ) (limit : ℕ) (free : Bool) (program : Assembled) (state : MachineState) → IsProgramOf text program → IsStarted free program keys state
     → (cause : Cause) (output : List ℕ) → IsTrace (code_of state) (world_of_state state) limit cause output → IsTraceOf text keys limit free cause output
 trace-of text keys limit free program state made started cause output is = record {
   program = program;
   is_program = made;
-  is_trace = subst (λ (k : Code). IsTrace k (start_of_run program keys) limit cause output) (ap bytes started.guard)
-      (subst (λ (w : World). IsTrace (code_of state) w limit cause output) started.world is);
+  is_trace = same-trace (bytes (guard_of_run free program)) (code_of_run free program) (start_of_run program keys) limit cause output
+      (λ most end ends. meant free program keys most end (sound-of text program made) ends)
+      (subst (λ (k : Code). IsTrace k (start_of_run program keys) limit cause output) (ap bytes started.guard)
+      (subst (λ (w : World). IsTrace (code_of state) w limit cause output) started.world is));
 }

@@ -1,6 +1,6 @@
 -- What a trace shows: each step of a run, with what stands at PC before it and the registers behind it. This project's
 -- profile.
-use Rattle.std.specs.Prelude.{◌≡◌, ℕ, zero, suc, ◌+◌, ◌-◌, ◌%◌, Bool, List, [], ◌∷◌, ◌++◌, length, take, codes, Some, None, unwrap_or, if◌then◌else◌}
+use Rattle.std.specs.Prelude.{◌≡◌, ℕ, zero, suc, ◌+◌, ◌-◌, ◌%◌, Bool, List, [], ◌∷◌, ◌++◌, length, take, codes, Some, None, unwrap_or}
 use Rattle.a2_text.specs.Digits.{hex_word}
 use Rattle.a2_opcode.specs.Listing.{listing}
 use Rattle.a2_bus.specs.Memory.{Memory, peek}
@@ -11,10 +11,8 @@ use Rattle.a2_services.specs.Services.{service_at}
 use Rattle.a2_services.specs.World.{World}
 use Rattle.a2_machine.specs.declared.Cause.{Cause}
 use Rattle.a2_machine.specs.Meaning.{Code, End, IsEnd, world_at}
-use Rattle.a2_machine.specs.ByteRun.{bytes}
-use Rattle.a2_machine.specs.ProgramGuard.{guard_of_program}
 use Rattle.a2_machine.specs.Output.{register_line, cause_line}
-use Rattle.a2_run.specs.Meaning.{IsProgramOf, start_of_run}
+use Rattle.a2_run.specs.Meaning.{IsProgramOf, code_of_run, start_of_run}
 
 -- the byte of RAM at an address modulo 65,536; 0 where there is none
 abbrev pub byte_at : Memory → ℕ → ℕ
@@ -84,12 +82,8 @@ pub record IsTrace (code : Code) (start : World) (limit : ℕ) (cause : Cause) (
   pub cause_is : cause ≡ end.cause
   pub output_is : output ≡ trace code start end
 
--- where the instructions of a program's run come from: memory's bytes, guarded by the program's statements or free
-abbrev pub code_of_program : Bool → Assembled → Code
-code_of_program free program = bytes (if free then None else Some (guard_of_program program))
-
--- the trace of a text's run with these keys waiting
+-- the trace of a text's run with these keys waiting: of the run that `IsRun` speaks of, by the same code and start
 pub record IsTraceOf (text keys : List ℕ) (limit : ℕ) (free : Bool) (cause : Cause) (output : List ℕ) : Type 0 where
   pub program : Assembled
   pub is_program : IsProgramOf text program
-  pub is_trace : IsTrace (code_of_program free program) (start_of_run program keys) limit cause output
+  pub is_trace : IsTrace (code_of_run free program) (start_of_run program keys) limit cause output
