@@ -115,6 +115,3 @@ fn main(rt: HostRuntime) -> ExitCode {
         Err(fault) => told(&rt, fault),
     })
 }
-
-#[cfg(test)]
-mod tests;

@@ -37,6 +37,3 @@ fn main(rt: HostRuntime) -> ExitCode {
         }
     })
 }
-
-#[cfg(test)]
-mod tests;

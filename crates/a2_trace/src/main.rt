@@ -108,6 +108,3 @@ fn main(rt: HostRuntime) -> ExitCode {
         }
     })
 }
-
-#[cfg(test)]
-mod tests;

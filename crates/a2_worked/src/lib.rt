@@ -6,7 +6,7 @@ mod pages;
 mod sessions;
 
 pub use debuggers::debugger_of;
-pub use pages::{Grid, Rows, put_grid, put_page};
+pub use pages::put_page;
 pub use sessions::{DEBUGGER_OUTPUT, DEBUGGER_SCRIPT, MONITOR_SESSION, POLLS, SPINS, script_of};
 
 /// Prints an A.
