@@ -1,4 +1,4 @@
-//! Worked runs, with values from the manual and from other machines.
+//! Worked steps, with values from the manual and from other machines.
 
 ghost use Rattle.std.specs.Prelude.{◌≡◌, ◌==◌};
 
@@ -7,8 +7,6 @@ use a2_cpu::run::{guarded_step, step};
 use a2_cpu::writes::writes;
 use a2_cpu::{GuardedStep, NoProtection, Protection, Regs, Status, Step, guarded_refusal};
 use std::alloc::Global;
-use std::process::Abort;
-use std::test::Fail;
 
 // One protected address.
 #[derive(Clone, Copy)]
@@ -80,121 +78,157 @@ fn is_all(opcode: u8, bus: &impl Bus) -> bool {
     true
 }
 
-// What each byte does as an opcode at $0300 of zeros, with these flags: it is what the tables say,
-// and a refusal leaves registers and memory as they were.
-fn answers(rt: &impl Abort, alloc: Global, p: Status) -> Result<Vec<Step>, Fail> {
-    let mut answers = Vec::new(alloc);
-    for opcode in 0..=255 {
-        let mut bus = Flat::new(alloc)?;
-        bus.write(0x300, opcode);
-        let start = Regs {
-            p,
-            ..Regs::start(0x300)
-        };
-        let mut regs = start;
-        let answer = step(&mut regs, &mut bus);
-        assert_eq!(rt;
-            Some(answer),
-            wanted(opcode, p.decimal()),
-            "opcode {opcode}"
-        );
-        if !matches!(answer, Step::Next(_)) {
-            assert_eq!(rt; regs, start, "opcode {opcode}");
-            assert!(rt; is_all(opcode, &bus), "opcode {opcode}");
-        }
-        answers.push(answer)?;
-    }
-    Ok(answers)
-}
+// How many of the answers are `Next`, `Decimal`, `Brk` and `Opcode`.
+type Counts = [u32; 4];
 
-fn count_of(answers: &[Step], wanted: Step) -> usize {
-    answers.iter().filter(|answer| **answer == wanted).count()
-}
-
-fn count_of_next(answers: &[Step]) -> usize {
-    answers
-        .iter()
-        .filter(|answer| matches!(**answer, Step::Next(_)))
-        .count()
-}
-
-#[test]
-fn each_opcode(rt: HostRuntime) -> Result<(), Fail> {
-    for (p, next, decimal) in [(Status::none(), 150, 0), (Status::DECIMAL, 134, 16)] {
-        let all = answers(&rt, rt.alloc(), p)?;
-        assert_eq!(rt; count_of_next(&all), next);
-        assert_eq!(rt; count_of(&all, Step::Decimal), decimal);
-        assert_eq!(rt; count_of(&all, Step::Brk), 1);
-        assert_eq!(rt; count_of(&all, Step::Opcode), 105);
-    }
-    Ok(())
-}
-
-#[test]
-fn an_instruction_wraps_at_the_end(rt: HostRuntime) -> Result<(), Fail> {
-    let mut bus = Flat::new(rt.alloc())?;
-    put(&mut bus, 0xFFFF, &[0xA9, 7]);
-    let mut regs = Regs::start(0xFFFF);
-    assert_eq!(rt; step(&mut regs, &mut bus), Step::Next(2));
-    assert_eq!(rt;
-        regs,
-        Regs {
-            a: 7,
-            pc: 1,
-            ..Regs::start(0)
-        }
-    );
-    Ok(())
-}
-
-#[test]
-fn a_guarded_step(rt: HostRuntime) -> Result<(), Fail> {
-    let start = Regs::start(0x300);
-    let mut bus = Flat::new(rt.alloc())?;
-
-    // STA $0400, which stores the 0 that is there; then JSR $0400, which pushes at $01FD and $01FC.
-    for (code, guard, answer) in [
-        ([0x8D, 0, 4], 0x3FF, GuardedStep::Next(4)),
-        ([0x8D, 0, 4], 0x400, GuardedStep::Protected),
-        ([0x20, 0, 4], 0x1FE, GuardedStep::Next(6)),
-        ([0x20, 0, 4], 0x1FD, GuardedStep::Protected),
-        ([0x20, 0, 4], 0x1FC, GuardedStep::Protected),
-    ] {
-        put(&mut bus, 0x300, &code);
-        let refusal = guarded_refusal(&start, &bus, &Only(guard));
-        assert_eq!(rt; refusal.is_some(), answer == GuardedStep::Protected);
-        assert_eq!(rt; refusal.unwrap_or(answer), answer);
-        let mut regs = start;
-        assert_eq!(rt; guarded_step(&mut regs, &mut bus, &Only(guard)), answer);
-        assert_eq!(rt; regs == start, answer == GuardedStep::Protected);
-    }
-    assert_eq!(rt; writes(&start, &bus).as_slice(), [0x1FD, 0x1FC].as_slice());
+// What a byte does as an opcode at $0300 of zeros, with these flags, by its place in counts: none where it is not what the
+// tables say, or a refusal does not leave registers and memory as they were.
+fn place_of(alloc: Global, opcode: u8, p: Status) -> Option<usize> {
+    let mut bus = match Flat::new(alloc) {
+        Ok(bus) => bus,
+        Err(_) => return None,
+    };
+    bus.write(0x300, opcode);
+    let start = Regs {
+        p,
+        ..Regs::start(0x300)
+    };
     let mut regs = start;
-    assert_eq!(rt;
-        guarded_step(&mut regs, &mut bus, &NoProtection),
-        GuardedStep::Next(6)
-    );
-    assert_eq!(rt;
-        regs,
-        Regs {
-            s: 0xFB,
-            ..Regs::start(0x400)
+    let answer = step(&mut regs, &mut bus);
+    if Some(answer) != wanted(opcode, p.decimal()) {
+        return None;
+    }
+    if let Step::Next(_) = answer {
+        return Some(0);
+    }
+    if regs != start || !is_all(opcode, &bus) {
+        return None;
+    }
+    match answer {
+        Step::Decimal => Some(1),
+        Step::Brk => Some(2),
+        _ => Some(3),
+    }
+}
+
+// The counts of all bytes, or the first that does something else.
+fn counts(alloc: Global, p: Status) -> Result<Counts, u8> {
+    let mut counts = [0u32; 4];
+    for opcode in 0..=255u8 {
+        match place_of(alloc, opcode, p) {
+            Some(place) if place < 4 => counts[place] = counts[place].wrapping_add(1),
+            _ => return Err(opcode),
         }
-    );
+    }
+    Ok(counts)
+}
+
+/// An instruction at an address, the cycles of its step, A, S and PC behind it, the addresses that it stores at, and one
+/// beside them.
+struct Code {
+    at: u16,
+    bytes: &'static [u8],
+    cycles: u32,
+    left: (u8, u8, u16),
+    stores: &'static [u16],
+    free: u16,
+}
+
+// One that goes on at the start of memory; STA $0400, which stores the 0 that is there; and JSR $0400, which pushes at
+// $01FD and $01FC.
+const CODES: [Code; 3] = [
+    Code {
+        at: 0xFFFF,
+        bytes: &[0xA9, 7],
+        cycles: 2,
+        left: (7, 0xFD, 1),
+        stores: &[],
+        free: 0x400,
+    },
+    Code {
+        at: 0x300,
+        bytes: &[0x8D, 0, 4],
+        cycles: 4,
+        left: (0, 0xFD, 0x303),
+        stores: &[0x400],
+        free: 0x3FF,
+    },
+    Code {
+        at: 0x300,
+        bytes: &[0x20, 0, 4],
+        cycles: 6,
+        left: (0, 0xFB, 0x400),
+        stores: &[0x1FD, 0x1FC],
+        free: 0x1FE,
+    },
+];
+
+// Whether it answers so where an address is protected, and then changes no register.
+fn is_refused(code: &Code, address: u16, bus: &mut Flat) -> bool {
+    let start = Regs::start(code.at);
+    let mut regs = start;
+    guarded_refusal(&start, bus, &Only(address)) == Some(GuardedStep::Protected)
+        && guarded_step(&mut regs, bus, &Only(address)) == GuardedStep::Protected
+        && regs == start
+}
+
+// Whether it goes through where an address beside is protected, where none is, and unguarded, and leaves the same.
+fn goes_through(code: &Code, bus: &mut Flat) -> bool {
+    let start = Regs::start(code.at);
+    let (a, s, pc) = code.left;
+    let left = Regs {
+        a,
+        s,
+        ..Regs::start(pc)
+    };
+    let (mut guarded, mut free, mut plain) = (start, start, start);
+    guarded_refusal(&start, bus, &Only(code.free)).is_none()
+        && guarded_step(&mut guarded, bus, &Only(code.free)) == GuardedStep::Next(code.cycles)
+        && guarded_step(&mut free, bus, &NoProtection) == GuardedStep::Next(code.cycles)
+        && step(&mut plain, bus) == Step::Next(code.cycles)
+        && [guarded, free, plain] == [left, left, left]
+}
+
+fn is_so(code: &Code, bus: &mut Flat) -> bool {
+    put(bus, code.at, code.bytes);
+    if writes(&Regs::start(code.at), bus).as_slice() != code.stores {
+        return false;
+    }
+    for address in code.stores {
+        if !is_refused(code, *address, bus) {
+            return false;
+        }
+    }
+    goes_through(code, bus)
+}
+
+#[test]
+fn each_opcode_and_a_guarded_step(rt: HostRuntime) {
+    let all = [
+        counts(rt.alloc(), Status::none()),
+        counts(rt.alloc(), Status::DECIMAL),
+    ];
+    assert_eq!(rt; all, [Ok([150, 0, 1, 105]), Ok([134, 16, 1, 105])]);
+    let mut bus = Flat::new(rt.alloc()).expect(&rt, "memory");
+    for (number, code) in CODES.iter().enumerate() {
+        assert!(rt; is_so(code, &mut bus), "code {number}");
+    }
     assert_eq!(rt; (bus.peek(0x1FD), bus.peek(0x1FC)), (Some(3), Some(2)));
-    Ok(())
 }
 
 // PHP's byte has N V 1 B D I Z C from the left, and PLP leaves 1 and B out.
 #[test]
 fn flags_pushed_and_pulled(rt: HostRuntime) {
-    let p = Status::pack(true, false, true, false, false, true);
-    assert_eq!(rt; p.pushed(), 0xB9);
+    let pushed = Status::pack(true, false, true, false, false, true).pushed();
     let p = Status::pulled(0x56);
-    assert_eq!(rt;
-        (p.negative(), p.overflow(), p.decimal()),
-        (false, true, false)
-    );
-    assert_eq!(rt; (p.interrupt(), p.zero(), p.carry()), (true, true, false));
-    assert_eq!(rt; p.pushed(), 0x76);
+    let flags = [
+        p.negative(),
+        p.overflow(),
+        p.decimal(),
+        p.interrupt(),
+        p.zero(),
+        p.carry(),
+    ];
+    assert_eq!(rt; flags, [false, true, false, true, true, false]);
+    assert_eq!(rt; (pushed, p.pushed()), (0xB9, 0x76));
 }

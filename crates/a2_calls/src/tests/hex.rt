@@ -2,81 +2,108 @@
 
 use a2_hex::{HexFault, Image, address_of, byte_of, load_lines, write_lines};
 use a2_stream::{Failing, Pinched, ToWrite, WriteFault};
+use std::alloc::Global;
+
+/// Digits, and the address and the byte that they are.
+const DIGITS: [(&[u8], Option<u16>, Option<u8>); 9] = [
+    (b"300", Some(0x300), None),
+    (b"fFfF", Some(0xFFFF), None),
+    (b"", None, None),
+    (b"00300", None, None),
+    (b" 300", None, None),
+    (b"1", Some(1), Some(1)),
+    (b"a9", Some(0xA9), Some(0xA9)),
+    (b"123", Some(0x123), None),
+    (b"1G", None, None),
+];
+
+/// Addresses, and what an image gives there behind $A9 at $0300.
+const HELD: [(u16, Option<u8>); 3] = [(0x300, Some(0xA9)), (0x301, None), (0xC000, None)];
 
 #[test]
-fn an_image_holds_what_was_set(rt: HostRuntime) -> Result<(), std::test::Fail> {
-    let mut image = Image::new(rt.alloc())?;
-    assert_eq!(rt; image.get(0x300), None);
+fn digits_and_an_image(rt: HostRuntime) {
+    for (text, address, byte) in DIGITS.iter() {
+        let is = address_of(text) == *address && byte_of(text) == *byte;
+        assert!(rt; is, "{text:?}");
+    }
+    let mut image = Image::new(rt.alloc()).expect(&rt, "memory");
+    assert!(rt; image.get(0x300).is_none());
     image.set(0x300, 0xA9);
-    assert_eq!(rt; image.get(0x300), Some(0xA9));
-    assert_eq!(rt; image.get(0x301), None);
-    assert_eq!(rt; image.get(0xC000), None);
-    Ok(())
-}
-
-#[test]
-fn digits_are_read(rt: HostRuntime) {
-    assert_eq!(rt; address_of(b"300"), Some(0x300));
-    assert_eq!(rt; address_of(b"fFfF"), Some(0xFFFF));
-    assert_eq!(rt; address_of(b""), None);
-    assert_eq!(rt; address_of(b"00300"), None);
-    assert_eq!(rt; address_of(b" 300"), None);
-    assert_eq!(rt; byte_of(b"1"), Some(1));
-    assert_eq!(rt; byte_of(b"a9"), Some(0xA9));
-    assert_eq!(rt; byte_of(b"123"), None);
-    assert_eq!(rt; byte_of(b"1G"), None);
-}
-
-#[test]
-fn what_is_loaded_is_written_back(rt: HostRuntime) -> Result<(), std::test::Fail> {
-    let cases: [(&[u8], &[u8]); 10] = [
-        (b" 300:a9 1\n:60", b"0300:A9 01 60\n"),
-        (
-            b"0300:60\n0400:C8 C5 CC CC CF\n",
-            b"0300:60\n0400:C8 C5 CC CC CF\n",
-        ),
-        (b"0300:A9 C1 20 ED FD 60\n", b"0300:A9 C1 20 ED FD 60\n"),
-        (
-            b"306:1 2 3 4 5 6 7 8 9 a b",
-            b"0306:01 02\n0308:03 04 05 06 07 08 09 0A\n0310:0B\n",
-        ),
-        (b"303:3\n301:1\n303:33", b"0301:01\n0303:33\n"),
-        (b"300:1\n400:\n:2", b"0300:01\n0400:02\n"),
-        (b"300:A9\r\n \t\r\n:C1\r\n", b"0300:A9 C1\n"),
-        (b"\t 0: \tfe\t \tFF  ", b"0000:FE FF\n"),
-        (b"C000:\nBFFF:1\n", b"BFFF:01\n"),
-        (b"", b""),
-    ];
-    for (text, want) in cases {
-        let image = load_lines(rt.alloc(), text)?;
-        let mut bytes = Vec::new(rt.alloc());
-        assert_eq!(rt; write_lines(&image, &mut ToWrite::new(&mut bytes)), Ok(()));
-        assert_eq!(rt; bytes.as_slice(), want);
+    for (address, byte) in HELD.iter() {
+        assert!(rt; image.get(*address) == *byte, "at {address}");
     }
-    Ok(())
+}
+
+/// Texts of object lines, and what is written of the image that they load.
+const LINES: [(&[u8], &[u8]); 10] = [
+    (b" 300:a9 1\n:60", b"0300:A9 01 60\n"),
+    (
+        b"0300:60\n0400:C8 C5 CC CC CF\n",
+        b"0300:60\n0400:C8 C5 CC CC CF\n",
+    ),
+    (b"0300:A9 C1 20 ED FD 60\n", b"0300:A9 C1 20 ED FD 60\n"),
+    (
+        b"306:1 2 3 4 5 6 7 8 9 a b",
+        b"0306:01 02\n0308:03 04 05 06 07 08 09 0A\n0310:0B\n",
+    ),
+    (b"303:3\n301:1\n303:33", b"0301:01\n0303:33\n"),
+    (b"300:1\n400:\n:2", b"0300:01\n0400:02\n"),
+    (b"300:A9\r\n \t\r\n:C1\r\n", b"0300:A9 C1\n"),
+    (b"\t 0: \tfe\t \tFF  ", b"0000:FE FF\n"),
+    (b"C000:\nBFFF:1\n", b"BFFF:01\n"),
+    (b"", b""),
+];
+
+/// Texts that are refused, by their first bad line.
+const BAD: [(&[u8], HexFault); 14] = [
+    (b":60", HexFault::NoAddress(1)),
+    (b":", HexFault::NoAddress(1)),
+    (b"BFFF:01 02", HexFault::Outside(1)),
+    (b"C000:\n:1", HexFault::Outside(2)),
+    (b"BFFF:1\n\n:1", HexFault::Outside(3)),
+    (b"300:123", HexFault::Digit(1)),
+    (b"300", HexFault::Digit(1)),
+    (b"300 :1", HexFault::Digit(1)),
+    (b"3 00:1", HexFault::Digit(1)),
+    (b"00300:1", HexFault::Digit(1)),
+    (b"300:1:2", HexFault::Digit(1)),
+    (b"300:1,2", HexFault::Digit(1)),
+    (b":1G\nC000:1", HexFault::Digit(1)),
+    (b"\n300:1\nx\n:1", HexFault::Digit(3)),
+];
+
+// What is written of a text's image through a writer that takes five bytes a call and only so many calls, and whether
+// the write failed.
+fn written(alloc: Global, text: &[u8], calls: u64) -> Result<(Vec<u8>, bool), HexFault> {
+    let image = load_lines(alloc, text)?;
+    let mut bytes = Vec::new(alloc);
+    let mut writer = Pinched::new(ToWrite::new(&mut bytes), 5, calls, Failing::Refuses);
+    let failed = write_lines(&image, &mut writer) == Err(WriteFault);
+    drop(writer);
+    Ok((bytes, failed))
+}
+
+// Whether that is so.
+fn writes(alloc: Global, text: &[u8], calls: u64, wanted: &[u8], fails: bool) -> bool {
+    match written(alloc, text, calls) {
+        Ok((bytes, failed)) => bytes.as_slice() == wanted && failed == fails,
+        Err(_) => false,
+    }
 }
 
 #[test]
-fn the_first_bad_line_is_refused(rt: HostRuntime) {
-    let cases: [(&[u8], HexFault); 14] = [
-        (b":60", HexFault::NoAddress(1)),
-        (b":", HexFault::NoAddress(1)),
-        (b"BFFF:01 02", HexFault::Outside(1)),
-        (b"C000:\n:1", HexFault::Outside(2)),
-        (b"BFFF:1\n\n:1", HexFault::Outside(3)),
-        (b"300:123", HexFault::Digit(1)),
-        (b"300", HexFault::Digit(1)),
-        (b"300 :1", HexFault::Digit(1)),
-        (b"3 00:1", HexFault::Digit(1)),
-        (b"00300:1", HexFault::Digit(1)),
-        (b"300:1:2", HexFault::Digit(1)),
-        (b"300:1,2", HexFault::Digit(1)),
-        (b":1G\nC000:1", HexFault::Digit(1)),
-        (b"\n300:1\nx\n:1", HexFault::Digit(3)),
-    ];
-    for (text, want) in cases {
-        assert_eq!(rt; load_lines(rt.alloc(), text).err(), Some(want));
+fn lines_are_loaded_and_written_or_refused(rt: HostRuntime) {
+    for (text, wanted) in LINES.iter() {
+        assert!(rt; writes(rt.alloc(), text, 100, wanted, false), "{text:?}");
     }
+    for (text, fault) in BAD.iter() {
+        assert!(rt;
+            load_lines(rt.alloc(), text).err() == Some(*fault),
+            "{text:?}"
+        );
+    }
+    // Three calls of five bytes: both lines go out together, but for the last line feed.
+    assert!(rt; writes(rt.alloc(), b"300:1\n400:2", 3, b"0300:01\n0400:02", true));
 }
 
 #[test]
@@ -92,22 +119,5 @@ fn a_refusal_names_its_line(rt: HostRuntime) -> Result<(), std::test::Fail> {
         let text = format!(in rt.alloc(); "{fault}")?;
         assert_eq!(rt; text.as_str(), want);
     }
-    Ok(())
-}
-
-#[test]
-fn a_failed_write_is_told(rt: HostRuntime) -> Result<(), std::test::Fail> {
-    let image = load_lines(rt.alloc(), b"300:1\n400:2")?;
-    let mut bytes = Vec::new(rt.alloc());
-    assert_eq!(rt;
-        write_lines(
-            &image,
-            &mut Pinched::new(ToWrite::new(&mut bytes), 5, 3, Failing::Refuses)
-        ),
-        Err(WriteFault)
-    );
-    // Three calls of five bytes: both lines go out together, but for the last line feed.
-    let front: &[u8] = b"0300:01\n0400:02";
-    assert_eq!(rt; bytes.as_slice(), front);
     Ok(())
 }

@@ -1,9 +1,8 @@
-// Worked examples.
+//! Worked examples.
 
 use a2_opcode::{
-    Instr, Mnemonic, Mode, decode, encode, list_line, row_for, row_of, table_is_a_function,
+    Instr, Mnemonic, Mode, Row, decode, encode, list_line, row_for, row_of, table_is_a_function,
 };
-use std::test::Fail;
 
 // A line's address, its bytes, its text and how many bytes it shows.
 type Line = (u16, &'static [u8], &'static str, u8);
@@ -47,68 +46,82 @@ const LINES: [Line; 15] = [
     ),
 ];
 
-#[test]
-fn a_line_of_each_operand_form(rt: HostRuntime) {
-    for (address, bytes, text, shown) in LINES {
-        assert!(rt; !bytes.is_empty());
-        let line = list_line(bytes, address);
-        assert_eq!(rt; (line.text.as_str(), line.length), (text, shown));
+// Whether these bytes are so listed, and how many of them.
+fn is_listed(line: &Line) -> bool {
+    let (address, bytes, text, shown) = *line;
+    if bytes.is_empty() {
+        return false;
+    }
+    let listed = list_line(bytes, address);
+    listed.text.as_str() == text && listed.length == shown
+}
+
+/// An instruction, and its bytes at $0300, if it has any.
+type Encoded = (Mnemonic, Mode, u16, Option<&'static [u8]>);
+
+const INSTRUCTIONS: [Encoded; 10] = [
+    (Mnemonic::Rts, Mode::Implied, 0, Some(&[0x60])),
+    (Mnemonic::Lda, Mode::Immediate, 0xc1, Some(&[0xa9, 0xc1])),
+    (
+        Mnemonic::Jsr,
+        Mode::Absolute,
+        0xfded,
+        Some(&[0x20, 0xed, 0xfd]),
+    ),
+    (Mnemonic::Beq, Mode::Relative, 0x0381, Some(&[0xf0, 0x7f])),
+    (Mnemonic::Beq, Mode::Relative, 0x0282, Some(&[0xf0, 0x80])),
+    (Mnemonic::Beq, Mode::Relative, 0x0382, None),
+    (Mnemonic::Beq, Mode::Relative, 0x0281, None),
+    (Mnemonic::Sta, Mode::Immediate, 1, None),
+    (Mnemonic::Lda, Mode::Immediate, 256, None),
+    (Mnemonic::Rts, Mode::Implied, 1, None),
+];
+
+// Whether an instruction has these bytes, and they are it.
+fn is_encoded(encoded: &Encoded) -> bool {
+    let (mnemonic, mode, value, wanted) = *encoded;
+    let instr = Instr {
+        mnemonic,
+        mode,
+        value,
+    };
+    match (encode(instr, 0x0300), wanted) {
+        (Some(bytes), Some(wanted)) => {
+            bytes.as_slice() == wanted && decode(wanted, 0x0300) == Some(instr)
+        }
+        (None, None) => true,
+        _ => false,
     }
 }
 
 #[test]
-fn bytes_of_instructions(rt: HostRuntime) -> Result<(), Fail> {
-    let cases: [(Mnemonic, Mode, u16, &[u8]); 5] = [
-        (Mnemonic::Rts, Mode::Implied, 0, &[0x60]),
-        (Mnemonic::Lda, Mode::Immediate, 0xc1, &[0xa9, 0xc1]),
-        (Mnemonic::Jsr, Mode::Absolute, 0xfded, &[0x20, 0xed, 0xfd]),
-        (Mnemonic::Beq, Mode::Relative, 0x0381, &[0xf0, 0x7f]),
-        (Mnemonic::Beq, Mode::Relative, 0x0282, &[0xf0, 0x80]),
-    ];
-    for (mnemonic, mode, value, bytes) in cases {
-        let instr = Instr {
-            mnemonic,
-            mode,
-            value,
-        };
-        let encoded = encode(instr, 0x0300).ok_or("no bytes")?;
-        assert_eq!(rt; encoded.as_slice(), bytes);
-        assert_eq!(rt; decode(bytes, 0x0300), Some(instr));
+fn lines_and_bytes_of_instructions(rt: HostRuntime) {
+    for line in LINES.iter() {
+        assert!(rt; is_listed(line), "{}", line.2);
     }
-    Ok(())
-}
-
-#[test]
-fn no_bytes(rt: HostRuntime) {
-    for (mnemonic, mode, value) in [
-        (Mnemonic::Beq, Mode::Relative, 0x0382),
-        (Mnemonic::Beq, Mode::Relative, 0x0281),
-        (Mnemonic::Sta, Mode::Immediate, 1),
-        (Mnemonic::Lda, Mode::Immediate, 256),
-        (Mnemonic::Rts, Mode::Implied, 1),
-    ] {
-        let instr = Instr {
-            mnemonic,
-            mode,
-            value,
-        };
-        assert!(rt; encode(instr, 0x0300).is_none(), "{value}");
+    for (number, encoded) in INSTRUCTIONS.iter().enumerate() {
+        assert!(rt; is_encoded(encoded), "instruction {number}");
     }
 }
 
 #[test]
-fn rows_and_names(rt: HostRuntime) -> Result<(), Fail> {
+fn rows_and_names(rt: HostRuntime) {
     table_is_a_function();
-    let row = row_of(0xb1).ok_or("no row")?;
-    assert_eq!(rt; row.mnemonic, Mnemonic::Lda);
-    assert_eq!(rt; row.cycles, 5);
-    assert!(rt; row.crosses);
-    assert_eq!(rt; row_for(Mnemonic::Lda, Mode::IndirectIndexed), Some(row));
-    assert_eq!(rt; row_of(0x02), None);
-    assert_eq!(rt; row_for(Mnemonic::Sta, Mode::Immediate), None);
-    assert_eq!(rt; Mnemonic::named(b"tYa"), Some(Mnemonic::Tya));
-    assert_eq!(rt; Mnemonic::named(b"FOO"), None);
-    assert_eq!(rt; Mnemonic::Tya.name(), "TYA");
-    assert_eq!(rt; Mode::Indirect.length(), 3);
-    Ok(())
+    let row = Row {
+        mnemonic: Mnemonic::Lda,
+        mode: Mode::IndirectIndexed,
+        opcode: 0xb1,
+        cycles: 5,
+        crosses: true,
+    };
+    let rows = [
+        (0xb1, row.mnemonic, row.mode, Some(row)),
+        (0x02, Mnemonic::Sta, Mode::Immediate, None),
+    ];
+    for (opcode, mnemonic, mode, wanted) in rows.iter() {
+        assert!(rt; row_of(*opcode) == *wanted && row_for(*mnemonic, *mode) == *wanted);
+    }
+    let named = [Mnemonic::named(b"tYa"), Mnemonic::named(b"FOO")];
+    assert!(rt; named == [Some(Mnemonic::Tya), None]);
+    assert!(rt; Mnemonic::Tya.name() == "TYA" && Mode::Indirect.length() == 3);
 }

@@ -5,7 +5,7 @@ use a2_page::{
     print, print_attributes, set_block,
 };
 use a2_stream::{Failing, Pinched, ToWrite, WriteFault};
-use std::test::Fail;
+use std::alloc::Global;
 
 // The switches that these words name are on.
 fn switches(words: &str) -> Switches {
@@ -17,33 +17,67 @@ fn switches(words: &str) -> Switches {
     }
 }
 
+/// Cells and their addresses.
+const CELLS: [(Page, u8, u8, u16); 5] = [
+    (Page::One, 0, 0, 0x400),
+    (Page::One, 1, 0, 0x480),
+    (Page::One, 8, 0, 0x428),
+    (Page::One, 23, 39, 0x7F7),
+    (Page::Two, 20, 0, 0xA50),
+];
+
+/// Addresses of no cell.
+const GAPS: [u16; 5] = [0x3FF, 0x478, 0x47F, 0x7F8, 0xC00];
+
+/// What a byte shows as a character, and as two blocks.
+const BYTES: [(u8, u8, Attribute, u8, u8); 5] = [
+    (0x01, b'A', Attribute::Inverse, 1, 0),
+    (0x41, b'A', Attribute::Flashing, 1, 4),
+    (0xC1, b'A', Attribute::Normal, 1, 12),
+    (0xA0, b' ', Attribute::Normal, 0, 10),
+    (0xFF, b'?', Attribute::Normal, 15, 15),
+];
+
+/// A byte, one of its blocks, the colour that it is given, and the byte then.
+const SET: [(u8, Half, u8, u8); 3] = [
+    (0x00, Half::Above, 13, 0x0D),
+    (0x5A, Half::Above, 0, 0x50),
+    (0x5A, Half::Below, 15, 0xFA),
+];
+
+fn is_cell(page: Page, row: u8, column: u8, at: u16) -> bool {
+    row < 24
+        && column < 40
+        && address(page, row, column) == at
+        && cell(at) == Some((page, row, column))
+}
+
+fn is_byte(byte: u8, character: u8, attribute: Attribute, above: u8, below: u8) -> bool {
+    glyph(byte) == character
+        && attribute_of(byte) == attribute
+        && block(byte, Half::Above) == above
+        && block(byte, Half::Below) == below
+}
+
 #[test]
-fn cells_and_bytes(rt: HostRuntime) {
-    for (page, row, column, at) in [
-        (Page::One, 0, 0, 0x400),
-        (Page::One, 1, 0, 0x480),
-        (Page::One, 8, 0, 0x428),
-        (Page::One, 23, 39, 0x7F7),
-        (Page::Two, 20, 0, 0xA50),
-    ] {
-        assert!(rt; row < 24 && column < 40);
-        assert_eq!(rt; address(page, row, column), at);
-        assert_eq!(rt; cell(at), Some((page, row, column)));
+fn cells_bytes_and_blocks(rt: HostRuntime) {
+    for (page, row, column, at) in CELLS.iter() {
+        assert!(rt; is_cell(*page, *row, *column, *at), "at {at}");
     }
-    for at in [0x3FF, 0x478, 0x47F, 0x7F8, 0xC00] {
-        assert_eq!(rt; cell(at), None, "at {at}");
+    for at in GAPS.iter() {
+        assert!(rt; cell(*at).is_none(), "at {at}");
     }
-    for (byte, character, attribute, above, below) in [
-        (0x01, b'A', Attribute::Inverse, 1, 0),
-        (0x41, b'A', Attribute::Flashing, 1, 4),
-        (0xC1, b'A', Attribute::Normal, 1, 12),
-        (0xA0, b' ', Attribute::Normal, 0, 10),
-        (0xFF, b'?', Attribute::Normal, 15, 15),
-    ] {
-        assert_eq!(rt; glyph(byte), character);
-        assert_eq!(rt; attribute_of(byte), attribute);
-        assert_eq!(rt; block(byte, Half::Above), above);
-        assert_eq!(rt; block(byte, Half::Below), below);
+    for (byte, character, attribute, above, below) in BYTES.iter() {
+        assert!(rt;
+            is_byte(*byte, *character, *attribute, *above, *below),
+            "byte {byte}"
+        );
+    }
+    for (byte, half, colour, set) in SET.iter() {
+        assert!(rt;
+            *colour < 16 && set_block(*byte, *half, *colour) == *set,
+            "byte {byte}"
+        );
     }
 }
 
@@ -66,143 +100,171 @@ fn has_at(text: &[u8], place: usize, piece: &[u8]) -> bool {
     }
 }
 
-// The length of each picture, and what stands at two places in it.
-#[test]
-fn pictures(rt: HostRuntime) -> Result<(), Fail> {
+/// The switches that are on, the length of the picture, and what stands at two places in it.
+const PICTURES: [(&str, usize, usize, &str, usize, &str); 7] = [
+    ("text", 24 * 41, 0, "AAA  ", 20 * 41, "A  "),
+    ("text mixed hires", 24 * 41, 0, "AAA  ", 20 * 41, "A  "),
+    ("text page2", 24 * 41, 0, "B  ", 20 * 41, "   "),
+    ("", 48 * 41, 0, "11100", 41, "04CAA"),
+    ("mixed", 44 * 41, 39 * 41, "AAA", 40 * 41, "A  "),
+    ("hires", 17, 0, "HI-RES NOT SHOWN", 16, "\n"),
+    (
+        "mixed hires",
+        17 + 4 * 41,
+        0,
+        "HI-RES NOT SHOWN\n",
+        17,
+        "A  ",
+    ),
+];
+
+/// The switches that are on, the number of attribute rows, and what the first begins with.
+const ATTRIBUTES: [(&str, usize, &str); 6] = [
+    ("text", 24, "IF...."),
+    ("text page2", 24, "......"),
+    ("", 0, ""),
+    ("mixed", 4, "......"),
+    ("hires", 0, ""),
+    ("mixed hires", 4, "......"),
+];
+
+// The picture that these switches show, or its attributes.
+fn shown(alloc: Global, words: &str, attributes: bool) -> Option<Vec<u8>> {
     let (page1, page2) = pages();
-    for (words, length, place1, piece1, place2, piece2) in [
-        ("text", 24 * 41, 0, "AAA  ", 20 * 41, "A  "),
-        ("text mixed hires", 24 * 41, 0, "AAA  ", 20 * 41, "A  "),
-        ("text page2", 24 * 41, 0, "B  ", 20 * 41, "   "),
-        ("", 48 * 41, 0, "11100", 41, "04CAA"),
-        ("mixed", 44 * 41, 39 * 41, "AAA", 40 * 41, "A  "),
-        ("hires", 17, 0, "HI-RES NOT SHOWN", 16, "\n"),
-        (
-            "mixed hires",
-            17 + 4 * 41,
-            0,
-            "HI-RES NOT SHOWN\n",
-            17,
-            "A  ",
-        ),
-    ] {
-        let mut text = Vec::new(rt.alloc());
-        let view = View {
-            page1: &page1,
-            page2: &page2,
-            switches: switches(words),
-        };
-        assert_eq!(rt; print(&view, &mut ToWrite::new(&mut text)), Ok(()));
-        assert_eq!(rt; text.len(), length, "{words}");
-        assert!(rt; has_at(&text, place1, piece1.as_bytes()), "{words}");
-        assert!(rt; has_at(&text, place2, piece2.as_bytes()), "{words}");
+    let view = View {
+        page1: &page1,
+        page2: &page2,
+        switches: switches(words),
+    };
+    let mut text = Vec::new(alloc);
+    let answer = if attributes {
+        print_attributes(&view, &mut ToWrite::new(&mut text))
+    } else {
+        print(&view, &mut ToWrite::new(&mut text))
+    };
+    match answer {
+        Ok(()) => Some(text),
+        Err(_) => None,
     }
-    Ok(())
 }
 
-// The number of attribute rows, and what the first begins with.
-#[test]
-fn attributes(rt: HostRuntime) -> Result<(), Fail> {
-    let (page1, page2) = pages();
-    for (words, rows, first) in [
-        ("text", 24, "IF...."),
-        ("text page2", 24, "......"),
-        ("", 0, ""),
-        ("mixed", 4, "......"),
-        ("hires", 0, ""),
-        ("mixed hires", 4, "......"),
-    ] {
-        let mut text = Vec::new(rt.alloc());
-        let view = View {
-            page1: &page1,
-            page2: &page2,
-            switches: switches(words),
-        };
-        assert_eq!(rt;
-            print_attributes(&view, &mut ToWrite::new(&mut text)),
-            Ok(())
-        );
-        assert_eq!(rt; text.len(), 41 * rows, "{words}");
-        assert!(rt; has_at(&text, 0, first.as_bytes()), "{words}");
+// Whether that has so many bytes, and holds a piece at each of two places.
+fn is_shown(
+    alloc: Global,
+    words: &str,
+    attributes: bool,
+    length: usize,
+    first: (usize, &str),
+    second: (usize, &str),
+) -> bool {
+    match shown(alloc, words, attributes) {
+        Some(text) => {
+            text.len() == length
+                && has_at(&text, first.0, first.1.as_bytes())
+                && has_at(&text, second.0, second.1.as_bytes())
+        }
+        None => false,
     }
-    Ok(())
 }
 
-// A writer that takes ten bytes at a time and fails in the second line.
-#[test]
-fn broken_writer(rt: HostRuntime) -> Result<(), Fail> {
+// How many bytes go out of a picture and of its attributes through a writer that takes ten at a time and fails in the
+// second line, if both are told to have failed.
+fn cut_short(alloc: Global) -> Option<usize> {
     let (page1, page2) = pages();
     let view = View {
         page1: &page1,
         page2: &page2,
         switches: switches("mixed"),
     };
-    let mut text = Vec::new(rt.alloc());
+    let mut text = Vec::new(alloc);
     let mut writer = Pinched::new(ToWrite::new(&mut text), 10, 6, Failing::Refuses);
-    assert_eq!(rt; print(&view, &mut writer), Err(WriteFault));
-    assert_eq!(rt; print_attributes(&view, &mut writer), Err(WriteFault));
+    let failed = print(&view, &mut writer) == Err(WriteFault)
+        && print_attributes(&view, &mut writer) == Err(WriteFault);
     drop(writer);
-    assert_eq!(rt; text.len(), 51);
-    Ok(())
+    if failed { Some(text.len()) } else { None }
 }
 
 #[test]
-fn blocks_are_set(rt: HostRuntime) {
-    for (byte, half, colour, set) in [
-        (0x00, Half::Above, 13, 0x0D),
-        (0x5A, Half::Above, 0, 0x50),
-        (0x5A, Half::Below, 15, 0xFA),
-    ] {
-        assert!(rt; colour < 16);
-        assert_eq!(rt; set_block(byte, half, colour), set);
+fn pictures_and_attributes(rt: HostRuntime) {
+    for (words, length, place1, piece1, place2, piece2) in PICTURES.iter() {
+        let is = is_shown(
+            rt.alloc(),
+            words,
+            false,
+            *length,
+            (*place1, piece1),
+            (*place2, piece2),
+        );
+        assert!(rt; is, "{words}");
     }
+    for (words, rows, first) in ATTRIBUTES.iter() {
+        let is = *rows <= 24 && is_shown(rt.alloc(), words, true, 41 * *rows, (0, first), (0, ""));
+        assert!(rt; is, "attributes of {words}");
+    }
+    assert_eq!(rt; cut_short(rt.alloc()), Some(51));
 }
 
-// Rows of a kept picture: a store to the gap marks none, one to a cell its row, on either page; a switch marks all.
+/// A store, and the row that it marks: the gap none, a cell its row, on either page.
+const STORES: [(u16, Option<u8>); 3] = [(0x047F, None), (0x0480, Some(1)), (0x0800, Some(0))];
+
+// Whether each row but this one is not marked, and this one is.
+fn marks(kept: &Picture, marked: Option<u8>) -> bool {
+    for row in 0..24u8 {
+        if kept.marked(row) != (marked == Some(row)) {
+            return false;
+        }
+    }
+    true
+}
+
+// Whether a kept picture of the view marks what each store changes, and is made again row by row.
+fn keeps(kept: &mut Picture, view: &View) -> bool {
+    if !kept.fits(view) || kept.refresh(view) != 24 || kept.refresh(view) != 0 {
+        return false;
+    }
+    for (address, marked) in STORES.iter() {
+        kept.stored(*address);
+        if !marks(kept, *marked) || !kept.fits(view) {
+            return false;
+        }
+        let _ = kept.refresh(view);
+    }
+    true
+}
+
+// Whether a kept picture prints what the plain calls print.
+fn prints(alloc: Global, kept: &mut Picture, view: &View) -> bool {
+    let mut shown = Vec::new(alloc);
+    let mut plain = Vec::new(alloc);
+    kept.fits(view)
+        && kept.print(view, &mut ToWrite::new(&mut shown)).is_ok()
+        && print(view, &mut ToWrite::new(&mut plain)).is_ok()
+        && shown.as_slice() == plain.as_slice()
+        && kept.fits(view)
+        && kept
+            .print_attributes(view, &mut ToWrite::new(&mut shown))
+            .is_ok()
+        && print_attributes(view, &mut ToWrite::new(&mut plain)).is_ok()
+        && shown.as_slice() == plain.as_slice()
+}
+
+// A switch marks all rows.
 #[test]
-fn a_kept_picture(rt: HostRuntime) -> Result<(), Fail> {
+fn a_kept_picture(rt: HostRuntime) {
     let (page1, page2) = pages();
     let view = View {
         page1: &page1,
         page2: &page2,
         switches: switches("text"),
     };
-    let mut kept = Picture::new();
-    assert!(rt; kept.fits(&view));
-    assert_eq!(rt; kept.refresh(&view), 24);
-    assert_eq!(rt; kept.refresh(&view), 0);
-    for (address, marked) in [(0x047F, None), (0x0480, Some(1)), (0x0800, Some(0))] {
-        kept.stored(address);
-        for row in 0..24u8 {
-            assert_eq!(rt; kept.marked(row), marked == Some(row));
-        }
-        assert!(rt; kept.fits(&view));
-        let _ = kept.refresh(&view);
-    }
-    kept.switched();
     let other = View {
         page1: &page1,
         page2: &page2,
         switches: switches("mixed page2"),
     };
-    assert!(rt; kept.fits(&other));
-    let mut shown = Vec::new(rt.alloc());
-    let mut plain = Vec::new(rt.alloc());
-    assert_eq!(rt; kept.print(&other, &mut ToWrite::new(&mut shown)), Ok(()));
-    assert_eq!(rt; print(&other, &mut ToWrite::new(&mut plain)), Ok(()));
-    assert_eq!(rt; shown.as_slice(), plain.as_slice());
+    let mut kept = Picture::new();
+    assert!(rt; keeps(&mut kept, &view));
+    kept.switched();
+    assert!(rt; prints(rt.alloc(), &mut kept, &other));
     assert!(rt; !kept.fits(&view));
-    assert!(rt; kept.fits(&other));
-    shown.clear();
-    plain.clear();
-    assert_eq!(rt;
-        kept.print_attributes(&other, &mut ToWrite::new(&mut shown)),
-        Ok(())
-    );
-    assert_eq!(rt;
-        print_attributes(&other, &mut ToWrite::new(&mut plain)),
-        Ok(())
-    );
-    assert_eq!(rt; shown.as_slice(), plain.as_slice());
-    Ok(())
 }

@@ -6,7 +6,6 @@ use a2_stream::{
 };
 use std::alloc::Global;
 use std::io::{Error, ErrorKind, Read, Write};
-use std::test::Fail;
 
 // The kinds that std's own loops try again, or that mean 'later', and one that means neither.
 const KINDS: [ErrorKind; 3] = [
@@ -95,44 +94,49 @@ impl Write for Writer {
     }
 }
 
-#[test]
-fn a_read_is_one_call(rt: HostRuntime) {
-    for kind in KINDS {
-        let mut reader = Reader::of_five(2, kind);
-        let mut buffer = [0; 8];
-        for (want, front, calls) in [
-            (Ok(2), b"AB", 1),
-            (Err(ReadFault), b"AB", 2),
-            (Ok(2), b"CD", 3),
-            (Ok(1), b"ED", 4),
-            (Ok(0), b"ED", 5),
-        ] {
-            assert_eq!(rt; FromRead::new(&mut reader).read(&mut buffer), want);
-            assert!(rt; buffer.starts_with(front));
-            assert_eq!(rt; reader.calls, calls);
+/// Five reads into eight bytes of which the second fails: the answer, how the buffer begins then, and the calls so far.
+const READS: [(Result<usize, ReadFault>, &[u8], u64); 5] = [
+    (Ok(2), b"AB", 1),
+    (Err(ReadFault), b"AB", 2),
+    (Ok(2), b"CD", 3),
+    (Ok(1), b"ED", 4),
+    (Ok(0), b"ED", 5),
+];
+
+fn reads(kind: ErrorKind) -> bool {
+    let mut reader = Reader::of_five(2, kind);
+    let mut buffer = [0; 8];
+    for (wanted, front, calls) in READS.iter() {
+        let answer = FromRead::new(&mut reader).read(&mut buffer);
+        if answer != *wanted || !buffer.starts_with(front) || reader.calls != *calls {
+            return false;
         }
     }
+    true
 }
 
-// Of eight bytes: two, two, one and the end; of four, two and two.
-#[test]
-fn fill_reads_until_full_ended_or_failed(rt: HostRuntime) {
-    for kind in KINDS {
-        for (fails_at, room, want, calls) in [
-            (0, 8, Ok(5), 4),
-            (0, 4, Ok(4), 2),
-            (0, 0, Ok(0), 0),
-            (1, 8, Err(ReadFault), 1),
-            (3, 8, Err(ReadFault), 3),
-            (4, 8, Err(ReadFault), 4),
-        ] {
-            let mut reader = Reader::of_five(fails_at, kind);
-            let mut buffer = [0; 8];
-            let answer = fill(&mut buffer[..room], &mut FromRead::new(&mut reader));
-            assert_eq!(rt; answer, want);
-            assert_eq!(rt; reader.calls, calls);
+/// The call that fails, the room of the buffer, what `fill` answers, and the calls. Of eight bytes: two, two, one and the
+/// end; of four, two and two.
+const FILLS: [(u64, usize, Result<usize, ReadFault>, u64); 6] = [
+    (0, 8, Ok(5), 4),
+    (0, 4, Ok(4), 2),
+    (0, 0, Ok(0), 0),
+    (1, 8, Err(ReadFault), 1),
+    (3, 8, Err(ReadFault), 3),
+    (4, 8, Err(ReadFault), 4),
+];
+
+fn fills(kind: ErrorKind) -> bool {
+    for (fails_at, room, wanted, calls) in FILLS.iter() {
+        let mut reader = Reader::of_five(*fails_at, kind);
+        let mut buffer = [0; 8];
+        let room = (*room).min(8);
+        let answer = fill(&mut buffer[..room], &mut FromRead::new(&mut reader));
+        if answer != *wanted || reader.calls != *calls {
+            return false;
         }
     }
+    true
 }
 
 const FAILURES: [Failure; 4] = [
@@ -142,71 +146,112 @@ const FAILURES: [Failure; 4] = [
     Failure::Nothing,
 ];
 
-#[test]
-fn a_write_is_one_call(rt: HostRuntime) {
-    for failure in FAILURES {
-        let mut writer = Writer::new(rt.alloc(), 2, failure);
-        let failed = match failure {
-            Failure::Error(_) => Err(WriteFault),
-            Failure::Nothing => Ok(0),
+/// Four writes of which the second fails: the piece, the answer where it does not fail, and the calls so far.
+const WRITES: [(&[u8], Option<usize>, u64); 4] = [
+    (b"ABC", Some(2), 1),
+    (b"C", None, 2),
+    (b"", Some(0), 3),
+    (b"C", Some(1), 4),
+];
+
+fn writes(alloc: Global, failure: Failure) -> bool {
+    let mut writer = Writer::new(alloc, 2, failure);
+    let failed = match failure {
+        Failure::Error(_) => Err(WriteFault),
+        Failure::Nothing => Ok(0),
+    };
+    for (piece, taken, calls) in WRITES.iter() {
+        let wanted = match taken {
+            Some(count) => Ok(*count),
+            None => failed,
         };
-        for (piece, want, calls) in [
-            ("ABC", Ok(2), 1),
-            ("C", failed, 2),
-            ("", Ok(0), 3),
-            ("C", Ok(1), 4),
-        ] {
-            assert_eq!(rt; ToWrite::new(&mut writer).write(piece.as_bytes()), want);
-            assert_eq!(rt; writer.calls, calls);
+        if ToWrite::new(&mut writer).write(piece) != wanted || writer.calls != *calls {
+            return false;
         }
-        assert_eq!(rt; writer.taken.as_slice(), b"ABC".as_slice());
     }
+    writer.taken.as_slice() == b"ABC".as_slice()
 }
 
-// Five bytes go out in three calls; five in pieces of three, none and two bytes also in three.
-#[test]
-fn put_writes_until_all_went_out_or_a_write_failed(rt: HostRuntime) {
-    for failure in FAILURES {
-        for (fails_at, want, whole, pieces, calls) in [
-            (0, Ok(()), "ABCDE", "ABCDE", 3),
-            (1, Err(WriteFault), "", "", 1),
-            (2, Err(WriteFault), "AB", "AB", 2),
-            (3, Err(WriteFault), "ABCD", "ABC", 3),
-        ] {
-            let mut writer = Writer::new(rt.alloc(), fails_at, failure);
-            assert_eq!(rt; put(b"ABCDE", &mut ToWrite::new(&mut writer)), want);
-            assert_eq!(rt; writer.taken.as_slice(), whole.as_bytes());
-            assert_eq!(rt; writer.calls, calls);
-            let mut writer = Writer::new(rt.alloc(), fails_at, failure);
-            let answer = put_all(&[b"ABC", b"", b"DE"], &mut ToWrite::new(&mut writer));
-            assert_eq!(rt; answer, want);
-            assert_eq!(rt; writer.taken.as_slice(), pieces.as_bytes());
-            assert_eq!(rt; writer.calls, calls);
-        }
-    }
+/// The call that fails, what goes out of five bytes, what of pieces of three, none and two bytes, and the calls. All go
+/// out in three calls.
+const PUTS: [(u64, &[u8], &[u8], u64); 4] = [
+    (0, b"ABCDE", b"ABCDE", 3),
+    (1, b"", b"", 1),
+    (2, b"AB", b"AB", 2),
+    (3, b"ABCD", b"ABC", 3),
+];
+
+// Whether that goes out, and a failure is told.
+fn puts(alloc: Global, failure: Failure, row: (u64, &[u8], &[u8], u64)) -> bool {
+    let (fails_at, whole, pieces, calls) = row;
+    let wanted = if fails_at == 0 {
+        Ok(())
+    } else {
+        Err(WriteFault)
+    };
+    let mut one = Writer::new(alloc, fails_at, failure);
+    let mut more = Writer::new(alloc, fails_at, failure);
+    put(b"ABCDE", &mut ToWrite::new(&mut one)) == wanted
+        && put_all(&[b"ABC", b"", b"DE"], &mut ToWrite::new(&mut more)) == wanted
+        && one.taken.as_slice() == whole
+        && more.taken.as_slice() == pieces
+        && one.calls == calls
+        && more.calls == calls
 }
 
 #[test]
-fn pinched_calls_pass_and_fail(rt: HostRuntime) -> Result<(), Fail> {
+fn reads_and_writes_that_fail(rt: HostRuntime) {
+    for kind in KINDS.iter() {
+        assert!(rt; reads(*kind) && fills(*kind));
+    }
+    for (number, failure) in FAILURES.iter().enumerate() {
+        assert!(rt; writes(rt.alloc(), *failure), "failure {number}");
+        for row in PUTS.iter() {
+            assert!(rt; puts(rt.alloc(), *failure, *row), "failure {number}");
+        }
+    }
+}
+
+/// Pieces that go through a writer of three bytes a call and two calls, and how many bytes it takes where it does.
+const PIECES: [(&[u8], Option<usize>); 4] = [
+    (b"AB", Some(2)),
+    (b"CDEFG", Some(3)),
+    (b"F", None),
+    (b"", None),
+];
+
+fn pinched_writes(alloc: Global, failing: Failing, failed: Result<usize, WriteFault>) -> bool {
+    let mut text = Vec::new(alloc);
+    let mut writer = Pinched::new(ToWrite::new(&mut text), 3, 2, failing);
+    for (piece, taken) in PIECES.iter() {
+        let wanted = match taken {
+            Some(count) => Ok(*count),
+            None => failed,
+        };
+        if writer.write(piece) != wanted {
+            return false;
+        }
+    }
+    let is_told = put(b"F", &mut writer) == Err(WriteFault);
+    drop(writer);
+    is_told && text.as_slice() == b"ABCDE".as_slice()
+}
+
+fn pinched_reads(failing: Failing) -> bool {
+    let mut reader = Pinched::new(Endless(b'A'), 3, 2, failing);
+    let mut buffer = [0; 8];
+    reader.read(&mut buffer) == Ok(3)
+        && reader.read(&mut buffer) == Ok(3)
+        && reader.read(&mut buffer) == Err(ReadFault)
+        && buffer == *b"AAA\0\0\0\0\0"
+}
+
+#[test]
+fn pinched_calls_pass_and_fail(rt: HostRuntime) {
     for (failing, failed) in [
         (Failing::Refuses, Err(WriteFault)),
         (Failing::TakesNothing, Ok(0)),
     ] {
-        let mut text = Vec::new(rt.alloc());
-        let mut writer = Pinched::new(ToWrite::new(&mut text), 3, 2, failing);
-        for (piece, want) in [("AB", Ok(2)), ("CDEFG", Ok(3)), ("F", failed), ("", failed)] {
-            assert_eq!(rt; writer.write(piece.as_bytes()), want);
-        }
-        assert_eq!(rt; put(b"F", &mut writer), Err(WriteFault));
-        drop(writer);
-        assert_eq!(rt; text.as_slice(), b"ABCDE".as_slice());
-        let mut reader = Pinched::new(Endless(b'A'), 3, 2, failing);
-        let mut buffer = [0; 8];
-        for want in [Ok(3), Ok(3), Err(ReadFault)] {
-            assert_eq!(rt; reader.read(&mut buffer), want);
-        }
-        let filled: &[u8] = b"AAA\0\0\0\0\0";
-        assert_eq!(rt; buffer.as_slice(), filled);
+        assert!(rt; pinched_writes(rt.alloc(), failing, failed) && pinched_reads(failing));
     }
-    Ok(())
 }
