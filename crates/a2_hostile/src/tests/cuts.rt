@@ -1,10 +1,9 @@
 //! Scripts that are cut after each of their bytes: the lines before the cut are answered, and the rest of a line as it
 //! stands.
 
-use super::texts::{Call, make};
-use a2_stream::{FromRead, ToWrite};
+use super::texts::{Call, Example, FREE, answer_of};
 use a2_worked::POLLS;
-use std::alloc::{AllocError, Global};
+use std::alloc::AllocError;
 use std::process::Abort;
 use std::test::Fail;
 
@@ -111,13 +110,13 @@ const DEBUGGER: [Line; 6] = [
 ];
 
 // What a front of so many bytes is answered.
-fn answer_of(fronts: &[(usize, &'static str)], length: usize) -> &'static str {
+fn answer_of_front(fronts: &[(usize, &'static str)], length: usize) -> &'static [u8] {
     for (last, answer) in fronts {
         if length <= *last {
-            return *answer;
+            return answer.as_bytes();
         }
     }
-    ""
+    b""
 }
 
 // Adds a front of a line, as it is repeated, and its answer.
@@ -128,33 +127,38 @@ fn put_answer(
     length: usize,
 ) -> Result<(), AllocError> {
     let front = line.0.as_bytes().get(..length).unwrap_or(line.0.as_bytes());
-    output.push(prompt)?;
-    output.extend_from_slice(front)?;
-    output.push(b'\n')?;
-    output.extend_from_slice(answer_of(line.1, front.len()).as_bytes())
+    for piece in [
+        &[prompt],
+        front,
+        b"\n",
+        answer_of_front(line.1, front.len()),
+    ] {
+        output.extend_from_slice(piece)?;
+    }
+    Ok(())
 }
 
-// A script's front of so many bytes, and what it is answered. A front that ends a line is answered as that line.
-fn cut(
-    alloc: Global,
+// Adds a script's front of so many bytes, and what it is answered. A front that ends a line is answered as that line.
+fn put_cut(
+    example: &mut Example,
     lines: &[Line],
     prompt: u8,
     bytes: usize,
-) -> Result<(Vec<u8>, Vec<u8>), AllocError> {
-    let mut script = Vec::new(alloc);
-    let mut output = Vec::new(alloc);
+) -> Result<(), AllocError> {
     for line in lines {
-        let left = bytes.saturating_sub(script.len());
+        let left = bytes.saturating_sub(example.script.len());
         if left > 0 {
-            put_answer(&mut output, prompt, *line, left)?;
+            put_answer(&mut example.output, prompt, *line, left)?;
         }
-        script.extend_from_slice(line.0.as_bytes())?;
-        script.push(b'\n')?;
+        for piece in [line.0.as_bytes(), b"\n"] {
+            example.script.extend_from_slice(piece)?;
+        }
     }
-    script.truncate(bytes);
-    Ok((script, output))
+    example.script.truncate(bytes);
+    Ok(())
 }
 
+// The script has so many bytes. (Behind them it is not cut.)
 fn each_cut_is_answered(
     rt: &(impl Abort + AllocGlobal),
     call: Call,
@@ -162,22 +166,18 @@ fn each_cut_is_answered(
     prompt: u8,
     bytes: usize,
 ) -> Result<(), Fail> {
-    let (whole, _) = cut(rt.alloc(), lines, prompt, bytes)?;
-    assert_eq!(rt; whole.len(), bytes);
-    for length in 0..=bytes {
-        let (script, wanted) = cut(rt.alloc(), lines, prompt, length)?;
-        let mut output = Vec::new(rt.alloc());
-        let answer = make(
-            rt.alloc(),
+    for length in 0..=bytes.saturating_add(1) {
+        let mut example = Example {
             call,
-            &mut FromRead::new(POLLS.as_bytes()),
-            &mut FromRead::new(script.as_slice()),
-            &mut ToWrite::new(&mut output),
-        );
-        assert_eq!(rt; answer, Ok(()));
+            source: POLLS,
+            script: Vec::new(rt.alloc()),
+            output: Vec::new(rt.alloc()),
+        };
+        put_cut(&mut example, lines, prompt, length)?;
+        let answer = answer_of(rt, rt.alloc(), &example, FREE);
         assert_eq!(rt;
-            output.as_slice(),
-            wanted.as_slice(),
+            (answer, example.script.len()),
+            (Ok(()), length.min(bytes)),
             "after {length} bytes"
         );
     }
@@ -185,11 +185,7 @@ fn each_cut_is_answered(
 }
 
 #[test]
-fn cut_monitor_scripts(rt: HostRuntime) -> Result<(), Fail> {
-    each_cut_is_answered(&rt, Call::Monitor, &MONITOR, b'*', 53)
-}
-
-#[test]
-fn cut_debugger_scripts(rt: HostRuntime) -> Result<(), Fail> {
+fn cut_scripts(rt: HostRuntime) -> Result<(), Fail> {
+    each_cut_is_answered(&rt, Call::Monitor, &MONITOR, b'*', 53)?;
     each_cut_is_answered(&rt, Call::Debug, &DEBUGGER, b'>', 42)
 }

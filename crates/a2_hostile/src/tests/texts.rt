@@ -2,12 +2,13 @@
 
 use a2_bus::Keys;
 use a2_run::{Options, RunFault, asm_text, debug_text, mon_text, run_text};
-use a2_stream::{Input, Output};
+use a2_stream::{Failing, FromRead, Input, Output, Pinched, ToWrite};
 use a2_worked::{
     DEBUGGER_OUTPUT, DEBUGGER_SCRIPT, FIVE_LINES, FIVE_LINES_LAY, FIVE_LINES_LEAVE,
     MONITOR_SESSION, POLLS, put_page, script_of,
 };
 use std::alloc::{AllocError, Allocator, Global};
+use std::process::Abort;
 
 /// A call that takes texts.
 #[derive(Clone, Copy)]
@@ -25,6 +26,59 @@ pub struct Example {
     pub source: &'static str,
     pub script: Vec<u8>,
     pub output: Vec<u8>,
+}
+
+/// How many calls of a call's readers and of its writer go through, each with one byte, and how its writer fails behind
+/// them.
+#[derive(Clone, Copy)]
+pub struct Pinch {
+    pub source: usize,
+    pub script: usize,
+    pub writes: usize,
+    pub failing: Failing,
+}
+
+/// More calls than a text of these tests takes.
+pub const FREE: Pinch = Pinch {
+    source: 10_000,
+    script: 10_000,
+    writes: 10_000,
+    failing: Failing::Refuses,
+};
+
+// A reader that gives one byte a call and then fails.
+fn slow(text: &[u8], calls: usize) -> Pinched<FromRead<&[u8]>> {
+    Pinched::new(FromRead::new(text), 1, calls as u64, Failing::Refuses)
+}
+
+/// Makes the call of an example, and gives its answer. It writes the whole of its output; up to the write that failed,
+/// where one did; and nothing where anything else is refused.
+pub fn answer_of<A: Allocator + Copy>(
+    rt: &(impl Abort + AllocGlobal),
+    alloc: A,
+    example: &Example,
+    pinch: Pinch,
+) -> Result<(), RunFault> {
+    let mut output = Vec::new(rt.alloc());
+    let answer = make(
+        alloc,
+        example.call,
+        &mut slow(example.source.as_bytes(), pinch.source),
+        &mut slow(example.script.as_slice(), pinch.script),
+        &mut Pinched::new(
+            ToWrite::new(&mut output),
+            1,
+            pinch.writes as u64,
+            pinch.failing,
+        ),
+    );
+    let length = match answer {
+        Ok(()) => example.output.len(),
+        Err(RunFault::Write) => pinch.writes,
+        Err(_) => 0,
+    };
+    assert_eq!(rt; Some(output.as_slice()), example.output.get(..length));
+    answer
 }
 
 /// Makes the call. A run is guarded and has no keys; why it stops stands in its output.

@@ -1,6 +1,6 @@
 //! Writers that take one byte a call, and fail at each place.
 
-use super::texts::{Call, Example, make, worked};
+use super::texts::{Call, FREE, Pinch, answer_of, worked};
 use a2_bus::Keys;
 use a2_run::{Options, RunFault, asm_text, fault_status, run_text};
 use a2_stream::{Failing, FromRead, Pinched, ToWrite};
@@ -8,70 +8,56 @@ use a2_worked::FIVE_LINES;
 use std::process::Abort;
 use std::test::Fail;
 
-// After so many bytes the writer fails so: these bytes went out, and no other. After all of them nothing is left to
+// The writer fails at each third place, from the first, the second or the third on. After all bytes nothing is left to
 // fail.
-fn breaks_off(
-    rt: &(impl Abort + AllocGlobal),
-    example: &Example,
-    calls: usize,
-    failing: Failing,
-) -> Result<(), Fail> {
-    let mut output = Vec::new(rt.alloc());
-    let answer = make(
-        rt.alloc(),
-        example.call,
-        &mut FromRead::new(example.source.as_bytes()),
-        &mut FromRead::new(example.script.as_slice()),
-        &mut Pinched::new(ToWrite::new(&mut output), 1, calls as u64, failing),
-    );
-    let wanted = if calls < example.output.len() {
-        Err(RunFault::Write)
-    } else {
-        Ok(())
-    };
-    assert_eq!(rt; answer, wanted, "after {calls} bytes");
-    assert_eq!(rt; Some(output.as_slice()), example.output.get(..calls));
-    Ok(())
-}
-
-// The writer fails at each third place, from the first, the second or the third on.
 fn each_third_write_fails(
     rt: &(impl Abort + AllocGlobal),
     call: Call,
     failing: Failing,
     first: usize,
 ) -> Result<(), Fail> {
-    assert_eq!(rt; fault_status(&RunFault::Write), 4);
     let example = worked(rt.alloc(), call)?;
-    for calls in 0..=example.output.len() {
-        if calls % 3 == first {
-            breaks_off(rt, &example, calls, failing)?;
+    let last = example.output.len();
+    for writes in 0..=last {
+        if writes % 3 == first {
+            let pinch = Pinch {
+                writes,
+                failing,
+                ..FREE
+            };
+            let answer = answer_of(rt, rt.alloc(), &example, pinch);
+            let wanted = if writes < last {
+                Err(RunFault::Write)
+            } else {
+                Ok(())
+            };
+            assert_eq!(rt; answer, wanted, "after {writes} bytes");
         }
     }
     Ok(())
 }
 
-fn each_write_fails(
+fn each_write_of_lines_fails(
     rt: &(impl Abort + AllocGlobal),
-    call: Call,
     failing: Failing,
 ) -> Result<(), Fail> {
-    for first in 0..3usize {
-        each_third_write_fails(rt, call, failing, first)?;
+    assert_eq!(rt; fault_status(&RunFault::Write), 4);
+    for call in [Call::Assemble, Call::Monitor] {
+        for first in 0..3usize {
+            each_third_write_fails(rt, call, failing, first)?;
+        }
     }
     Ok(())
 }
 
 #[test]
-fn each_write_of_object_lines_fails(rt: HostRuntime) -> Result<(), Fail> {
-    each_write_fails(&rt, Call::Assemble, Failing::Refuses)?;
-    each_write_fails(&rt, Call::Assemble, Failing::TakesNothing)
+fn writes_of_lines_fail(rt: HostRuntime) -> Result<(), Fail> {
+    each_write_of_lines_fails(&rt, Failing::Refuses)
 }
 
 #[test]
-fn each_write_of_monitor_lines_fails(rt: HostRuntime) -> Result<(), Fail> {
-    each_write_fails(&rt, Call::Monitor, Failing::Refuses)?;
-    each_write_fails(&rt, Call::Monitor, Failing::TakesNothing)
+fn writes_of_lines_take_nothing(rt: HostRuntime) -> Result<(), Fail> {
+    each_write_of_lines_fails(&rt, Failing::TakesNothing)
 }
 
 // A test has a minute, also where it is run with checks, so each of these takes a third of the places.
@@ -137,7 +123,7 @@ fn third_writes_of_debugger_lines_take_nothing(rt: HostRuntime) -> Result<(), Fa
 
 // The picture, the attribute rows and both lines go out together.
 #[test]
-fn a_run_makes_one_write(rt: HostRuntime) -> Result<(), Fail> {
+fn a_run_makes_one_write(rt: HostRuntime) {
     for (attr, length) in [(false, 1049), (true, 2033)] {
         let mut output = Vec::new(rt.alloc());
         let answer = run_text(
@@ -148,15 +134,13 @@ fn a_run_makes_one_write(rt: HostRuntime) -> Result<(), Fail> {
             Options { free: false, attr },
             &mut Pinched::new(ToWrite::new(&mut output), 4096, 1, Failing::Refuses),
         );
-        assert!(rt; answer.is_ok());
-        assert_eq!(rt; output.len(), length);
+        assert_eq!(rt; (answer.is_ok(), output.len()), (true, length));
     }
-    Ok(())
 }
 
 // Of the 6,144 lines of a full image, 29 bytes each, 141 go out together. Where a write fails, whole pieces went out.
 #[test]
-fn object_lines_go_out_together(rt: HostRuntime) -> Result<(), Fail> {
+fn object_lines_go_out_together(rt: HostRuntime) {
     let source = b" ORG 0\n NOP\n DS $BFFF\n".as_slice();
     for (calls, sent, wanted) in [
         (44u64, 178_176usize, Ok(())),
@@ -170,8 +154,6 @@ fn object_lines_go_out_together(rt: HostRuntime) -> Result<(), Fail> {
             &mut FromRead::new(source),
             &mut Pinched::new(ToWrite::new(&mut output), 4096, calls, Failing::Refuses),
         );
-        assert_eq!(rt; answer, wanted);
-        assert_eq!(rt; output.len(), sent);
+        assert_eq!(rt; (answer, output.len()), (wanted, sent));
     }
-    Ok(())
 }
