@@ -1,4 +1,2 @@
 pub mod Listing
 pub mod Refused
-pub mod Status
-pub mod Words

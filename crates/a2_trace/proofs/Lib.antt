@@ -1,2 +1,1 @@
 pub mod Tracing
-pub mod WordLaws

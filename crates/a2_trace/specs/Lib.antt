@@ -1,4 +1,2 @@
 pub mod Trace
 pub mod Traced
-pub mod Status
-pub mod Words

@@ -1,0 +1,180 @@
+//! A stop in words.
+
+use crate::pushes::Pushes;
+use crate::scene::{Scene, put_address, put_number, put_place, statement_at};
+use a2_asm::Program;
+use a2_bus::Keys;
+use a2_cpu::Regs;
+use a2_machine::{Cause, Machine};
+use a2_opcode::Mnemonic;
+use a2_run::{RunFault, program_of, started};
+use a2_stream::{Output, WriteFault, put};
+use a2_text::cut;
+use std::alloc::Allocator;
+
+// How many steps before the stop are gone through for what was pushed.
+const WATCHED: u32 = 100_000;
+
+// What a cause means at the place where PC stands, behind `at PC = `.
+fn meaning(cause: Cause) -> &'static [u8] {
+    match cause {
+        Cause::Returned => b"the last RTS was done",
+        Cause::CodeWrite => b"what stands there would store into the bytes of an instruction",
+        Cause::Window =>
+            b"the service there needs its window and cursor, or the block, on the screen",
+        Cause::Keys => b"the service there needs a key, and none is left (--keys)",
+        Cause::OffStatement => b"no instruction of the source begins there",
+        Cause::Rom => b"there is no RAM at $C000 and above",
+        Cause::Opcode => b"the byte there is no documented opcode",
+        Cause::Brk => b"there is a BRK",
+        Cause::Decimal => b"ADC and SBC do no decimal arithmetic: CLD clears D",
+        Cause::Limit => b"the limit of steps is reached (--limit)",
+    }
+}
+
+// The steps of a run again, up to so many.
+fn rerun<A: Allocator + Copy>(
+    alloc: A,
+    program: &Program<A>,
+    keys: &Keys,
+    free: bool,
+    steps: u32,
+) -> Result<Machine<A>, RunFault> {
+    let mut machine = started(alloc, program, keys, free)?;
+    let _ = machine.run(steps);
+    Ok(machine)
+}
+
+// Whether the instruction at an address takes its next address from the stack.
+fn returns<A: Allocator>(program: &Program<A>, address: u16) -> bool {
+    match program.instr_at(address) {
+        Some(instr) => matches!(instr.mnemonic, Mnemonic::Rts),
+        None => false,
+    }
+}
+
+// Writes what pushed the two bytes that an RTS pulls, with S before it.
+fn put_pulled<A: Allocator, W: Output>(
+    scene: &Scene<A>,
+    pushes: &Pushes,
+    s: u8,
+    writer: &mut W,
+) -> Result<(), WriteFault> {
+    for offset in [s.wrapping_add(1), s.wrapping_add(2)] {
+        put(b"a2x: that RTS pulled the byte at ", writer)?;
+        put_address(0x100 + u16::from(offset), writer)?;
+        put(b", which ", writer)?;
+        match pushes.at(offset) {
+            Some(address) => {
+                put_place(scene, address, writer)?;
+                put(b" pushed\n", writer)?;
+            }
+            None => put(b"no step before it pushed\n", writer)?,
+        }
+    }
+    Ok(())
+}
+
+// The last step that did a statement of the source, and the registers before it, where it is one of the last four: a service that
+// is called through a hook is two steps behind its call.
+fn last_of_source<A: Allocator + Copy>(
+    alloc: A,
+    program: &Program<A>,
+    keys: &Keys,
+    free: bool,
+    steps: u32,
+) -> Result<Option<(u32, Regs)>, RunFault> {
+    for back in 0..steps.min(4) {
+        let step = steps - back;
+        let regs = rerun(alloc, program, keys, free, step - 1)?.regs();
+        if statement_at(program.statements(), regs.pc).is_some() {
+            return Ok(Some((step, regs)));
+        }
+    }
+    Ok(None)
+}
+
+// Writes which step of the source was the last.
+fn put_last<A: Allocator, W: Output>(
+    scene: &Scene<A>,
+    step: u32,
+    pc: u16,
+    writer: &mut W,
+) -> Result<(), WriteFault> {
+    put(b"a2x: step ", writer)?;
+    put_number(step, writer)?;
+    put(b" was ", writer)?;
+    put_place(scene, pc, writer)?;
+    put(b", and led there\n", writer)
+}
+
+// Writes where a run stopped, and why.
+fn put_stop<A: Allocator, W: Output>(
+    scene: &Scene<A>,
+    pc: u16,
+    cause: Cause,
+    writer: &mut W,
+) -> Result<(), WriteFault> {
+    put(b"a2x: stopped at ", writer)?;
+    put_place(scene, pc, writer)?;
+    put(b": ", writer)?;
+    put(meaning(cause), writer)?;
+    put(b"\n", writer)
+}
+
+// Writes what pushed the address that an RTS went to, if the step before this many was one and went to no statement.
+fn put_pushes<A: Allocator + Copy, W: Output>(
+    alloc: A,
+    scene: &Scene<A>,
+    keys: &Keys,
+    free: bool,
+    steps: u32,
+    before: Regs,
+    writer: &mut W,
+) -> Result<(), RunFault> {
+    if returns(scene.program, before.pc) {
+        let watched = steps.min(WATCHED);
+        let mut machine = rerun(alloc, scene.program, keys, free, steps - watched)?;
+        let pushes = Pushes::watch(&mut machine, watched);
+        put_pulled(scene, &pushes, before.s, writer)?;
+    }
+    Ok(())
+}
+
+/// Writes why the run of a source stops, in lines that begin with `a2x: `: the cause, what stands at PC, the last step of the
+/// source, and of an `RTS` that led astray what pushed the bytes that it pulled, as far as the last 100,000 steps tell. Nothing
+/// is written of a run that ends by RETURNED or BRK. The run is that of the source with these keys waiting, at most `limit` steps, guarded or `free`;
+/// it is made again for this. Refused where the source is, where a write fails, and for want of memory. This project's profile.
+pub fn explain_stop<A: Allocator + Copy, W: Output>(
+    alloc: A,
+    source: &[u8],
+    keys: &Keys,
+    limit: u32,
+    free: bool,
+    writer: &mut W,
+) -> Result<(), RunFault> {
+    let program = program_of(alloc, source)?;
+    let lines = cut(alloc, source)?;
+    let scene = Scene {
+        program: &program,
+        lines: lines.as_slice(),
+    };
+    let mut machine = started(alloc, &program, keys, free)?;
+    let cause = machine.run(limit);
+    if matches!(cause, Cause::Returned | Cause::Brk) {
+        return Ok(());
+    }
+    let pc = machine.regs().pc;
+    put_stop(&scene, pc, cause, writer)?;
+    let steps = u32::try_from(machine.steps()).unwrap_or(limit);
+    if matches!(cause, Cause::Limit) {
+        return Ok(());
+    }
+    if let Some((step, before)) = last_of_source(alloc, &program, keys, free, steps)? {
+        put_last(&scene, step, before.pc, writer)?;
+        if statement_at(program.statements(), pc).is_none() {
+            put_pushes(alloc, &scene, keys, free, step - 1, before, writer)?;
+        }
+    }
+    Ok(())
+}

@@ -1,0 +1,59 @@
+//! Tools beside the program `a2`: one program, a word for each.
+#![tactic(auto)]
+
+mod help;
+mod program;
+mod table;
+mod words;
+
+use a2_host::{HostFiles, HostWordsFault, complain, words_of};
+use a2_run::{RunFault, fault_status};
+use a2_stream::{FromRead, ToWrite};
+use program::obey;
+use std::io::{BufWriter, Write};
+use std::process::ExitCode;
+
+// Does what the words ask for; many lines go out by one write.
+fn act(rt: &HostRuntime, words: &[String]) -> Result<u8, RunFault> {
+    let mut lines = match BufWriter::new(rt.alloc(), rt.stdout()) {
+        Ok(lines) => lines,
+        Err(_) => return Err(RunFault::Memory),
+    };
+    let mut complaints = ToWrite::new(rt.stderr());
+    let status = obey(
+        rt.alloc(),
+        words,
+        &mut HostFiles::new(rt),
+        &mut FromRead::new(rt.stdin()),
+        &mut ToWrite::new(&mut lines),
+        &mut complaints,
+    );
+    let is_broken = status != 4 && lines.flush().is_err();
+    // What a failed write left is given up: dropped as they are, `lines` would write it again.
+    let _ = lines.into_parts();
+    if is_broken {
+        Err(RunFault::Write)
+    } else {
+        Ok(status)
+    }
+}
+
+// Tells why nothing is done; the status.
+fn told(rt: &HostRuntime, fault: RunFault) -> u8 {
+    complain(fault, &mut ToWrite::new(rt.stderr()));
+    fault_status(&fault)
+}
+
+fn main(rt: HostRuntime) -> ExitCode {
+    ExitCode::from(match words_of(&rt) {
+        Ok(words) => match act(&rt, words.as_slice()) {
+            Ok(status) => status,
+            Err(fault) => told(&rt, fault),
+        },
+        Err(HostWordsFault::Memory) => told(&rt, RunFault::Memory),
+        Err(HostWordsFault::NotText) => {
+            let _ = eprintln!(rt; "a2x: a word is no text in UTF-8");
+            2
+        }
+    })
+}

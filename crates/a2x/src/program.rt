@@ -1,0 +1,335 @@
+//! What the program does, over any files and streams.
+
+ghost use Rattle.std.specs.Prelude.{◌≤◌, IfOk, IfErr};
+
+use crate::help::{put_page, put_use, put_version};
+use crate::table::{Tool, Word, nearest, word_named};
+use crate::words::{Misfit, Order, WordsFault, file_of, misfit_in, order_of};
+use a2_explain::explain_stop;
+use a2_host::{Shelf, complain};
+use a2_list::{list_source, put_line_refused};
+use a2_run::{Options, RunFault, fault_status, read_text, run_text, status};
+use a2_stream::{FromRead, Input, Output, WriteFault, put_all};
+use a2_trace::trace_source;
+use std::alloc::Global;
+
+// Writes a line of these parts behind the program's name. Where that fails there is no place left to tell it.
+fn tell<E: Output>(parts: &[&[u8]], complaints: &mut E) {
+    let _ = put_all(&[b"a2x: "], complaints);
+    let _ = put_all(parts, complaints);
+    let _ = put_all(&[b"\n"], complaints);
+}
+
+// Tells why a text has no answer; the status.
+fn told<E: Output>(fault: RunFault, complaints: &mut E) -> u8
+    ensures { result ≤ 5 }
+{
+    complain(fault, complaints);
+    fault_status(&fault)
+}
+
+// The status where something was written, or a write failed.
+fn written<E: Output>(answer: Result<(), WriteFault>, complaints: &mut E) -> u8
+    ensures { result ≤ 5 }
+{
+    match answer {
+        Ok(()) => 0,
+        Err(fault) => told(RunFault::from(fault), complaints),
+    }
+}
+
+// The text of a file, or of the standard input where none is named or it is named -; or the status, where that is told.
+fn text_of<S: Shelf, R: Input, E: Output>(
+    alloc: Global,
+    file: Option<&str>,
+    shelf: &mut S,
+    input: &mut R,
+    complaints: &mut E,
+) -> Result<Vec<u8>, u8>
+    ensures { IfErr result (λ status. status ≤ 5) }
+{
+    let read = match file {
+        Some(name) if name != "-" => {
+            let Ok(mut reader) = shelf.open(name) else {
+                tell(
+                    &[b"no file ", name.as_bytes(), b" can be opened here"],
+                    complaints,
+                );
+                return Err(4);
+            };
+            read_text(alloc, &mut reader)
+        }
+        _ => read_text(alloc, input),
+    };
+    match read {
+        Ok(text) => Ok(text),
+        Err(fault) => Err(told(RunFault::from(fault), complaints)),
+    }
+}
+
+// Lists a source; behind its refusal the refused line is told.
+fn list<W: Output, E: Output>(
+    alloc: Global,
+    source: &[u8],
+    output: &mut W,
+    complaints: &mut E,
+) -> u8
+    ensures { result ≤ 5 }
+{
+    let Err(fault) = list_source(alloc, source, output) else {
+        return 0;
+    };
+    let status = told(fault, complaints);
+    if let RunFault::Source(refusal) = fault {
+        let _ = put_line_refused(alloc, source, refusal, complaints);
+    }
+    status
+}
+
+// Runs a source as a2 does, and tells why it stopped.
+fn run<W: Output, E: Output>(
+    alloc: Global,
+    source: &[u8],
+    order: &Order,
+    output: &mut W,
+    complaints: &mut E,
+) -> u8
+    ensures { result ≤ 5 }
+{
+    let options = Options {
+        free: order.free,
+        attr: order.attr,
+    };
+    let answer = run_text(
+        alloc,
+        &mut FromRead::new(source),
+        &order.keys,
+        order.limit,
+        options,
+        output,
+    );
+    match answer {
+        Ok(_) => {
+            // Where this fails there is no place left to tell it.
+            let _ = explain_stop(
+                alloc,
+                source,
+                &order.keys,
+                order.limit,
+                order.free,
+                complaints,
+            );
+        }
+        Err(fault) => complain(fault, complaints),
+    }
+    status(&answer)
+}
+
+// Traces the run of a source.
+fn trace<W: Output, E: Output>(
+    alloc: Global,
+    source: &[u8],
+    order: &Order,
+    output: &mut W,
+    complaints: &mut E,
+) -> u8
+    ensures { result ≤ 5 }
+{
+    let answer = trace_source(alloc, source, &order.keys, order.limit, order.free, output);
+    if let Err(fault) = answer {
+        complain(fault, complaints);
+    }
+    status(&answer)
+}
+
+// Tells what is wrong with the words behind a word.
+fn tell_misfit<E: Output>(name: &[u8], misfit: Misfit, complaints: &mut E) {
+    match misfit {
+        Misfit::Option(text) => tell(
+            &[
+                name,
+                b": ",
+                text.as_bytes(),
+                b" is no option here (a2x help ",
+                name,
+                b")",
+            ],
+            complaints,
+        ),
+        Misfit::Value(option) => tell(
+            &[
+                name,
+                b": ",
+                option.as_bytes(),
+                b" stands without a value (a2x help)",
+            ],
+            complaints,
+        ),
+        Misfit::Limit(text) => tell(
+            &[
+                name,
+                b": --limit ",
+                text.as_bytes(),
+                b" is no number from 0 to 100000000",
+            ],
+            complaints,
+        ),
+        Misfit::Files => tell(
+            &[
+                name,
+                b" takes one file: name no other, or use -- before one that begins with -",
+            ],
+            complaints,
+        ),
+    }
+}
+
+// Tells why the words behind a word are refused; the status.
+fn refused<E: Output>(word: &Word, words: &[String], fault: WordsFault, complaints: &mut E) -> u8
+    ensures { result ≤ 5 }
+{
+    let name = word.name.as_bytes();
+    match fault {
+        WordsFault::Keys => tell(
+            &[
+                name,
+                b": keys are blank to ~, and \\r \\b \\f \\x \\\\ (a2x help)",
+            ],
+            complaints,
+        ),
+        WordsFault::Words => tell_misfit(
+            name,
+            misfit_in(words, word.valued, word.flags),
+            complaints,
+        ),
+    }
+    2
+}
+
+// Tells that a word is none, and which one is near.
+fn tell_near<E: Output>(name: &[u8], near: &[u8], complaints: &mut E) {
+    tell(
+        &[name, b" is no word: did you mean ", near, b"?"],
+        complaints,
+    )
+}
+
+// Tells that a word is none, with the nearest that is; the status.
+fn unknown<E: Output>(alloc: Global, name: &str, complaints: &mut E) -> u8
+    ensures { result ≤ 5 }
+{
+    match nearest(alloc, name) {
+        Ok(Some(word)) => tell_near(name.as_bytes(), word.name.as_bytes(), complaints),
+        Ok(None) => tell(
+            &[name.as_bytes(), b" is no word: a2x help names all"],
+            complaints,
+        ),
+        Err(_) => return told(RunFault::Memory, complaints),
+    }
+    2
+}
+
+// Writes the page of all words, or how one is used.
+fn help<W: Output, E: Output>(
+    alloc: Global,
+    words: &[String],
+    output: &mut W,
+    complaints: &mut E,
+) -> u8
+    ensures { result ≤ 5 }
+{
+    match words {
+        [] => written(put_page(output), complaints),
+        [name, ..] => match word_named(name.as_str()) {
+            Some(word) => written(put_use(&word, output), complaints),
+            None => unknown(alloc, name.as_str(), complaints),
+        },
+    }
+}
+
+// Does what a word says.
+fn act<S: Shelf, R: Input, W: Output, E: Output>(
+    alloc: Global,
+    word: &Word,
+    words: &[String],
+    shelf: &mut S,
+    input: &mut R,
+    output: &mut W,
+    complaints: &mut E,
+) -> Result<u8, u8>
+    ensures done { IfOk result (λ status. status ≤ 5) }
+    ensures refused { IfErr result (λ status. status ≤ 5) }
+{
+    match word.tool {
+        Tool::Help => Ok(help(alloc, words, output, complaints)),
+        Tool::List => match file_of(words) {
+            Ok(file) => {
+                let text = text_of(alloc, file, shelf, input, complaints)?;
+                Ok(list(alloc, text.as_slice(), output, complaints))
+            }
+            Err(fault) => Err(refused(word, words, fault, complaints)),
+        },
+        Tool::Run => match order_of(words) {
+            Ok(order) => {
+                let text = text_of(alloc, order.file, shelf, input, complaints)?;
+                Ok(run(alloc, text.as_slice(), &order, output, complaints))
+            }
+            Err(fault) => Err(refused(word, words, fault, complaints)),
+        },
+        Tool::Trace => match order_of(words) {
+            Ok(order) if order.attr => Err(refused(word, words, WordsFault::Words, complaints)),
+            Ok(order) => {
+                let text = text_of(alloc, order.file, shelf, input, complaints)?;
+                Ok(trace(alloc, text.as_slice(), &order, output, complaints))
+            }
+            Err(fault) => Err(refused(word, words, fault, complaints)),
+        },
+    }
+}
+
+/// Does what `words` ask for, and answers the exit status, 0 to 5. The first word is the program's name, and the second says
+/// what is done. Files are opened in `shelf`; what is asked for goes to `output`, and why it is refused to `complaints`. Without
+/// a second word the page of help goes to `complaints`, with status 2. This project's profile.
+pub fn obey<S: Shelf, R: Input, W: Output, E: Output>(
+    alloc: Global,
+    words: &[String],
+    shelf: &mut S,
+    input: &mut R,
+    output: &mut W,
+    complaints: &mut E,
+) -> u8
+    ensures { result ≤ 5 }
+{
+    match words {
+        [] | [_] => {
+            let _ = put_page(complaints);
+            2
+        }
+        [_, word, rest @ ..] => match word_named(word.as_str()) {
+            Some(found) if asks_for_help(rest) => written(put_use(&found, output), complaints),
+            Some(found) => match act(alloc, &found, rest, shelf, input, output, complaints) {
+                Ok(status) | Err(status) => status,
+            },
+            None => answer(alloc, word.as_str(), output, complaints),
+        },
+    }
+}
+
+// Whether words behind a word ask how it is used.
+fn asks_for_help(words: &[String]) -> bool {
+    match words {
+        [word] => word.as_str() == "--help" || word.as_str() == "-h",
+        _ => false,
+    }
+}
+
+// Answers a question that is no word, or tells that it is none.
+fn answer<W: Output, E: Output>(alloc: Global, name: &str, output: &mut W, complaints: &mut E) -> u8
+    ensures { result ≤ 5 }
+{
+    match name {
+        "--help" | "-h" => written(put_page(output), complaints),
+        "--version" => written(put_version(output), complaints),
+        _ => unknown(alloc, name, complaints),
+    }
+}

@@ -1,0 +1,95 @@
+//! The words of the program.
+
+ghost use Rattle.std.specs.Prelude.{◌≡◌, IfSome};
+
+use std::alloc::{AllocError, Global};
+use strsim::levenshtein;
+
+/// What a word does.
+#[derive(Clone, Copy, Debug, PartialEq, Eq)]
+pub enum Tool {
+    Help,
+    List,
+    Run,
+    Trace,
+}
+
+/// A word of the program.
+#[derive(Clone, Copy)]
+pub struct Word {
+    pub name: &'static str,
+    /// What stands behind it.
+    pub arguments: &'static str,
+    /// Whether the options `--keys K` and `--limit N` may stand among that.
+    pub valued: bool,
+    /// The options without a value that may.
+    pub flags: &'static [&'static str],
+    /// What it does, in a line.
+    pub says: &'static str,
+    pub tool: Tool,
+}
+
+/// All words, in the order of the page of help.
+pub static WORDS: [Word; 4] = [
+    Word {
+        name: "run",
+        arguments: "[F] [options]",
+        valued: true,
+        flags: &["--free", "--attr"],
+        says: "runs F as a2 does, and says why it stopped",
+        tool: Tool::Run,
+    },
+    Word {
+        name: "list",
+        arguments: "[F]",
+        valued: false,
+        flags: &[],
+        says: "lists F with addresses, bytes and names",
+        tool: Tool::List,
+    },
+    Word {
+        name: "trace",
+        arguments: "[F] [options]",
+        valued: true,
+        flags: &["--free"],
+        says: "runs F, and writes a line for each step",
+        tool: Tool::Trace,
+    },
+    Word {
+        name: "help",
+        arguments: "[WORD]",
+        valued: false,
+        flags: &[],
+        says: "writes this page, or how a word is used",
+        tool: Tool::Help,
+    },
+];
+
+/// The word of this name.
+pub fn word_named(name: &str) -> Option<Word>
+    ensures { IfSome result (λ word. word.name.now ≡ name.now) }
+{
+    for word in WORDS.iter() {
+        if word.name == name {
+            return Some(*word);
+        }
+    }
+    None
+}
+
+// Beyond so many edits a word is no near one.
+const FAR: usize = 3;
+
+/// The word whose name is the fewest edits away, at most two; of several the first.
+pub fn nearest(alloc: Global, name: &str) -> Result<Option<Word>, AllocError> {
+    let mut found = None;
+    let mut least = FAR;
+    for word in WORDS.iter() {
+        let distance = levenshtein(alloc, name, word.name)?;
+        if distance < least {
+            least = distance;
+            found = Some(*word);
+        }
+    }
+    Ok(found)
+}
