@@ -1,19 +1,37 @@
-# Completion of a2's words for bash: . editors/a2.bash
+# Completion of words, options and files behind a2 and the programs beside it, for bash: . editors/a2.bash
+# They stand in the table `words` beside this file; an installed one has them in itself.
+_a2_words="$(<"${BASH_SOURCE[0]%/*}/words")"
+
 _a2() {
-    local word="${COMP_WORDS[COMP_CWORD]}" before="${COMP_WORDS[COMP_CWORD - 1]}"
+    local typed="${COMP_WORDS[COMP_CWORD]}" before="${COMP_WORDS[COMP_CWORD - 1]}" place=$((COMP_CWORD - 2))
+    local program word what words='' options='' endings=()
     COMPREPLY=()
-    if ((COMP_CWORD == 1)); then
-        mapfile -t COMPREPLY < <(compgen -W 'run asm mon debug' -- "$word")
-    elif [[ "$before" == --keys || "$before" == --limit || "$before" == = ]]; then
-        return
-    elif [[ "${COMP_WORDS[1]}" == run && "$word" == -* ]]; then
-        mapfile -t COMPREPLY < <(compgen -W '--keys --limit --free --attr' -- "$word")
-    else
-        local files='*.s'
-        [[ "${COMP_WORDS[1]}" != mon ]] || files='*.mon'
-        [[ "${COMP_WORDS[1]}" != debug ]] || ((COMP_CWORD == 2)) || files='*.dbg'
-        mapfile -t COMPREPLY < <(compgen -f -X "!$files" -- "$word"; compgen -d -S / -- "$word")
-        [[ "${COMPREPLY[0]:-}" == */ ]] && compopt -o nospace
+    while read -r program word what _; do
+        [[ "$program" == "${1##*/}" ]] || continue
+        if [[ "$word" == - ]]; then
+            place=$((COMP_CWORD - 1))
+        elif ((COMP_CWORD == 1)); then
+            [[ " $words " == *" $word "* ]] || words+=" $word"
+            continue
+        fi
+        [[ "$word" == - || "$word" == "${COMP_WORDS[1]}" ]] || continue
+        # (a value is anything)
+        [[ "$what" != "$before"=* ]] || return 0
+        case "$what" in
+            --*) options+=" ${what%=*}" ;;
+            *) IFS=, read -ra endings <<<"$what" ;;
+        esac
+    done <<<"$_a2_words"
+    if [[ "$words" || "$typed" == -* ]]; then
+        mapfile -t COMPREPLY < <(compgen -W "$words$options" -- "$typed")
+    elif [[ "$before" != = ]] && ((${#endings[@]} > 0)); then
+        ((place < ${#endings[@]})) || place=-1
+        mapfile -t COMPREPLY < <(compgen -f -X "!*${endings[place]}" -- "$typed"; compgen -d -S / -- "$typed")
+        [[ "${COMPREPLY[0]:-}" != */ ]] || compopt -o nospace
     fi
 }
-complete -o filenames -F _a2 a2
+
+while read -r _a2_program _; do
+    [[ "$_a2_program" == [!a-z]* || ! "$_a2_program" ]] || complete -o filenames -F _a2 "$_a2_program"
+done <<<"$_a2_words"
+unset _a2_program
