@@ -56,7 +56,7 @@ fn returns<A: Allocator>(program: &Program<A>, address: u16) -> bool {
 // Writes what pushed the two bytes that an RTS pulls, with S before it.
 fn put_pulled<A: Allocator, W: Output>(
     scene: &Scene<A>,
-    pushes: &Pushes,
+    pushes: &Pushes<A>,
     s: u8,
     writer: &mut W,
 ) -> Result<(), WriteFault> {
@@ -135,7 +135,8 @@ fn put_pushes<A: Allocator + Copy, W: Output>(
     if returns(scene.program, before.pc) {
         let watched = steps.min(WATCHED);
         let mut machine = rerun(alloc, scene.program, keys, free, steps - watched)?;
-        let pushes = Pushes::watch(&mut machine, watched);
+        let mut pushes = Pushes::new(alloc)?;
+        pushes.watch(&mut machine, watched);
         put_pulled(scene, &pushes, before.s, writer)?;
     }
     Ok(())
