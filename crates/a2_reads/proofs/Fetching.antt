@@ -17,7 +17,8 @@ use Rattle.a2_reads.specs.Fetches.{FetchesDependOnReads, addresses_from, operand
 same_peek : (known : ℕ → Bool) (m n : Memory) (a : ℕ) → AgreeOn known m n → IsTrue (known a) → peek n a ≡ peek m a
 same_peek known m n a h shown = go (nat_lt a ram_end) refl
   where
-    go : (low : Bool) → nat_lt a ram_end ≡ low → (let o : Option ℕ = if low then Some (ram_byte n a) else None in o) ≡ (if low then Some (ram_byte m a) else None)
+    go : (low : Bool) → nat_lt a ram_end ≡ low
+        → (let o : Option ℕ = if low then Some (ram_byte n a) else None in o) ≡ (if low then Some (ram_byte m a) else None)
     go true is = let lt : a < ram_end = grind (arith, nat_tests, is) in ap (λ b. Some b) (sym (h.bytes a lt shown))
     go false is = refl
 
@@ -50,7 +51,8 @@ unfolding fetched fetch_reads
 same_fetched known m n pc h shown =
     ap (λ byte. by_opcode (peek n) pc byte) (same_peek known m n pc h shown.0) ∙ opcode (peek m pc) shown.1
   where
-    row : (found : Option Row) → Knows known (elim found [ None ↦ [] | Some row ↦ addresses_from (pc + 1) (length_of row.mode - 1) ])
+    row : (found : Option Row)
+        → Knows known (elim found [ None ↦ [] | Some row ↦ addresses_from (pc + 1) (length_of row.mode - 1) ])
         → by_row (peek n) pc found ≡ by_row (peek m) pc found
     row None _ = refl
     row (Some r) shown = λ i.

@@ -68,7 +68,8 @@ added-match : (k : Part → Bool) (b : ℕ) (r q : Registers) → IsTrue (k part
     → MatchAt (with_parts (part_a ∷ part_n ∷ part_v ∷ part_z ∷ part_c ∷ []) k) (added b r) (added b q)
 added-match k b r q known_a known_c h = record { s = h.s; pc = h.pc; parts = part }
   where
-    part : (p : Part) → IsTrue (with_parts (part_a ∷ part_n ∷ part_v ∷ part_z ∷ part_c ∷ []) k p) → held p (added b r) ≡ held p (added b q)
+    part : (p : Part) → IsTrue (with_parts (part_a ∷ part_n ∷ part_v ∷ part_z ∷ part_c ∷ []) k p)
+        → held p (added b r) ≡ held p (added b q)
     part part_a _ = ap₂ (λ a c. (a + b + one_if c) % 256) (h.parts part_a known_a) (h.parts part_c known_c)
     part part_n _ = ap₂ (λ a c. (added b (let f = r.flags in record r { a = a; flags = record f { c = c } })).flags.n) (h.parts part_a known_a) (h.parts part_c known_c)
     part part_v _ = ap₂ (λ a c. (added b (let f = r.flags in record r { a = a; flags = record f { c = c } })).flags.v) (h.parts part_a known_a) (h.parts part_c known_c)
@@ -80,7 +81,8 @@ compared-match : (k : Part → Bool) (b m n : ℕ) (r q : Registers) → m ≡ n
     → MatchAt (with_parts (part_n ∷ part_z ∷ part_c ∷ []) k) (with_flags (compared m b) r) (with_flags (compared n b) q)
 compared-match k b m n r q e h = record { s = h.s; pc = h.pc; parts = part }
   where
-    part : (p : Part) → IsTrue (with_parts (part_n ∷ part_z ∷ part_c ∷ []) k p) → held p (with_flags (compared m b) r) ≡ held p (with_flags (compared n b) q)
+    part : (p : Part) → IsTrue (with_parts (part_n ∷ part_z ∷ part_c ∷ []) k p)
+        → held p (with_flags (compared m b) r) ≡ held p (with_flags (compared n b) q)
     part part_n _ = ap (λ a. (compared a b r.flags).n) e
     part part_z _ = ap (λ a. (compared a b r.flags).z) e
     part part_c _ = ap (λ a. (compared a b r.flags).c) e
@@ -90,7 +92,8 @@ set_c-match : (k : Part → Bool) (b : Bool) (r q : Registers) → MatchAt k r q
     → MatchAt (with_parts (part_c ∷ []) k) (with_flags (λ flags. record flags { c = b }) r) (with_flags (λ flags. record flags { c = b }) q)
 set_c-match k b r q h = record { s = h.s; pc = h.pc; parts = part }
   where
-    part : (p : Part) → IsTrue (with_parts (part_c ∷ []) k p) → held p (with_flags (λ flags. record flags { c = b }) r) ≡ held p (with_flags (λ flags. record flags { c = b }) q)
+    part : (p : Part) → IsTrue (with_parts (part_c ∷ []) k p)
+        → held p (with_flags (λ flags. record flags { c = b }) r) ≡ held p (with_flags (λ flags. record flags { c = b }) q)
     part part_c _ = refl
     part p known = h.parts p known
 
@@ -98,7 +101,8 @@ set_d-match : (k : Part → Bool) (b : Bool) (r q : Registers) → MatchAt k r q
     → MatchAt (with_parts (part_d ∷ []) k) (with_flags (λ flags. record flags { d = b }) r) (with_flags (λ flags. record flags { d = b }) q)
 set_d-match k b r q h = record { s = h.s; pc = h.pc; parts = part }
   where
-    part : (p : Part) → IsTrue (with_parts (part_d ∷ []) k p) → held p (with_flags (λ flags. record flags { d = b }) r) ≡ held p (with_flags (λ flags. record flags { d = b }) q)
+    part : (p : Part) → IsTrue (with_parts (part_d ∷ []) k p)
+        → held p (with_flags (λ flags. record flags { d = b }) r) ≡ held p (with_flags (λ flags. record flags { d = b }) q)
     part part_d _ = refl
     part p known = h.parts p known
 
@@ -106,7 +110,8 @@ set_i-match : (k : Part → Bool) (b : Bool) (r q : Registers) → MatchAt k r q
     → MatchAt (with_parts (part_i ∷ []) k) (with_flags (λ flags. record flags { i = b }) r) (with_flags (λ flags. record flags { i = b }) q)
 set_i-match k b r q h = record { s = h.s; pc = h.pc; parts = part }
   where
-    part : (p : Part) → IsTrue (with_parts (part_i ∷ []) k p) → held p (with_flags (λ flags. record flags { i = b }) r) ≡ held p (with_flags (λ flags. record flags { i = b }) q)
+    part : (p : Part) → IsTrue (with_parts (part_i ∷ []) k p)
+        → held p (with_flags (λ flags. record flags { i = b }) r) ≡ held p (with_flags (λ flags. record flags { i = b }) q)
     part part_i _ = refl
     part p known = h.parts p known
 
@@ -114,7 +119,8 @@ set_v-match : (k : Part → Bool) (b : Bool) (r q : Registers) → MatchAt k r q
     → MatchAt (with_parts (part_v ∷ []) k) (with_flags (λ flags. record flags { v = b }) r) (with_flags (λ flags. record flags { v = b }) q)
 set_v-match k b r q h = record { s = h.s; pc = h.pc; parts = part }
   where
-    part : (p : Part) → IsTrue (with_parts (part_v ∷ []) k p) → held p (with_flags (λ flags. record flags { v = b }) r) ≡ held p (with_flags (λ flags. record flags { v = b }) q)
+    part : (p : Part) → IsTrue (with_parts (part_v ∷ []) k p)
+        → held p (with_flags (λ flags. record flags { v = b }) r) ≡ held p (with_flags (λ flags. record flags { v = b }) q)
     part part_v _ = refl
     part p known = h.parts p known
 
@@ -164,7 +170,8 @@ bit-match k b c n v r q e h = record { s = h.s; pc = h.pc; parts = part }
     part part_z _ = ap (λ x. x == 0) e
     part p known = h.parts p known
 
-pub s-match : (k : Part → Bool) (m n : ℕ) (r q : Registers) → m ≡ n → MatchAt k r q → MatchAt k (record r { s = m }) (record q { s = n })
+pub s-match : (k : Part → Bool) (m n : ℕ) (r q : Registers) → m ≡ n → MatchAt k r q
+    → MatchAt k (record r { s = m }) (record q { s = n })
 s-match k m n r q e h = record { s = e; pc = h.pc; parts = part }
   where
     part : (p : Part) → IsTrue (k p) → held p (record r { s = m }) ≡ held p (record q { s = n })

@@ -65,7 +65,8 @@ alike k known s t all h = record { registers = same_registers k s.registers t.re
 
 pub instructions : InstructionsDependOnReads
 instructions row value known s t h reads =
-    let law = instruction row value every known s t (near known s t h) (knows every _ every-all) (knows every _ every-all) reads in
+    let law =
+    instruction row value every known s t (near known s t h) (knows every _ every-all) (knows every _ every-all) reads in
     (alike _ _ _ _ (with_parts-all _ every every-all) law.0, law.1)
 
 pub steps : StepsDependOnReads
@@ -75,5 +76,6 @@ steps code known s t h reads =
 
 pub runs_by_reads : RunsDependOnReads
 runs_by_reads code known s t n h reads =
-    let law = runs code every known s t n (near known s t h) reads (λ m lt. knows (parts_behind code every s m) _ (behind-all code every s m every-all)) in
+    let law =
+    runs code every known s t n (near known s t h) reads (λ m lt. knows (parts_behind code every s m) _ (behind-all code every s m every-all)) in
     (alike _ _ _ _ (behind-all code every s n every-all) law.0, law.1)

@@ -9,7 +9,7 @@ use Rattle.a2_cpu.specs.Stores.{IsNotIn}
 use Rattle.a2_services.specs.World.{World}
 use Rattle.a2_machine.specs.declared.Cause.TheVariants.{Returned}
 use Rattle.a2_machine.specs.Meaning.{Code, IsEnd, return_address, world_at}
-use Rattle.a2_reads.specs.Parts.{Part, part_a, part_x, part_y, part_n, part_v, part_d, part_i, part_z, part_c, MatchAt}
+use Rattle.a2_reads.specs.Parts.{Part, part_a, part_x, part_y, part_n, part_v, part_d, part_i, part_z, part_c, held, MatchAt}
 use Rattle.a2_reads.specs.Runs.{RunReads, known_behind, stores_in}
 use Rattle.a2_reads.specs.Uses.{RunNeeds, parts_behind}
 
@@ -54,7 +54,8 @@ pub record Promise : Type 0 where
   pub code : Code
   -- a world at the routine's entry
   pub base : World
-  -- what may be anything at the entry, and what has to be as in the base; nothing else is looked at before it is set
+  -- what may be anything at the entry, and what has to be as in the base, such as the bytes of code that stands in memory;
+  -- nothing else is looked at before it is set
   pub inputs : Selection
   pub fixed : Selection
   -- the precondition, a test of what these hold at the entry
@@ -99,14 +100,16 @@ pub record Passes (promise : Promise) (limit : ℕ) (start : World) : Type 0 whe
   pub reads : RunReads promise.code (known_bytes promise) start steps
   pub needs : RunNeeds promise.code (known_parts promise) start steps
   pub home : (world_at promise.code start steps).registers.pc ≡ return_address
-  pub shown : IsKnown (known_behind promise.code (known_bytes promise) start steps) (parts_behind promise.code (known_parts promise) start steps) promise.behind
+  pub shown : IsKnown (known_behind promise.code (known_bytes promise) start steps)
+      (parts_behind promise.code (known_parts promise) start steps) promise.behind
   pub passed : IsTrue (promise.test (selected promise.before start) (selected promise.behind (world_at promise.code start steps)))
 
 -- the promise holds: the base passes with all inputs that meet the precondition
 pub record Holds (promise : Promise) (limit : ℕ) : Type 0 where
   pub pages : IsGrid promise.base.memory.page1 × IsGrid promise.base.memory.page2
   pub shown : IsKnown (known_bytes promise) (known_parts promise) promise.before
-  pub every : (inputs : World) → AreBytes promise inputs → IsRequired promise (with_inputs promise inputs) → Passes promise limit (with_inputs promise inputs)
+  pub every : (inputs : World) → AreBytes promise inputs → IsRequired promise (with_inputs promise inputs)
+      → Passes promise limit (with_inputs promise inputs)
 
 -- a world at the routine's entry: as the base where that is fixed, whatever else is in its memory and registers
 pub record Meets (promise : Promise) (world : World) : Type 0 where
@@ -124,8 +127,17 @@ pub record Keeps (promise : Promise) (limit : ℕ) (world : World) : Type 0 wher
   pub within : steps ≤ limit
   pub ends : IsEnd promise.code world limit (record { world = world_at promise.code world steps; steps = steps; cause = Returned })
   pub passed : IsTrue (promise.test (selected promise.before world) (selected promise.behind (world_at promise.code world steps)))
-  pub rest : (b : ℕ) → IsNotIn b (stores_in promise.code world steps) → ram_byte (world_at promise.code world steps).memory b ≡ ram_byte world.memory b
+  pub rest : (b : ℕ) → IsNotIn b (stores_in promise.code world steps)
+      → ram_byte (world_at promise.code world steps).memory b ≡ ram_byte world.memory b
 
 abbrev pub PromisesHoldEverywhere : Type 0
 PromisesHoldEverywhere =
     (promise : Promise) (limit : ℕ) → Holds promise limit → (world : World) → Meets promise world → Keeps promise limit world
+
+-- the tries of a promise differ in their inputs alone: there are as many as these have states
+abbrev pub TriesDependOnInputs : Type 0
+TriesDependOnInputs =
+    (promise : Promise) (one other : World)
+    → ((a : ℕ) → IsTrue (is_among promise.inputs.addresses a) → ram_byte one.memory a ≡ ram_byte other.memory a)
+    → ((part : Part) → IsTrue (promise.inputs.parts part) → held part one.registers ≡ held part other.registers)
+    → with_inputs promise one ≡ with_inputs promise other

@@ -17,7 +17,8 @@ abbrev pub InstructionsDependOnReads : Type 0
 InstructionsDependOnReads =
     (row : Row) (value : ℕ) (known : ℕ → Bool) (s t : World) → Alike (AgreeOn known) s t
     → Knows known (reads_of memory_access row value s)
-    → Alike (AgreeOn (with_bytes (stores_of memory_access row value s) known)) (performed memory_access row value s) (performed memory_access row value t)
+    → Alike (AgreeOn (with_bytes (stores_of memory_access row value s) known))
+    (performed memory_access row value s) (performed memory_access row value t)
     × (stores_of memory_access row value s ≡ stores_of memory_access row value t)
 
 -- the addresses that what is found at PC reads, and those that it stores at
@@ -40,7 +41,8 @@ step_stores code world = found_stores (found_at_pc code world) world
 pub record StepReads (code : Code) (known : ℕ → Bool) (world : World) : Type 0 where
   pub going : stuck code world ≡ None
   pub no_service : service_at world.registers.pc ≡ None
-  pub found : (other : Memory) → AgreeOn known world.memory other → code.instruction_at other world.registers.pc ≡ found_at_pc code world
+  pub found : (other : Memory) → AgreeOn known world.memory other
+      → code.instruction_at other world.registers.pc ≡ found_at_pc code world
   pub reads : Knows known (step_reads code world)
 
 -- the same of a step: the other world is not stuck either
