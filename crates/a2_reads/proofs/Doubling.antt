@@ -1,17 +1,17 @@
 -- The promise of the example holds: each step is computed, with memory, X, Y and flags unknown.
-use Rattle.std.specs.Prelude.{◌≡◌, ◌<◌, ◌≤◌, ◌==◌, ◌||◌, ℕ, zero, suc, ◌+◌, ◌*◌, ◌%◌, Bool, true, false, nat_lt, IsTrue, List, [], ◌∷◌, refl}
-use Rattle.std.proofs.Common.{ap, ap₂, subst, ◌∙◌, arith, true≢false, sym}
+use Rattle.std.specs.Prelude.{◌≡◌, ◌<◌, ◌==◌, ◌||◌, ℕ, zero, suc, ◌+◌, ◌*◌, ◌%◌, Bool, true, false, nat_lt, IsTrue, [], ◌∷◌, refl}
+use Rattle.std.proofs.Common.{ap, ap₂, subst, arith, true≢false, sym}
 use Rattle.std.proofs.lemmas.Bool.Decides.{nat_tests}
 use Rattle.a2_text.specs.Bytes.{is_among}
 use Rattle.a2_bus.specs.Memory.{Memory, ram_byte, ram_end}
 use Rattle.a2_services.specs.World.{World}
 use Rattle.a2_machine.proofs.Computing.{computing}
 use Rattle.a2_machine.specs.Meaning.{world_at}
-use Rattle.a2_reads.specs.Reads.{Knows, reads_of}
+use Rattle.a2_reads.specs.Reads.{reads_of}
 use Rattle.a2_reads.specs.Parts.{Part, part_a, is_part, needs, sets_parts}
-use Rattle.a2_reads.specs.Runs.{StepReads, RunReads, step_reads, step_stores, known_behind}
+use Rattle.a2_reads.specs.Runs.{RunReads, step_reads, step_stores, known_behind}
 use Rattle.a2_reads.specs.Uses.{RunNeeds, parts_behind}
-use Rattle.a2_reads.specs.Promises.{Promise, IsKnown, Passes, Holds, AreBytes, IsRequired, known_bytes, known_parts, with_inputs}
+use Rattle.a2_reads.specs.Promises.{Passes, IsRequired, known_bytes, known_parts, with_inputs}
 use Rattle.a2_reads.specs.Doubling.{doubling_promise, DoublingHolds}
 
 module _ (memory : Memory) (stack : (ram_byte memory 0x1FE ≡ 0x68) × (ram_byte memory 0x1FF ≡ 0xFF)) (inputs : World) where

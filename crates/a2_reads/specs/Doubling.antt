@@ -1,5 +1,5 @@
 -- A promise that holds, as an example: ASL A, STA $06, RTS doubles A. This project's own.
-use Rattle.std.specs.Prelude.{◌≡◌, ◌==◌, ◌*◌, ℕ, Bool, true, false, nat_lt, if◌then◌else◌, List, [], ◌∷◌, Option, Some, None, slice_index}
+use Rattle.std.specs.Prelude.{◌≡◌, ◌==◌, ◌*◌, ℕ, false, nat_lt, if◌then◌else◌, List, [], ◌∷◌, Option, Some, None, slice_index}
 use Rattle.a2_opcode.specs.declared.Instr.{Instr}
 use Rattle.a2_opcode.specs.declared.Mnemonic.TheVariants.{Asl, Rts, Sta}
 use Rattle.a2_opcode.specs.declared.Mode.TheVariants.{Accumulator, Implied, ZeroPage}
@@ -7,7 +7,7 @@ use Rattle.a2_page.specs.Grid.{IsGrid}
 use Rattle.a2_bus.specs.Memory.{Memory, ram_byte}
 use Rattle.a2_cpu.specs.Registers.{registers_at}
 use Rattle.a2_machine.specs.Meaning.{statements}
-use Rattle.a2_reads.specs.Parts.{Part, part_a, is_part}
+use Rattle.a2_reads.specs.Parts.{part_a, is_part}
 use Rattle.a2_reads.specs.Promises.{Selection, Promise, Holds}
 
 abbrev pub doubling : ℕ → Option Instr
