@@ -1,0 +1,6 @@
+use Rattle.a2_profile.proofs.CountLaws.{IsJoining}
+use Rattle.a2_profile.proofs.profile.join_counts.Given as goal
+
+-- the counts so far are joined
+abbrev pub invariant-loop-index : goal.invariant-loop-index
+invariant-loop-index l = IsJoining l.fn.counts l.others l.index l.counts

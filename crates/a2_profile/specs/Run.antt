@@ -1,0 +1,55 @@
+-- How often the steps of a run are made, by the address where they begin, and what they cost. This project's profile.
+use Rattle.std.specs.Prelude.{◌≡◌, ℕ, zero, suc, ◌+◌, ◌-◌, ◌%◌, ◌<◌, ◌==◌, ◌&&◌, not, Bool, List, if◌then◌else◌}
+use Rattle.a2_asm.specs.Assembled.{Assembled}
+use Rattle.a2_services.specs.World.{World}
+use Rattle.a2_machine.specs.declared.Cause.{Cause}
+use Rattle.a2_machine.specs.Meaning.{Code, End, IsEnd, world_at}
+use Rattle.a2_run.specs.Meaning.{code_of_run, start_of_run}
+use Rattle.a2_profile.specs.declared.profile.Count.{Count}
+use Rattle.a2_profile.specs.Counts.{count_at, steps_in, cycles_in}
+
+-- the sum of a number over the first n steps, which count from 0
+abbrev pub over_steps : (ℕ → ℕ) → ℕ → ℕ
+over_steps number zero = 0
+over_steps number (suc n) = over_steps number n + number n
+
+abbrev pub is_at : World → ℕ → Bool
+is_at world address = world.registers.pc == address
+
+-- how many of the first n steps of a run begin at an address
+unfoldable pub done_at : Code → World → ℕ → ℕ → ℕ
+done_at code start address n = over_steps (λ k. if is_at (world_at code start k) address then 1 else 0) n
+
+-- the cycles that these take
+unfoldable pub cycles_at : Code → World → ℕ → ℕ → ℕ
+cycles_at code start address n =
+    over_steps (λ k. if is_at (world_at code start k) address
+    then (world_at code start (suc k)).cycles - (world_at code start k).cycles else 0) n
+
+-- how many of them do not go on two bytes further, where a branch goes on that is not taken
+unfoldable pub taken_at : Code → World → ℕ → ℕ → ℕ
+taken_at code start address n =
+    over_steps (λ k. if is_at (world_at code start k) address && not (is_at (world_at code start (suc k)) ((address + 2) % 65536))
+    then 1 else 0) n
+
+-- the count of an address
+abbrev pub count_of : Code → World → ℕ → ℕ → Count
+count_of code start n address = record {
+  times = done_at code start address n;
+  cycles = cycles_at code start address n;
+  taken = taken_at code start address n;
+}
+
+-- a run with a limit ends by this cause, and these are the counts of its steps: at each address; and all together are the
+-- run's steps and cycles
+pub record AreCounts (code : Code) (start : World) (limit : ℕ) (counts : List Count) (cause : Cause) : Type 0 where
+  pub end : End
+  pub is_end : IsEnd code start limit end
+  pub cause_is : cause ≡ end.cause
+  pub counts_are : (address : ℕ) → address < 65536 → count_at counts address ≡ count_of code start end.steps address
+  pub steps_are : steps_in counts ≡ end.steps
+  pub cycles_are : cycles_in counts ≡ end.world.cycles
+
+-- the same of a program's run with these keys waiting, by the code and start of the run that `IsRun` speaks of
+abbrev pub IsProfile : Assembled → List ℕ → ℕ → Bool → List Count → Cause → Type 0
+IsProfile program keys limit free counts cause = AreCounts (code_of_run free program) (start_of_run program keys) limit counts cause

@@ -1,0 +1,410 @@
+//! The table of a profile.
+
+ghost use Rattle.std.specs.Prelude.{◌≡◌, ◌+◌, ◌-◌, ◌≤◌, ◌++◌, length, map};
+ghost use Rattle.arrayvec.specs.ArrayVec.{array_vec_len};
+ghost use Rattle.a2_stream.specs.Stream.{SendsOrBreaks};
+ghost use Rattle.a2_profile.specs.Table as table;
+ghost use Rattle.std.specs.Fmt.{decimal as decimal_of};
+
+use crate::{Count, Profile};
+use a2_asm::{Program, Statement};
+use a2_opcode::Mode;
+use a2_stream::{Output, WriteFault, put_all};
+use a2_text::{decimal, hex_word};
+use arrayvec::ArrayVec;
+use std::alloc::Allocator;
+
+// The widest gap between two cells.
+const BLANKS: &[u8] = b"              ";
+
+// How many addresses there are.
+const ADDRESSES: u32 = 0x1_0000;
+
+// The digits of a number, or nothing.
+type Digits = ArrayVec<u8, 20>;
+
+// The digits of a share.
+type Share = ArrayVec<u8, 42>;
+
+// The blanks before a text that ends at a column.
+fn gap(width: usize, text: &[u8]) -> &[u8]
+    ensures { result.now ≡ table.gap width text.now }
+{
+    &BLANKS[..width.saturating_sub(text.len()).min(14)]
+}
+
+// What stands between a label and its text.
+fn before_text(text: &[u8]) -> &[u8]
+    ensures { result.now ≡ table.before_text text.now }
+{
+    if text.len() == 0 { b"" } else { b"  " }
+}
+
+// Writes a row of these cells.
+#[tactic(auto, unfolding(crate::specs::Table::row))]
+fn put_row<'a, W: Output>(
+    times: &'a [u8],
+    cycles: &'a [u8],
+    share: &'a [u8],
+    taken: &'a [u8],
+    straight: &'a [u8],
+    label: &'a [u8],
+    text: &'a [u8],
+    writer: &mut W,
+) -> Result<(), WriteFault>
+    ensures { SendsOrBreaks (W.taker writer.old) (W.taker writer.new) result
+        (table.row times.now cycles.now share.now taken.now straight.now label.now text.now) }
+{
+    put_all(
+        &[
+            gap(10, times),
+            times,
+            gap(14, cycles),
+            cycles,
+            gap(8, share),
+            share,
+            gap(11, taken),
+            taken,
+            gap(11, straight),
+            straight,
+            gap(7, label),
+            label,
+            before_text(text),
+            text,
+            b"\n",
+        ],
+        writer,
+    )
+}
+
+// Appends bytes that fit.
+fn append(share: &mut Share, bytes: &[u8])
+    requires { array_vec_len share.old + length bytes.now ≤ 42 }
+    ensures { share.new.items ≡ share.old.items ++ bytes.now }
+{
+    share.try_extend_from_slice(bytes).unwrap();
+}
+
+// How many thousandths of all cycles these are.
+fn per_mille(cycles: u64, all: u64) -> u64
+    requires { cycles ≤ all }
+    ensures { result ≡ table.per_mille cycles all }
+{
+    if all == 0 {
+        return 0;
+    }
+    (1000 * u128::from(cycles) / u128::from(all)) as u64
+}
+
+// The same in hundredths.
+#[tactic(auto, unfolding(crate::specs::Table::share_digits))]
+fn share_digits(thousandths: u64) -> Share
+    ensures { result.items ≡ table.share_digits thousandths }
+{
+    let mut share = Share::new();
+    append(&mut share, decimal(thousandths / 10).as_slice());
+    append(&mut share, b".");
+    append(&mut share, decimal(thousandths % 10).as_slice());
+    append(&mut share, b"%");
+    share
+}
+
+// The digits of a number that is shown of a branch alone.
+fn branch_digits(is_branch: bool, number: u64) -> Digits
+    ensures { result.items ≡ table.branch_digits is_branch number }
+{
+    if is_branch {
+        decimal(number)
+    } else {
+        Digits::new()
+    }
+}
+
+// Writes the row of a count.
+fn put_count<W: Output>(
+    all: u64,
+    is_branch: bool,
+    count: Count,
+    label: &[u8],
+    text: &[u8],
+    writer: &mut W,
+) -> Result<(), WriteFault>
+    requires { count.cycles ≤ all }
+    ensures { SendsOrBreaks (W.taker writer.old) (W.taker writer.new) result (table.count_row all is_branch count label.now text.now) }
+{
+    let times = decimal(count.times);
+    let cycles = decimal(count.cycles);
+    let share = share_digits(per_mille(count.cycles, all));
+    let taken = branch_digits(is_branch, count.taken);
+    let straight = branch_digits(is_branch, count.times.saturating_sub(count.taken));
+    put_row(
+        times.as_slice(),
+        cycles.as_slice(),
+        share.as_slice(),
+        taken.as_slice(),
+        straight.as_slice(),
+        label,
+        text,
+        writer,
+    )
+}
+
+// Whether a statement is a branch.
+fn is_branch(statement: &Statement) -> bool
+    ensures { result ≡ table.is_branch statement.now }
+{
+    match statement.instr {
+        Some(instr) => matches!(instr.mode, Mode::Relative),
+        None => false,
+    }
+}
+
+// Whether a statement is the instruction on a line.
+fn is_instruction_on(statement: &Statement, number: usize) -> bool
+    ensures { result ≡ table.is_instruction_on number statement.now }
+{
+    usize::from(statement.line) == number && statement.instr.is_some()
+}
+
+// The instruction on a line.
+fn instruction_on(statements: &[Statement], number: usize) -> Option<Statement>
+    ensures { result ≡ table.instruction_on statements.now number }
+{
+    for statement in statements {
+        if is_instruction_on(statement, number) {
+            return Some(*statement);
+        }
+    }
+    None
+}
+
+// Writes the row of a line.
+fn put_line<A: Allocator, W: Output>(
+    profile: &Profile<A>,
+    statement: Option<Statement>,
+    number: usize,
+    text: &[u8],
+    writer: &mut W,
+) -> Result<(), WriteFault>
+    ensures { SendsOrBreaks (W.taker writer.old) (W.taker writer.new) result (table.line_row profile.now statement number text.now) }
+{
+    let label = decimal(number as u64);
+    match statement {
+        Some(statement) => put_count(
+            profile.cycles(),
+            is_branch(&statement),
+            profile.at(statement.addr),
+            label.as_slice(),
+            text,
+            writer,
+        ),
+        None => put_row(b"", b"", b"", b"", b"", label.as_slice(), text, writer),
+    }
+}
+
+// Writes the rows of all lines.
+fn put_lines<A: Allocator, W: Output>(
+    profile: &Profile<A>,
+    statements: &[Statement],
+    texts: &[&[u8]],
+    writer: &mut W,
+) -> Result<(), WriteFault>
+    ensures { SendsOrBreaks (W.taker writer.old) (W.taker writer.new) result
+        (table.line_rows profile.now statements.now 1 (map (λ x. x.now) texts.now)) }
+{
+    let mut number = 1usize;
+    for text in texts {
+        let statement = instruction_on(statements, number);
+        put_line(profile, statement, number, *text, writer)?;
+        number += 1;
+    }
+    Ok(())
+}
+
+// What is told of an address where no instruction of the source stands.
+fn outside_text() -> &'static [u8]
+    ensures { result.now ≡ Rattle.std.specs.Prelude.codes "OUTSIDE THE SOURCE" }
+{
+    b"OUTSIDE THE SOURCE"
+}
+
+// Writes the row of an address where no instruction of the source stands, if steps began there.
+fn put_outside<A: Allocator, B: Allocator, W: Output>(
+    program: &Program<B>,
+    profile: &Profile<A>,
+    address: u16,
+    writer: &mut W,
+) -> Result<(), WriteFault>
+    ensures { SendsOrBreaks (W.taker writer.old) (W.taker writer.new) result
+        (table.outside_row program.now.statements profile.now address) }
+{
+    let count = profile.at(address);
+    if count.times != 0 && program.instr_at(address).is_none() {
+        put_count(
+            profile.cycles(),
+            false,
+            count,
+            &hex_word(address),
+            outside_text(),
+            writer,
+        )
+    } else {
+        Ok(())
+    }
+}
+
+// Writes the rows of all such addresses.
+fn put_outside_rows<A: Allocator, B: Allocator, W: Output>(
+    program: &Program<B>,
+    profile: &Profile<A>,
+    writer: &mut W,
+) -> Result<(), WriteFault>
+    ensures { SendsOrBreaks (W.taker writer.old) (W.taker writer.new) result (table.outside_rows program.now.statements profile.now) }
+{
+    for address in 0..ADDRESSES {
+        put_outside(program, profile, address as u16, writer)?;
+    }
+    Ok(())
+}
+
+// The line of a statement.
+fn line_of<'a>(texts: &[&'a [u8]], statement: &Statement) -> &'a [u8]
+    ensures { result.now ≡ table.line_of (map (λ x. x.now) texts.now) statement.now }
+{
+    match texts.get(usize::from(statement.line.saturating_sub(1))) {
+        Some(text) => *text,
+        None => b"",
+    }
+}
+
+// Writes the row of a statement, if it is an instruction that was never done.
+fn put_never<A: Allocator, W: Output>(
+    profile: &Profile<A>,
+    texts: &[&[u8]],
+    statement: &Statement,
+    writer: &mut W,
+) -> Result<(), WriteFault>
+    ensures { SendsOrBreaks (W.taker writer.old) (W.taker writer.new) result
+        (table.never_row profile.now (map (λ x. x.now) texts.now) statement.now) }
+{
+    if statement.instr.is_some() && profile.at(statement.addr).times == 0 {
+        let label = decimal(u64::from(statement.line));
+        let text = line_of(texts, statement);
+        put_row(b"NEVER", b"", b"", b"", b"", label.as_slice(), text, writer)
+    } else {
+        Ok(())
+    }
+}
+
+// Writes the rows of the lines that were never done.
+fn put_never_rows<A: Allocator, W: Output>(
+    profile: &Profile<A>,
+    texts: &[&[u8]],
+    statements: &[Statement],
+    writer: &mut W,
+) -> Result<(), WriteFault>
+    ensures { SendsOrBreaks (W.taker writer.old) (W.taker writer.new) result
+        (table.never_rows profile.now (map (λ x. x.now) texts.now) statements.now) }
+{
+    for statement in statements {
+        put_never(profile, texts, statement, writer)?;
+    }
+    Ok(())
+}
+
+// Writes the line of the sums.
+#[tactic(auto, unfolding(crate::specs::Table::sum_line))]
+fn put_sums<A: Allocator, W: Output>(profile: &Profile<A>, writer: &mut W) -> Result<(), WriteFault>
+    ensures { SendsOrBreaks (W.taker writer.old) (W.taker writer.new) result (table.sums profile.now) }
+{
+    let steps = decimal(profile.steps());
+    let cycles = decimal(profile.cycles());
+    put_all(
+        &[
+            b"STEPS=",
+            steps.as_slice(),
+            b" CYCLES=",
+            cycles.as_slice(),
+            b"\n",
+        ],
+        writer,
+    )
+}
+
+// Writes what stands behind the rows of addresses.
+#[tactic(auto, using(a2_stream::proofs::Joined::broke_off, a2_stream::proofs::Joined::went_on))]
+fn put_ends<A: Allocator, W: Output>(
+    profile: &Profile<A>,
+    texts: &[&[u8]],
+    statements: &[Statement],
+    writer: &mut W,
+) -> Result<(), WriteFault>
+    ensures { SendsOrBreaks (W.taker writer.old) (W.taker writer.new) result
+        (table.never_rows profile.now (map (λ x. x.now) texts.now) statements.now ++ table.sums profile.now) }
+{
+    put_never_rows(profile, texts, statements, writer)?;
+    put_sums(profile, writer)
+}
+
+// Writes what stands behind the rows of lines.
+#[tactic(auto, using(a2_stream::proofs::Joined::broke_off, a2_stream::proofs::Joined::went_on))]
+fn put_rest<A: Allocator, B: Allocator, W: Output>(
+    program: &Program<B>,
+    texts: &[&[u8]],
+    profile: &Profile<A>,
+    writer: &mut W,
+) -> Result<(), WriteFault>
+    ensures { SendsOrBreaks (W.taker writer.old) (W.taker writer.new) result (table.outside_rows program.now.statements profile.now
+        ++ (table.never_rows profile.now (map (λ x. x.now) texts.now) program.now.statements ++ table.sums profile.now)) }
+{
+    put_outside_rows(program, profile, writer)?;
+    put_ends(profile, texts, program.statements(), writer)
+}
+
+// Writes what stands behind the heading.
+#[tactic(auto, using(a2_stream::proofs::Joined::broke_off, a2_stream::proofs::Joined::went_on))]
+fn put_body<A: Allocator, B: Allocator, W: Output>(
+    program: &Program<B>,
+    texts: &[&[u8]],
+    profile: &Profile<A>,
+    writer: &mut W,
+) -> Result<(), WriteFault>
+    ensures { SendsOrBreaks (W.taker writer.old) (W.taker writer.new) result
+        (table.line_rows profile.now program.now.statements 1 (map (λ x. x.now) texts.now)
+        ++ (table.outside_rows program.now.statements profile.now
+        ++ (table.never_rows profile.now (map (λ x. x.now) texts.now) program.now.statements ++ table.sums profile.now))) }
+{
+    put_lines(profile, program.statements(), texts, writer)?;
+    put_rest(program, texts, profile, writer)
+}
+
+// Writes the heading.
+fn put_heading<W: Output>(writer: &mut W) -> Result<(), WriteFault>
+    ensures { SendsOrBreaks (W.taker writer.old) (W.taker writer.new) result table.heading }
+{
+    put_row(
+        b"TIMES", b"CYCLES", b"SHARE", b"TAKEN", b"NOT", b"LINE", b"SOURCE", writer,
+    )
+}
+
+/// Writes the table of a profile of `program`, whose source has these lines. For each line: how often its instruction was
+/// done, its cycles, their share of all cycles, rounded down; of a branch how often it was taken and how often not; the
+/// line's number and the line. Then a row for each other address where steps began, such as a service's; one for each line
+/// that was never done; and the sums. This project's profile.
+///
+/// # Errors
+///
+/// `WriteFault` at the first write that failed, which is the last one made: a front of the table went out.
+#[tactic(auto, using(a2_stream::proofs::Joined::broke_off, a2_stream::proofs::Joined::went_on))]
+pub fn write_profile<A: Allocator, B: Allocator, W: Output>(
+    program: &Program<B>,
+    texts: &[&[u8]],
+    profile: &Profile<A>,
+    writer: &mut W,
+) -> Result<(), WriteFault>
+    ensures { SendsOrBreaks (W.taker writer.old) (W.taker writer.new) result
+        (table.profile_table program.now (map (λ x. x.now) texts.now) profile.now) }
+{
+    put_heading(writer)?;
+    put_body(program, texts, profile, writer)
+}
