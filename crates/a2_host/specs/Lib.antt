@@ -1,0 +1,2 @@
+pub mod Complaints
+pub mod Shelves
