@@ -1,6 +1,6 @@
 -- What the program does with a text.
 use Rattle.std.specs.Prelude.{◌≡◌, ◌⊎◌, ℕ, List, [], Result, IfSome}
-use Rattle.a2_stream.specs.Stream.{Giver, Taker, Sends, Breaks, count_after}
+use Rattle.a2_stream.specs.Stream.{Giver, Taker, Sends, count_after}
 use Rattle.a2_machine.specs.declared.Cause.{Cause}
 use Rattle.a2_run.specs.declared.Options.{Options}
 use Rattle.a2_run.specs.declared.fault.RunFault.{RunFault}
@@ -15,10 +15,6 @@ pub record RunsInput (keys : List ℕ) (limit : ℕ) (options : Options) (input 
   pub silent : NothingSent old new answer
   pub reader : left.failures ≡ count_after (is_read_fault answer) input.failures
   pub writer : new.failures ≡ count_after (is_write_fault answer) old.failures
-
--- a line went out; or a front of it, and a call failed; or nothing of it
-abbrev pub TellsOrNot : Taker → Taker → List ℕ → Type 0
-TellsOrNot old new line = Sends old new line ⊎ Breaks old new line ⊎ Sends old new []
 
 -- What a status says of the output: by 1, 2 or 5 nothing went out, and by 0 or 3 no write failed
 pub record Tells (status : ℕ) (old new : Taker) : Type 0 where

@@ -6,6 +6,8 @@ use Rattle.a2_run.specs.declared.Options.{Options}
 use Rattle.a2_run.specs.declared.fault.RunFault.{RunFault}
 use Rattle.a2_run.specs.Limits.{IsStepLimit}
 use Rattle.a2_run.specs.Status.{fault_status}
+use Rattle.a2_host.specs.declared.HostWordsFault.{HostWordsFault}
+use Rattle.a2_host.specs.declared.HostWordsFault.TheVariants as host
 use Rattle.a2.specs.declared.words.Order.{Order}
 use Rattle.a2.specs.declared.words.Order.TheVariants.{Run}
 use Rattle.a2.specs.declared.words.WordsFault.{WordsFault}
@@ -45,6 +47,11 @@ plain = record { free = false; attr = false }
 abbrev pub NamesFile : Order → Type 0
 NamesFile (Run order) = order.source ≢ None
 NamesFile _ = Unit {0}
+
+-- the fault of words that the host didn't give: those that are no text are bad ones
+abbrev pub of_host : HostWordsFault → WordsFault
+of_host host.NotText = Words
+of_host host.Memory = Memory
 
 -- the status of words that ask for nothing
 abbrev pub status_of_words : WordsFault → ℕ

@@ -4,37 +4,17 @@
 mod program;
 mod words;
 
-use a2_stream::{FromRead, ReadFault, ToWrite};
-use program::{Shelf, complain, obey, words_status};
-use std::fs::File;
+use a2_host::{HostFiles, HostWordsFault, complain, words_of};
+use a2_stream::{FromRead, Output, ToWrite};
+use program::{obey, words_status};
 use std::process::ExitCode;
-use std::{env, fs, io};
 use words::WordsFault;
 
-/// The files of the system.
-#[derive(Drop)]
-struct HostFiles<'a> {
-    rt: &'a HostRuntime,
-}
-
-impl Shelf for HostFiles<'_> {
-    type Reader = FromRead<File>;
-
-    fn open(&mut self, name: &str) -> Result<FromRead<File>, ReadFault> {
-        match fs::open(self.rt, name) {
-            Ok(file) => Ok(FromRead::new(file)),
-            Err(_) => Err(ReadFault),
-        }
-    }
-}
-
-/// The words of the command line. Words that are no text are bad ones.
-fn words_of(rt: &HostRuntime) -> Result<Vec<String>, WordsFault> {
-    match env::args(rt) {
-        Ok(words) => Ok(words.collect(rt.alloc())?),
-        Err(error) if matches!(error.kind(), io::ErrorKind::OutOfMemory) => Err(WordsFault::Memory),
-        Err(_) => Err(WordsFault::Words),
-    }
+// Tells that there are no words, and the status.
+fn tell_no_words<E: Output>(fault: HostWordsFault, complaints: &mut E) -> u8 {
+    let fault = WordsFault::from(fault);
+    complain(fault, complaints);
+    words_status(fault)
 }
 
 fn main(rt: HostRuntime) -> ExitCode {
@@ -44,15 +24,12 @@ fn main(rt: HostRuntime) -> ExitCode {
         Ok(words) => obey(
             rt.alloc(),
             words.as_slice(),
-            &mut HostFiles { rt: &rt },
+            &mut HostFiles::new(&rt),
             &mut FromRead::new(rt.stdin()),
             &mut output,
             &mut complaints,
         ),
-        Err(fault) => {
-            complain(fault, &mut complaints);
-            words_status(fault)
-        }
+        Err(fault) => tell_no_words(fault, &mut complaints),
     };
     ExitCode::from(status)
 }

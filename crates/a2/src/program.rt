@@ -1,42 +1,21 @@
 //! What the program does, over any files and streams.
 
-ghost use Rattle.std.specs.Prelude.{◌≡◌, ◌≢◌, ◌⊎◌, ◌<◌, ◌≤◌, [], ◌++◌, None, Result, IfErr, IfSome, IsOk, codes, length};
+ghost use Rattle.std.specs.Prelude.{◌≡◌, ◌≢◌, ◌⊎◌, ◌<◌, ◌≤◌, [], None, Result, IfErr, IsOk, length};
 ghost use Rattle.a2_machine.specs.declared.Cause.{Cause as Stop};
 ghost use Rattle.a2_run.specs.declared.fault.RunFault.{RunFault as Fault};
 ghost use Rattle.a2_run.specs.declared.fault.RunFault.TheVariants.{Read};
 ghost use Rattle.a2_run.specs.Answers.{NothingSent, is_write_fault};
 ghost use Rattle.a2_stream.specs.Stream.{count_after};
 ghost use Rattle.a2_run.specs.Status.{status_of};
-ghost use Rattle.a2.specs.Program.{RunsInput, Tells, TellsOrNot};
+ghost use Rattle.a2.specs.Program.{RunsInput, Tells};
 ghost use Rattle.a2.specs.Words.{done_status, plain, status_of_words};
 
 use crate::words::{Order, RunOrder, WordsFault, order_of};
+use a2_host::{Shelf, complain};
 use a2_machine::Cause;
 use a2_run::{RunFault, asm_text, debug_text, fault_status, mon_text, run_text, status};
-use a2_stream::{Input, Output, ReadFault, put};
-use arrayvec::ArrayString;
+use a2_stream::{Input, Output};
 use std::alloc::Global;
-use std::fmt::{Display, Write};
-
-/// Where files are opened.
-pub trait Shelf {
-    type Reader: Input + Drop;
-
-    /// Opens the file of this name for reading from its first byte on. Refused where it cannot be opened.
-    fn open(&mut self, name: &str) -> Result<Self::Reader, ReadFault>;
-}
-
-/// Writes the text of `fault` and LF to `complaints`. A text of more than 63 bytes is left out; where a write fails, a
-/// front of the line went out, and nothing tells of it.
-pub fn complain<F: Display + Drop, E: Output>(fault: F, complaints: &mut E)
-    // Where the type says what it writes: the line, or a front of it and a call failed, or nothing.
-    ensures { IfSome (F.output fault) (λ text. TellsOrNot (E.taker complaints.old) (E.taker complaints.new) (text ++ codes "\n")) }
-{
-    let mut line = ArrayString::<64>::new();
-    if writeln!(line, "{fault}").is_ok() {
-        let _ = put(line.as_str().as_bytes(), complaints);
-    }
-}
 
 /// The status of words that ask for nothing: 2 for bad words and bad keys, 5 for want of memory.
 pub fn words_status(fault: WordsFault) -> u8

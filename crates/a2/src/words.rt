@@ -7,6 +7,7 @@ ghost use Rattle.a2.specs.declared.words.WordsFault.TheVariants.{Words};
 ghost use Rattle.a2.specs.Words.{IsFlag, NamesFile, RefusesRun, SaysKeys, SaysLimit, plain};
 
 use a2_bus::Keys;
+use a2_host::HostWordsFault;
 use a2_run::{Options, step_limit};
 use clap::error::ErrorKind;
 use clap::{Arg, ArgAction, ArgMatches, Command};
@@ -56,6 +57,19 @@ impl From<AllocError> for WordsFault {
 
     fn from(_error: AllocError) -> WordsFault {
         WordsFault::Memory
+    }
+}
+
+impl From<HostWordsFault> for WordsFault {
+    ghost use Rattle.a2.specs.Words.{of_host};
+
+    ghost from_gives = { λ fault e. e ≡ of_host fault };
+
+    fn from(fault: HostWordsFault) -> WordsFault {
+        match fault {
+            HostWordsFault::NotText => WordsFault::Words,
+            HostWordsFault::Memory => WordsFault::Memory,
+        }
     }
 }
 
