@@ -42,8 +42,8 @@ pub fn put_address<W: Output>(address: u16, writer: &mut W) -> Result<(), WriteF
 }
 
 /// Writes a number.
-pub fn put_number<W: Output>(number: u32, writer: &mut W) -> Result<(), WriteFault> {
-    put(decimal(u64::from(number)).as_slice(), writer)
+pub fn put_number<W: Output>(number: u64, writer: &mut W) -> Result<(), WriteFault> {
+    put(decimal(number).as_slice(), writer)
 }
 
 /// Writes where an address lies, in words: the line of its statement, as ``line 3 `RTS` ``, or the address itself, as `$6801`.

@@ -75,8 +75,8 @@ fn put_pulled<A: Allocator, W: Output>(
     Ok(())
 }
 
-// The last step that did a statement of the source, and the registers before it, where it is one of the last four: a service that
-// is called through a hook is two steps behind its call.
+// How many steps were made before the last that did a statement of the source, and the registers there, where it is one of the
+// last four: a service that is called through a hook is two steps behind its call.
 fn last_of_source<A: Allocator + Copy>(
     alloc: A,
     program: &Program<A>,
@@ -85,10 +85,10 @@ fn last_of_source<A: Allocator + Copy>(
     steps: u32,
 ) -> Result<Option<(u32, Regs)>, RunFault> {
     for back in 0..steps.min(4) {
-        let step = steps - back;
-        let regs = rerun(alloc, program, keys, free, step - 1)?.regs();
+        let before = steps - back - 1;
+        let regs = rerun(alloc, program, keys, free, before)?.regs();
         if statement_at(program.statements(), regs.pc).is_some() {
-            return Ok(Some((step, regs)));
+            return Ok(Some((before, regs)));
         }
     }
     Ok(None)
@@ -97,12 +97,12 @@ fn last_of_source<A: Allocator + Copy>(
 // Writes which step of the source was the last.
 fn put_last<A: Allocator, W: Output>(
     scene: &Scene<A>,
-    step: u32,
+    before: u32,
     pc: u16,
     writer: &mut W,
 ) -> Result<(), WriteFault> {
     put(b"a2x: step ", writer)?;
-    put_number(step, writer)?;
+    put_number(u64::from(before) + 1, writer)?;
     put(b" was ", writer)?;
     put_place(scene, pc, writer)?;
     put(b", and led there\n", writer)
@@ -122,22 +122,22 @@ fn put_stop<A: Allocator, W: Output>(
     put(b"\n", writer)
 }
 
-// Writes what pushed the address that an RTS went to, if the step before this many was one and went to no statement.
+// Writes what pushed the address that an RTS went to, if that was the step behind this many, with these registers before it.
 fn put_pushes<A: Allocator + Copy, W: Output>(
     alloc: A,
     scene: &Scene<A>,
     keys: &Keys,
     free: bool,
     steps: u32,
-    before: Regs,
+    regs: Regs,
     writer: &mut W,
 ) -> Result<(), RunFault> {
-    if returns(scene.program, before.pc) {
+    if returns(scene.program, regs.pc) {
         let watched = steps.min(WATCHED);
         let mut machine = rerun(alloc, scene.program, keys, free, steps - watched)?;
         let mut pushes = Pushes::new(alloc)?;
         pushes.watch(&mut machine, watched);
-        put_pulled(scene, &pushes, before.s, writer)?;
+        put_pulled(scene, &pushes, regs.s, writer)?;
     }
     Ok(())
 }
@@ -171,10 +171,10 @@ pub fn explain_stop<A: Allocator + Copy, W: Output>(
     if matches!(cause, Cause::Limit) {
         return Ok(());
     }
-    if let Some((step, before)) = last_of_source(alloc, &program, keys, free, steps)? {
-        put_last(&scene, step, before.pc, writer)?;
+    if let Some((before, regs)) = last_of_source(alloc, &program, keys, free, steps)? {
+        put_last(&scene, before, regs.pc, writer)?;
         if statement_at(program.statements(), pc).is_none() {
-            put_pushes(alloc, &scene, keys, free, step - 1, before, writer)?;
+            put_pushes(alloc, &scene, keys, free, before, regs, writer)?;
         }
     }
     Ok(())

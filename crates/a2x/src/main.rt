@@ -4,6 +4,7 @@
 mod help;
 mod program;
 mod table;
+mod tools;
 mod words;
 
 use a2_host::{HostFiles, HostWordsFault, complain, words_of};

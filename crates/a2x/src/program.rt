@@ -4,13 +4,12 @@ ghost use Rattle.std.specs.Prelude.{◌≤◌, IfOk, IfErr};
 
 use crate::help::{put_page, put_use, put_version};
 use crate::table::{Tool, Word, nearest, word_named};
+use crate::tools::{list, profile, run, told, trace, written};
 use crate::words::{Misfit, Order, WordsFault, file_of, misfit_in, order_of};
-use a2_explain::explain_stop;
-use a2_host::{Shelf, complain};
-use a2_list::{list_source, put_line_refused};
-use a2_run::{Options, RunFault, fault_status, read_text, run_text, status};
-use a2_stream::{FromRead, Input, Output, WriteFault, put_all};
-use a2_trace::trace_source;
+use a2_host::Shelf;
+use a2_manual::{manual, near, topic};
+use a2_run::{RunFault, read_text};
+use a2_stream::{Input, Output, put, put_all};
 use std::alloc::Global;
 
 // Writes a line of these parts behind the program's name. Where that fails there is no place left to tell it.
@@ -18,24 +17,6 @@ fn tell<E: Output>(parts: &[&[u8]], complaints: &mut E) {
     let _ = put_all(&[b"a2x: "], complaints);
     let _ = put_all(parts, complaints);
     let _ = put_all(&[b"\n"], complaints);
-}
-
-// Tells why a text has no answer; the status.
-fn told<E: Output>(fault: RunFault, complaints: &mut E) -> u8
-    ensures { result ≤ 5 }
-{
-    complain(fault, complaints);
-    fault_status(&fault)
-}
-
-// The status where something was written, or a write failed.
-fn written<E: Output>(answer: Result<(), WriteFault>, complaints: &mut E) -> u8
-    ensures { result ≤ 5 }
-{
-    match answer {
-        Ok(()) => 0,
-        Err(fault) => told(RunFault::from(fault), complaints),
-    }
 }
 
 // The text of a file, or of the standard input where none is named or it is named -; or the status, where that is told.
@@ -65,81 +46,6 @@ fn text_of<S: Shelf, R: Input, E: Output>(
         Ok(text) => Ok(text),
         Err(fault) => Err(told(RunFault::from(fault), complaints)),
     }
-}
-
-// Lists a source; behind its refusal the refused line is told.
-fn list<W: Output, E: Output>(
-    alloc: Global,
-    source: &[u8],
-    output: &mut W,
-    complaints: &mut E,
-) -> u8
-    ensures { result ≤ 5 }
-{
-    let Err(fault) = list_source(alloc, source, output) else {
-        return 0;
-    };
-    let status = told(fault, complaints);
-    if let RunFault::Source(refusal) = fault {
-        let _ = put_line_refused(alloc, source, refusal, complaints);
-    }
-    status
-}
-
-// Runs a source as a2 does, and tells why it stopped.
-fn run<W: Output, E: Output>(
-    alloc: Global,
-    source: &[u8],
-    order: &Order,
-    output: &mut W,
-    complaints: &mut E,
-) -> u8
-    ensures { result ≤ 5 }
-{
-    let options = Options {
-        free: order.free,
-        attr: order.attr,
-    };
-    let answer = run_text(
-        alloc,
-        &mut FromRead::new(source),
-        &order.keys,
-        order.limit,
-        options,
-        output,
-    );
-    match answer {
-        Ok(_) => {
-            // Where this fails there is no place left to tell it.
-            let _ = explain_stop(
-                alloc,
-                source,
-                &order.keys,
-                order.limit,
-                order.free,
-                complaints,
-            );
-        }
-        Err(fault) => complain(fault, complaints),
-    }
-    status(&answer)
-}
-
-// Traces the run of a source.
-fn trace<W: Output, E: Output>(
-    alloc: Global,
-    source: &[u8],
-    order: &Order,
-    output: &mut W,
-    complaints: &mut E,
-) -> u8
-    ensures { result ≤ 5 }
-{
-    let answer = trace_source(alloc, source, &order.keys, order.limit, order.free, output);
-    if let Err(fault) = answer {
-        complain(fault, complaints);
-    }
-    status(&answer)
 }
 
 // Tells what is wrong with the words behind a word.
@@ -229,7 +135,34 @@ fn unknown<E: Output>(alloc: Global, name: &str, complaints: &mut E) -> u8
     2
 }
 
-// Writes the page of all words, or how one is used.
+// Writes what the manual says of a name, or tells that it says nothing.
+fn explain_name<W: Output, E: Output>(
+    alloc: Global,
+    name: &[u8],
+    output: &mut W,
+    complaints: &mut E,
+) -> u8
+    ensures { result ≤ 5 }
+{
+    if let Some(text) = topic(manual(), name) {
+        return written(put(text, output), complaints);
+    }
+    match near(alloc, manual(), name) {
+        Ok(Some(other)) => tell_near(name, other, complaints),
+        Ok(None) => tell(
+            &[
+                b"help knows no ",
+                name,
+                b": it knows words, refusals, causes, operations, services",
+            ],
+            complaints,
+        ),
+        Err(_) => return told(RunFault::Memory, complaints),
+    }
+    2
+}
+
+// Writes the page of all words, how one is used, or what the manual says of another name.
 fn help<W: Output, E: Output>(
     alloc: Global,
     words: &[String],
@@ -242,8 +175,26 @@ fn help<W: Output, E: Output>(
         [] => written(put_page(output), complaints),
         [name, ..] => match word_named(name.as_str()) {
             Some(word) => written(put_use(&word, output), complaints),
-            None => unknown(alloc, name.as_str(), complaints),
+            None => explain_name(alloc, name.as_str().as_bytes(), output, complaints),
         },
+    }
+}
+
+// Does what a word says with the run of a source.
+fn follow<W: Output, E: Output>(
+    tool: Tool,
+    alloc: Global,
+    source: &[u8],
+    order: &Order,
+    output: &mut W,
+    complaints: &mut E,
+) -> u8
+    ensures { result ≤ 5 }
+{
+    match tool {
+        Tool::Trace => trace(alloc, source, order, output, complaints),
+        Tool::Profile => profile(alloc, source, order, output, complaints),
+        _ => run(alloc, source, order, output, complaints),
     }
 }
 
@@ -269,18 +220,20 @@ fn act<S: Shelf, R: Input, W: Output, E: Output>(
             }
             Err(fault) => Err(refused(word, words, fault, complaints)),
         },
-        Tool::Run => match order_of(words) {
-            Ok(order) => {
-                let text = text_of(alloc, order.file, shelf, input, complaints)?;
-                Ok(run(alloc, text.as_slice(), &order, output, complaints))
+        Tool::Run | Tool::Trace | Tool::Profile => match order_of(words) {
+            Ok(order) if order.attr && word.tool != Tool::Run => {
+                Err(refused(word, words, WordsFault::Words, complaints))
             }
-            Err(fault) => Err(refused(word, words, fault, complaints)),
-        },
-        Tool::Trace => match order_of(words) {
-            Ok(order) if order.attr => Err(refused(word, words, WordsFault::Words, complaints)),
             Ok(order) => {
                 let text = text_of(alloc, order.file, shelf, input, complaints)?;
-                Ok(trace(alloc, text.as_slice(), &order, output, complaints))
+                Ok(follow(
+                    word.tool,
+                    alloc,
+                    text.as_slice(),
+                    &order,
+                    output,
+                    complaints,
+                ))
             }
             Err(fault) => Err(refused(word, words, fault, complaints)),
         },

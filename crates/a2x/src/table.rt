@@ -10,6 +10,7 @@ use strsim::levenshtein;
 pub enum Tool {
     Help,
     List,
+    Profile,
     Run,
     Trace,
 }
@@ -30,7 +31,7 @@ pub struct Word {
 }
 
 /// All words, in the order of the page of help.
-pub static WORDS: [Word; 4] = [
+pub static WORDS: [Word; 5] = [
     Word {
         name: "run",
         arguments: "[F] [options]",
@@ -56,11 +57,19 @@ pub static WORDS: [Word; 4] = [
         tool: Tool::Trace,
     },
     Word {
+        name: "profile",
+        arguments: "[F] [options]",
+        valued: true,
+        flags: &["--free"],
+        says: "runs F, and counts how often each line was done",
+        tool: Tool::Profile,
+    },
+    Word {
         name: "help",
-        arguments: "[WORD]",
+        arguments: "[NAME]",
         valued: false,
         flags: &[],
-        says: "writes this page, or how a word is used",
+        says: "writes this page, or what a word, E7, LDA, COUT .. is",
         tool: Tool::Help,
     },
 ];

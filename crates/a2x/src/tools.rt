@@ -1,0 +1,139 @@
+//! What each word does with a source. A word answers the exit status, 0 to 5.
+
+ghost use Rattle.std.specs.Prelude.{◌≤◌};
+
+use crate::words::Order;
+use a2_explain::explain_stop;
+use a2_host::complain;
+use a2_list::{list_source, put_line_refused};
+use a2_machine::Cause;
+use a2_profile::{profile_run, write_profile};
+use a2_run::{Options, RunFault, fault_status, program_of, run_text, status};
+use a2_stream::{FromRead, Output, WriteFault};
+use a2_text::cut;
+use a2_trace::trace_source;
+use std::alloc::Global;
+
+/// Tells why a text has no answer; the status.
+pub fn told<E: Output>(fault: RunFault, complaints: &mut E) -> u8
+    ensures { result ≤ 5 }
+{
+    complain(fault, complaints);
+    fault_status(&fault)
+}
+
+/// The status where something was written, or a write failed.
+pub fn written<E: Output>(answer: Result<(), WriteFault>, complaints: &mut E) -> u8
+    ensures { result ≤ 5 }
+{
+    match answer {
+        Ok(()) => 0,
+        Err(fault) => told(RunFault::from(fault), complaints),
+    }
+}
+
+/// Lists a source; behind its refusal the refused line is told.
+pub fn list<W: Output, E: Output>(
+    alloc: Global,
+    source: &[u8],
+    output: &mut W,
+    complaints: &mut E,
+) -> u8
+    ensures { result ≤ 5 }
+{
+    let Err(fault) = list_source(alloc, source, output) else {
+        return 0;
+    };
+    let status = told(fault, complaints);
+    if let RunFault::Source(refusal) = fault {
+        let _ = put_line_refused(alloc, source, refusal, complaints);
+    }
+    status
+}
+
+/// Runs a source as a2 does, and tells why it stopped.
+pub fn run<W: Output, E: Output>(
+    alloc: Global,
+    source: &[u8],
+    order: &Order,
+    output: &mut W,
+    complaints: &mut E,
+) -> u8
+    ensures { result ≤ 5 }
+{
+    let options = Options {
+        free: order.free,
+        attr: order.attr,
+    };
+    let answer = run_text(
+        alloc,
+        &mut FromRead::new(source),
+        &order.keys,
+        order.limit,
+        options,
+        output,
+    );
+    match answer {
+        Ok(_) => {
+            // Where this fails there is no place left to tell it.
+            let _ = explain_stop(
+                alloc,
+                source,
+                &order.keys,
+                order.limit,
+                order.free,
+                complaints,
+            );
+        }
+        Err(fault) => complain(fault, complaints),
+    }
+    status(&answer)
+}
+
+/// Traces the run of a source.
+pub fn trace<W: Output, E: Output>(
+    alloc: Global,
+    source: &[u8],
+    order: &Order,
+    output: &mut W,
+    complaints: &mut E,
+) -> u8
+    ensures { result ≤ 5 }
+{
+    let answer = trace_source(alloc, source, &order.keys, order.limit, order.free, output);
+    if let Err(fault) = answer {
+        complain(fault, complaints);
+    }
+    status(&answer)
+}
+
+// Writes the profile of a source's run; the cause of its end.
+fn profiled<W: Output>(
+    alloc: Global,
+    source: &[u8],
+    order: &Order,
+    output: &mut W,
+) -> Result<Cause, RunFault> {
+    let program = program_of(alloc, source)?;
+    let lines = cut(alloc, source)?;
+    let (profile, cause) = profile_run(alloc, &program, &order.keys, order.limit, order.free)?;
+    write_profile(&program, lines.as_slice(), &profile, output)?;
+    Ok(cause)
+}
+
+/// Profiles the run of a source.
+pub fn profile<W: Output, E: Output>(
+    alloc: Global,
+    source: &[u8],
+    order: &Order,
+    output: &mut W,
+    complaints: &mut E,
+) -> u8
+    ensures { result ≤ 5 }
+{
+    let answer = profiled(alloc, source, order, output);
+    if let Err(fault) = answer {
+        complain(fault, complaints);
+    }
+    status(&answer)
+}
