@@ -112,7 +112,7 @@ calls code parts bytes s t n h to =
       going = λ k lt. let below : k < n + 1 = omega (arith, lt) in
           below_more (λ j. stuck code (world_at code t j) ≡ None) n law.1.going last k below;
       registers = ap (λ v. v.registers) done ∙ registers_back to.rts w to.is_rts
-      ∙ ap₂ (λ stack pc. let r : Registers = w.registers in let q : Registers = record r { s = (stack + 2) % 256; pc = pc } in q) same_s same_caller;
+          ∙ ap₂ (λ stack pc. let r : Registers = w.registers in let q : Registers = record r { s = (stack + 2) % 256; pc = pc } in q) same_s same_caller;
       memory = ap (λ v. v.memory) done ∙ memory_stays to.rts w to.is_rts;
     }
 
@@ -134,8 +134,8 @@ call_promises promise limit holds world meets =
       within = passes.within;
       back = back;
       passed = ap₂ (λ before behind. promise.test before behind) (sym before)
-      (sym (same-selected (parts_behind promise.code (known_parts promise) start passes.steps) (known_behind promise.code (known_bytes promise) start passes.steps)
-      promise.behind (world_at promise.code start passes.steps) (world_at promise.code world passes.steps) law.0 passes.shown))
-      ∙ passes.passed;
+          (sym (same-selected (parts_behind promise.code (known_parts promise) start passes.steps) (known_behind promise.code (known_bytes promise) start passes.steps)
+          promise.behind (world_at promise.code start passes.steps) (world_at promise.code world passes.steps) law.0 passes.shown))
+          ∙ passes.passed;
       rest = λ b stays. ap (λ m. ram_byte m b) back.memory ∙ law.1.rest b (subst (λ ns. IsNotIn b ns) (sym law.1.stores) stays);
     }
