@@ -8,7 +8,7 @@ use Rattle.a2_bus.specs.Memory.{Memory, ram_byte}
 use Rattle.a2_cpu.specs.Registers.{registers_at}
 use Rattle.a2_machine.specs.Meaning.{statements}
 use Rattle.a2_reads.specs.Parts.{part_a, is_part}
-use Rattle.a2_reads.specs.Promises.{Selection, Promise, Holds}
+use Rattle.a2_reads.specs.Promises.{Selection, Promise, Passes, Holds}
 
 abbrev pub doubling : ℕ → Option Instr
 doubling pc =
@@ -41,4 +41,4 @@ doubling_promise memory = record {
 abbrev pub DoublingHolds : Type 0
 DoublingHolds =
     (memory : Memory) → IsGrid memory.page1 × IsGrid memory.page2 → (ram_byte memory 0x1FE ≡ 0x68) × (ram_byte memory 0x1FF ≡ 0xFF)
-    → Holds (doubling_promise memory) 3
+    → Holds (doubling_promise memory) (Passes (doubling_promise memory) 3)

@@ -104,12 +104,12 @@ pub record Passes (promise : Promise) (limit : ℕ) (start : World) : Type 0 whe
       (parts_behind promise.code (known_parts promise) start steps) promise.behind
   pub passed : IsTrue (promise.test (selected promise.before start) (selected promise.behind (world_at promise.code start steps)))
 
--- the promise holds: the base passes with all inputs that meet the precondition
-pub record Holds (promise : Promise) (limit : ℕ) : Type 0 where
+-- a promise holds: the base passes with all inputs that meet the precondition
+pub record Holds (promise : Promise) (Pass : World → Type 0) : Type 0 where
   pub pages : IsGrid promise.base.memory.page1 × IsGrid promise.base.memory.page2
   pub shown : IsKnown (known_bytes promise) (known_parts promise) promise.before
   pub every : (inputs : World) → AreBytes promise inputs → IsRequired promise (with_inputs promise inputs)
-      → Passes promise limit (with_inputs promise inputs)
+      → Pass (with_inputs promise inputs)
 
 -- a world at the routine's entry: as the base where that is fixed, whatever else is in its memory and registers
 pub record Meets (promise : Promise) (world : World) : Type 0 where
@@ -132,7 +132,7 @@ pub record Keeps (promise : Promise) (limit : ℕ) (world : World) : Type 0 wher
 
 abbrev pub PromisesHoldEverywhere : Type 0
 PromisesHoldEverywhere =
-    (promise : Promise) (limit : ℕ) → Holds promise limit → (world : World) → Meets promise world → Keeps promise limit world
+    (promise : Promise) (limit : ℕ) → Holds promise (Passes promise limit) → (world : World) → Meets promise world → Keeps promise limit world
 
 -- the tries of a promise differ in their inputs alone: there are as many as these have states
 abbrev pub TriesDependOnInputs : Type 0
