@@ -1,0 +1,12 @@
+use Rattle.std.proofs.Common.{ℕ, List, length}
+use Rattle.a2_manual.specs.Topics.{topics, IsKnown, IsSaid}
+use Rattle.a2_manual.proofs.finding.topic.Given as goal
+
+-- a name that some topic has is had by one that is left, and what that says is said
+abbrev pub invariant-loop-text : goal.invariant-loop-text
+invariant-loop-text l =
+    (IsKnown l.name (topics l.manual) → IsKnown l.name (topics l.left))
+    × ((text : List ℕ) → IsSaid l.name (topics l.left) text → IsSaid l.name (topics l.manual) text)
+
+abbrev pub decreases-loop-text : goal.decreases-loop-text
+decreases-loop-text l = length l.left

@@ -1,0 +1,30 @@
+-- What a manual says of names. A manual is topics with tildes between them; the first line of a topic is its names, with
+-- commas between them, and its other lines are what is said of these. This project's profile.
+use Rattle.std.specs.Prelude.{◌≡◌, ◌⊎◌, ◌==◌, ℕ, List, [], ◌∷◌, map, Any}
+use Rattle.std.specs.List.{slice_split, before_first, after_first}
+use Rattle.std.specs.Char.{to_ascii_lowercase}
+
+abbrev pub topics : List ℕ → List (List ℕ)
+topics manual = slice_split (λ c. c == 0x7E) manual
+
+abbrev pub names : List ℕ → List (List ℕ)
+names topic = slice_split (λ c. c == 0x2C) (before_first (λ c. c == 0x0A) topic)
+
+abbrev pub said : List ℕ → List ℕ
+said topic = after_first (λ c. c == 0x0A) topic
+
+-- two words are the same, be their letters small or capital
+abbrev pub Spells : List ℕ → List ℕ → Type 0
+Spells name known = map to_ascii_lowercase known ≡ map to_ascii_lowercase name
+
+abbrev pub HasName : List ℕ → List ℕ → Type 0
+HasName name topic = Any (Spells name) (names topic)
+
+-- one of these topics has the name
+abbrev pub IsKnown : List ℕ → List (List ℕ) → Type 0
+IsKnown name topics = Any (HasName name) topics
+
+-- the first of these topics that has the name says this
+abbrev pub IsSaid : List ℕ → List (List ℕ) → List ℕ → Type 0
+IsSaid name [] text = ⊥
+IsSaid name (topic ∷ more) text = (HasName name topic × (text ≡ said topic)) ⊎ (¬ (HasName name topic) × IsSaid name more text)

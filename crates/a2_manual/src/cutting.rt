@@ -1,0 +1,22 @@
+//! The cut of a text at a byte.
+
+ghost use Rattle.std.specs.Prelude.{◌≡◌, ◌==◌, ◌<◌, [], ◌∷◌, length, MatchOption, IfSome};
+ghost use Rattle.std.specs.List.{slice_split, before_first, after_first};
+
+use a2_text::front_len;
+
+// What stands before the first such byte of a text, and what stands behind it, or none where the text has no such byte.
+pub(crate) fn cut_at(text: &[u8], mark: u8) -> (&[u8], Option<&[u8]>)
+    ensures front { result.0.now ≡ before_first (λ c. c == mark) text.now }
+    ensures behind { MatchOption result.1 (after_first (λ c. c == mark) text.now ≡ []) (λ rest. rest.now ≡ after_first (λ c. c == mark) text.now) }
+    ensures pieces { MatchOption result.1 (slice_split (λ c. c == mark) text.now ≡ result.0.now ∷ [])
+        (λ rest. slice_split (λ c. c == mark) text.now ≡ result.0.now ∷ slice_split (λ c. c == mark) rest.now) }
+    ensures shorter { IfSome result.1 (λ rest. length rest.now < length text.now) }
+{
+    let end = front_len(text, |c| c != mark);
+    if end < text.len() {
+        (&text[..end], Some(&text[end + 1..]))
+    } else {
+        (text, None)
+    }
+}
