@@ -1,3 +1,4 @@
 pub mod Counts
 pub mod Run
 pub mod Table
+pub mod Texts
