@@ -1,22 +1,101 @@
--- What the program does with a text.
-use Rattle.std.specs.Prelude.{◌≡◌, ◌⊎◌, ℕ, List, [], Result, IfSome}
-use Rattle.a2_stream.specs.Stream.{Giver, Taker, Sends, count_after}
+-- What the program does: with a text that an input gives, with files, with words. This project's profile.
+use Rattle.std.specs.Prelude.{◌≡◌, ◌⊎◌, ℕ, ◌≤◌, List, [], Some, None, Result, Ok, Err, IfSome, MatchOption, MatchResult, true}
+use Rattle.a2_stream.specs.Stream.{Giver, Taker, Sends, TakesAtMost, count_after}
 use Rattle.a2_machine.specs.declared.Cause.{Cause}
 use Rattle.a2_run.specs.declared.Options.{Options}
 use Rattle.a2_run.specs.declared.fault.RunFault.{RunFault}
-use Rattle.a2_run.specs.Answers.{Answers, OfSource, NothingSent, is_read_fault, is_write_fault}
-use Rattle.a2_run.specs.Meaning.{IsRefused, IsRun}
+use Rattle.a2_run.specs.declared.fault.RunFault.TheVariants.{Read}
+use Rattle.a2_run.specs.Answers.{Answers, OfSource, OfScript, NothingSent, is_read_fault, is_write_fault}
+use Rattle.a2_run.specs.Meaning.{IsRefused, IsRun, AreObjectLines}
+use Rattle.a2_run.specs.Scripts.{IsRefusedScript, IsMonText}
+use Rattle.a2_run.specs.DebugScripts.{IsDebugRefusal, IsDebugText, ReadsFail}
+use Rattle.a2_run.specs.Status.{status_of}
+use Rattle.a2_host.specs.Complaints.{TellsLine}
+use Rattle.a2_host.specs.Shelves.{Shelved, Opens}
+use Rattle.a2.specs.declared.words.Order.{Order}
+use Rattle.a2.specs.declared.words.Order.TheVariants.{Asm, Mon, Debug, Run}
+use Rattle.a2.specs.declared.words.RunOrder.{RunOrder}
+use Rattle.a2.specs.declared.words.WordsFault.{WordsFault}
+use Rattle.a2.specs.Words.{done_status, status_of_words, text_of_words}
 
--- the text that an input gave was run with these keys, this limit and these options: what went out and the answer are
--- those of its meaning; a fault other than of the output means that nothing went out; and a fault of the input or of the
--- output comes exactly where one of its calls failed
-pub record RunsInput (keys : List ℕ) (limit : ℕ) (options : Options) (input left : Giver) (old new : Taker) (answer : Result Cause RunFault) : Type 0 where
-  pub meaning : IfSome input.bytes (λ text. Answers (OfSource (IsRefused text)) (IsRun text keys limit options) old new answer)
+-- the text that an input gave was answered: what went out and the answer are those of its meaning, where the text has some
+-- refusals or gives some values with their outputs; nothing was read past its 65,537th byte; a fault other than of the output
+-- means that nothing went out; and a fault of the input or of the output comes exactly where one of its calls failed
+pub record AnswersInput {T : Type 0} (refuses : List ℕ → RunFault → Type 0) (gives : List ℕ → T → List ℕ → Type 0)
+    (input left : Giver) (old new : Taker) (answer : Result T RunFault) : Type 0 where
+  pub meaning : IfSome input.bytes (λ text. Answers (refuses text) (gives text) old new answer)
+  pub front : TakesAtMost 65537 input left
   pub silent : NothingSent old new answer
   pub reader : left.failures ≡ count_after (is_read_fault answer) input.failures
   pub writer : new.failures ≡ count_after (is_write_fault answer) old.failures
 
--- What a status says of the output: by 1, 2 or 5 nothing went out, and by 0 or 3 no write failed
+-- a source was run with these keys, this limit and these options; its object lines were written; a script's Monitor lines were
+-- answered
+abbrev pub RunsInput : List ℕ → ℕ → Options → Giver → Giver → Taker → Taker → Result Cause RunFault → Type 0
+RunsInput keys limit options = AnswersInput (λ text. OfSource (IsRefused text)) (λ text. IsRun text keys limit options)
+
+abbrev pub AssemblesInput : Giver → Giver → Taker → Taker → Result (Unit {0}) RunFault → Type 0
+AssemblesInput = AnswersInput (λ text. OfSource (IsRefused text)) (λ text _. AreObjectLines text)
+
+abbrev pub AnswersLines : Giver → Giver → Taker → Taker → Result (Unit {0}) RunFault → Type 0
+AnswersLines = AnswersInput (λ text. OfScript (IsRefusedScript text)) (λ text _. IsMonText text)
+
+-- the source that one input gave was debugged by the lines of another
+pub record DebugsInputs (source source' script script' : Giver) (old new : Taker) (answer : Result (Unit {0}) RunFault) : Type 0 where
+  pub meaning : IfSome source.bytes (λ text. IfSome script.bytes (λ lines.
+      Answers (IsDebugRefusal text lines) (λ _. IsDebugText text lines) old new answer))
+  pub fronts : TakesAtMost 65537 source source' × TakesAtMost 65537 script script'
+  pub silent : NothingSent old new answer
+  pub readers : ReadsFail (is_read_fault answer) source source' script script'
+  pub writer : new.failures ≡ count_after (is_write_fault answer) old.failures
+
+-- a file did not open: that is a read fault, and nothing was written
+abbrev pub IsUnopened : {T : Type 0} → Taker → Taker → Result T RunFault → Type 0
+IsUnopened old new answer = (answer ≡ Err Read) × (new ≡ old)
+
+-- the file of this name was opened, by one call, and what its reader gave was answered so; or it did not open
+abbrev pub AnswersFile : {R T : Type 0} → (R → Giver) → (Giver → Giver → Taker → Taker → Result T RunFault → Type 0) → List ℕ
+    → Shelved → Shelved → Taker → Taker → Result T RunFault → Type 0
+AnswersFile {R} giver AnswersIt name shelf shelf' old new answer = (opened : Result R RunFault) × Opens giver name shelf shelf' opened
+    × MatchResult opened (λ reader. (left : R) × AnswersIt (giver reader) (giver left) old new answer) (λ _. IsUnopened old new answer)
+
+-- the file of a source was opened, and then that of a script, and the source was debugged by the script; or one did not open
+abbrev pub DebugsFiles : {R : Type 0} → (R → Giver) → List ℕ → List ℕ → Shelved → Shelved → Taker → Taker
+    → Result (Unit {0}) RunFault → Type 0
+DebugsFiles {R} giver source script shelf shelf' old new answer = (between : Shelved) × (opened : Result R RunFault)
+    × Opens giver source shelf between opened × MatchResult opened
+    (λ reader. AnswersFile giver (λ lines lines' before after answer.
+    (left : R) × DebugsInputs (giver reader) (giver left) lines lines' before after answer) script between shelf' old new answer)
+    (λ _. (shelf' ≡ between) × IsUnopened old new answer)
+
+-- the source of a run: a file's, or that of the standard input, and then no file was opened
+abbrev pub RunsSource : {R : Type 0} → (R → Giver) → RunOrder → Shelved → Shelved → Giver → Giver → Taker → Taker → Result Cause RunFault → Type 0
+RunsSource giver order shelf shelf' input input' old new answer = MatchOption order.source
+    ((shelf' ≡ shelf) × RunsInput order.keys order.limit order.options input input' old new answer)
+    (λ name. AnswersFile giver (RunsInput order.keys order.limit order.options) name.now shelf shelf' old new answer)
+
+-- what was done for an order, and the status, which is that of the answer
+abbrev pub Does : {R : Type 0} → (R → Giver) → Order → Shelved → Shelved → Giver → Giver → Taker → Taker → ℕ → Type 0
+Does giver (Asm source) shelf shelf' input input' old new status = (answer : Result (Unit {0}) RunFault) × (status ≡ done_status answer)
+    × AnswersFile giver AssemblesInput source.now shelf shelf' old new answer
+Does giver (Mon script) shelf shelf' input input' old new status = (answer : Result (Unit {0}) RunFault) × (status ≡ done_status answer)
+    × AnswersFile giver AnswersLines script.now shelf shelf' old new answer
+Does giver (Debug source script) shelf shelf' input input' old new status = (answer : Result (Unit {0}) RunFault) × (status ≡ done_status answer)
+    × DebugsFiles giver source.now script.now shelf shelf' old new answer
+Does giver (Run order) shelf shelf' input input' old new status = (answer : Result Cause RunFault) × (status ≡ status_of answer)
+    × RunsSource giver order shelf shelf' input input' old new answer
+
+-- words that ask for nothing: no file was opened, nothing was written, their fault was told, and the status is its own
+pub record Refuses (fault : WordsFault) (shelf shelf' : Shelved) (old new told told' : Taker) (status : ℕ) : Type 0 where
+  pub unopened : shelf' ≡ shelf
+  pub unsent : new ≡ old
+  pub line : TellsLine told told' (text_of_words fault)
+  pub status_is : status ≡ status_of_words fault
+
+-- What a status says of the output: by 1, 2 or 5 nothing went out; by 0 or 3 no write failed; by 4 a write failed, or nothing
+-- went out
 pub record Tells (status : ℕ) (old new : Taker) : Type 0 where
+  pub few : status ≤ 5
   pub refused : status ≡ 1 ⊎ status ≡ 2 ⊎ status ≡ 5 → Sends old new []
   pub done : status ≡ 0 ⊎ status ≡ 3 → new.failures ≡ old.failures
+  pub failed : status ≡ 4 → (new.failures ≡ count_after true old.failures) ⊎ Sends old new []

@@ -1,6 +1,8 @@
--- The words of the command line. This project's profile.
-use Rattle.std.specs.Prelude.{◌≡◌, ◌≢◌, ◌⊎◌, ℕ, ◌<◌, ◌≤◌, Bool, true, false, List, [], codes, length, Option, Some, None, Result, Ok, Err}
+-- The words of the command line, what they ask for, and which are refused. This project's profile.
+use Rattle.std.specs.Prelude.{◌≡◌, ◌≢◌, ◌⊎◌, ℕ, ◌+◌, ◌<◌, ◌≤◌, Bool, true, false, List, [], ◌∷◌, codes, length, Option, Some, None, option_map, Result, Ok, Err, IfOk, IfErr, IsTrue, nat_eq, slice_get}
+use Rattle.std.specs.List.{starts_with}
 use Rattle.std.specs.Str.Parse.{digits_value}
+use Rattle.clap.specs.Words.{Row, Text, fault_of, first_of, one_of, subcommand_of}
 use Rattle.a2_bus.specs.KeyText.{SpellsKeys}
 use Rattle.a2_run.specs.declared.Options.{Options}
 use Rattle.a2_run.specs.declared.fault.RunFault.{RunFault}
@@ -9,9 +11,11 @@ use Rattle.a2_run.specs.Status.{fault_status}
 use Rattle.a2_host.specs.declared.HostWordsFault.{HostWordsFault}
 use Rattle.a2_host.specs.declared.HostWordsFault.TheVariants as host
 use Rattle.a2.specs.declared.words.Order.{Order}
-use Rattle.a2.specs.declared.words.Order.TheVariants.{Run}
+use Rattle.a2.specs.declared.words.Order.TheVariants.{Asm, Mon, Debug, Run}
+use Rattle.a2.specs.declared.words.RunOrder.{RunOrder}
 use Rattle.a2.specs.declared.words.WordsFault.{WordsFault}
 use Rattle.a2.specs.declared.words.WordsFault.TheVariants.{Words, Keys, Memory}
+use Rattle.a2.specs.Grammar.{grammar}
 
 -- the most steps: without the option 1,000,000, with it the number that its word spells, and bad words where it spells none
 abbrev pub SaysLimit : Option (List ℕ) → Result ℕ WordsFault → Type 0
@@ -34,26 +38,114 @@ pub record IsFlag (value : Option (List ℕ)) (flag : Bool) : Type 0 where
   pub off : value ≡ Some (codes "false") → flag ≡ false
   pub absent : value ≡ None → flag ≡ false
 
--- the words of a run are refused: they name no file; or a limit that is none; or else keys that are none
-abbrev pub RefusesRun : Option (List ℕ) → Option (List ℕ) → Option (List ℕ) → WordsFault → Type 0
-RefusesRun file limit keys fault =
-    ((file ≡ None) × (fault ≡ Words)) ⊎ SaysLimit limit (Err fault) ⊎ ((most : ℕ) × SaysLimit limit (Ok most) × SaysKeys keys (Err fault))
+-- a word is `--keys`, and the one behind it begins with `-`
+abbrev pub AreLooseKeys : Text → Text → Type 0
+AreLooseKeys option value = (option ≡ codes "--keys") × IsTrue (starts_with nat_eq value (codes "-"))
 
--- a run without options: guarded, and without attribute rows
-abbrev pub plain : Options
-plain = record { free = false; attr = false }
+-- two such words stand somewhere
+pub record HasLooseKeys (words : List Text) : Type 0 where
+  pub at : ℕ
+  pub option : Text
+  pub value : Text
+  pub option_is : slice_get words at ≡ Some option
+  pub value_is : slice_get words (at + 1) ≡ Some value
+  pub are : AreLooseKeys option value
+
+-- a word that has to stand does
+abbrev pub Stands : Text → List Row → Type 0
+Stands name values = first_of name values ≢ None
+
+-- the words of `run` are whole: a file, a limit where the option stands, and no loose keys
+pub record IsWholeRun (words : List Text) (values : List Row) : Type 0 where
+  pub file : Stands (codes "file") values
+  pub most : ℕ
+  pub limit : SaysLimit (first_of (codes "limit") values) (Ok most)
+  pub keys : ¬ (HasLooseKeys words)
+
+-- the words behind a subcommand's name are whole, whatever the keys
+abbrev pub IsWhole : List Text → Text → List Row → Type 0
+IsWhole words name values = ((name ≡ codes "asm") × Stands (codes "file") values)
+    ⊎ ((name ≡ codes "mon") × Stands (codes "file") values)
+    ⊎ ((name ≡ codes "debug") × Stands (codes "file") values × Stands (codes "script") values)
+    ⊎ ((name ≡ codes "run") × IsWholeRun words values)
+
+-- the words of `run` are refused: they name no file; or a limit that is none; or else keys that are none
+abbrev pub RefusesRun : List Row → WordsFault → Type 0
+RefusesRun values Words = (Stands (codes "file") values → (most : ℕ) → SaysLimit (first_of (codes "limit") values) (Ok most) → ⊥)
+RefusesRun values Keys = Stands (codes "file") values × ((most : ℕ) × SaysLimit (first_of (codes "limit") values) (Ok most))
+    × SaysKeys (first_of (codes "keys") values) (Err Keys)
+RefusesRun values Memory = ⊥
+
+-- what whole words of `run` ask for
+pub record IsRunOrder (values : List Row) (order : RunOrder) : Type 0 where
+  pub named : order.source ≢ None
+  pub file : option_map (λ name. name.now) order.source ≡ first_of (codes "file") values
+  pub limit : SaysLimit (first_of (codes "limit") values) (Ok order.limit)
+  pub keys : SaysKeys (first_of (codes "keys") values) (Ok order.keys)
+  pub free : IsFlag (one_of (codes "free") values) order.options.free
+  pub attr : IsFlag (one_of (codes "attr") values) order.options.attr
+
+-- what the words behind a subcommand's name ask for
+abbrev pub IsOrderOf : List Text → Text → List Row → Order → Type 0
+IsOrderOf words name values (Asm source) = (name ≡ codes "asm") × (first_of (codes "file") values ≡ Some source.now)
+IsOrderOf words name values (Mon script) = (name ≡ codes "mon") × (first_of (codes "file") values ≡ Some script.now)
+IsOrderOf words name values (Debug source script) =
+    (name ≡ codes "debug") × (first_of (codes "file") values ≡ Some source.now) × (first_of (codes "script") values ≡ Some script.now)
+IsOrderOf words name values (Run order) = (name ≡ codes "run") × ¬ (HasLooseKeys words) × IsRunOrder values order
+
+-- why they ask for nothing: they are not whole; or they are, of `run`, but the keys are none; or there was no memory
+abbrev pub IsRefusalOf : List Text → Text → List Row → WordsFault → Type 0
+IsRefusalOf words name values Words = ¬ (IsWhole words name values)
+IsRefusalOf words name values Keys =
+    (name ≡ codes "run") × IsWholeRun words values × SaysKeys (first_of (codes "keys") values) (Err Keys)
+IsRefusalOf words name values Memory = Unit {0}
+
+-- `clap` takes the words, and finds this subcommand and these values of its words
+pub record IsTaken (words : List Text) (name : Text) (values : List Row) : Type 0 where
+  pub clean : fault_of grammar words ≡ []
+  pub found : subcommand_of grammar words ≡ Some (name, values)
+
+-- what the words ask for
+abbrev pub IsOrder : List Text → Order → Type 0
+IsOrder words order = (name : Text) × (values : List Row) × IsTaken words name values × IsOrderOf words name values order
+
+-- why they ask for nothing; words that `clap` does not take are bad ones
+abbrev pub IsRefusal : List Text → WordsFault → Type 0
+IsRefusal words Words = (name : Text) (values : List Row) → IsTaken words name values → IsRefusalOf words name values Words
+IsRefusal words Keys = (name : Text) × (values : List Row) × IsTaken words name values × IsRefusalOf words name values Keys
+IsRefusal words Memory = Unit {0}
 
 -- no order but that of no words leaves the file to the standard input
 abbrev pub NamesFile : Order → Type 0
 NamesFile (Run order) = order.source ≢ None
 NamesFile _ = Unit {0}
 
+-- a run without options: guarded, and without attribute rows
+abbrev pub plain : Options
+plain = record { free = false; attr = false }
+
+-- what is done without words: the standard input is run
+abbrev pub plain_run : RunOrder
+plain_run = record { source = None; keys = []; limit = 1000000; options = plain }
+
+-- what words ask for, of which the first is the program's name
+pub record Asks (words : List Text) (asked : Result Order WordsFault) : Type 0 where
+  pub without : length words ≤ 1 → asked ≡ Ok (Run plain_run)
+  pub order : 1 < length words → IfOk asked (IsOrder words)
+  pub refusal : 1 < length words → IfErr asked (IsRefusal words)
+
 -- the fault of words that the host didn't give: those that are no text are bad ones
 abbrev pub of_host : HostWordsFault → WordsFault
 of_host host.NotText = Words
 of_host host.Memory = Memory
 
--- the status of words that ask for nothing
+-- what is told of words that ask for nothing
+abbrev pub text_of_words : WordsFault → List ℕ
+text_of_words Words = codes "BAD WORDS"
+text_of_words Keys = codes "BAD KEYS"
+text_of_words Memory = codes "NO MEMORY"
+
+-- and the status
 abbrev pub status_of_words : WordsFault → ℕ
 status_of_words Words = 2
 status_of_words Keys = 2

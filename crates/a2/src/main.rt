@@ -4,18 +4,11 @@
 mod program;
 mod words;
 
-use a2_host::{HostFiles, HostWordsFault, complain, words_of};
-use a2_stream::{FromRead, Output, ToWrite};
-use program::{obey, words_status};
+use a2_host::{HostFiles, words_of};
+use a2_stream::{FromRead, ToWrite};
+use program::{obey, refuse_words};
 use std::process::ExitCode;
 use words::WordsFault;
-
-// Tells that there are no words, and the status.
-fn tell_no_words<E: Output>(fault: HostWordsFault, complaints: &mut E) -> u8 {
-    let fault = WordsFault::from(fault);
-    complain(fault, complaints);
-    words_status(fault)
-}
 
 fn main(rt: HostRuntime) -> ExitCode {
     let mut output = ToWrite::new(rt.stdout());
@@ -29,7 +22,7 @@ fn main(rt: HostRuntime) -> ExitCode {
             &mut output,
             &mut complaints,
         ),
-        Err(fault) => tell_no_words(fault, &mut complaints),
+        Err(fault) => refuse_words(WordsFault::from(fault), &mut complaints),
     };
     ExitCode::from(status)
 }

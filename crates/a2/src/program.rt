@@ -1,26 +1,32 @@
 //! What the program does, over any files and streams.
 
-ghost use Rattle.std.specs.Prelude.{◌≡◌, ◌≢◌, ◌⊎◌, ◌<◌, ◌≤◌, [], None, Result, IfErr, IsOk, length};
+ghost use Rattle.std.specs.Prelude.{◌≡◌, ◌≢◌, ◌⊎◌, ◌<◌, ◌≤◌, [], Result, Ok, Err, IfErr, IsErr, IsOk, MatchResult, length, map, string_bytes};
 ghost use Rattle.a2_machine.specs.declared.Cause.{Cause as Stop};
 ghost use Rattle.a2_run.specs.declared.fault.RunFault.{RunFault as Fault};
 ghost use Rattle.a2_run.specs.declared.fault.RunFault.TheVariants.{Read};
-ghost use Rattle.a2_run.specs.Answers.{NothingSent, is_write_fault};
-ghost use Rattle.a2_stream.specs.Stream.{count_after};
 ghost use Rattle.a2_run.specs.Status.{status_of};
-ghost use Rattle.a2.specs.Program.{RunsInput, Tells};
-ghost use Rattle.a2.specs.Words.{done_status, plain, status_of_words};
+ghost use Rattle.a2_host.specs.Complaints.{TellsLine, TellsSome};
+ghost use Rattle.a2_host.specs.Shelves.{Opens};
+ghost use Rattle.a2.specs.declared.words.Order.{Order as Asked};
+ghost use Rattle.a2.specs.declared.words.WordsFault.{WordsFault as Refusal};
+ghost use Rattle.a2.specs.Program.{AnswersFile, AnswersLines, AssemblesInput, DebugsFiles, Does, Refuses, RunsInput, RunsSource, Tells};
+ghost use Rattle.a2.specs.Words.{Asks, NamesFile, done_status, plain, status_of_words, text_of_words};
 
 use crate::words::{Order, RunOrder, WordsFault, order_of};
 use a2_host::{Shelf, complain};
 use a2_machine::Cause;
 use a2_run::{RunFault, asm_text, debug_text, fault_status, mon_text, run_text, status};
-use a2_stream::{Input, Output};
+use a2_stream::{Input, Output, put};
 use std::alloc::Global;
 
-/// The status of words that ask for nothing: 2 for bad words and bad keys, 5 for want of memory.
-pub fn words_status(fault: WordsFault) -> u8
-    ensures { result ≡ status_of_words fault }
+/// Tells why words ask for nothing, by a line to `complaints`, and gives the status: 2 for bad words and bad keys, 5 for want
+/// of memory. Where a write fails, a front of the line went out.
+pub fn refuse_words<E: Output>(fault: WordsFault, complaints: &mut E) -> u8
+    ensures line { TellsLine (E.taker complaints.old) (E.taker complaints.new) (text_of_words fault) }
+    ensures status { result ≡ status_of_words fault }
 {
+    // Where this fails there is no place left to tell it.
+    let _ = put(fault.line().as_bytes(), complaints);
     match fault {
         WordsFault::Words | WordsFault::Keys => 2,
         WordsFault::Memory => 5,
@@ -29,9 +35,30 @@ pub fn words_status(fault: WordsFault) -> u8
 
 // Opens a file; one that cannot be opened is a failed read.
 fn opened<S: Shelf>(shelf: &mut S, name: &str) -> Result<S::Reader, RunFault>
-    ensures { IfErr result (λ fault. fault ≡ Read) }
+    ensures opens { Opens S.Reader.giver name.now (S.shelved shelf.old) (S.shelved shelf.new) result }
+    ensures fault { IfErr result (λ fault. fault ≡ Read) }
 {
     shelf.open(name).map_err(|_| RunFault::Read)
+}
+
+// Runs what an input gives, as an order says.
+fn run_input<R: Input, W: Output>(
+    alloc: Global,
+    input: &mut R,
+    order: &RunOrder,
+    output: &mut W,
+) -> Result<Cause, RunFault>
+    ensures { RunsInput order.now.keys order.now.limit order.now.options
+        (R.giver input.old) (R.giver input.new) (W.taker output.old) (W.taker output.new) result }
+{
+    run_text(
+        alloc,
+        input,
+        &order.keys,
+        order.limit,
+        order.options,
+        output,
+    )
 }
 
 // Runs a file, or the standard input.
@@ -42,31 +69,16 @@ fn run_file<S: Shelf, R: Input, W: Output>(
     order: &RunOrder,
     output: &mut W,
 ) -> Result<Cause, RunFault>
-    ensures run { order.now.source ≡ None → RunsInput order.now.keys order.now.limit order.now.options
+    ensures run { RunsSource S.Reader.giver order.now (S.shelved shelf.old) (S.shelved shelf.new)
         (R.giver input.old) (R.giver input.new) (W.taker output.old) (W.taker output.new) result }
-    ensures silent { NothingSent (W.taker output.old) (W.taker output.new) result }
-    ensures writer { (W.taker output.new).failures ≡ count_after (is_write_fault result) (W.taker output.old).failures }
+    ensures output { Tells (status_of result) (W.taker output.old) (W.taker output.new) }
     ensures unread { order.now.source ≢ None → input.new ≡ input.old }
 {
     let Some(name) = order.source else {
-        return run_text(
-            alloc,
-            input,
-            &order.keys,
-            order.limit,
-            order.options,
-            output,
-        );
+        return run_input(alloc, input, order, output);
     };
     let mut reader = opened(shelf, name)?;
-    run_text(
-        alloc,
-        &mut reader,
-        &order.keys,
-        order.limit,
-        order.options,
-        output,
-    )
+    run_input(alloc, &mut reader, order, output)
 }
 
 // Writes the object lines of a file.
@@ -76,8 +88,9 @@ fn assemble_file<S: Shelf, W: Output>(
     source: &str,
     output: &mut W,
 ) -> Result<(), RunFault>
-    ensures silent { NothingSent (W.taker output.old) (W.taker output.new) result }
-    ensures writer { (W.taker output.new).failures ≡ count_after (is_write_fault result) (W.taker output.old).failures }
+    ensures file { AnswersFile S.Reader.giver AssemblesInput source.now (S.shelved shelf.old) (S.shelved shelf.new)
+        (W.taker output.old) (W.taker output.new) result }
+    ensures output { Tells (done_status result) (W.taker output.old) (W.taker output.new) }
 {
     let mut source = opened(shelf, source)?;
     asm_text(alloc, &mut source, output)
@@ -90,8 +103,9 @@ fn answer_file<S: Shelf, W: Output>(
     script: &str,
     output: &mut W,
 ) -> Result<(), RunFault>
-    ensures silent { NothingSent (W.taker output.old) (W.taker output.new) result }
-    ensures writer { (W.taker output.new).failures ≡ count_after (is_write_fault result) (W.taker output.old).failures }
+    ensures file { AnswersFile S.Reader.giver AnswersLines script.now (S.shelved shelf.old) (S.shelved shelf.new)
+        (W.taker output.old) (W.taker output.new) result }
+    ensures output { Tells (done_status result) (W.taker output.old) (W.taker output.new) }
 {
     let mut script = opened(shelf, script)?;
     mon_text(alloc, &mut script, output)
@@ -105,8 +119,9 @@ fn debug_files<S: Shelf, W: Output>(
     script: &str,
     output: &mut W,
 ) -> Result<(), RunFault>
-    ensures silent { NothingSent (W.taker output.old) (W.taker output.new) result }
-    ensures writer { (W.taker output.new).failures ≡ count_after (is_write_fault result) (W.taker output.old).failures }
+    ensures files { DebugsFiles S.Reader.giver source.now script.now (S.shelved shelf.old) (S.shelved shelf.new)
+        (W.taker output.old) (W.taker output.new) result }
+    ensures output { Tells (done_status result) (W.taker output.old) (W.taker output.new) }
 {
     let mut source = opened(shelf, source)?;
     let mut script = opened(shelf, script)?;
@@ -115,7 +130,8 @@ fn debug_files<S: Shelf, W: Output>(
 
 // Tells the fault of an answer, if it has one.
 fn tell_fault<T, E: Output>(answer: &Result<T, RunFault>, complaints: &mut E)
-    ensures { IsOk answer.now → complaints.new ≡ complaints.old }
+    ensures silent { IsOk answer.now → complaints.new ≡ complaints.old }
+    ensures told { IsErr answer.now → TellsSome (E.taker complaints.old) (E.taker complaints.new) }
 {
     if let Err(fault) = answer {
         complain(*fault, complaints);
@@ -125,7 +141,8 @@ fn tell_fault<T, E: Output>(answer: &Result<T, RunFault>, complaints: &mut E)
 // Tells the fault of an answer, if it has one; and the status.
 fn tell_done<E: Output>(answer: &Result<(), RunFault>, complaints: &mut E) -> u8
     ensures status { result ≡ done_status answer.now }
-    ensures silent { IsOk answer.now → complaints.new ≡ complaints.old }
+    ensures silent { result ≡ 0 ⊎ result ≡ 3 → complaints.new ≡ complaints.old }
+    ensures told { result ≢ 0 → result ≢ 3 → TellsSome (E.taker complaints.old) (E.taker complaints.new) }
 {
     tell_fault(answer, complaints);
     match answer {
@@ -134,35 +151,32 @@ fn tell_done<E: Output>(answer: &Result<(), RunFault>, complaints: &mut E) -> u8
     }
 }
 
-/// Does what `words` ask for, and answers the exit status, 0 to 5. The first word is the program's name; without
-/// another the text that `input` gives is run. Files are opened in `shelf`, and what is asked for goes to `output`. A
-/// fault, of the words, the source, a read, a write or memory, is told to `complaints` by its text and LF. This
-/// project's profile.
-pub fn obey<S: Shelf, R: Input, W: Output, E: Output>(
+// Tells the fault of a run, if it has one; and the status.
+fn tell_run<E: Output>(answer: &Result<Cause, RunFault>, complaints: &mut E) -> u8
+    ensures status { result ≡ status_of answer.now }
+    ensures silent { result ≡ 0 ⊎ result ≡ 3 → complaints.new ≡ complaints.old }
+    ensures told { result ≢ 0 → result ≢ 3 → TellsSome (E.taker complaints.old) (E.taker complaints.new) }
+{
+    tell_fault(answer, complaints);
+    status(answer)
+}
+
+// Does what is asked for, tells a fault, and gives the status.
+fn follow<S: Shelf, R: Input, W: Output, E: Output>(
     alloc: Global,
-    words: &[String],
+    order: &Order,
     shelf: &mut S,
     input: &mut R,
     output: &mut W,
     complaints: &mut E,
 ) -> u8
-    // Without words the input is run, guarded, with no keys and at most 1,000,000 steps.
-    ensures plain { length words.now ≤ 1 → (answer : Result Stop Fault) × (result ≡ status_of answer)
-        × RunsInput [] 1000000 plain (R.giver input.old) (R.giver input.new) (W.taker output.old) (W.taker output.new) answer }
-    // Whatever the words: by 1, 2 or 5 nothing went out, and by 0 or 3 no write failed.
+    ensures done { Does S.Reader.giver order.now (S.shelved shelf.old) (S.shelved shelf.new)
+        (R.giver input.old) (R.giver input.new) (W.taker output.old) (W.taker output.new) result }
     ensures output { Tells result (W.taker output.old) (W.taker output.new) }
-    ensures few { result ≤ 5 }
-    // By 0 and 3 nothing is told, and with a word behind the name the input is not read.
     ensures silent { result ≡ 0 ⊎ result ≡ 3 → complaints.new ≡ complaints.old }
-    ensures unread { 1 < length words.now → input.new ≡ input.old }
+    ensures told { result ≢ 0 → result ≢ 3 → TellsSome (E.taker complaints.old) (E.taker complaints.new) }
+    ensures unread { NamesFile order.now → input.new ≡ input.old }
 {
-    let order = match order_of(alloc, words) {
-        Ok(order) => order,
-        Err(fault) => {
-            complain(fault, complaints);
-            return words_status(fault);
-        }
-    };
     match order {
         Order::Asm { source } => {
             tell_done(&assemble_file(alloc, shelf, source, output), complaints)
@@ -174,10 +188,40 @@ pub fn obey<S: Shelf, R: Input, W: Output, E: Output>(
             &debug_files(alloc, shelf, source, script, output),
             complaints,
         ),
-        Order::Run(order) => {
-            let answer = run_file(alloc, shelf, input, &order, output);
-            tell_fault(&answer, complaints);
-            status(&answer)
-        }
+        Order::Run(order) => tell_run(&run_file(alloc, shelf, input, order, output), complaints),
+    }
+}
+
+/// Does what `words` ask for, and answers the exit status, 0 to 5. The first word is the program's name; without
+/// another the text that `input` gives is run. Files are opened in `shelf`, and what is asked for goes to `output`. A
+/// fault, of the words, the source, a read, a write or memory, is told to `complaints` by a line. This project's profile.
+pub fn obey<S: Shelf, R: Input, W: Output, E: Output>(
+    alloc: Global,
+    words: &[String],
+    shelf: &mut S,
+    input: &mut R,
+    output: &mut W,
+    complaints: &mut E,
+) -> u8
+    // What the words ask for is done, over the files that they name; or the words are refused.
+    ensures done { (asked : Result Asked Refusal) × Asks (map string_bytes words.now) asked × MatchResult asked
+        (λ order. Does S.Reader.giver order (S.shelved shelf.old) (S.shelved shelf.new)
+        (R.giver input.old) (R.giver input.new) (W.taker output.old) (W.taker output.new) result)
+        (λ fault. Refuses fault (S.shelved shelf.old) (S.shelved shelf.new)
+        (W.taker output.old) (W.taker output.new) (E.taker complaints.old) (E.taker complaints.new) result) }
+    // Without words the input is run, guarded, with no keys and at most 1,000,000 steps.
+    ensures plain { length words.now ≤ 1 → (answer : Result Stop Fault) × (result ≡ status_of answer)
+        × RunsInput [] 1000000 plain (R.giver input.old) (R.giver input.new) (W.taker output.old) (W.taker output.new) answer }
+    // Whatever the words: at most 5; by 1, 2 or 5 nothing went out, by 0 or 3 no write failed, and by 4 one did, or nothing went out.
+    ensures output { Tells result (W.taker output.old) (W.taker output.new) }
+    // By 0 and 3 nothing is told, and by another status a line is.
+    ensures silent { result ≡ 0 ⊎ result ≡ 3 → complaints.new ≡ complaints.old }
+    ensures told { result ≢ 0 → result ≢ 3 → TellsSome (E.taker complaints.old) (E.taker complaints.new) }
+    // With a word behind the name the input is not read.
+    ensures unread { 1 < length words.now → input.new ≡ input.old }
+{
+    match order_of(alloc, words) {
+        Ok(order) => follow(alloc, &order, shelf, input, output, complaints),
+        Err(fault) => refuse_words(fault, complaints),
     }
 }

@@ -1,10 +1,10 @@
 //! The words of the command line.
 
-ghost use Rattle.std.specs.Prelude.{◌≡◌, ◌≢◌, ◌<◌, ◌≤◌, [], None, Some, Ok, IfErr, IfOk, codes, length, option_map};
-ghost use Rattle.clap.specs.Words.{first_value, found_of, one_text};
-ghost use Rattle.a2.specs.declared.words.Order.TheVariants.{Run};
-ghost use Rattle.a2.specs.declared.words.WordsFault.TheVariants.{Words};
-ghost use Rattle.a2.specs.Words.{IsFlag, NamesFile, RefusesRun, SaysKeys, SaysLimit, plain};
+ghost use Rattle.std.specs.Prelude.{◌≡◌, ◌≢◌, ◌⊎◌, ◌<◌, ◌≤◌, ◌∷◌, ◌++◌, ◌↔◌, [], None, Some, Ok, IfErr, IfOk, IsTrue, codes, true, length, map, option_map, string_bytes};
+ghost use Rattle.clap.specs.Words.{fault_of, first_of, found_of, one_of, rows_of, subcommand_of, subcommand_rows_of};
+ghost use Rattle.a2.specs.declared.words.WordsFault.TheVariants.{Words, Memory};
+ghost use Rattle.a2.specs.Grammar.{HasRule, IsApp, IsCommand, flag as flag_rule, grammar, needed as needed_rule, run_rules, valued as valued_rule};
+ghost use Rattle.a2.specs.Words.{AreLooseKeys, Asks, HasLooseKeys, IsFlag, IsOrderOf, IsRefusalOf, IsRunOrder, RefusesRun, SaysKeys, SaysLimit, plain_run, text_of_words};
 
 use a2_bus::Keys;
 use a2_host::HostWordsFault;
@@ -12,7 +12,6 @@ use a2_run::{Options, step_limit};
 use clap::error::ErrorKind;
 use clap::{Arg, ArgAction, ArgMatches, Command};
 use std::alloc::{AllocError, Global};
-use thiserror::Error;
 
 /// What the words of `run` ask for.
 #[derive(Drop)]
@@ -40,14 +39,27 @@ pub enum Order<'a> {
 }
 
 /// Why words ask for nothing.
-#[derive(Clone, Copy, Debug, PartialEq, Eq, Error)]
+#[derive(Clone, Copy, Debug, PartialEq, Eq)]
 pub enum WordsFault {
-    #[error("BAD WORDS")]
+    /// The words are no form of the command line.
     Words,
-    #[error("BAD KEYS")]
+    /// The keys are badly spelt, or too many.
     Keys,
-    #[error("NO MEMORY")]
+    /// A growth of memory was refused.
     Memory,
+}
+
+impl WordsFault {
+    /// The line that tells it.
+    pub fn line(self) -> &'static str
+        ensures { result.now ≡ text_of_words self ++ codes "\n" }
+    {
+        match self {
+            WordsFault::Words => "BAD WORDS\n",
+            WordsFault::Keys => "BAD KEYS\n",
+            WordsFault::Memory => "NO MEMORY\n",
+        }
+    }
 }
 
 impl From<AllocError> for WordsFault {
@@ -77,32 +89,44 @@ impl From<HostWordsFault> for WordsFault {
 const DEFAULT_LIMIT: u32 = 1_000_000;
 
 // A word that has to stand.
-fn needed<'a>(alloc: Global, name: &'a str) -> Arg<'a> {
+fn needed<'a>(alloc: Global, name: &'a str) -> Arg<'a>
+    ensures { HasRule result (needed_rule name.entry.now) }
+{
     Arg::new(alloc, name).required(true).action(ArgAction::Set)
 }
 
 // An option with a value.
-fn valued<'a>(alloc: Global, name: &'a str) -> Arg<'a> {
+fn valued<'a>(alloc: Global, name: &'a str) -> Arg<'a>
+    ensures { HasRule result (valued_rule name.entry.now) }
+{
     Arg::new(alloc, name).long(name).action(ArgAction::Set)
 }
 
 // An option without one.
-fn flag<'a>(alloc: Global, name: &'a str) -> Arg<'a> {
+fn flag<'a>(alloc: Global, name: &'a str) -> Arg<'a>
+    ensures { HasRule result (flag_rule name.entry.now) }
+{
     Arg::new(alloc, name).long(name).action(ArgAction::SetTrue)
 }
 
 // A subcommand without help.
-fn named<'a>(alloc: Global, name: &'a str) -> Command<'a> {
+fn named<'a>(alloc: Global, name: &'a str) -> Command<'a>
+    ensures { IsCommand name.entry.now [] result }
+{
     Command::new(alloc, name).disable_help_flag(true)
 }
 
 // A subcommand with one file.
-fn with_file<'a>(alloc: Global, name: &'a str) -> Result<Command<'a>, AllocError> {
+fn with_file<'a>(alloc: Global, name: &'a str) -> Result<Command<'a>, AllocError>
+    ensures { IfOk result (IsCommand name.entry.now (needed_rule (codes "file") ∷ [])) }
+{
     named(alloc, name).arg(needed(alloc, "file"))
 }
 
 // The words after `run`.
-fn run_command<'a>(alloc: Global) -> Result<Command<'a>, AllocError> {
+fn run_command<'a>(alloc: Global) -> Result<Command<'a>, AllocError>
+    ensures { IfOk result (IsCommand (codes "run") run_rules) }
+{
     with_file(alloc, "run")?
         .arg(valued(alloc, "keys"))?
         .arg(valued(alloc, "limit"))?
@@ -111,19 +135,25 @@ fn run_command<'a>(alloc: Global) -> Result<Command<'a>, AllocError> {
 }
 
 // The words after `debug`.
-fn debug_command<'a>(alloc: Global) -> Result<Command<'a>, AllocError> {
+fn debug_command<'a>(alloc: Global) -> Result<Command<'a>, AllocError>
+    ensures { IfOk result (IsCommand (codes "debug") (needed_rule (codes "file") ∷ needed_rule (codes "script") ∷ [])) }
+{
     with_file(alloc, "debug")?.arg(needed(alloc, "script"))
 }
 
 // The program's name alone.
-fn bare_command<'a>(alloc: Global) -> Command<'a> {
+fn bare_command<'a>(alloc: Global) -> Command<'a>
+    ensures { IsApp result (record { top = record grammar.top { is_leaf = true }; subs = [] }) }
+{
     named(alloc, "a2")
         .disable_help_subcommand(true)
         .subcommand_required(true)
 }
 
 // All that the program understands.
-fn command<'a>(alloc: Global) -> Result<Command<'a>, AllocError> {
+fn command<'a>(alloc: Global) -> Result<Command<'a>, AllocError>
+    ensures { IfOk result (λ command. IsApp command grammar) }
+{
     bare_command(alloc)
         .subcommand(with_file(alloc, "asm")?)?
         .subcommand(with_file(alloc, "mon")?)?
@@ -132,7 +162,11 @@ fn command<'a>(alloc: Global) -> Result<Command<'a>, AllocError> {
 }
 
 // The matches of the words.
-fn matches_of<'a>(alloc: Global, words: &'a [String]) -> Result<ArgMatches<'a>, WordsFault> {
+fn matches_of<'a>(alloc: Global, words: &'a [String]) -> Result<ArgMatches<'a>, WordsFault>
+    ensures clean { IfOk result (λ found. fault_of grammar (map string_bytes words.entry.now) ≡ []) }
+    ensures found { IfOk result (λ found. subcommand_rows_of found ≡ subcommand_of grammar (map string_bytes words.entry.now)) }
+    ensures refused { IfErr result (λ fault. (fault ≡ Memory) ⊎ ((fault ≡ Words) × (fault_of grammar (map string_bytes words.entry.now) ≢ []))) }
+{
     match command(alloc)?.try_get_matches_from(words) {
         Ok(found) => Ok(found),
         Err(error) => match error.kind() {
@@ -144,21 +178,30 @@ fn matches_of<'a>(alloc: Global, words: &'a [String]) -> Result<ArgMatches<'a>, 
 
 // A word that has to stand, as it was written.
 fn word_of<'a>(found: &ArgMatches<'a>, name: &str) -> Result<&'a str, WordsFault>
-    ensures found { IfOk result (λ word. first_value (found_of found.now) name.now ≡ Some word.now) }
-    ensures missing { IfErr result (λ fault. (first_value (found_of found.now) name.now ≡ None) × (fault ≡ Words)) }
+    ensures found { IfOk result (λ word. first_of name.now (rows_of (found_of found.now)) ≡ Some word.now) }
+    ensures missing { IfErr result (λ fault. (first_of name.now (rows_of (found_of found.now)) ≡ None) × (fault ≡ Words)) }
 {
     found.get_str(name).ok_or(WordsFault::Words)
 }
 
+// Whether a word is `--keys`, and the one behind it begins with `-`.
+fn are_loose_keys(option: &str, value: &str) -> bool
+    ensures { IsTrue result ↔ AreLooseKeys option.now value.now }
+{
+    match option {
+        "--keys" => value.as_bytes().starts_with(b"-"),
+        _ => false,
+    }
+}
+
 // Whether keys that begin with `-` are given as a word of their own, where they may stand behind `=` alone.
-fn has_loose_keys(words: &[String]) -> bool {
-    let mut after_keys = false;
-    for word in words {
-        let text = word.as_str();
-        if after_keys && text.starts_with('-') {
+fn has_loose_keys(words: &[String]) -> bool
+    ensures { IsTrue result ↔ HasLooseKeys (map string_bytes words.now) }
+{
+    for index in 1..words.len() {
+        if are_loose_keys(words[index - 1].as_str(), words[index].as_str()) {
             return true;
         }
-        after_keys = text == "--keys";
     }
     false
 }
@@ -185,22 +228,22 @@ fn keys_given(text: Option<&str>) -> Result<Keys, WordsFault>
 
 // The most steps that the words of `run` allow.
 fn limit_in(found: &ArgMatches) -> Result<u32, WordsFault>
-    ensures { SaysLimit (first_value (found_of found.now) (codes "limit")) result }
+    ensures { SaysLimit (first_of (codes "limit") (rows_of (found_of found.now))) result }
 {
     limit_given(found.get_str("limit"))
 }
 
 // The keys that they have wait.
 fn keys_in(found: &ArgMatches) -> Result<Keys, WordsFault>
-    ensures { SaysKeys (first_value (found_of found.now) (codes "keys")) result }
+    ensures { SaysKeys (first_of (codes "keys") (rows_of (found_of found.now))) result }
 {
     keys_given(found.get_str("keys"))
 }
 
 // Their options.
 fn options_in(found: &ArgMatches) -> Options
-    ensures free { IsFlag (one_text (found_of found.now) (codes "free")) result.free }
-    ensures attr { IsFlag (one_text (found_of found.now) (codes "attr")) result.attr }
+    ensures free { IsFlag (one_of (codes "free") (rows_of (found_of found.now))) result.free }
+    ensures attr { IsFlag (one_of (codes "attr") (rows_of (found_of found.now))) result.attr }
 {
     Options {
         free: found.get_flag("free"),
@@ -210,15 +253,8 @@ fn options_in(found: &ArgMatches) -> Options
 
 // What the words of `run` ask for; bad keys are told last.
 fn run_order<'a>(found: &ArgMatches<'a>) -> Result<RunOrder<'a>, WordsFault>
-    // A file is named, and it is that of the words.
-    ensures file { IfOk result (λ order. (order.source ≢ None)
-        × (option_map (λ name. name.now) order.source ≡ first_value (found_of found.now) (codes "file"))) }
-    ensures limit { IfOk result (λ order. SaysLimit (first_value (found_of found.now) (codes "limit")) (Ok order.limit)) }
-    ensures keys { IfOk result (λ order. SaysKeys (first_value (found_of found.now) (codes "keys")) (Ok order.keys)) }
-    ensures free { IfOk result (λ order. IsFlag (one_text (found_of found.now) (codes "free")) order.options.free) }
-    ensures attr { IfOk result (λ order. IsFlag (one_text (found_of found.now) (codes "attr")) order.options.attr) }
-    ensures refused { IfErr result (λ fault. let f = found_of found.now in
-        RefusesRun (first_value f (codes "file")) (first_value f (codes "limit")) (first_value f (codes "keys")) fault) }
+    ensures order { IfOk result (IsRunOrder (rows_of (found_of found.now))) }
+    ensures refused { IfErr result (RefusesRun (rows_of (found_of found.now))) }
 {
     let source = Some(word_of(found, "file")?);
     let limit = limit_in(found)?;
@@ -233,7 +269,7 @@ fn run_order<'a>(found: &ArgMatches<'a>) -> Result<RunOrder<'a>, WordsFault>
 
 // What the program does without words.
 fn plain_order<'a>() -> RunOrder<'a>
-    ensures { result ≡ record { source = None; keys = []; limit = 1000000; options = plain } }
+    ensures { result ≡ plain_run }
 {
     RunOrder {
         source: None,
@@ -252,7 +288,8 @@ fn inner_order<'a>(
     name: &str,
     inner: &ArgMatches<'a>,
 ) -> Result<Order<'a>, WordsFault>
-    ensures { IfOk result NamesFile }
+    ensures order { IfOk result (IsOrderOf (map string_bytes words.now) name.now (rows_of (found_of inner.now))) }
+    ensures refused { IfErr result (IsRefusalOf (map string_bytes words.now) name.now (rows_of (found_of inner.now))) }
 {
     match name {
         "asm" => Ok(Order::Asm {
@@ -273,9 +310,7 @@ fn inner_order<'a>(
 /// What `words` ask for. The first is the program's name, and is not looked at. Refused are words that are no form of
 /// the command line, keys that are badly spelt, and want of memory. This project's profile.
 pub fn order_of<'a>(alloc: Global, words: &'a [String]) -> Result<Order<'a>, WordsFault>
-    // Without words: the standard input, no keys, at most 1,000,000 steps, and no option.
-    ensures plain { length words.now ≤ 1 → result ≡ Ok (Run (record { source = None; keys = []; limit = 1000000; options = plain })) }
-    ensures named { 1 < length words.now → IfOk result NamesFile }
+    ensures { Asks (map string_bytes words.entry.now) result }
 {
     if words.len() <= 1 {
         return Ok(Order::Run(plain_order()));

@@ -6,11 +6,9 @@ use crate::words::Order;
 use a2_explain::explain_stop;
 use a2_host::complain;
 use a2_list::{list_source, put_line_refused};
-use a2_machine::Cause;
-use a2_profile::{profile_run, write_profile};
-use a2_run::{Options, RunFault, fault_status, program_of, run_text, status};
+use a2_profile::profile_source;
+use a2_run::{Options, RunFault, fault_status, run_text, status};
 use a2_stream::{FromRead, Output, WriteFault};
-use a2_text::cut;
 use a2_trace::trace_source;
 use std::alloc::Global;
 
@@ -107,20 +105,6 @@ pub fn trace<W: Output, E: Output>(
     status(&answer)
 }
 
-// Writes the profile of a source's run; the cause of its end.
-fn profiled<W: Output>(
-    alloc: Global,
-    source: &[u8],
-    order: &Order,
-    output: &mut W,
-) -> Result<Cause, RunFault> {
-    let program = program_of(alloc, source)?;
-    let lines = cut(alloc, source)?;
-    let (profile, cause) = profile_run(alloc, &program, &order.keys, order.limit, order.free)?;
-    write_profile(&program, lines.as_slice(), &profile, output)?;
-    Ok(cause)
-}
-
 /// Profiles the run of a source.
 pub fn profile<W: Output, E: Output>(
     alloc: Global,
@@ -131,7 +115,7 @@ pub fn profile<W: Output, E: Output>(
 ) -> u8
     ensures { result ≤ 5 }
 {
-    let answer = profiled(alloc, source, order, output);
+    let answer = profile_source(alloc, source, &order.keys, order.limit, order.free, output);
     if let Err(fault) = answer {
         complain(fault, complaints);
     }
