@@ -1,5 +1,5 @@
 -- The frames of a film show the worlds of its run.
-use Rattle.std.specs.Prelude.{◌≡◌, ◌≢◌, ◌⊎◌, ℕ, zero, suc, ◌+◌, ◌-◌, ◌*◌, ◌<◌, ◌≤◌, ◌==◌, nat_lt, ◌&&◌, Bool, true, false, if◌then◌else◌, List, [], ◌∷◌, ◌++◌, length, Option, Some, None, unwrap_or, is_some, Result, Ok, Err, refl}
+use Rattle.std.specs.Prelude.{◌≡◌, ◌≢◌, ◌⊎◌, ℕ, zero, suc, ◌+◌, ◌-◌, ◌<◌, ◌≤◌, ◌==◌, nat_lt, ◌&&◌, Bool, true, false, if◌then◌else◌, List, [], ◌∷◌, length, Option, Some, None, unwrap_or, is_some, Result, Ok, Err, refl}
 use Rattle.std.proofs.Common.{sym, ap, ap₂, ◌∙◌, subst, arith, inl, inr, true≢false, length-append}
 use Rattle.std.proofs.Math.Bool.{beq}
 use Rattle.std.proofs.lemmas.Bool.{eqb-true, and_parts}
@@ -23,7 +23,7 @@ use Rattle.a2_machine.specs.declared.Cause.{Cause}
 use Rattle.a2_machine.specs.declared.Cause.TheVariants.{Returned, CodeWrite, OffStatement}
 use Rattle.a2_machine.specs.ByteRun.{Guard, bytes, decoded_or_cause}
 use Rattle.a2_machine.specs.Meaning.{Code, Decoded, cause_of_refusal, instruction_cause, service_cause, return_address, stuck_at, next_at, found_at_pc, stuck, next, world_at}
-use Rattle.a2_film.specs.Changes.{Store, changed, switch_digit, switches_of, bytes_at, differing, stored, change_of, Frame, frame_of, keys_taken, with_stores, applied, frame_at}
+use Rattle.a2_film.specs.Changes.{Store, changed, switch_digit, switches_of, bytes_at, differing, stored, change_of, Frame, keys_taken, with_stores, applied, frame_at}
 use Rattle.a2_film.specs.Laws.{Shows}
 use Rattle.a2_film.proofs.Following.{Follows, performed-follows, served-follows}
 use Rattle.a2_film.proofs.Stepping.{stored-by_instruction, stored-by_service}

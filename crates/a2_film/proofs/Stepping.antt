@@ -1,10 +1,9 @@
 -- What the calls for a step write is the row of the step.
-use Rattle.std.proofs.Common.{◌≡◌, ℕ, ◌+◌, ◌<◌, ◌≤◌, List, [], ◌∷◌, ◌++◌, length, codes, slice_index, slice_get, Option, Some, None, is_some, Bool, true, false, refl, sym, ap, ap₂, ◌∙◌, subst, arith, true≢false, Result, Ok, Err, IsErr}
+use Rattle.std.proofs.Common.{◌≡◌, ℕ, ◌<◌, List, ◌++◌, length, codes, slice_index, slice_get, Option, Some, None, is_some, true, false, refl, sym, ap, ap₂, ◌∙◌, arith, true≢false, Result, Ok, Err, IsErr}
 use Rattle.a2_opcode.specs.Encoding.{Fetched, no_byte, undocumented, instruction, fetched}
 use Rattle.a2_bus.specs.BusState.{BusState, board_access}
 use Rattle.a2_bus.specs.Memory.{ram_byte, ram_end, peek, memory_access}
 use Rattle.a2_bus.specs.View.{memory_of}
-use Rattle.a2_cpu.specs.declared.Regs.{Regs}
 use Rattle.a2_cpu.specs.BusStep.{refusal_of}
 use Rattle.a2_cpu.specs.Registers.{Registers}
 use Rattle.a2_cpu.specs.StepStores.{none_if, stores_at, step_stores}
@@ -17,7 +16,7 @@ use Rattle.a2_stream.specs.declared.WriteFault.{WriteFault}
 use Rattle.a2_machine.specs.declared.Cause.{Cause}
 use Rattle.a2_machine.specs.State.{Device, world_of_state, cause_of, IsStep}
 use Rattle.a2_machine.proofs.Outcomes.{stores-world, fetched-world}
-use Rattle.a2_film.specs.Changes.{Store, stored, bytes_at, differing, change_of}
+use Rattle.a2_film.specs.Changes.{Store, stored, bytes_at, differing}
 use Rattle.a2_film.specs.Filmed.{Seen, seen_of, fields_between, row_between, FilmsStep}
 use Rattle.a2_film.specs.Rows.{stores_text, no_address}
 use Rattle.a2_film.proofs.Parts.{differing-alike}

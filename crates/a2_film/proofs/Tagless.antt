@@ -1,8 +1,8 @@
 -- No piece of a film's data holds a <.
-use Rattle.std.specs.Prelude.{◌≡◌, ◌≢◌, ℕ, zero, suc, ◌+◌, ◌/◌, ◌%◌, ◌==◌, ◌<◌, nat_lt, nat_le, not, ◌&&◌, Bool, true, false, if◌then◌else◌, List, [], ◌∷◌, ◌++◌, All, codes, Option, Some, None, refl}
+use Rattle.std.specs.Prelude.{◌≡◌, ◌≢◌, ℕ, zero, suc, ◌+◌, ◌/◌, ◌%◌, ◌==◌, ◌<◌, nat_lt, nat_le, not, ◌&&◌, Bool, true, false, if◌then◌else◌, List, [], ◌∷◌, ◌++◌, codes, Option, Some, None, refl}
 use Rattle.std.specs.List.{concat, flat_map, list_all}
 use Rattle.std.specs.Fmt.{decimal, digits, digits_onto, digit_glyph}
-use Rattle.std.proofs.Common.{sym, ap, ◌∙◌, subst, arith}
+use Rattle.std.proofs.Common.{arith}
 use Rattle.std.proofs.lemmas.Bool.{and_parts}
 use Rattle.std.proofs.lemmas.Bool.Decides.{nat_tests}
 use Rattle.std.proofs.lemmas.List.Elements.{All-append, All-cons, All-nil}
@@ -16,7 +16,7 @@ use Rattle.a2_cpu.specs.Registers.{byte_of_flags}
 use Rattle.a2_services.specs.World.{World}
 use Rattle.a2_machine.specs.declared.Cause.{Cause}
 use Rattle.a2_machine.specs.declared.Cause.TheVariants.{Returned, CodeWrite, Window, Keys, OffStatement, Rom, Opcode, Brk, Decimal, Limit}
-use Rattle.a2_machine.specs.Meaning.{Code, End, world_at}
+use Rattle.a2_machine.specs.Meaning.{Code, world_at}
 use Rattle.a2_machine.specs.Output.{cause_line}
 use Rattle.a2_run.specs.Meaning.{start_of_run}
 use Rattle.a2_film.specs.Changes.{Store, Change, switch_digit, differing, change_of}

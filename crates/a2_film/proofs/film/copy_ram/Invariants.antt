@@ -1,4 +1,4 @@
-use Rattle.std.proofs.Common.{◌≡◌, ℕ, ◌<◌, length, slice_index}
+use Rattle.std.proofs.Common.{◌≡◌, ℕ, ◌<◌, slice_index}
 use Rattle.a2_bus.specs.Memory.{ram_byte}
 use Rattle.a2_bus.specs.View.{memory_of}
 use Rattle.a2_film.proofs.film.copy_ram.Given as goal

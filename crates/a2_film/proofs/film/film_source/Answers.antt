@@ -1,8 +1,7 @@
-use Rattle.std.proofs.Common.{◌≡◌, ◌∙◌, List, ℕ, map, ap}
+use Rattle.std.proofs.Common.{◌∙◌, List, ℕ, map, ap}
 use Rattle.std.proofs.lemmas.Result.{err_from_is_err_and}
 use Rattle.std.specs.Borrow.{Bor}
 use Rattle.a2_stream.proofs.Joined.{Sends-nil}
-use Rattle.a2_text.specs.Lines.{lines}
 use Rattle.a2_film.proofs.TextRuns.{film-done, film-broken, head-broken}
 use Rattle.a2_film.proofs.film.film_source.Goals as goal
 

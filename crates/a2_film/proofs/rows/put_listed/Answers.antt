@@ -1,4 +1,4 @@
-use Rattle.std.proofs.Common.{get_or, ◌+◌, ap, ◌∙◌}
+use Rattle.std.proofs.Common.{◌+◌, ap, ◌∙◌}
 use Rattle.a2_bus.specs.Memory.{ram_byte}
 use Rattle.a2_bus.specs.View.{memory_of}
 use Rattle.a2_film.specs.Changes.{bytes_at}
