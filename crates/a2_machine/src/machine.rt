@@ -22,7 +22,7 @@ use crate::watch::Watch;
 use crate::{Cause, Stop};
 use a2_asm::Program;
 use a2_bus::locations::{LAST_RETURN, RETURN_ADDRESS};
-use a2_bus::{Board, Bus, Keys, KeysFull};
+use a2_bus::{AddressSpace, Board, Bus, Keys, KeysFull};
 use a2_cpu::live::Live;
 use a2_cpu::{Breakpoints, NoBreakpoints, Regs};
 use a2_hex::Image;
@@ -178,6 +178,13 @@ impl<A: Allocator> Machine<A> {
         ensures { result ≡ self.now.made }
     {
         self.made
+    }
+
+    /// What the processor reads and writes: RAM, keyboard and switches as they stand before the next step.
+    pub fn space(&self) -> &AddressSpace<A>
+        ensures { result.now ≡ self.now.state.bus }
+    {
+        self.board.space()
     }
 
     /// What a screen shows now: the bytes of both text pages, those between the cells too, and the switches.

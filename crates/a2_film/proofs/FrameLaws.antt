@@ -1,0 +1,378 @@
+-- The frames of a film show the worlds of its run.
+use Rattle.std.specs.Prelude.{◌≡◌, ◌≢◌, ◌⊎◌, ℕ, zero, suc, ◌+◌, ◌-◌, ◌<◌, ◌≤◌, ◌==◌, nat_lt, ◌&&◌, Bool, true, false, if◌then◌else◌, List, [], ◌∷◌, length, Option, Some, None, unwrap_or, is_some, Result, Ok, Err, refl}
+use Rattle.std.proofs.Common.{sym, ap, ap₂, ◌∙◌, subst, arith, inl, inr, true≢false, length-append}
+use Rattle.std.proofs.Math.Bool.{beq}
+use Rattle.std.proofs.lemmas.Bool.{eqb-true, and_parts}
+use Rattle.std.proofs.lemmas.Bool.Decides.{nat_tests}
+use Rattle.a2_page.specs.declared.Switches.{Switches}
+use Rattle.a2_text.specs.Bytes.{is_among}
+use Rattle.a2_opcode.specs.Encoding.{Fetched, no_byte, undocumented, instruction, fetched}
+use Rattle.a2_bus.specs.Devices.{Devices}
+use Rattle.a2_bus.specs.Memory.{ram_byte, ram_end, peek, memory_access}
+use Rattle.a2_bus.proofs.Frame.{changed_by_writes}
+use Rattle.a2_cpu.specs.BusStep.{Refusal, refusal_of}
+use Rattle.a2_cpu.specs.Instruction.{performed}
+use Rattle.a2_cpu.specs.Registers.{Registers, StatusFlags, byte_of_flags, flags_of_byte}
+use Rattle.a2_cpu.specs.Stores.{stores_of, IsNotIn}
+use Rattle.a2_cpu.specs.StepStores.{none_if, stores_at}
+use Rattle.a2_cpu.proofs.StoresLemmas.{performed-stores}
+use Rattle.a2_services.specs.declared.Service.{Service}
+use Rattle.a2_services.specs.Services.{service_at, served}
+use Rattle.a2_services.specs.World.{World}
+use Rattle.a2_machine.specs.declared.Cause.{Cause}
+use Rattle.a2_machine.specs.declared.Cause.TheVariants.{Returned, CodeWrite, OffStatement}
+use Rattle.a2_machine.specs.ByteRun.{Guard, bytes, decoded_or_cause}
+use Rattle.a2_machine.specs.Meaning.{Code, Decoded, cause_of_refusal, instruction_cause, service_cause, return_address, stuck_at, next_at, found_at_pc, stuck, next, world_at}
+use Rattle.a2_film.specs.Changes.{Store, changed, switch_digit, switches_of, bytes_at, differing, stored, change_of, Frame, keys_taken, with_stores, applied, frame_at}
+use Rattle.a2_film.specs.Laws.{Shows}
+use Rattle.a2_film.proofs.Following.{Follows, performed-follows, served-follows}
+use Rattle.a2_film.proofs.Stepping.{stored-by_instruction, stored-by_service}
+
+-- What is told where it changed
+
+unwrap-changed : (old new is : ℕ) → is ≡ old → unwrap_or (changed old new) is ≡ new
+unwrap-changed old new is e = go (old == new) refl
+  where
+    go : (v : Bool) → (old == new) ≡ v → unwrap_or (if v then None else Some new) is ≡ new
+    go true h = e ∙ eqb-true old new h
+    go false h = refl
+
+-- a test that holds at both truth values holds at each
+abbrev both : (Bool → Bool) → Bool
+both p = p true && p false
+
+both_at : (p : Bool → Bool) → both p ≡ true → (b : Bool) → p b ≡ true
+both_at p h true = (and_parts (p true) (p false) h).0
+both_at p h false = (and_parts (p true) (p false) h).1
+
+beq_same : (a b : Bool) → beq a b ≡ true → a ≡ b
+beq_same true true h = refl
+beq_same true false h = cc
+beq_same false true h = cc
+beq_same false false h = refl
+
+abbrev switches : Bool → Bool → Bool → Bool → Switches
+switches t m p h = record { text = t; mixed = m; page2 = p; hires = h }
+
+switches-round : (t m p h : Bool) → switches_of (switch_digit (switches t m p h)) ≡ switches t m p h
+switches-round true true true true = refl
+switches-round true true true false = refl
+switches-round true true false true = refl
+switches-round true true false false = refl
+switches-round true false true true = refl
+switches-round true false true false = refl
+switches-round true false false true = refl
+switches-round true false false false = refl
+switches-round false true true true = refl
+switches-round false true true false = refl
+switches-round false true false true = refl
+switches-round false true false false = refl
+switches-round false false true true = refl
+switches-round false false true false = refl
+switches-round false false false true = refl
+switches-round false false false false = refl
+
+abbrev flags : Bool → Bool → Bool → Bool → Bool → Bool → StatusFlags
+flags n v d i z c = record { n = n; v = v; d = d; i = i; z = z; c = c }
+
+abbrev same : StatusFlags → StatusFlags → Bool
+same f g = beq f.n g.n && beq f.v g.v && beq f.d g.d && beq f.i g.i && beq f.z g.z && beq f.c g.c
+
+same_is : (f g : StatusFlags) → same f g ≡ true → f ≡ g
+same_is f g h =
+    let h6 = and_parts _ (beq f.c g.c) h in
+    let h5 = and_parts _ (beq f.z g.z) h6.0 in
+    let h4 = and_parts _ (beq f.i g.i) h5.0 in
+    let h3 = and_parts _ (beq f.d g.d) h4.0 in
+    let h2 = and_parts (beq f.n g.n) (beq f.v g.v) h3.0 in
+    let n = beq_same f.n g.n h2.0 in
+    let v = beq_same f.v g.v h2.1 in
+    let d = beq_same f.d g.d h3.1 in
+    let i = beq_same f.i g.i h4.1 in
+    let z = beq_same f.z g.z h5.1 in
+    let c = beq_same f.c g.c h6.1 in
+    λ t. record { n = n t; v = v t; d = d t; i = i t; z = z t; c = c t }
+
+-- the flags that a byte of them gives back
+abbrev gives_back : Bool → Bool → Bool → Bool → Bool → Bool → Bool
+gives_back n v d i z c = same (flags_of_byte (byte_of_flags (flags n v d i z c))) (flags n v d i z c)
+
+all_given : both (λ n. both (λ v. both (λ d. both (λ i. both (λ z. both (gives_back n v d i z)))))) ≡ true
+all_given = refl
+
+flags-round : (f : StatusFlags) → flags_of_byte (byte_of_flags f) ≡ f
+flags-round f =
+    same_is (flags_of_byte (byte_of_flags f)) f (
+    both_at (gives_back f.n f.v f.d f.i f.z) (
+    both_at (λ z. both (gives_back f.n f.v f.d f.i z)) (
+    both_at (λ i. both (λ z. both (gives_back f.n f.v f.d i z))) (
+    both_at (λ d. both (λ i. both (λ z. both (gives_back f.n f.v d i z)))) (
+    both_at (λ v. both (λ d. both (λ i. both (λ z. both (gives_back f.n v d i z))))) (
+    both_at (λ n. both (λ v. both (λ d. both (λ i. both (λ z. both (gives_back n v d i z)))))) all_given f.n)
+    f.v) f.d) f.i) f.z) f.c)
+
+-- Stores
+
+split-at : (a b : ℕ) → (a ≡ b) ⊎ (a ≢ b)
+split-at a b = grind (arith, nat_tests)
+
+-- a byte at an address, behind a store there or elsewhere
+store-here : (bytes : ℕ → ℕ) (a b byte : ℕ) → a ≡ b → (if a == b then byte else bytes a) ≡ byte
+store-here bytes a b byte is = let e : (a == b) ≡ true = grind (arith, nat_tests, is) in ap (λ v. if v then byte else bytes a) e
+
+store-elsewhere : (bytes : ℕ → ℕ) (a b byte : ℕ) → a ≢ b → (if a == b then byte else bytes a) ≡ bytes a
+store-elsewhere bytes a b byte other = let e : (a == b) ≡ false = grind (arith, nat_tests, other) in ap (λ v. if v then byte else bytes a) e
+
+-- behind the stores at some addresses all bytes are the new ones, where those at other addresses were
+settled-listed : (new : ℕ → ℕ) (addresses : List ℕ) (bytes : ℕ → ℕ) (a : ℕ) → a < ram_end → (IsNotIn a addresses → bytes a ≡ new a)
+    → with_stores (bytes_at new addresses) bytes a ≡ new a
+settled-listed new [] bytes a low h = h tt
+settled-listed new (b ∷ others) bytes a low h = go (nat_lt b ram_end) refl (λ now. settled-listed new others now a low)
+  where
+    put : ℕ → ℕ
+    put k = if k == b then new b else bytes k
+
+    there : (a ≡ b) ⊎ (a ≢ b) → IsNotIn a others → put a ≡ new a
+    there (inl is) free = store-here bytes a b (new b) is ∙ ap new (sym is)
+    there (inr other) free = store-elsewhere bytes a b (new b) other ∙ h (other, free)
+
+    go : (v : Bool) → nat_lt b ram_end ≡ v → ((now : ℕ → ℕ) → (IsNotIn a others → now a ≡ new a) → with_stores (bytes_at new others) now a ≡ new a)
+        → with_stores (if v then (b, new b) ∷ bytes_at new others else bytes_at new others) bytes a ≡ new a
+    go true in_ram rest = rest (λ k. if k == b then new b else bytes k) (there (split-at a b))
+    go false behind rest =
+        let other : a ≢ b = λ is. let bad : ⊥ = grind (arith, nat_tests, behind, low, is) in bad in
+        rest bytes (λ free. h (other, free))
+
+-- behind the bytes that differ all are the new ones
+settled-differing : (old new : ℕ → ℕ) (n from : ℕ) (bytes : ℕ → ℕ) (a : ℕ) → a < from + n → (from ≤ a → bytes a ≡ old a) → (a < from → bytes a ≡ new a)
+    → with_stores (differing old new from n) bytes a ≡ new a
+unfolding differing
+settled-differing old new zero from bytes a low above below = below (omega (arith, low))
+settled-differing old new (suc n) from bytes a low above below = go (old from == new from) refl (λ now. settled-differing old new n (from + 1) now a (omega (arith, low)))
+  where
+    put : ℕ → ℕ
+    put k = if k == from then new from else bytes k
+
+    order : (a ≢ from) → a < from + 1 → a < from
+    order other h = grind (arith, other, h)
+
+    kept : old from ≡ new from → (a ≡ from) ⊎ (a ≢ from) → a < from + 1 → bytes a ≡ new a
+    kept equal (inl is) h = above (omega (arith, is)) ∙ ap old is ∙ equal ∙ ap new (sym is)
+    kept equal (inr other) h = below (order other h)
+
+    written : (a ≡ from) ⊎ (a ≢ from) → a < from + 1 → put a ≡ new a
+    written (inl is) h = store-here bytes a from (new from) is ∙ ap new (sym is)
+    written (inr other) h = store-elsewhere bytes a from (new from) other ∙ below (order other h)
+
+    beyond : from + 1 ≤ a → put a ≡ old a
+    beyond h =
+        let other : a ≢ from = λ is. let bad : ⊥ = omega (arith, h, is) in bad in
+        store-elsewhere bytes a from (new from) other ∙ above (omega (arith, h))
+
+    go : (v : Bool) → (old from == new from) ≡ v
+        → ((now : ℕ → ℕ) → (from + 1 ≤ a → now a ≡ old a) → (a < from + 1 → now a ≡ new a) → with_stores (differing old new (from + 1) n) now a ≡ new a)
+        → with_stores (if v then differing old new (from + 1) n else (from, new from) ∷ differing old new (from + 1) n) bytes a ≡ new a
+    go true is rest = rest bytes (λ h. above (omega (arith, h))) (kept (eqb-true (old from) (new from) is) (split-at a from))
+    go false is rest = rest (λ k. if k == from then new from else bytes k) beyond (written (split-at a from))
+
+-- What a step is
+
+-- a service was called
+record ServiceStep (code : Code) (world : World) : Type 0 where
+  service : Service
+  there : service_at world.registers.pc ≡ Some service
+  is : next code world ≡ served service world
+
+-- an instruction was done
+record InstructionStep (code : Code) (world : World) : Type 0 where
+  decoded : Decoded
+  no_service : service_at world.registers.pc ≡ None
+  found : found_at_pc code world ≡ Ok decoded
+  accepted : refusal_of decoded.row.mnemonic world.registers.flags ≡ None
+  is : next code world ≡ performed memory_access decoded.row decoded.value world
+
+none-some : {X : Type 0} (x : X) → Some x ≡ None → ⊥
+none-some x e = true≢false (ap is_some e)
+
+step-is : (code : Code) (world : World) → stuck code world ≡ None → ServiceStep code world ⊎ InstructionStep code world
+unfolding stuck stuck_at next next_at
+step-is code world free = at_return (world.registers.pc == return_address) free
+  where
+    refusal : (decoded : Decoded) (why : Option Refusal) → refusal_of decoded.row.mnemonic world.registers.flags ≡ why
+        → (elim why as (λ _. Option Cause) [
+          | Some why ↦ Some (cause_of_refusal why)
+          | None ↦ if Rattle.std.specs.List.list_any (is_among code.protected) (stores_of memory_access decoded.row decoded.value world) then Some CodeWrite else None
+        ]) ≡ None
+        → refusal_of decoded.row.mnemonic world.registers.flags ≡ None
+    refusal decoded None is free = is
+    refusal decoded (Some why) is free = absurd (none-some (cause_of_refusal why) free)
+
+    at_service : (service : Option Service) (at : Result Decoded Cause) → service_at world.registers.pc ≡ service → code.instruction_at world.memory world.registers.pc ≡ at
+        → (elim service as (λ _. Option Cause) [
+          | Some service ↦ service_cause code.protected service world
+          | None ↦ elim at as (λ _. Option Cause) [ Err cause ↦ Some cause | Ok decoded ↦ instruction_cause code.protected decoded world ]
+        ]) ≡ None
+        → ServiceStep code world ⊎ InstructionStep code world
+    at_service (Some service) at is e free =
+        inl (record {
+          service = service;
+          there = is;
+          is = ap (λ (s : Option Service). elim s as (λ _. World) [
+            | Some service ↦ served service world
+            | None ↦ elim (code.instruction_at world.memory world.registers.pc) as (λ _. World) [ Err cause ↦ world | Ok decoded ↦ performed memory_access decoded.row decoded.value world ]
+          ]) is;
+        })
+    at_service None (Err cause) is e free = absurd (none-some cause free)
+    at_service None (Ok decoded) is e free =
+        inr (record {
+          decoded = decoded;
+          no_service = is;
+          found = e;
+          accepted = refusal decoded (refusal_of decoded.row.mnemonic world.registers.flags) refl free;
+          is = ap₂ (λ (s : Option Service) (f : Result Decoded Cause). elim s as (λ _. World) [
+            | Some service ↦ served service world
+            | None ↦ elim f as (λ _. World) [ Err cause ↦ world | Ok decoded ↦ performed memory_access decoded.row decoded.value world ]
+          ]) is e;
+        })
+
+    at_return : (v : Bool)
+        → (if v then Some Returned
+        else elim (service_at world.registers.pc) as (λ _. Option Cause) [
+          | Some service ↦ service_cause code.protected service world
+          | None ↦ elim (code.instruction_at world.memory world.registers.pc) as (λ _. Option Cause) [ Err cause ↦ Some cause | Ok decoded ↦ instruction_cause code.protected decoded world ]
+        ]) ≡ None
+        → ServiceStep code world ⊎ InstructionStep code world
+    at_return true free = absurd (none-some Returned free)
+    at_return false free = at_service (service_at world.registers.pc) (code.instruction_at world.memory world.registers.pc) refl refl free
+
+-- an instruction that a run of bytes finds stands in memory
+decoded-is : (f : Fetched) (decoded : Decoded) → decoded_or_cause f ≡ Ok decoded → f ≡ instruction decoded.row decoded.value
+decoded-is no_byte decoded e = cc
+decoded-is undocumented decoded e = cc
+decoded-is (instruction row value) decoded e =
+    let d : Decoded = record { row = row; value = value } in
+    let is : d ≡ decoded = cc in
+    ap (λ (x : Decoded). instruction x.row x.value) is
+
+found-fetched : (guard : Option Guard) (world : World) (decoded : Decoded) → found_at_pc (bytes guard) world ≡ Ok decoded
+    → fetched (peek world.memory) world.registers.pc ≡ instruction decoded.row decoded.value
+unfolding bytes
+found-fetched None world decoded e = decoded-is (fetched (peek world.memory) world.registers.pc) decoded e
+found-fetched (Some guard) world decoded e = go (is_among guard.starts world.registers.pc) e
+  where
+    go : (v : Bool) → (if v then decoded_or_cause (fetched (peek world.memory) world.registers.pc) else Err OffStatement) ≡ Ok decoded
+        → fetched (peek world.memory) world.registers.pc ≡ instruction decoded.row decoded.value
+    go true e = decoded-is (fetched (peek world.memory) world.registers.pc) decoded e
+    go false e = cc
+
+-- what a frame needs to know of a step
+record IsStepTo (before after : World) : Type 0 where
+  cycles : before.cycles ≤ after.cycles
+  follows : Follows before.memory.devices after.memory.devices
+  settled : (frame_bytes : ℕ → ℕ) (a : ℕ) → a < ram_end → frame_bytes a ≡ ram_byte before.memory a
+      → with_stores (stored before after) frame_bytes a ≡ ram_byte after.memory a
+
+performed-cycles : (decoded : Decoded) (world : World) → world.cycles ≤ (performed memory_access decoded.row decoded.value world).cycles
+unfolding performed
+performed-cycles decoded world = omega arith
+
+served-cycles : (service : Service) (world : World) → world.cycles ≤ (served service world).cycles
+unfolding served
+served-cycles service world = omega arith
+
+stores-accepted : (found : Fetched) (decoded : Decoded) (world : World) → found ≡ instruction decoded.row decoded.value
+    → refusal_of decoded.row.mnemonic world.registers.flags ≡ None
+    → stores_at memory_access found world ≡ stores_of memory_access decoded.row decoded.value world
+unfolding stores_at
+stores-accepted found decoded world is accepted =
+    ap (λ (f : Fetched). stores_at memory_access f world) is
+    ∙ ap (λ (why : Option Refusal). none_if why (stores_of memory_access decoded.row decoded.value world)) accepted
+
+instruction-to : (guard : Option Guard) (before : World) → InstructionStep (bytes guard) before → IsStepTo before (next (bytes guard) before)
+instruction-to guard before h =
+    let decoded = h.decoded in
+    let done = performed memory_access decoded.row decoded.value before in
+    let P : World → Type 0 = λ w. IsStepTo before w in
+    subst P (sym h.is) (record {
+      cycles = performed-cycles decoded before;
+      follows = performed-follows decoded.row decoded.value before;
+      settled = λ frame_bytes a low is.
+          ap (λ (l : List Store). with_stores l frame_bytes a)
+          (stored-by_instruction before done (ap is_some h.no_service)
+          ∙ ap (bytes_at (ram_byte done.memory))
+          (stores-accepted (fetched (peek before.memory) before.registers.pc) decoded before (found-fetched guard before decoded h.found) h.accepted))
+          ∙ settled-listed (ram_byte done.memory) (stores_of memory_access decoded.row decoded.value before) frame_bytes a low
+          (λ free. is ∙ sym (performed-stores memory_access ram_byte changed_by_writes decoded.row decoded.value before a free));
+    })
+
+service-to : (code : Code) (before : World) → ServiceStep code before → IsStepTo before (next code before)
+service-to code before h =
+    let done = served h.service before in
+    let P : World → Type 0 = λ w. IsStepTo before w in
+    subst P (sym h.is) (record {
+      cycles = served-cycles h.service before;
+      follows = served-follows h.service before;
+      settled = λ frame_bytes a low is.
+          ap (λ (l : List Store). with_stores l frame_bytes a) (stored-by_service before done (ap is_some h.there))
+          ∙ settled-differing (ram_byte before.memory) (ram_byte done.memory) ram_end 0 frame_bytes a (omega (arith, low)) (λ _. is)
+          (λ under. absurd (omega (arith, under)));
+    })
+
+step-to : (guard : Option Guard) (before : World) → stuck (bytes guard) before ≡ None → IsStepTo before (next (bytes guard) before)
+step-to guard before free = go (step-is (bytes guard) before free)
+  where
+    go : ServiceStep (bytes guard) before ⊎ InstructionStep (bytes guard) before → IsStepTo before (next (bytes guard) before)
+    go (inl h) = service-to (bytes guard) before h
+    go (inr h) = instruction-to guard before h
+
+-- A change applied to a frame
+
+devices-shown : (was frame is : Devices) → frame ≡ was → Follows was is
+    → (let d : Devices = record (keys_taken (length was.keys - length is.keys) frame) {
+      switches = switches_of (unwrap_or (changed (switch_digit was.switches) (switch_digit is.switches)) (switch_digit frame.switches));
+    } in d) ≡ is
+devices-shown was frame is e h =
+    let count : length was.keys - length is.keys ≡ length h.front =
+    omega (arith, ap (λ (l : List ℕ). length l) h.keys, length-append h.front is.keys) in
+    let switched : switches_of (unwrap_or (changed (switch_digit was.switches) (switch_digit is.switches)) (switch_digit frame.switches)) ≡ is.switches =
+    ap switches_of (unwrap-changed (switch_digit was.switches) (switch_digit is.switches) (switch_digit frame.switches) (ap (λ (d : Devices). switch_digit d.switches) e))
+    ∙ switches-round is.switches.text is.switches.mixed is.switches.page2 is.switches.hires in
+    (λ i. record (keys_taken (count i) (e i)) { switches = switched i })
+    ∙ h.taken
+
+registers-shown : (was frame is : Registers) → frame ≡ was
+    → (let r : Registers = record {
+      a = unwrap_or (changed was.a is.a) frame.a;
+      x = unwrap_or (changed was.x is.x) frame.x;
+      y = unwrap_or (changed was.y is.y) frame.y;
+      s = unwrap_or (changed was.s is.s) frame.s;
+      pc = is.pc;
+      flags = flags_of_byte (unwrap_or (changed (byte_of_flags was.flags) (byte_of_flags is.flags)) (byte_of_flags frame.flags));
+    } in r) ≡ is
+registers-shown was frame is e =
+    let a = unwrap-changed was.a is.a frame.a (ap (λ (r : Registers). r.a) e) in
+    let x = unwrap-changed was.x is.x frame.x (ap (λ (r : Registers). r.x) e) in
+    let y = unwrap-changed was.y is.y frame.y (ap (λ (r : Registers). r.y) e) in
+    let s = unwrap-changed was.s is.s frame.s (ap (λ (r : Registers). r.s) e) in
+    let f = ap flags_of_byte (unwrap-changed (byte_of_flags was.flags) (byte_of_flags is.flags) (byte_of_flags frame.flags) (ap (λ (r : Registers). byte_of_flags r.flags) e))
+    ∙ flags-round is.flags in
+    λ i. record { a = a i; x = x i; y = y i; s = s i; pc = is.pc; flags = f i }
+
+applied-shows : (before after : World) (frame : Frame) → Shows frame before → IsStepTo before after → Shows (applied (change_of before after) frame) after
+applied-shows before after frame shown step = record {
+  registers = registers-shown before.registers frame.registers after.registers shown.registers;
+  bytes = λ a low. step.settled frame.bytes a low (shown.bytes a low);
+  devices = devices-shown before.memory.devices frame.devices after.memory.devices shown.devices step.follows;
+  cycles = omega (arith, shown.cycles, step.cycles);
+}
+
+-- The frames of a run
+
+pub frames-show : (guard : Option Guard) (start : World) (n : ℕ) → ((k : ℕ) → k < n → stuck (bytes guard) (world_at (bytes guard) start k) ≡ None)
+    → Shows (frame_at (bytes guard) start n) (world_at (bytes guard) start n)
+unfolding world_at
+frames-show guard start zero going = record { registers = refl; bytes = λ a low. refl; devices = refl; cycles = refl }
+frames-show guard start (suc n) going =
+    let before = world_at (bytes guard) start n in
+    applied-shows before (next (bytes guard) before) (frame_at (bytes guard) start n)
+    (frames-show guard start n (λ k low. going k (omega (arith, low)))) (step-to guard before (going n (omega arith)))

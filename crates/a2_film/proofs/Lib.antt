@@ -1,0 +1,7 @@
+pub mod Parts
+pub mod Stepping
+pub mod Filming
+pub mod Following
+pub mod FrameLaws
+pub mod TextRuns
+pub mod Tagless

@@ -1,0 +1,10 @@
+use Rattle.std.proofs.Common.{drop}
+use Rattle.std.specs.List.{flat_map}
+use Rattle.a2_page.proofs.Sending.{IsLeft}
+use Rattle.a2_film.proofs.texts.put_digits.Given as goal
+use Rattle.a2_text.specs.Digits.{hex_pair}
+
+-- the bytes so far went out
+abbrev pub invariant-loop-byte : goal.invariant-loop-byte
+invariant-loop-byte g l =
+    IsLeft (g.W.Output.taker l.fn.writer) (g.W.Output.taker l.writer) (flat_map hex_pair l.bytes) (flat_map hex_pair (drop l.byte-index l.bytes))

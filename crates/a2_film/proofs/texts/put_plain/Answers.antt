@@ -1,0 +1,16 @@
+use Rattle.a2_page.proofs.Sending.{left_more, left_broke_off}
+use Rattle.a2_film.specs.Rows.{plain_byte}
+use Rattle.a2_film.proofs.Parts.{pieces-next}
+use Rattle.a2_film.proofs.texts.put_plain.Goals as goal
+
+pub returns-in_err-put : goal.returns-in_err-put
+returns-in_err-put g c =
+    left_broke_off _ _ _ c.from_residual.result _ _ _ _ c.from_residual.ensures.0
+    (pieces-next (λ b. plain_byte b) c.args.text.now c.loop-byte.byte-index 0 c.loop-byte-test.true)
+    c.loop-byte.invariant (rw (c.as_slice.ensures.value, c.plain_byte.ensures) at c.in_err-put.ensures)
+
+pub loop-byte-preserved : goal.loop-byte-preserved
+loop-byte-preserved g c =
+    left_more _ _ _ _ _ _ _
+    (pieces-next (λ b. plain_byte b) c.args.text.now c.loop-byte.byte-index 0 c.loop-byte-test.true)
+    c.loop-byte.invariant (rw (c.as_slice.ensures.value, c.plain_byte.ensures) at c.in_ok-put.ensures)

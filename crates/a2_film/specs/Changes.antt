@@ -1,0 +1,132 @@
+-- What a step changes, as a row of a film says it, and the frames that such rows make. This project's profile.
+use Rattle.std.specs.Prelude.{ℕ, zero, suc, ◌+◌, ◌-◌, ◌*◌, nat_lt, ◌==◌, List, [], ◌∷◌, length, if◌then◌else◌, Option, Some, None, unwrap_or}
+use Rattle.a2_page.specs.declared.Switches.{Switches}
+use Rattle.a2_bus.specs.Devices.{Devices, key_taken}
+use Rattle.a2_opcode.specs.Encoding.{fetched}
+use Rattle.a2_bus.specs.Memory.{ram_byte, ram_end, peek, memory_access}
+use Rattle.a2_cpu.specs.Registers.{Registers, byte_of_flags, flags_of_byte, is_one_at, one_if}
+use Rattle.a2_cpu.specs.StepStores.{stores_at}
+use Rattle.a2_services.specs.Services.{service_at}
+use Rattle.a2_services.specs.World.{World}
+use Rattle.a2_machine.specs.Meaning.{Code, world_at}
+
+-- an address of RAM, and the byte there
+abbrev pub Store : Type 0
+Store = ℕ × ℕ
+
+-- what a row says of a step
+pub record Change : Type 0 where
+  pub pc : ℕ
+  -- that the step took
+  pub cycles : ℕ
+  -- of A, X, Y, S, the flags as a byte, and the switches as a digit, those that changed
+  pub a : Option ℕ
+  pub x : Option ℕ
+  pub y : Option ℕ
+  pub s : Option ℕ
+  pub p : Option ℕ
+  pub switches : Option ℕ
+  -- how many keys the step took
+  pub keys : ℕ
+  pub stores : List Store
+
+-- the new number, where it is another than the old
+abbrev pub changed : ℕ → ℕ → Option ℕ
+changed old new = if old == new then None else Some new
+
+-- the switches as a digit: 1 for text, 2 for mixed, 4 for page 2, 8 for high resolution
+abbrev pub switch_digit : Switches → ℕ
+switch_digit switches = one_if switches.text + 2 * one_if switches.mixed + 4 * one_if switches.page2 + 8 * one_if switches.hires
+
+abbrev pub switches_of : ℕ → Switches
+switches_of digit = record { text = is_one_at 0 digit; mixed = is_one_at 1 digit; page2 = is_one_at 2 digit; hires = is_one_at 3 digit }
+
+-- the bytes of RAM at these addresses; an address that is no RAM's is left out
+abbrev pub bytes_at : (ℕ → ℕ) → List ℕ → List Store
+bytes_at byte_at [] = []
+bytes_at byte_at (a ∷ others) = if nat_lt a ram_end then (a, byte_at a) ∷ bytes_at byte_at others else bytes_at byte_at others
+
+-- of so many addresses from one on, upwards, those whose byte is another than it was, with the new byte
+unfoldable pub differing : (ℕ → ℕ) → (ℕ → ℕ) → ℕ → ℕ → List Store
+differing old new a zero = []
+differing old new a (suc n) = if old a == new a then differing old new (a + 1) n else (a, new a) ∷ differing old new (a + 1) n
+
+-- What the step between two worlds stores in RAM: of an instruction each store, in order, also of the byte that was there.
+-- A service writes into RAM with no log: so of a service's step the bytes that are others behind it.
+unfoldable pub stored : World → World → List Store
+stored before after =
+    elim (service_at before.registers.pc) [
+      | Some service ↦ differing (ram_byte before.memory) (ram_byte after.memory) 0 ram_end
+      | None ↦ bytes_at (ram_byte after.memory) (stores_at memory_access (fetched (peek before.memory) before.registers.pc) before)
+    ]
+
+-- the change between two worlds, where these bytes are stored
+abbrev pub change_between : World → World → List Store → Change
+change_between before after stores =
+    let old = before.registers in
+    let new = after.registers in
+    let was = before.memory.devices in
+    let is = after.memory.devices in
+    record {
+      pc = new.pc;
+      cycles = after.cycles - before.cycles;
+      a = changed old.a new.a;
+      x = changed old.x new.x;
+      y = changed old.y new.y;
+      s = changed old.s new.s;
+      p = changed (byte_of_flags old.flags) (byte_of_flags new.flags);
+      switches = changed (switch_digit was.switches) (switch_digit is.switches);
+      keys = length was.keys - length is.keys;
+      stores = stores;
+    }
+
+-- the change that the step between two worlds makes
+abbrev pub change_of : World → World → Change
+change_of before after = change_between before after (stored before after)
+
+-- Frames
+
+-- what a film shows of a world: the byte at each address of RAM, and all else
+pub record Frame : Type 0 where
+  pub registers : Registers
+  pub bytes : ℕ → ℕ
+  pub devices : Devices
+  pub cycles : ℕ
+
+abbrev pub frame_of : World → Frame
+frame_of world = record { registers = world.registers; bytes = ram_byte world.memory; devices = world.memory.devices; cycles = world.cycles }
+
+-- the first so many of the waiting keys are taken
+abbrev pub keys_taken : ℕ → Devices → Devices
+keys_taken zero devices = devices
+keys_taken (suc n) devices = key_taken (keys_taken n devices)
+
+-- one after another, these bytes are stored
+abbrev pub with_stores : List Store → (ℕ → ℕ) → ℕ → ℕ
+with_stores [] bytes = bytes
+with_stores (store ∷ stores) bytes = with_stores stores (λ a. if a == store.0 then store.1 else bytes a)
+
+-- a frame after a change
+abbrev pub applied : Change → Frame → Frame
+applied change frame =
+    let old = frame.registers in
+    record {
+      registers = record {
+        a = unwrap_or change.a old.a;
+        x = unwrap_or change.x old.x;
+        y = unwrap_or change.y old.y;
+        s = unwrap_or change.s old.s;
+        pc = change.pc;
+        flags = flags_of_byte (unwrap_or change.p (byte_of_flags old.flags));
+      };
+      bytes = with_stores change.stores frame.bytes;
+      devices = record (keys_taken change.keys frame.devices) {
+        switches = switches_of (unwrap_or change.switches (switch_digit frame.devices.switches));
+      };
+      cycles = frame.cycles + change.cycles;
+    }
+
+-- the first so many changes of a run, applied to its start
+abbrev pub frame_at : Code → World → ℕ → Frame
+frame_at code start zero = frame_of start
+frame_at code start (suc n) = applied (change_of (world_at code start n) (world_at code start (suc n))) (frame_at code start n)

@@ -1,0 +1,66 @@
+-- What private calls compare and answer. No public clause cites this file.
+use Rattle.std.specs.Prelude.{◌≡◌, ℕ, ◌-◌, List, ◌++◌, length, Option, Some, None, Result, Ok, Err}
+use Rattle.std.specs.Fmt.{decimal}
+use Rattle.a2_stream.specs.Stream.{Taker, Sends, Breaks}
+use Rattle.a2_stream.specs.declared.WriteFault.{WriteFault}
+use Rattle.a2_text.specs.Digits.{hex_word}
+use Rattle.a2_page.specs.declared.Switches.{Switches}
+use Rattle.a2_cpu.specs.Registers.{Registers, byte_of_flags}
+use Rattle.a2_cpu.specs.View.{registers_of}
+use Rattle.a2_services.specs.World.{World}
+use Rattle.a2_machine.specs.declared.Cause.{Cause}
+use Rattle.a2_machine.specs.Meaning.{Code}
+use Rattle.a2_machine.specs.State.{Device, world_of_state, cause_of, IsStep}
+use Rattle.a2_film_page.specs.Page as page
+use Rattle.a2_film.specs.declared.rows.Moment.{Moment}
+use Rattle.a2_film.specs.Changes.{changed, switch_digit, change_of}
+use Rattle.a2_film.specs.Runs.{AreRunLines}
+use Rattle.a2_film.specs.Rows.{fields_of_parts, byte_text, switches_text, keys_text, row_text}
+
+-- what a row compares, beside RAM
+pub record Seen : Type 0 where
+  pub registers : Registers
+  pub cycles : ℕ
+  pub switches : Switches
+  pub waiting : ℕ
+
+abbrev pub seen_by : Moment → Seen
+seen_by moment = record { registers = registers_of moment.regs; cycles = moment.cycles; switches = moment.switches; waiting = moment.waiting }
+
+abbrev pub seen_of : World → Seen
+seen_of world = record {
+  registers = world.registers;
+  cycles = world.cycles;
+  switches = world.memory.devices.switches;
+  waiting = length world.memory.devices.keys;
+}
+
+-- a row's text before its stores
+abbrev pub fields_between : Seen → Seen → List ℕ
+fields_between before after =
+    let old = before.registers in
+    let new = after.registers in
+    fields_of_parts (hex_word new.pc) (decimal (after.cycles - before.cycles)) (byte_text 0x61 (changed old.a new.a))
+    (byte_text 0x78 (changed old.x new.x)) (byte_text 0x79 (changed old.y new.y)) (byte_text 0x73 (changed old.s new.s))
+    (byte_text 0x70 (changed (byte_of_flags old.flags) (byte_of_flags new.flags)))
+    (switches_text (changed (switch_digit before.switches) (switch_digit after.switches))) (keys_text (before.waiting - after.waiting))
+
+-- the row of the step between two machines
+abbrev pub row_between : Device → Device → List ℕ
+row_between old new = row_text (change_of (world_of_state old.state) (world_of_state new.state))
+
+-- a step was made and its row went out, or a front of it and a write failed; or a cause forbids the step, and nothing was done
+abbrev pub FilmsStep : Device → Device → Taker → Taker → Result (Option Cause) WriteFault → Type 0
+FilmsStep old new a b (Ok None) = (None ≡ cause_of old.state) × IsStep old new × Sends a b (row_between old new)
+FilmsStep old new a b (Ok (Some cause)) = (Some cause ≡ cause_of old.state) × (new ≡ old) × (b ≡ a)
+FilmsStep old new a b (Err _) = (None ≡ cause_of old.state) × IsStep old new × Breaks a b (row_between old new)
+
+-- the lines of a run went out; or a front of them, and a write failed
+abbrev pub Films : Code → World → ℕ → Taker → Taker → Result Cause WriteFault → Type 0
+Films code start limit old new (Ok cause) = (output : List ℕ) × AreRunLines code start limit cause output × Sends old new output
+Films code start limit old new (Err _) = (cause : Cause) × (output : List ℕ) × AreRunLines code start limit cause output × Breaks old new output
+
+-- the same with the end of the page behind them
+abbrev pub FilmsRest : Code → World → ℕ → Taker → Taker → Result Cause WriteFault → Type 0
+FilmsRest code start limit old new (Ok cause) = (output : List ℕ) × AreRunLines code start limit cause output × Sends old new (output ++ page.tail)
+FilmsRest code start limit old new (Err _) = (cause : Cause) × (output : List ℕ) × AreRunLines code start limit cause output × Breaks old new (output ++ page.tail)

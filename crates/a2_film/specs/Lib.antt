@@ -1,0 +1,6 @@
+pub mod Changes
+pub mod Rows
+pub mod Runs
+pub mod Film
+pub mod Laws
+pub mod Filmed

@@ -1,0 +1,242 @@
+//! The film of a run.
+
+ghost use Rattle.std.specs.Prelude.{◌≡◌, ◌<◌, ◌++◌, ℕ, length, true, false, is_some, codes, map, IfOk, slice_index};
+ghost use Rattle.a2_stream.specs.Stream.{SendsOrBreaks};
+ghost use Rattle.a2_bus.specs.Memory.{ram_byte, ram_end};
+ghost use Rattle.a2_bus.specs.View.{memory_of};
+ghost use Rattle.a2_machine.specs.Output as output;
+ghost use Rattle.a2_machine.specs.State.{code_of, world_of_state};
+ghost use Rattle.a2_services.specs.Services.{service_at as service_at_of};
+ghost use Rattle.a2_run.specs.Answers.{Answers, OfSource, is_read_fault};
+ghost use Rattle.a2_run.specs.Meaning.{IsRefused};
+ghost use Rattle.a2_film_page.specs.Page as page;
+ghost use Rattle.a2_film.specs.Changes.{bytes_at, differing};
+ghost use Rattle.a2_film.specs.Film.{IsFilmOf};
+ghost use Rattle.a2_film.specs.Filmed.{seen_by, seen_of, fields_between, FilmsStep, Films, FilmsRest};
+ghost use Rattle.a2_film.specs.Rows as spelt;
+
+use crate::head::{put_opening, put_program, put_start};
+use crate::rows::{Moment, put_differing, put_fields, put_listed};
+use a2_asm::Program;
+use a2_bus::Keys;
+use a2_cpu::writes::writes;
+use a2_film_page::{head, tail};
+use a2_hex::RAM_END;
+use a2_machine::{Cause, Machine, write_cause};
+use a2_run::{RunFault, program_of, started};
+use a2_services::service_at;
+use a2_stream::{Output, WriteFault, put};
+use a2_text::cut;
+use std::alloc::{AllocError, Allocator};
+
+// Copies RAM.
+fn copy_ram<A: Allocator>(machine: &Machine<A>, ram: &mut [u8])
+    requires { length ram.old ≡ ram_end }
+    ensures { (a : ℕ) → a < ram_end → slice_index ram.new a ≡ ram_byte (memory_of machine.now.state.bus) a }
+{
+    for address in 0..RAM_END {
+        ram[usize::from(address)] = machine.peek(address).unwrap_or(0);
+    }
+}
+
+// Writes the row of a service's step, before which RAM held these bytes.
+#[tactic(auto, using(a2_stream::proofs::Joined::broke_off, a2_stream::proofs::Joined::went_on))]
+fn put_service_row<A: Allocator, W: Output>(
+    before: &Moment,
+    ram: &[u8],
+    machine: &Machine<A>,
+    writer: &mut W,
+) -> Result<(), WriteFault>
+    requires { length ram.now ≡ ram_end }
+    ensures { let world = world_of_state machine.now.state in
+        SendsOrBreaks (W.taker writer.old) (W.taker writer.new) result (fields_between (seen_by before.now) (seen_of world)
+        ++ (spelt.stores_text spelt.no_address (differing (slice_index ram.now) (ram_byte world.memory) 0 ram_end) ++ codes "\n")) }
+{
+    put_fields(before, &Moment::of(machine), writer)?;
+    put_differing(ram, machine, writer)?;
+    put(b"\n", writer)
+}
+
+// Writes the row of an instruction's step, which stored at these addresses.
+#[tactic(auto, using(a2_stream::proofs::Joined::broke_off, a2_stream::proofs::Joined::went_on))]
+fn put_instruction_row<A: Allocator, W: Output>(
+    before: &Moment,
+    addresses: &[u16],
+    machine: &Machine<A>,
+    writer: &mut W,
+) -> Result<(), WriteFault>
+    ensures { let world = world_of_state machine.now.state in
+        SendsOrBreaks (W.taker writer.old) (W.taker writer.new) result (fields_between (seen_by before.now) (seen_of world)
+        ++ (spelt.stores_text spelt.no_address (bytes_at (ram_byte world.memory) addresses.now) ++ codes "\n")) }
+{
+    put_fields(before, &Moment::of(machine), writer)?;
+    put_listed(addresses, machine, writer)?;
+    put(b"\n", writer)
+}
+
+// Makes the call of a service and writes its row; or answers the cause that forbids it.
+fn film_call<A: Allocator, W: Output>(
+    machine: &mut Machine<A>,
+    ram: &mut [u8],
+    writer: &mut W,
+) -> Result<Option<Cause>, WriteFault>
+    requires size { length ram.old ≡ ram_end }
+    requires service { is_some (service_at_of machine.old.state.regs.pc) ≡ true }
+    ensures { FilmsStep machine.old machine.new (W.taker writer.old) (W.taker writer.new) result }
+{
+    let before = Moment::of(machine);
+    copy_ram(machine, ram);
+    if let Some(cause) = machine.step() {
+        return Ok(Some(cause));
+    }
+    put_service_row(&before, ram, machine, writer)?;
+    Ok(None)
+}
+
+// Does an instruction and writes its row; or answers the cause that forbids it.
+fn film_instruction<A: Allocator, W: Output>(
+    machine: &mut Machine<A>,
+    writer: &mut W,
+) -> Result<Option<Cause>, WriteFault>
+    requires { is_some (service_at_of machine.old.state.regs.pc) ≡ false }
+    ensures { FilmsStep machine.old machine.new (W.taker writer.old) (W.taker writer.new) result }
+{
+    let before = Moment::of(machine);
+    // For the prover alone: all of RAM is there.
+    let _ = machine.peek(0);
+    let addresses = writes(&machine.regs(), machine.space());
+    if let Some(cause) = machine.step() {
+        return Ok(Some(cause));
+    }
+    put_instruction_row(&before, addresses.as_slice(), machine, writer)?;
+    Ok(None)
+}
+
+// Makes a step and writes its row; or answers the cause that forbids it.
+fn film_step<A: Allocator, W: Output>(
+    machine: &mut Machine<A>,
+    ram: &mut [u8],
+    writer: &mut W,
+) -> Result<Option<Cause>, WriteFault>
+    requires { length ram.old ≡ ram_end }
+    ensures { FilmsStep machine.old machine.new (W.taker writer.old) (W.taker writer.new) result }
+{
+    if service_at(machine.regs().pc).is_some() {
+        film_call(machine, ram, writer)
+    } else {
+        film_instruction(machine, writer)
+    }
+}
+
+// Writes the cause line, and answers the cause.
+fn put_end<W: Output>(cause: Cause, writer: &mut W) -> Result<Cause, WriteFault>
+    ensures line { SendsOrBreaks (W.taker writer.old) (W.taker writer.new) result (output.cause_line cause) }
+    ensures cause { IfOk result (λ told. told ≡ cause) }
+{
+    write_cause(cause, writer)?;
+    Ok(cause)
+}
+
+// Makes the steps of a run, and writes a row of each; and then the cause line.
+fn film_run<A: Allocator, W: Output>(
+    machine: &mut Machine<A>,
+    ram: &mut [u8],
+    limit: u32,
+    writer: &mut W,
+) -> Result<Cause, WriteFault>
+    requires steps { machine.old.state.steps ≡ 0 }
+    requires size { length ram.old ≡ ram_end }
+    ensures { Films (code_of machine.old.state) (world_of_state machine.old.state) limit (W.taker writer.old) (W.taker writer.new) result }
+{
+    for _ in 0..limit {
+        if let Some(cause) = film_step(machine, ram, writer)? {
+            return put_end(cause, writer);
+        }
+    }
+    let cause = machine.run(0);
+    put_end(cause, writer)
+}
+
+// RAM that is 0 everywhere.
+#[tactic(auto, using(crate::proofs::Parts::zeros_anywhere))]
+fn blank_ram<A: Allocator>(alloc: A, size: usize) -> Result<Vec<u8, A>, AllocError>
+    ensures size { IfOk result (λ ram. length ram.items ≡ size) }
+    ensures zeros { IfOk result (λ ram. (a : ℕ) → slice_index ram.items a ≡ 0) }
+{
+    vec![in alloc; 0; size]
+}
+
+// Writes the page up to the rows: `ram` is 0 everywhere.
+#[tactic(auto, using(a2_stream::proofs::Joined::broke_off, a2_stream::proofs::Joined::went_on))]
+fn put_head<A: Allocator, W: Output>(
+    title: &[u8],
+    texts: &[&[u8]],
+    free: bool,
+    keys: &Keys,
+    program: &Program<A>,
+    ram: &[u8],
+    machine: &Machine<A>,
+    writer: &mut W,
+) -> Result<(), WriteFault>
+    requires size { length ram.now ≡ ram_end }
+    requires zeros { (a : ℕ) → slice_index ram.now a ≡ 0 }
+    ensures { SendsOrBreaks (W.taker writer.old) (W.taker writer.new) result
+        (page.head ++ (spelt.opening title.now free keys.now ++ (spelt.program_lines program.now (map (λ x. x.now) texts.now)
+        ++ spelt.start_lines (world_of_state machine.now.state)))) }
+{
+    put(head(), writer)?;
+    put_opening(title, free, keys, writer)?;
+    put_program(program, texts, writer)?;
+    put_start(ram, machine, writer)
+}
+
+// Makes a run from its start, and writes its rows with the end of the page.
+fn film_rest<A: Allocator, W: Output>(
+    machine: &mut Machine<A>,
+    ram: &mut [u8],
+    limit: u32,
+    writer: &mut W,
+) -> Result<Cause, WriteFault>
+    requires steps { machine.old.state.steps ≡ 0 }
+    requires size { length ram.old ≡ ram_end }
+    ensures { FilmsRest (code_of machine.old.state) (world_of_state machine.old.state) limit (W.taker writer.old) (W.taker writer.new) result }
+{
+    let cause = film_run(machine, ram, limit, writer)?;
+    put(tail(), writer)?;
+    Ok(cause)
+}
+
+/// Assembles and runs a source with these keys waiting, and writes its film: one page of HTML that shows the run forwards and
+/// backwards. `title` is any bytes, which the page shows as its title; `limit` is the most steps, `free` runs without the
+/// guard. Rows are written as the run goes, and nothing of it is kept. The cause is that of the run's end. Refused where
+/// the source is, where a write fails, and for want of memory. This project's profile.
+pub fn film_source<A: Allocator + Copy, W: Output>(
+    alloc: A,
+    source: &[u8],
+    title: &[u8],
+    keys: &Keys,
+    limit: u32,
+    free: bool,
+    writer: &mut W,
+) -> Result<Cause, RunFault>
+    ensures meaning { Answers (OfSource (IsRefused source.now)) (IsFilmOf source.now title.now keys.now limit free)
+        (W.taker writer.old) (W.taker writer.new) result }
+    ensures no_reader { is_read_fault result ≡ false }
+{
+    let program = program_of(alloc, source)?;
+    let texts = cut(alloc, source)?;
+    let mut machine = started(alloc, &program, keys, free)?;
+    let mut ram = blank_ram(alloc, usize::from(RAM_END))?;
+    put_head(
+        title,
+        texts.as_slice(),
+        free,
+        keys,
+        &program,
+        &ram,
+        &machine,
+        writer,
+    )?;
+    let cause = film_rest(&mut machine, &mut ram, limit, writer)?;
+    Ok(cause)
+}

@@ -1,0 +1,27 @@
+//! Films: a run as one page of HTML that goes forwards and backwards through it.
+//!
+//! The page holds its data as lines of text, and a row of them for each step. What a row says and how it is spelt is proved,
+//! and that the rows give the run's worlds back; the page's own script, which reads them, is not.
+#![tactic(auto)]
+
+ghost use Rattle.a2_film.specs.Laws.{FramesShowTheRun, DataHaveNoTag};
+
+mod film;
+mod head;
+mod rows;
+mod texts;
+
+pub use film::film_source;
+
+/// A law, and no code: for each number of steps up to those that a run makes, that many of its changes, as the rows of its film
+/// say them, applied to the start, give the world that the run's meaning has then: the same registers, cycles, keys and
+/// switches, and the same byte at each address of RAM.
+pub fn frames_show_the_run()
+    ensures { FramesShowTheRun }
+{}
+
+/// A law, and no code: whatever the bytes of a source, of its title and of its keys are, the data of its film hold no `<`,
+/// so that nothing in them ends the script that they stand in, or begins a tag.
+pub fn data_have_no_tag()
+    ensures { DataHaveNoTag }
+{}

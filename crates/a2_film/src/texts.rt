@@ -1,0 +1,124 @@
+//! How pieces of a film are spelt.
+
+ghost use Rattle.std.specs.Prelude.{◌≡◌, ◌<◌, ◌++◌};
+ghost use Rattle.a2_stream.specs.Stream.{SendsOrBreaks};
+ghost use Rattle.a2_text.specs.Digits.{hex_digit as digit_of};
+ghost use Rattle.a2_film.specs.Changes.{changed};
+ghost use Rattle.a2_film.specs.Changes as change;
+ghost use Rattle.a2_film.specs.Rows as spelt;
+
+use a2_page::Switches;
+use a2_stream::{Output, WriteFault, put};
+use a2_text::{decimal, hex_pair};
+use arrayvec::ArrayVec;
+
+// A letter and the digits of a byte, where it is another than it was.
+pub fn byte_text(letter: u8, old: u8, new: u8) -> ArrayVec<u8, 3>
+    ensures { result.items ≡ spelt.byte_text letter (changed old new) }
+{
+    let mut text = ArrayVec::new();
+    if old != new {
+        let [high, low] = hex_pair(new);
+        text.push(letter);
+        text.push(high);
+        text.push(low);
+    }
+    text
+}
+
+// The switches as a digit: 1 for text, 2 for mixed, 4 for page 2, 8 for high resolution.
+pub fn switch_digit(switches: Switches) -> u8
+    ensures value { result ≡ change.switch_digit switches }
+    ensures digit { result < 16 }
+{
+    u8::from(switches.text)
+        + 2 * u8::from(switches.mixed)
+        + 4 * u8::from(switches.page2)
+        + 8 * u8::from(switches.hires)
+}
+
+// The hexadecimal digit of a number.
+pub fn hex_digit(number: u8) -> u8
+    requires { number < 16 }
+    ensures { result ≡ digit_of number }
+{
+    let [_, low] = hex_pair(number);
+    low
+}
+
+// w and the switches' digit, where it is another than it was.
+pub fn switches_text(old: Switches, new: Switches) -> ArrayVec<u8, 2>
+    ensures { result.items ≡ spelt.switches_text (changed (change.switch_digit old) (change.switch_digit new)) }
+{
+    let mut text = ArrayVec::new();
+    if switch_digit(old) != switch_digit(new) {
+        text.push(b'w');
+        text.push(hex_digit(switch_digit(new)));
+    }
+    text
+}
+
+// k and a number, where it is not 0.
+pub fn keys_text(taken: usize) -> ArrayVec<u8, 21>
+    ensures { result.items ≡ spelt.keys_text taken }
+{
+    let mut text = ArrayVec::new();
+    if taken > 0 {
+        text.push(b'k');
+        text.try_extend_from_slice(decimal(taken as u64).as_slice())
+            .unwrap();
+    }
+    text
+}
+
+// A byte of a plain text: itself where it is printable and neither < nor \, else \ and its digits.
+fn plain_byte(byte: u8) -> ArrayVec<u8, 3>
+    ensures { result.items ≡ spelt.plain_byte byte }
+{
+    let mut text = ArrayVec::new();
+    match byte {
+        b'<' | b'\\' | 0..=0x1F | 0x7F..=0xFF => {
+            let [high, low] = hex_pair(byte);
+            text.push(b'\\');
+            text.push(high);
+            text.push(low);
+        }
+        _ => text.push(byte),
+    }
+    text
+}
+
+// Writes a text as a plain one.
+fn put_plain<W: Output>(text: &[u8], writer: &mut W) -> Result<(), WriteFault>
+    ensures { SendsOrBreaks (W.taker writer.old) (W.taker writer.new) result (spelt.plain_text text.now) }
+{
+    for byte in text {
+        put(plain_byte(*byte).as_slice(), writer)?;
+    }
+    Ok(())
+}
+
+// Writes the digits of bytes.
+pub fn put_digits<W: Output>(bytes: &[u8], writer: &mut W) -> Result<(), WriteFault>
+    ensures { SendsOrBreaks (W.taker writer.old) (W.taker writer.new) result (spelt.digits_of_bytes bytes.now) }
+{
+    for byte in bytes {
+        put(&hex_pair(*byte), writer)?;
+    }
+    Ok(())
+}
+
+// Writes a text as a plain one between two pieces.
+#[tactic(auto, using(a2_stream::proofs::Joined::broke_off, a2_stream::proofs::Joined::went_on))]
+pub fn put_between<W: Output>(
+    front: &[u8],
+    text: &[u8],
+    end: &[u8],
+    writer: &mut W,
+) -> Result<(), WriteFault>
+    ensures { SendsOrBreaks (W.taker writer.old) (W.taker writer.new) result (front.now ++ (spelt.plain_text text.now ++ end.now)) }
+{
+    put(front, writer)?;
+    put_plain(text, writer)?;
+    put(end, writer)
+}

@@ -1,0 +1,9 @@
+-- The page of a film: the bytes that stand before its data, and those that stand behind them. This project's own.
+use Rattle.std.specs.Prelude.{ℕ, List}
+use Rattle.a2_film_page.specs.declared.page.TheConstants.{HEAD, TAIL}
+
+unfoldable pub head : List ℕ
+head = HEAD.now
+
+unfoldable pub tail : List ℕ
+tail = TAIL.now

@@ -1,0 +1,26 @@
+//! The page that shows a film, a run as it goes forwards and backwards: HTML with its style and script. Of these nothing is
+//! proved but that they go out as they stand in `data/viewer.html`.
+#![tactic(auto)]
+
+ghost use Rattle.std.specs.Prelude.{◌≡◌};
+ghost use Rattle.a2_film_page.specs.Page as page_text;
+
+mod page;
+
+use page::{HEAD, TAIL};
+
+/// What stands before the data of a film: the page up to and with the tag of the script that holds them.
+#[tactic(auto, unfolding(crate::specs::Page::head))]
+pub fn head() -> &'static [u8]
+    ensures { result.now ≡ page_text.head }
+{
+    HEAD.as_bytes()
+}
+
+/// What stands behind them, from the end of that script on.
+#[tactic(auto, unfolding(crate::specs::Page::tail))]
+pub fn tail() -> &'static [u8]
+    ensures { result.now ≡ page_text.tail }
+{
+    TAIL.as_bytes()
+}
