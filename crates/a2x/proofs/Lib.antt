@@ -1,1 +1,2 @@
+pub mod NamedLaws
 pub mod WordLaws

@@ -1,10 +1,10 @@
 -- What words ask for and how they are refused, an option at a time.
-use Rattle.std.proofs.Common.{sym, ap, subst, arith, rules, ◌≡◌, ◌↔◌, ◌≤◌, ◌-◌, ℕ, Bool, List, [], ◌∷◌, length, map, take, drop, codes, true, false, None, Some, String, Global, string_bytes, get_or}
+use Rattle.std.proofs.Common.{sym, ap, subst, arith, rules, ◌≡◌, ◌↔◌, ◌≤◌, ◌-◌, ℕ, List, [], ◌∷◌, length, map, take, drop, codes, true, String, Global, string_bytes, get_or}
 use Rattle.std.proofs.lemmas.List.{take_all}
 use Rattle.std.specs.Str.Parse.{digits_value}
 use Rattle.a2_bus.specs.KeyText.{SpellsKeys}
 use Rattle.a2_run.specs.Limits.{IsStepLimit}
-use Rattle.a2x.specs.Words.{Asked, Asks, HaveBadKeys, IsFaultOf, IsFile}
+use Rattle.a2x.specs.Words.{Asked, Asks, HaveBadKeys, IsFaultOf}
 use Rattle.a2x.specs.declared.words.WordsFault.{WordsFault}
 use Rattle.a2x.specs.declared.words.WordsFault.TheVariants.{Words, Keys}
 
@@ -12,11 +12,6 @@ pub free-asks : (before asked : Asked) (word : List ℕ) (rest : List (List ℕ)
     → Asks before (word ∷ rest) asked ↔ Asks (record before { free = true }) rest asked
 free-asks before asked word [] is = search rules
 free-asks before asked word (next ∷ rest) is = search rules
-
-pub attr-asks : (before asked : Asked) (word : List ℕ) (rest : List (List ℕ)) → word ≡ codes "--attr"
-    → Asks before (word ∷ rest) asked ↔ Asks (record before { attr = true }) rest asked
-attr-asks before asked word [] is = search rules
-attr-asks before asked word (next ∷ rest) is = search rules
 
 pub keys-ask : (before asked : Asked) (word text keys : List ℕ) (rest : List (List ℕ)) → word ≡ codes "--keys"
     → SpellsKeys text keys → length keys ≤ 4096 → ((others : List ℕ) → SpellsKeys text others → others ≡ keys)
@@ -28,41 +23,24 @@ pub limit-asks : (before asked : Asked) (word number : List ℕ) (limit : ℕ) (
     → Asks before (word ∷ number ∷ rest) asked ↔ Asks (record before { limit = limit }) rest asked
 limit-asks before asked word number limit rest is spelled value = search rules
 
-pub file-asks : (before asked : Asked) (word : List ℕ) (rest : List (List ℕ)) → IsFile word → before.file ≡ None
-    → (word ≡ codes "--free" → ⊥) → (word ≡ codes "--attr" → ⊥) → (word ≡ codes "--keys" → ⊥) → (word ≡ codes "--limit" → ⊥)
-    → Asks before (word ∷ rest) asked ↔ Asks (record before { file = Some word }) rest asked
-file-asks before asked word [] is free no-free no-attr no-keys no-limit = search rules
-file-asks before asked word (next ∷ rest) is free no-free no-attr no-keys no-limit = search rules
+pub bad-behind-free : (word : List ℕ) (rest : List (List ℕ)) → word ≡ codes "--free"
+    → HaveBadKeys (word ∷ rest) ↔ HaveBadKeys rest
+bad-behind-free word [] is = search rules
+bad-behind-free word (next ∷ rest) is = search rules
 
-pub bad-behind-free : (named : Bool) (word : List ℕ) (rest : List (List ℕ)) → word ≡ codes "--free"
-    → HaveBadKeys named (word ∷ rest) ↔ HaveBadKeys named rest
-bad-behind-free named word [] is = search rules
-bad-behind-free named word (next ∷ rest) is = search rules
+pub bad-behind-keys : (word text keys : List ℕ) (rest : List (List ℕ)) → word ≡ codes "--keys" → SpellsKeys text keys
+    → length keys ≤ 4096 → HaveBadKeys (word ∷ text ∷ rest) ↔ HaveBadKeys rest
+bad-behind-keys word text keys rest is spelled room = search rules
 
-pub bad-behind-attr : (named : Bool) (word : List ℕ) (rest : List (List ℕ)) → word ≡ codes "--attr"
-    → HaveBadKeys named (word ∷ rest) ↔ HaveBadKeys named rest
-bad-behind-attr named word [] is = search rules
-bad-behind-attr named word (next ∷ rest) is = search rules
-
-pub bad-behind-keys : (named : Bool) (word text keys : List ℕ) (rest : List (List ℕ)) → word ≡ codes "--keys" → SpellsKeys text keys
-    → length keys ≤ 4096 → HaveBadKeys named (word ∷ text ∷ rest) ↔ HaveBadKeys named rest
-bad-behind-keys named word text keys rest is spelled room = search rules
-
-pub bad-behind-limit : (named : Bool) (word number : List ℕ) (rest : List (List ℕ)) → word ≡ codes "--limit" → IsStepLimit number
-    → HaveBadKeys named (word ∷ number ∷ rest) ↔ HaveBadKeys named rest
-bad-behind-limit named word number rest is spelled = search rules
-
-pub bad-behind-file : (word : List ℕ) (rest : List (List ℕ)) → IsFile word
-    → (word ≡ codes "--free" → ⊥) → (word ≡ codes "--attr" → ⊥) → (word ≡ codes "--keys" → ⊥) → (word ≡ codes "--limit" → ⊥)
-    → HaveBadKeys false (word ∷ rest) ↔ HaveBadKeys true rest
-bad-behind-file word [] is no-free no-attr no-keys no-limit = search rules
-bad-behind-file word (next ∷ rest) is no-free no-attr no-keys no-limit = search rules
+pub bad-behind-limit : (word number : List ℕ) (rest : List (List ℕ)) → word ≡ codes "--limit" → IsStepLimit number
+    → HaveBadKeys (word ∷ number ∷ rest) ↔ HaveBadKeys rest
+bad-behind-limit word number rest is spelled = search rules
 
 -- words that are refused for the same keys are refused by the same fault
-pub same_fault : (named then-named : Bool) (words rest : List (List ℕ)) (fault : WordsFault)
-    → HaveBadKeys named words ↔ HaveBadKeys then-named rest → IsFaultOf then-named rest fault → IsFaultOf named words fault
-same_fault named then-named words rest Words same told = λ bad. told (same.0 bad)
-same_fault named then-named words rest Keys same told = same.1 told
+pub same_fault : (words rest : List (List ℕ)) (fault : WordsFault) → HaveBadKeys words ↔ HaveBadKeys rest
+    → IsFaultOf rest fault → IsFaultOf words fault
+same_fault words rest Words same told = λ bad. told (same.0 bad)
+same_fault words rest Keys same told = same.1 told
 
 -- words are the first and those behind it
 pub behind-one : (words : List (String Global)) (word : String Global) → 1 ≤ length words → word ≡ get_or words 0 word

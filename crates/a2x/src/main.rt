@@ -2,6 +2,7 @@
 #![tactic(auto)]
 
 mod help;
+mod named;
 mod program;
 mod table;
 mod tools;

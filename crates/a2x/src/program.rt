@@ -5,7 +5,8 @@ ghost use Rattle.std.specs.Prelude.{◌≤◌, IfOk, IfErr};
 use crate::help::{put_page, put_use, put_version};
 use crate::table::{Tool, Word, nearest, word_named};
 use crate::tools::{list, profile, run, told, trace, written};
-use crate::words::{Misfit, Order, WordsFault, file_of, misfit_in, order_of};
+use crate::named::file_in;
+use crate::words::{Misfit, Order, WordsFault, misfit_in, order_of};
 use a2_host::Shelf;
 use a2_manual::{manual, near, topic};
 use a2_run::{RunFault, read_text};
@@ -83,7 +84,7 @@ fn tell_misfit<E: Output>(name: &[u8], misfit: Misfit, complaints: &mut E) {
         Misfit::Files => tell(
             &[
                 name,
-                b" takes one file: name no other, or use -- before one that begins with -",
+                b" takes one file, behind its options; one that begins with - behind --",
             ],
             complaints,
         ),
@@ -105,7 +106,7 @@ fn refused<E: Output>(word: &Word, words: &[String], fault: WordsFault, complain
         ),
         WordsFault::Words => tell_misfit(
             name,
-            misfit_in(words, word.valued, word.flags),
+            misfit_in(words, word.runs),
             complaints,
         ),
     }
@@ -213,7 +214,7 @@ fn act<S: Shelf, R: Input, W: Output, E: Output>(
 {
     match word.tool {
         Tool::Help => Ok(help(alloc, words, output, complaints)),
-        Tool::List => match file_of(words) {
+        Tool::List => match file_in(words) {
             Ok(file) => {
                 let text = text_of(alloc, file, shelf, input, complaints)?;
                 Ok(list(alloc, text.as_slice(), output, complaints))
@@ -221,9 +222,6 @@ fn act<S: Shelf, R: Input, W: Output, E: Output>(
             Err(fault) => Err(refused(word, words, fault, complaints)),
         },
         Tool::Run | Tool::Trace | Tool::Profile => match order_of(words) {
-            Ok(order) if order.attr && word.tool != Tool::Run => {
-                Err(refused(word, words, WordsFault::Words, complaints))
-            }
             Ok(order) => {
                 let text = text_of(alloc, order.file, shelf, input, complaints)?;
                 Ok(follow(

@@ -21,10 +21,8 @@ pub struct Word {
     pub name: &'static str,
     /// What stands behind it.
     pub arguments: &'static str,
-    /// Whether the options `--keys K` and `--limit N` may stand among that.
-    pub valued: bool,
-    /// The options without a value that may.
-    pub flags: &'static [&'static str],
+    /// Whether options of a run may stand among that.
+    pub runs: bool,
     /// What it does, in a line.
     pub says: &'static str,
     pub tool: Tool,
@@ -34,41 +32,36 @@ pub struct Word {
 pub static WORDS: [Word; 5] = [
     Word {
         name: "run",
-        arguments: "[F] [options]",
-        valued: true,
-        flags: &["--free", "--attr"],
+        arguments: "[options] [F]",
+        runs: true,
         says: "runs F as a2 does, and says why it stopped",
         tool: Tool::Run,
     },
     Word {
         name: "list",
         arguments: "[F]",
-        valued: false,
-        flags: &[],
+        runs: false,
         says: "lists F with addresses, bytes and names",
         tool: Tool::List,
     },
     Word {
         name: "trace",
-        arguments: "[F] [options]",
-        valued: true,
-        flags: &["--free"],
+        arguments: "[options] [F]",
+        runs: true,
         says: "runs F, and writes a line for each step",
         tool: Tool::Trace,
     },
     Word {
         name: "profile",
-        arguments: "[F] [options]",
-        valued: true,
-        flags: &["--free"],
+        arguments: "[options] [F]",
+        runs: true,
         says: "runs F, and counts how often each line was done",
         tool: Tool::Profile,
     },
     Word {
         name: "help",
         arguments: "[NAME]",
-        valued: false,
-        flags: &[],
+        runs: false,
         says: "writes this page, or what a word, E7, LDA, COUT .. is",
         tool: Tool::Help,
     },

@@ -1,0 +1,23 @@
+//! Words that name a file alone.
+
+ghost use Rattle.std.specs.Prelude.{◌≡◌, List, ℕ, Option, map, string_bytes, IfOk, IfErr};
+ghost use Rattle.std.specs.Option.{option_map};
+ghost use Rattle.a2x.specs.Named.{IsNamed};
+ghost use Rattle.a2x.specs.declared.words.WordsFault.TheVariants.{Words};
+
+use crate::words::WordsFault;
+
+/// The file that `words` name, or none, where the standard input is meant. The first word says what is done.
+/// Refused are two files, and a word that begins with `-` where no `--` stands before it. This project's profile.
+pub fn file_in(words: &[String]) -> Result<Option<&str>, WordsFault>
+    ensures named { IfOk result (λ file. IsNamed (map string_bytes words.now) (option_map (λ word. word.now) file)) }
+    ensures refused { IfErr result (λ fault. (fault ≡ Words)
+        × ((file : Option (List ℕ)) → IsNamed (map string_bytes words.now) file → ⊥)) }
+{
+    match words {
+        [] | [_] => Ok(None),
+        [_, file] if !file.as_str().starts_with('-') => Ok(Some(file.as_str())),
+        [_, end, file] if end.as_str() == "--" => Ok(Some(file.as_str())),
+        _ => Err(WordsFault::Words),
+    }
+}
