@@ -157,9 +157,16 @@ impl<'a, A: Allocator + Copy> Place<'a, A> {
             return self.at_operand(alloc, &[b"there is no such form"], &[b"look at its forms"]);
         };
         let forms = forms_of(alloc, *mnemonic)?;
-        let name = mnemonic.name().as_bytes();
-        let what: [&[u8]; 3] = [b"`", name, b"` has no such form"];
-        self.at_operand(alloc, &what, &[b"write ", forms.as_slice()])
+        self.of_forms(alloc, mnemonic.name().as_bytes(), forms.as_slice())
+    }
+
+    // An instruction of this name, which has these forms alone.
+    fn of_forms(&self, alloc: A, name: &[u8], forms: &[u8]) -> Result<Told<A>, AllocError> {
+        self.at_operand(
+            alloc,
+            &[b"`", name, b"` has no such form"],
+            &[b"write ", forms],
+        )
     }
 
     // The expression of the operand, as it was written.
