@@ -15,13 +15,14 @@ const HEAD: &[u8] = b"a2x has tools beside a2, the 6502 assembler with its model
 
 // What stands behind them.
 const TAIL: &[u8] = b"
-F is a source; without it, and by -, the standard input is taken. Options of a
-run, before or behind F:
+F is a source; without it the standard input is taken. Options of a run, before F:
 
   --keys K    these keys wait at the start; \\r is RETURN
-  --limit N   at most so many steps, to 100,000,000; without it 1,000,000
+  --limit N   at most so many steps, to 100,000,000; without it 1,000,000,
+              and 100,000 of a film
   --free      without the guard: code may begin anywhere, and be stored to
-  --attr      of run: behind the picture, how each character is shown
+
+N of --format is short, for editors, or json.
 
 Status: 0 well, 1 source refused, 2 words or keys refused, 3 another stop,
 4 a read or write failed, 5 no memory.

@@ -6,6 +6,7 @@ ghost use Rattle.a2x.specs.Named.{IsNamed};
 ghost use Rattle.a2x.specs.declared.words.WordsFault.TheVariants.{Words};
 
 use crate::words::WordsFault;
+use a2_check::Format;
 
 /// The file that `words` name, or none, where the standard input is meant. The first word says what is done.
 /// Refused are two files, and a word that begins with `-` where no `--` stands before it. This project's profile.
@@ -19,5 +20,34 @@ pub fn file_in(words: &[String]) -> Result<Option<&str>, WordsFault>
         [_, file] if !file.as_str().starts_with('-') => Ok(Some(file.as_str())),
         [_, end, file] if end.as_str() == "--" => Ok(Some(file.as_str())),
         _ => Err(WordsFault::Words),
+    }
+}
+
+// The format of this name.
+fn format_named(name: &str) -> Result<Format, WordsFault> {
+    match name {
+        "short" => Ok(Format::Short),
+        "json" => Ok(Format::Json),
+        "long" => Ok(Format::Long),
+        _ => Err(WordsFault::Words),
+    }
+}
+
+/// The format that words ask for, and the file that they name, or none, where the standard input is meant: `--format` with its
+/// value may stand before the file. The first word says what is done.
+pub fn check_order(words: &[String]) -> Result<(Format, Option<&str>), WordsFault> {
+    match words {
+        [_, option, format] if option.as_str() == "--format" => {
+            Ok((format_named(format.as_str())?, None))
+        }
+        [_, option, format, file]
+            if option.as_str() == "--format" && !file.as_str().starts_with('-') =>
+        {
+            Ok((format_named(format.as_str())?, Some(file.as_str())))
+        }
+        [_, file, option, format] if option.as_str() == "--format" => {
+            Ok((format_named(format.as_str())?, Some(file.as_str())))
+        }
+        _ => Ok((Format::Long, file_in(words)?)),
     }
 }

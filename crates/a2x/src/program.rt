@@ -4,8 +4,8 @@ ghost use Rattle.std.specs.Prelude.{◌≤◌, IfOk, IfErr};
 
 use crate::help::{put_page, put_use, put_version};
 use crate::table::{Tool, Word, nearest, word_named};
-use crate::tools::{list, profile, run, told, trace, written};
-use crate::named::file_in;
+use crate::tools::{check, film, list, profile, run, told, trace, written};
+use crate::named::{check_order, file_in};
 use crate::words::{Misfit, Order, WordsFault, misfit_in, order_of};
 use a2_host::Shelf;
 use a2_manual::{manual, near, topic};
@@ -20,7 +20,7 @@ fn tell<E: Output>(parts: &[&[u8]], complaints: &mut E) {
     let _ = put_all(&[b"\n"], complaints);
 }
 
-// The text of a file, or of the standard input where none is named or it is named -; or the status, where that is told.
+// The text of a file, or of the standard input where none is named; or the status, where that is told.
 fn text_of<S: Shelf, R: Input, E: Output>(
     alloc: Global,
     file: Option<&str>,
@@ -31,7 +31,7 @@ fn text_of<S: Shelf, R: Input, E: Output>(
     ensures { IfErr result (λ status. status ≤ 5) }
 {
     let read = match file {
-        Some(name) if name != "-" => {
+        Some(name) => {
             let Ok(mut reader) = shelf.open(name) else {
                 tell(
                     &[b"no file ", name.as_bytes(), b" can be opened here"],
@@ -41,7 +41,7 @@ fn text_of<S: Shelf, R: Input, E: Output>(
             };
             read_text(alloc, &mut reader)
         }
-        _ => read_text(alloc, input),
+        None => read_text(alloc, input),
     };
     match read {
         Ok(text) => Ok(text),
@@ -187,12 +187,14 @@ fn follow<W: Output, E: Output>(
     alloc: Global,
     source: &[u8],
     order: &Order,
+    is_limited: bool,
     output: &mut W,
     complaints: &mut E,
 ) -> u8
     ensures { result ≤ 5 }
 {
     match tool {
+        Tool::Film => film(alloc, source, order, is_limited, output, complaints),
         Tool::Trace => trace(alloc, source, order, output, complaints),
         Tool::Profile => profile(alloc, source, order, output, complaints),
         _ => run(alloc, source, order, output, complaints),
@@ -213,29 +215,49 @@ fn act<S: Shelf, R: Input, W: Output, E: Output>(
     ensures refused { IfErr result (λ status. status ≤ 5) }
 {
     match word.tool {
-        Tool::Help => Ok(help(alloc, words, output, complaints)),
+        Tool::Help => Ok(help(alloc, behind(words), output, complaints)),
+        Tool::Check => match check_order(words) {
+            Ok((format, file)) => {
+                let text = text_of(alloc, file, shelf, input, complaints)?;
+                let name = file.unwrap_or("-");
+                Ok(check(alloc, name, text.as_slice(), format, output, complaints))
+            }
+            Err(fault) => Err(refused(word, behind(words), fault, complaints)),
+        },
         Tool::List => match file_in(words) {
             Ok(file) => {
                 let text = text_of(alloc, file, shelf, input, complaints)?;
                 Ok(list(alloc, text.as_slice(), output, complaints))
             }
-            Err(fault) => Err(refused(word, words, fault, complaints)),
+            Err(fault) => Err(refused(word, behind(words), fault, complaints)),
         },
-        Tool::Run | Tool::Trace | Tool::Profile => match order_of(words) {
+        Tool::Film | Tool::Profile | Tool::Run | Tool::Trace => match order_of(words) {
             Ok(order) => {
                 let text = text_of(alloc, order.file, shelf, input, complaints)?;
-                Ok(follow(
-                    word.tool,
-                    alloc,
-                    text.as_slice(),
-                    &order,
-                    output,
-                    complaints,
-                ))
+                let is_limited = has_limit(words);
+                Ok(follow(word.tool, alloc, text.as_slice(), &order, is_limited, output, complaints))
             }
-            Err(fault) => Err(refused(word, words, fault, complaints)),
+            Err(fault) => Err(refused(word, behind(words), fault, complaints)),
         },
     }
+}
+
+// The words behind the first.
+fn behind(words: &[String]) -> &[String] {
+    match words {
+        [] => words,
+        [_, rest @ ..] => rest,
+    }
+}
+
+// Whether the words have a limit.
+fn has_limit(words: &[String]) -> bool {
+    for word in words {
+        if word.as_str() == "--limit" {
+            return true;
+        }
+    }
+    false
 }
 
 /// Does what `words` ask for, and answers the exit status, 0 to 5. The first word is the program's name, and the second says
@@ -251,14 +273,15 @@ pub fn obey<S: Shelf, R: Input, W: Output, E: Output>(
 ) -> u8
     ensures { result ≤ 5 }
 {
+    let words = behind(words);
     match words {
-        [] | [_] => {
+        [] => {
             let _ = put_page(complaints);
             2
         }
-        [_, word, rest @ ..] => match word_named(word.as_str()) {
+        [word, rest @ ..] => match word_named(word.as_str()) {
             Some(found) if asks_for_help(rest) => written(put_use(&found, output), complaints),
-            Some(found) => match act(alloc, &found, rest, shelf, input, output, complaints) {
+            Some(found) => match act(alloc, &found, words, shelf, input, output, complaints) {
                 Ok(status) | Err(status) => status,
             },
             None => answer(alloc, word.as_str(), output, complaints),

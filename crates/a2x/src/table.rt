@@ -8,6 +8,8 @@ use strsim::levenshtein;
 /// What a word does.
 #[derive(Clone, Copy, Debug, PartialEq, Eq)]
 pub enum Tool {
+    Check,
+    Film,
     Help,
     List,
     Profile,
@@ -29,13 +31,20 @@ pub struct Word {
 }
 
 /// All words, in the order of the page of help.
-pub static WORDS: [Word; 5] = [
+pub static WORDS: [Word; 7] = [
     Word {
         name: "run",
         arguments: "[options] [F]",
         runs: true,
         says: "runs F as a2 does, and says why it stopped",
         tool: Tool::Run,
+    },
+    Word {
+        name: "check",
+        arguments: "[--format N] [F]",
+        runs: false,
+        says: "tells all refusals of F with their mends",
+        tool: Tool::Check,
     },
     Word {
         name: "list",
@@ -57,6 +66,13 @@ pub static WORDS: [Word; 5] = [
         runs: true,
         says: "runs F, and counts how often each line was done",
         tool: Tool::Profile,
+    },
+    Word {
+        name: "film",
+        arguments: "[options] [F]",
+        runs: true,
+        says: "writes F's run as a page that goes backwards",
+        tool: Tool::Film,
     },
     Word {
         name: "help",

@@ -3,7 +3,9 @@
 ghost use Rattle.std.specs.Prelude.{◌≤◌};
 
 use crate::words::Order;
+use a2_check::{Format, TellFault, put_refusals, refusals_of};
 use a2_explain::explain_stop;
+use a2_film::film_source;
 use a2_host::complain;
 use a2_list::{list_source, put_line_refused};
 use a2_profile::profile_source;
@@ -61,7 +63,7 @@ pub fn run<W: Output, E: Output>(
 {
     let options = Options {
         free: order.free,
-        attr: order.attr,
+        attr: false,
     };
     let answer = run_text(
         alloc,
@@ -120,4 +122,49 @@ pub fn profile<W: Output, E: Output>(
         complain(fault, complaints);
     }
     status(&answer)
+}
+
+// The most steps of a film whose words have no limit.
+const FILM_LIMIT: u32 = 100_000;
+
+/// Writes the film of a source's run, titled by the file's name. `is_limited` says whether the words have a limit.
+pub fn film<W: Output, E: Output>(
+    alloc: Global,
+    source: &[u8],
+    order: &Order,
+    is_limited: bool,
+    output: &mut W,
+    complaints: &mut E,
+) -> u8
+    ensures { result ≤ 5 }
+{
+    let title = order.file.unwrap_or("a2").as_bytes();
+    let limit = if is_limited { order.limit } else { FILM_LIMIT };
+    let answer = film_source(alloc, source, title, &order.keys, limit, order.free, output);
+    if let Err(fault) = answer {
+        complain(fault, complaints);
+    }
+    status(&answer)
+}
+
+/// Writes all refusals of a source, which is called `name`. The status is 1 where there is one.
+pub fn check<W: Output, E: Output>(
+    alloc: Global,
+    name: &str,
+    source: &[u8],
+    format: Format,
+    output: &mut W,
+    complaints: &mut E,
+) -> u8
+    ensures { result ≤ 5 }
+{
+    let Ok(refusals) = refusals_of(alloc, source) else {
+        return told(RunFault::Memory, complaints);
+    };
+    match put_refusals(alloc, name, source, refusals.as_slice(), format, output) {
+        Ok(()) if refusals.is_empty() => 0,
+        Ok(()) => 1,
+        Err(TellFault::Write) => told(RunFault::Write, complaints),
+        Err(TellFault::Memory) => told(RunFault::Memory, complaints),
+    }
 }

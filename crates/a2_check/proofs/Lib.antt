@@ -1,0 +1,4 @@
+pub mod Cuts
+pub mod First
+pub mod Numbering
+pub mod Telling

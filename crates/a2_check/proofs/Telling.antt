@@ -1,0 +1,33 @@
+-- Where a text is refused by its grammar, a line of it is not in the grammar.
+use Rattle.std.proofs.Common.{◌≡◌, ℕ, suc, ◌+◌, ◌-◌, ◌<◌, List, [], ◌∷◌, ◌++◌, length, map, get_or, Bor, Some, None, sym, ap, ◌∙◌, subst, inl, inr, arith, ◌⊎◌, length-append}
+use Rattle.std.specs.List.{Contains}
+use Rattle.std.proofs.Math.Seq.{get_or-append_seam}
+use Rattle.a2_text.specs.Lines.{lines}
+use Rattle.a2_syntax.specs.Bare.{BareLine}
+use Rattle.a2_syntax.specs.Grammar.{IsLine}
+use Rattle.a2_syntax.specs.Limits.{size_refusal}
+use Rattle.a2_syntax.specs.Sources.{FirstUnread, IsTextRefusal}
+use Rattle.a2_syntax.specs.declared.fault.Fault.{Fault}
+use Rattle.a2_syntax.specs.declared.fault.Fault.TheVariants.{Syntax}
+use Rattle.a2_check.specs.Unread.{IsNumber, IsRead, AreUnread}
+use Rattle.a2_check.specs.Refusals.{AreOfText}
+
+-- the first line that is not read has its number among them
+first-among : (texts : List (List ℕ)) (n : ℕ) (numbers : List ℕ) → FirstUnread texts n → AreUnread texts numbers → 0 < length numbers
+first-among texts n numbers (before, text, after, whole, number, read, fails) all =
+    let count : length texts ≡ length before + suc (length after) = ap length whole ∙ length-append before (text ∷ after) in
+    let index : n - 1 ≡ length before = omega (arith, number) in
+    let here : get_or texts (n - 1) [] ≡ text = ap (λ (x : List (List ℕ)). get_or x (n - 1) []) whole ∙ ap (λ (i : ℕ). get_or (before ++ text ∷ after) i []) index ∙ get_or-append_seam before text after [] in
+    let P : List ℕ → Type 0 = λ x. (line : BareLine) × IsLine x line in
+    elim (all.others n (omega (arith, number), omega (arith, number, count))) [
+      | inl (k, low, is) ↦ omega (arith, low)
+      | inr is ↦ let r = subst P here is in absurd (fails r.0 r.1)
+    ]
+
+pub of-grammar : (text : List ℕ) (texts : List (Bor (List ℕ))) (faults : List Fault) → map (λ x. x.now) texts ≡ lines text → size_refusal text ≡ None → (fault : Fault) × IsTextRefusal text fault
+    → (numbers : List ℕ) × (faults ≡ map Syntax numbers) × AreUnread (map (λ x. x.now) texts) numbers → AreOfText text faults
+of-grammar text texts faults e fits (fault, inl large) found = let never : Some fault ≡ None = sym large ∙ fits in cc
+of-grammar text texts faults e fits (fault, inr (_, n, is, first)) (numbers, shown, all) =
+    let P : List (List ℕ) → Type 0 = λ x. AreUnread x numbers in
+    let among = subst P e all in
+    inr (fits, (numbers, shown, first-among (lines text) n numbers first among, among))

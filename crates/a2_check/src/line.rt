@@ -1,0 +1,88 @@
+//! The parts of a line, as they were meant: of a line that is in the grammar and of one that is not.
+
+ghost use Rattle.std.specs.Prelude.{◌≤◌, length};
+
+use a2_text::{behind_blanks, capital, first_word, front_len, is_blank};
+
+/// The parts of a line. Places count from 0.
+#[derive(Clone, Copy)]
+pub(crate) struct Parts<'a> {
+    /// What begins in column 1, up to a blank or a comment.
+    pub label: &'a [u8],
+    /// The word behind it.
+    pub operation: &'a [u8],
+    /// Where that begins.
+    pub operation_at: usize,
+    /// What stands behind the operation, without a comment and without blanks at its end.
+    pub operand: &'a [u8],
+    /// Where that begins.
+    pub operand_at: usize,
+}
+
+// How long the operand at the front of a text is: up to a `;` outside quotes, without blanks at its end.
+fn operand_len(text: &[u8]) -> usize
+    ensures { result ≤ length text.now }
+{
+    let mut quote: Option<u8> = None;
+    let mut end = 0;
+    for (i, c) in text.iter().enumerate() {
+        if quote.is_none() && *c == b';' {
+            return end;
+        }
+        quote = quote_behind(quote, *c);
+        if !is_blank(*c) {
+            end = i + 1;
+        }
+    }
+    end
+}
+
+// The quote that is open behind a character.
+fn quote_behind(open: Option<u8>, c: u8) -> Option<u8> {
+    match open {
+        None if c == b'"' || c == b'\'' => Some(c),
+        Some(quote) if c == quote => None,
+        _ => open,
+    }
+}
+
+// A word at the front of a text, up to a blank or a comment, and what stands behind it.
+fn word_and_rest(text: &[u8]) -> (&[u8], &[u8]) {
+    text.split_at(front_len(text, |c| !is_blank(c) && c != b';'))
+}
+
+/// The parts of a line.
+pub(crate) fn parts_of(text: &[u8]) -> Parts<'_> {
+    let (label, rest) = word_and_rest(text);
+    let here = behind_blanks(rest);
+    let (operation, rest) = word_and_rest(here);
+    let there = behind_blanks(rest);
+    Parts {
+        label,
+        operation,
+        operation_at: text.len().saturating_sub(here.len()),
+        operand: &there[..operand_len(there)],
+        operand_at: text.len().saturating_sub(there.len()),
+    }
+}
+
+/// Whether a word is spelt by these capitals, in either case.
+pub(crate) fn is_spelt(word: &[u8], capitals: &[u8]) -> bool {
+    word.len() == capitals.len()
+        && word
+            .iter()
+            .zip(capitals)
+            .all(|(c, other)| capital(*c) == *other)
+}
+
+/// Whether a word is one of these, in either case; blanks stand between them.
+pub(crate) fn is_among(word: &[u8], words: &[u8]) -> bool {
+    let mut rest = words;
+    while let Some((first, behind)) = first_word(rest) {
+        if is_spelt(word, first) {
+            return true;
+        }
+        rest = behind;
+    }
+    false
+}
