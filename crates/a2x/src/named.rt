@@ -41,8 +41,7 @@ pub fn check_order(words: &[String]) -> Result<(Format, Option<&str>), WordsFaul
             Ok((format_named(format.as_str())?, None))
         }
         [_, option, format, file]
-            if option.as_str() == "--format" && !file.as_str().starts_with('-') =>
-        {
+            if option.as_str() == "--format" && !file.as_str().starts_with('-') => {
             Ok((format_named(format.as_str())?, Some(file.as_str())))
         }
         [_, file, option, format] if option.as_str() == "--format" => {

@@ -3,9 +3,9 @@
 ghost use Rattle.std.specs.Prelude.{◌≤◌, IfOk, IfErr};
 
 use crate::help::{put_page, put_use, put_version};
+use crate::named::{check_order, file_in};
 use crate::table::{Tool, Word, nearest, word_named};
 use crate::tools::{check, film, list, profile, run, told, trace, written};
-use crate::named::{check_order, file_in};
 use crate::words::{Misfit, Order, WordsFault, misfit_in, order_of};
 use a2_host::Shelf;
 use a2_manual::{manual, near, topic};
@@ -104,11 +104,7 @@ fn refused<E: Output>(word: &Word, words: &[String], fault: WordsFault, complain
             ],
             complaints,
         ),
-        WordsFault::Words => tell_misfit(
-            name,
-            misfit_in(words, word.runs),
-            complaints,
-        ),
+        WordsFault::Words => tell_misfit(name, misfit_in(words, word.runs), complaints),
     }
     2
 }
@@ -235,7 +231,15 @@ fn act<S: Shelf, R: Input, W: Output, E: Output>(
             Ok(order) => {
                 let text = text_of(alloc, order.file, shelf, input, complaints)?;
                 let is_limited = has_limit(words);
-                Ok(follow(word.tool, alloc, text.as_slice(), &order, is_limited, output, complaints))
+                Ok(follow(
+                    word.tool,
+                    alloc,
+                    text.as_slice(),
+                    &order,
+                    is_limited,
+                    output,
+                    complaints,
+                ))
             }
             Err(fault) => Err(refused(word, behind(words), fault, complaints)),
         },

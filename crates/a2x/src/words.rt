@@ -142,7 +142,11 @@ pub fn misfit_in(words: &[String], runs: bool) -> Misfit<'_> {
             return Misfit::Limit(text);
         }
         let is_value = next != Next::Word;
-        next = if is_value { Next::Word } else { next_behind(text, runs) };
+        next = if is_value {
+            Next::Word
+        } else {
+            next_behind(text, runs)
+        };
         if !is_value && next == Next::Word && is_strange(text, runs) {
             return Misfit::Option(text);
         }
