@@ -82,10 +82,7 @@ fn tell_misfit<E: Output>(name: &[u8], misfit: Misfit, complaints: &mut E) {
             complaints,
         ),
         Misfit::Files => tell(
-            &[
-                name,
-                b" takes one file, behind its options; one that begins with - behind --",
-            ],
+            &[name, b" takes one file, behind its options (a2x help)"],
             complaints,
         ),
     }
