@@ -49,38 +49,48 @@ fn text_of<S: Shelf, R: Input, E: Output>(
     }
 }
 
+// Tells that a word is no option of this word.
+fn tell_option<E: Output>(name: &[u8], option: &[u8], complaints: &mut E) {
+    tell(
+        &[
+            name,
+            b": ",
+            option,
+            b" is no option here (a2x help ",
+            name,
+            b")",
+        ],
+        complaints,
+    )
+}
+
+// Tells that an option has no value.
+fn tell_value<E: Output>(name: &[u8], option: &[u8], complaints: &mut E) {
+    tell(
+        &[name, b": ", option, b" stands without a value (a2x help)"],
+        complaints,
+    )
+}
+
+// Tells that a limit is none.
+fn tell_limit<E: Output>(name: &[u8], number: &[u8], complaints: &mut E) {
+    tell(
+        &[
+            name,
+            b": --limit ",
+            number,
+            b" is no number from 0 to 100000000",
+        ],
+        complaints,
+    )
+}
+
 // Tells what is wrong with the words behind a word.
 fn tell_misfit<E: Output>(name: &[u8], misfit: Misfit, complaints: &mut E) {
     match misfit {
-        Misfit::Option(text) => tell(
-            &[
-                name,
-                b": ",
-                text.as_bytes(),
-                b" is no option here (a2x help ",
-                name,
-                b")",
-            ],
-            complaints,
-        ),
-        Misfit::Value(option) => tell(
-            &[
-                name,
-                b": ",
-                option.as_bytes(),
-                b" stands without a value (a2x help)",
-            ],
-            complaints,
-        ),
-        Misfit::Limit(text) => tell(
-            &[
-                name,
-                b": --limit ",
-                text.as_bytes(),
-                b" is no number from 0 to 100000000",
-            ],
-            complaints,
-        ),
+        Misfit::Option(option) => tell_option(name, option.as_bytes(), complaints),
+        Misfit::Value(option) => tell_value(name, option.as_bytes(), complaints),
+        Misfit::Limit(number) => tell_limit(name, number.as_bytes(), complaints),
         Misfit::Files => tell(
             &[name, b" takes one file, behind its options (a2x help)"],
             complaints,
