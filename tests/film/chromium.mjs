@@ -31,7 +31,7 @@ export async function browser() {
     child.stdio[3].write(JSON.stringify({id, method, params, sessionId}) + '\0');
   });
   const until = async test => {
-    for (const begun = Date.now(); !events.some(test); await sleep(5)) if (Date.now() - begun > 60000) throw new Error('Chromium does not answer');
+    for (const begun = Date.now(); !events.some(test); await sleep(5)) if (Date.now() - begun > 300000) throw new Error('Chromium does not answer');
   };
 
   // A page in a tab of its own, of this size, and in light or dark colours.
