@@ -25,6 +25,8 @@ export async function browser() {
     }
     if (piece.length) rest.push(piece);
   });
+  // (a browser that ends is told by what waits for it)
+  for (const pipe of child.stdio.slice(3)) pipe.on('error', () => {});
   child.on('exit', () => { for (const [, failed] of waiting.values()) failed(new Error('Chromium has ended')); });
   const send = (method, params = {}, sessionId) => new Promise((done, failed) => {
     waiting.set(++id, [done, failed]);
