@@ -85,10 +85,10 @@ function rams(page, trace, steps) {
   return at;
 }
 
-// RAM where the Monitor has gone through the program, which lies where its object lines say.
-function monitor_ram(name, source) {
+// RAM where the Monitor has gone through the program from its start on.
+function monitor_ram(name, source, start) {
   const script = join(room, name + '.mon'), object = said(a2, 'asm', source);
-  writeFileSync(script, object + object.slice(0, 4) + 'G\n0.BFFF\n', 'latin1');
+  writeFileSync(script, object + start + 'G\n0.BFFF\n', 'latin1');
   const ram = new Uint8Array(END), told = said(a2, 'mon', script);
   for (const [, at, bytes] of told.slice(told.lastIndexOf('*0.BFFF')).matchAll(/^([0-9A-F]{4})-((?: [0-9A-F]{2})+)$/gm))
     Buffer.from(bytes.replaceAll(' ', ''), 'hex').copy(ram, parseInt(at, 16));
@@ -162,7 +162,7 @@ async function compare(chromium, {name, text, words}) {
   const wanted = text.split(/\r\n|\r|\n/).slice(0, shown.length).map(utf);
   if (shown.join('\n') != wanted.join('\n')) more.push('the source: ' + shown.find((line, i) => line != wanted[i]));
   if (!words.length && cause == 'STOP RETURNED') {
-    const end = monitor_ram(name, source), here = ram.get(last), other = here.findIndex((byte, at) => byte != end[at] && (at < 0x1F0 || at > 0x1FF));
+    const end = monitor_ram(name, source, film.match(/^R (....) /m)[1]), here = ram.get(last), other = here.findIndex((byte, at) => byte != end[at] && (at < 0x1F0 || at > 0x1FF));
     if (other >= 0) more.push(`the Monitor shows ${hex(end[other], 2)} at $${hex(other, 4)}, the film ${hex(here[other], 2)}`);
   }
   told(name, [...more, ...page.faults()]);
