@@ -9,7 +9,7 @@ pub const HEAD: &str = r##"<!DOCTYPE html>
 <title>A run</title>
 <style>
 :root{color-scheme:light;--bg:#f5f3ed;--fg:#1c1b18;--dim:#5a564c;--line:#d5d0c2;--edge:#8a8576;--card:#fff;--acc:#0b5c8a;--on:#fff;--now:#ffe08a;--last:#dcebf5;--chg:#b3261e;--ok:#1a6b34;--heat:214,110,20}
-:root.dark{color-scheme:dark;--bg:#15171a;--fg:#ebe8e1;--dim:#aaa598;--line:#383c42;--edge:#7b7f86;--card:#1f2226;--acc:#7cc4f0;--on:#10222e;--now:#6b5200;--last:#1d3646;--chg:#ff9d94;--ok:#7fd69a;--heat:255,160,70}
+:root.dark{color-scheme:dark;--bg:#15171a;--fg:#ebe8e1;--dim:#aaa598;--line:#383c42;--edge:#7b7f86;--card:#1f2226;--acc:#7cc4f0;--on:#10222e;--now:#6b5200;--last:#1d3646;--chg:#ff9d94;--ok:#7fd69a;--heat:205,110,35}
 *{box-sizing:border-box}
 html{scroll-padding:var(--hh,0) 0 var(--pb,0)}
 body{margin:0;background:var(--bg);color:var(--fg);font:16px/1.4 system-ui,sans-serif}
@@ -159,7 +159,8 @@ const cutc=t=>{let q="";for(let i=0;i<t.length;i++){if(q){if(t[i]==q)q=""}else i
 F.source.forEach((t,i)=>{const s=byline[i+1],tr=T_.createElement("tr"),j=t[0]=="*"?0:cutc(t);
 code.push((/^\S/.test(t)?t.slice(0,j).replace(/^\S+/,""):t.slice(0,j)).trim().replace(/\s+/g," "));
 const b=s?s[2].match(/../g)||[]:[];
-tr.innerHTML='<td class="h"><td>'+(i+1)+"<td>"+(s?hx(s[1],4):"")+"<td>"+b.slice(0,3).join(" ")+(b.length>3?"\u2026":"")+"<td>"+esc(t.slice(0,j))+"<i>"+esc(t.slice(j))+"</i>";
+tr.innerHTML='<td class="h"><td>'+(i+1)+"<td>"+(s?hx(s[1],4):"")+"<td>"+b.slice(0,3).join(" ")+(b.length>3?"\u2026":"")+"<td><i></i>";
+tr.lastChild.prepend(t.slice(0,j));tr.lastChild.lastChild.textContent=t.slice(j);
 if(s&&came(s[1])&&LINE[s[1]]==i+1){tr.className="x";tr.tabIndex=-1;tr.onclick=()=>mark(i+1);xs.push(i+1);tell(tr,i+1)}
 rows.push(tr)});
 $("lines").append(...rows);

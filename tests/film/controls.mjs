@@ -1,0 +1,124 @@
+// The controls of a film's page, by keyboard: node controls.mjs FILM.html [PICTURES], where the film is that of
+// examples/sieve.s, and PICTURES a folder that takes a picture of each width and colour scheme. It takes no text whose
+// contrast is below what WCAG calls AA, and nothing wider than the window. The last line is 'N passed, M failed'.
+import {join, resolve} from 'node:path';
+import {browser} from './chromium.mjs';
+
+const [file, pictures] = process.argv.slice(2), url = 'file://' + resolve(file);
+let passed = 0, failed = 0;
+const told = (what, is, wanted) => {
+  if (String(is) === String(wanted)) passed++; else { failed++; console.log(`FAILED: ${what}: ${is}, and not ${wanted}`); }
+};
+const sleep = time => new Promise(done => setTimeout(done, time));
+const chromium = await browser();
+
+// ---- each key, and each control by Tab and Enter
+const page = await chromium.open(url + '#step=401&bp=24,34');
+const is = async (what, expression, wanted) => told(what, await page.value(expression), wanted);
+await is('the step of the link', 'at', 401);
+await is('the breakpoints of the link', '[...bps].map(a=>LINE[a])', '24,34');
+for (const [key, modifiers, wanted] of [['ArrowRight', 0, 402], ['ArrowLeft', 0, 401], ['ArrowRight', 8, 411], ['ArrowLeft', 8, 401], ['Home', 0, 0], ['ArrowLeft', 0, 0]]) {
+  await page.key(key, modifiers);
+  await is(`${modifiers ? 'Shift ' : ''}${key}`, 'at', wanted);
+}
+await page.key('End');
+await is('End', 'at==N', true);
+await page.key('ArrowRight');
+await is('no step behind the end', 'at==N', true);
+await is('the cause in words', '$("say").textContent.includes(F.stop+": "+STOP[F.stop])', true);
+await page.value('go(200)');
+await page.key('b');
+await is('b', 'bps.has(PC[at])&&at>200', true);
+await page.key('B');
+await is('B', 'at<200&&(at==0||bps.has(PC[at]))', true);
+await page.value('bps.clear();at_=[...Array(N).keys()].find(k=>ram[0]+1&&LINE[PC[k]]&&F.source[LINE[PC[k]]-1].includes("JSR"));go(at_)');
+await page.key('o');
+await is('o goes over a call', 'at>at_+1&&REG.s[at]==REG.s[at_]', true);
+await page.key('O');
+await is('O goes back over it', 'at==at_', true);
+await page.key('x');
+await is('x sets a breakpoint', 'bps.size', 1);
+await page.key('x');
+await is('x takes it away', 'bps.size', 0);
+await page.key('/');
+await page.type('256');
+await page.key('Enter');
+await is('/ and a number', 'at', 256);
+await page.value('a_=ADR[FIRST[500]-1],k_=stepOf(FIRST[500]-1);go(500);pick(a_)');
+await page.key('w');
+await is('w goes to the step that stored it', 'at==k_', true);
+await page.key('r');
+await is('r returns', 'at', 500);
+await page.key('n');
+await is('n goes to the next store', 'at>500?ADR.slice(FIRST[at],FIRST[at+1]).includes(a_):find(1,501)==0', true);
+await page.value('location.hash="#step=77"');
+await sleep(100);
+await is('a link of the page', 'at', 77);
+await page.value('$("speed").value=60');
+await page.key(' ');
+await sleep(700);
+await page.key(' ');
+await is('Space plays and stops', '[at>77,timer]', 'true,0');
+await page.value('go(0);document.activeElement.blur()');
+const reached = [];
+for (let i = 0; i < 60; i++) {
+  await page.key('Tab');
+  const name = await page.value('(e=>e==document.body?"":e.id||(e.dataset.r?"register "+e.dataset.r:e.textContent))(document.activeElement)');
+  if (name && reached.includes(name)) break;
+  reached.push(name);
+}
+await is('Tab comes to each control', `[...document.querySelectorAll("button,input,select,a")].filter(e=>e.offsetParent&&!${JSON.stringify(reached)}.includes(e.id||(e.dataset.r?"register "+e.dataset.r:e.textContent))).map(e=>e.id||e.outerHTML)`, '');
+for (const [name, start, wanted] of [['f1', 5, 'at==6'], ['b1', 5, 'at==4'], ['home', 5, 'at==0'], ['end', 5, 'at==N'], ['over', 5, 'at>5'], ['run', 5, 'bps.has(PC[at])||at==N'],
+  ['back', 50, 'at<50'], ['dark', 5, 'document.documentElement.classList.contains("dark")'], ['pgm', 5, 'page==pg_-1'], ['pgp', 5, 'page==pg_+1']]) {
+  await page.value(`go(${start});bps.clear();bps.add(PC[20]);pg_=page;$("${name}").focus()`);
+  await page.key('Enter');
+  await is(`Enter on ${name}`, wanted, true);
+}
+await page.value('bps.clear();$("play").focus()');
+await page.key('Enter');
+await sleep(100);
+await is('Enter on play', 'timer>0', true);
+await page.key('Enter');
+await is('Enter on play again', 'timer', 0);
+await page.value('go(9);$("src").focus()');
+await page.key('ArrowDown');
+await page.key('Enter');
+await is('Enter on a line of the program', 'bps.size', 1);
+await page.value('pick(0x405);tds[5].focus()');
+await page.key('ArrowRight');
+await is('an arrow in memory', '[sel,at]', '1030,9');
+await page.value('$("adr").select()');
+await page.type('$10');
+await page.key('Enter');
+await is('a byte by its address', 'sel', 16);
+await page.value('document.activeElement.blur();go(N);cv.scrollIntoView()');
+const box = JSON.parse(await page.value('JSON.stringify(cv.getBoundingClientRect())'));
+await page.click(box.x + 3, box.y + 5);
+await is('a click on the screen', 'sel', 1024);
+await is('each control has a name', '[...document.querySelectorAll("button,input,select")].filter(e=>!(e.textContent.trim()||e.getAttribute("aria-label")||e.labels?.length)).length', 0);
+told('errors and requests', page.faults(), '');
+
+// ---- two widths and two colour schemes
+
+// Texts whose contrast is too low: the colour of each against what lies below it.
+const LOW = `(()=>{const part=t=>(t.match(/[\\d.]+/g)||[0,0,0,0]).map(Number),over=(c,b)=>{const a=c[3]??1;return[0,1,2].map(i=>c[i]*a+b[i]*(1-a))};
+  const light=c=>{const q=c.map(v=>(v/=255)<=.03928?v/12.92:((v+.055)/1.055)**2.4);return .2126*q[0]+.7152*q[1]+.0722*q[2]};
+  const ground=e=>{const c=part(getComputedStyle(e).backgroundColor);return(c[3]??1)==1||!e.parentElement?over(c,[255,255,255]):over(c,ground(e.parentElement))};
+  const low=[];for(const e of document.querySelectorAll("body *")){if(![...e.childNodes].some(n=>n.nodeType==3&&n.data.trim())||!e.getClientRects().length||e.closest("script,option,#scrt"))continue;
+    const s=getComputedStyle(e),b=ground(e),l=[light(over(part(s.color),b)),light(b)].sort((x,y)=>y-x),r=(l[0]+.05)/(l[1]+.05),big=parseFloat(s.fontSize)>=(s.fontWeight>=700?18.66:24);
+    if(r<(big?3:4.5))low.push(e.tagName+(e.id?"#"+e.id:"")+" "+e.textContent.slice(0,20)+" "+r.toFixed(2))}return low})()`;
+for (const [width, height] of [[1280, 900], [390, 844]]) for (const dark of [false, true]) {
+  const name = `${width}-${dark ? 'dark' : 'light'}`, view = await chromium.open(url + '#step=401&bp=24', {width, height, dark});
+  told(`${name}: wider than the window`, await view.value('document.documentElement.scrollWidth-document.documentElement.clientWidth'), 0);
+  for (const step of [0, 401, 'N']) {
+    await view.value(`go(${step});pick(ADR[0]);sel=ADR[0];show()`);
+    told(`${name}, step ${step}: contrast`, await view.value(LOW), '');
+  }
+  await view.value('go(401)');
+  if (pictures) await view.picture(join(pictures, name + '.png'), width < 500);
+  told(`${name}: errors and requests`, view.faults(), '');
+  await view.close();
+}
+await chromium.close();
+console.log(`${passed} passed, ${failed} failed`);
+process.exit(failed ? 1 : 0);
