@@ -5,6 +5,7 @@ ghost use Rattle.std.specs.Prelude.{◌≤◌, IfOk, IfErr};
 use crate::help::{put_page, put_use, put_version};
 use crate::named::{check_order, file_in};
 use crate::table::{Tool, Word, nearest, word_named};
+use crate::terminal::mon;
 use crate::tools::{check, film, list, profile, run, told, trace, written};
 use crate::words::{Misfit, Order, WordsFault, misfit_in, order_of};
 use a2_host::Shelf;
@@ -209,6 +210,7 @@ fn act<S: Shelf, R: Input, W: Output, E: Output>(
     alloc: Global,
     word: &Word,
     words: &[String],
+    prompts: bool,
     shelf: &mut S,
     input: &mut R,
     output: &mut W,
@@ -231,6 +233,15 @@ fn act<S: Shelf, R: Input, W: Output, E: Output>(
             Ok(file) => {
                 let text = text_of(alloc, file, shelf, input, complaints)?;
                 Ok(list(alloc, text.as_slice(), output, complaints))
+            }
+            Err(fault) => Err(refused(word, behind(words), fault, complaints)),
+        },
+        Tool::Mon => match file_in(words) {
+            Ok(None) => Ok(mon(alloc, None, prompts, input, output, complaints)),
+            Ok(file) => {
+                let text = text_of(alloc, file, shelf, input, complaints)?;
+                let text = Some(text.as_slice());
+                Ok(mon(alloc, text, prompts, input, output, complaints))
             }
             Err(fault) => Err(refused(word, behind(words), fault, complaints)),
         },
@@ -261,6 +272,17 @@ fn behind(words: &[String]) -> &[String] {
     }
 }
 
+/// Whether the words ask for a session whose lines someone may type.
+pub fn talks(words: &[String]) -> bool {
+    match words {
+        [_, word, ..] => match word_named(word.as_str()) {
+            Some(found) => matches!(found.tool, Tool::Mon),
+            None => false,
+        },
+        _ => false,
+    }
+}
+
 // Whether the words have a limit.
 fn has_limit(words: &[String]) -> bool {
     for word in words {
@@ -277,6 +299,7 @@ fn has_limit(words: &[String]) -> bool {
 pub fn obey<S: Shelf, R: Input, W: Output, E: Output>(
     alloc: Global,
     words: &[String],
+    prompts: bool,
     shelf: &mut S,
     input: &mut R,
     output: &mut W,
@@ -292,7 +315,9 @@ pub fn obey<S: Shelf, R: Input, W: Output, E: Output>(
         }
         [word, rest @ ..] => match word_named(word.as_str()) {
             Some(found) if asks_for_help(rest) => written(put_use(&found, output), complaints),
-            Some(found) => match act(alloc, &found, words, shelf, input, output, complaints) {
+            Some(found) => match act(
+                alloc, &found, words, prompts, shelf, input, output, complaints,
+            ) {
                 Ok(status) | Err(status) => status,
             },
             None => answer(alloc, word.as_str(), output, complaints),
