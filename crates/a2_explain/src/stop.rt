@@ -122,24 +122,86 @@ fn put_stop<A: Allocator, W: Output>(
     put(b"\n", writer)
 }
 
-// Writes what pushed the address that an RTS went to, if that was the step behind this many, with these registers before it.
-fn put_pushes<A: Allocator + Copy, W: Output>(
+// What the steps of a run pushed up to this one, of the last 100,000.
+fn pushes_before<A: Allocator + Copy>(
+    alloc: A,
+    program: &Program<A>,
+    keys: &Keys,
+    free: bool,
+    steps: u32,
+) -> Result<Pushes<A>, RunFault> {
+    let watched = steps.min(WATCHED);
+    let mut machine = rerun(alloc, program, keys, free, steps - watched)?;
+    let mut pushes = Pushes::new(alloc)?;
+    pushes.watch(&mut machine, watched);
+    Ok(pushes)
+}
+
+// Where a run stopped, why, and how many steps it made.
+#[derive(Clone, Copy)]
+struct Stop {
+    pc: u16,
+    cause: Cause,
+    steps: u32,
+}
+
+// The stop of a program's run.
+fn stop_of<A: Allocator + Copy>(
+    alloc: A,
+    program: &Program<A>,
+    keys: &Keys,
+    limit: u32,
+    free: bool,
+) -> Result<Stop, RunFault> {
+    let mut machine = started(alloc, program, keys, free)?;
+    let cause = machine.run(limit);
+    Ok(Stop {
+        pc: machine.regs().pc,
+        cause,
+        steps: u32::try_from(machine.steps()).unwrap_or(limit),
+    })
+}
+
+// Writes which step of the source was the last before a stop, and where that led out of the source by an RTS, what pushed the
+// bytes that it pulled.
+fn put_way<A: Allocator + Copy, W: Output>(
     alloc: A,
     scene: &Scene<A>,
     keys: &Keys,
     free: bool,
-    steps: u32,
-    regs: Regs,
+    stop: Stop,
     writer: &mut W,
 ) -> Result<(), RunFault> {
-    if returns(scene.program, regs.pc) {
-        let watched = steps.min(WATCHED);
-        let mut machine = rerun(alloc, scene.program, keys, free, steps - watched)?;
-        let mut pushes = Pushes::new(alloc)?;
-        pushes.watch(&mut machine, watched);
+    let Some((before, regs)) = last_of_source(alloc, scene.program, keys, free, stop.steps)? else {
+        return Ok(());
+    };
+    put_last(scene, before, regs.pc, writer)?;
+    let is_outside = statement_at(scene.program.statements(), stop.pc).is_none();
+    if is_outside && returns(scene.program, regs.pc) {
+        let pushes = pushes_before(alloc, scene.program, keys, free, before)?;
         put_pulled(scene, &pushes, regs.s, writer)?;
     }
     Ok(())
+}
+
+// Writes why the run of a program stops.
+fn explain<A: Allocator + Copy, W: Output>(
+    alloc: A,
+    scene: &Scene<A>,
+    keys: &Keys,
+    limit: u32,
+    free: bool,
+    writer: &mut W,
+) -> Result<(), RunFault> {
+    let stop = stop_of(alloc, scene.program, keys, limit, free)?;
+    if matches!(stop.cause, Cause::Returned | Cause::Brk) {
+        return Ok(());
+    }
+    put_stop(scene, stop.pc, stop.cause, writer)?;
+    if matches!(stop.cause, Cause::Limit) {
+        return Ok(());
+    }
+    put_way(alloc, scene, keys, free, stop, writer)
 }
 
 /// Writes why the run of a source stops, in lines that begin with `a2x: `: the cause, what stands at PC, the last step of the
@@ -160,22 +222,5 @@ pub fn explain_stop<A: Allocator + Copy, W: Output>(
         program: &program,
         lines: lines.as_slice(),
     };
-    let mut machine = started(alloc, &program, keys, free)?;
-    let cause = machine.run(limit);
-    if matches!(cause, Cause::Returned | Cause::Brk) {
-        return Ok(());
-    }
-    let pc = machine.regs().pc;
-    put_stop(&scene, pc, cause, writer)?;
-    let steps = u32::try_from(machine.steps()).unwrap_or(limit);
-    if matches!(cause, Cause::Limit) {
-        return Ok(());
-    }
-    if let Some((before, regs)) = last_of_source(alloc, &program, keys, free, steps)? {
-        put_last(&scene, before, regs.pc, writer)?;
-        if statement_at(program.statements(), pc).is_none() {
-            put_pushes(alloc, &scene, keys, free, before, regs, writer)?;
-        }
-    }
-    Ok(())
+    explain(alloc, &scene, keys, limit, free, writer)
 }

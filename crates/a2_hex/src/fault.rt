@@ -1,9 +1,9 @@
 //! Why object lines are refused.
 
-ghost use Rattle.std.specs.Prelude.{◌≡◌, Some};
+ghost use Rattle.std.specs.Prelude.{◌≡◌, ◌≤◌, Some, length};
 ghost use Rattle.a2_hex.specs.Texts.{hex_fault_line, hex_fault_words, hex_fault_text};
 
-use a2_text::Refusal;
+use a2_text::{RefusalText, refusal_text};
 use std::alloc::{AllocError, AllocFailed};
 use std::error::Error;
 use std::fmt;
@@ -32,9 +32,10 @@ impl HexFault {
         }
     }
 
-    // The text of a refusal, behind its line.
-    fn text(&self) -> &'static str
-        ensures { result.now ≡ hex_fault_words self.now }
+    // What a refusal says behind its line.
+    fn words(&self) -> &'static str
+        ensures said { result.now ≡ hex_fault_words self.now }
+        ensures short { length result.now ≤ 22 }
     {
         match self {
             HexFault::Digit(_) => "H1 NOT HEX",
@@ -43,18 +44,20 @@ impl HexFault {
             HexFault::Memory => "NO MEMORY",
         }
     }
+
+    /// How the refusal is spelt: `LINE `, the line and a blank, where it is of a line, and what it says.
+    pub fn text(&self) -> RefusalText
+        ensures { result.bytes ≡ hex_fault_text self.now }
+    {
+        refusal_text(self.line(), self.words())
+    }
 }
 
-/// `LINE `, the line and a blank, where the refusal is of a line, and its text.
 impl fmt::Display for HexFault {
     ghost output = { λ fault. Some (hex_fault_text fault) };
 
     fn fmt<W: fmt::Write>(&self, f: &mut fmt::Formatter<W>) -> fmt::Result {
-        Refusal {
-            line: self.line(),
-            text: self.text(),
-        }
-        .fmt(f)
+        f.write_str(self.text().as_str())
     }
 }
 

@@ -9,7 +9,7 @@ use Rattle.a2_opcode.specs.declared.Row.{Row}
 use Rattle.a2_opcode.specs.declared.table.TheConstants.{ROWS, OPCODES}
 use Rattle.a2_opcode.specs.declared.names.TheConstants.{MNEMONICS}
 use Rattle.a2_opcode.specs.Table.{row, row_of, table, mnemonic_number, mode_number}
-use Rattle.a2_opcode.specs.Entries.{entry_at, opcode_at}
+use Rattle.a2_opcode.specs.Entries.{entry_at, opcode_at, opcode_in_table}
 use Rattle.a2_opcode.proofs.Lookup.{modes, mnemonic-at, mode-at, mode_few, mnemonic_few, row-is, row_of-only}
 
 -- so many numbers from the first on
@@ -33,10 +33,6 @@ unfolding entry_at
 entry_at_is opcode h =
     ap (λ (l : List (Option Row)). slice_index_or l opcode None) listed ∙ entry row_of 0 256 opcode h ∙ ap row_of (omega arith)
 
--- the opcode of a form, if the table has it
-abbrev opcode_in_table : Mnemonic → Mode → Option ℕ
-opcode_in_table mnemonic mode = option_map (λ (r : Row). r.opcode) (row mnemonic mode)
-
 forms_listed : OPCODES ≡ map (λ mnemonic. map (opcode_in_table mnemonic) modes) MNEMONICS
 unfolding row table
 forms_listed = refl
@@ -47,7 +43,8 @@ mapped f [] k d e h = absurd (omega (arith, h))
 mapped f (x ∷ xs) zero d e h = refl
 mapped f (x ∷ xs) (suc k) d e h = mapped f xs k d e (omega (arith, h))
 
-opcode_at-listed : (mnemonic : Mnemonic) (mode : Mode) → opcode_at mnemonic mode ≡ opcode_in_table mnemonic mode
+-- the entry of a form is its opcode in the table
+pub opcode_at-listed : (mnemonic : Mnemonic) (mode : Mode) → opcode_at mnemonic mode ≡ opcode_in_table mnemonic mode
 unfolding opcode_at
 opcode_at-listed mnemonic mode =
     ap (λ (l : List (List (Option ℕ))). slice_index_or (slice_index_or l (mnemonic_number mnemonic) []) (mode_number mode) None) forms_listed
@@ -67,11 +64,10 @@ of_none : (found : Option Row) → option_map (λ (r : Row). r.opcode) found ≡
 of_none None is = refl
 of_none (Some r) is = cc
 
--- a form's row is that of its opcode in the array, if it has one there
-pub row_by_opcode : (mnemonic : Mnemonic) (mode : Mode) (opcode : ℕ) → opcode_at mnemonic mode ≡ Some opcode
+-- a form's row is that of its opcode, if it has one
+pub row_by_opcode : (mnemonic : Mnemonic) (mode : Mode) (opcode : ℕ) → opcode_in_table mnemonic mode ≡ Some opcode
     → row_of opcode ≡ row mnemonic mode
-row_by_opcode mnemonic mode opcode e =
-    of_some mnemonic mode opcode (row mnemonic mode) refl (sym (opcode_at-listed mnemonic mode) ∙ e)
+row_by_opcode mnemonic mode opcode e = of_some mnemonic mode opcode (row mnemonic mode) refl e
 
-pub no_row_without : (mnemonic : Mnemonic) (mode : Mode) → opcode_at mnemonic mode ≡ None → None ≡ row mnemonic mode
-no_row_without mnemonic mode e = of_none (row mnemonic mode) (sym (opcode_at-listed mnemonic mode) ∙ e)
+pub no_row_without : (mnemonic : Mnemonic) (mode : Mode) → opcode_in_table mnemonic mode ≡ None → None ≡ row mnemonic mode
+no_row_without mnemonic mode e = of_none (row mnemonic mode) e

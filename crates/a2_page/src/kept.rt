@@ -3,7 +3,9 @@
 ghost use Rattle.std.specs.Prelude.{◌≡◌, ◌<◌, ◌↔◌, ℕ, true, slice_set, slice_index_or, [], length, filter};
 ghost use Rattle.a2_stream.specs.Stream.{SendsOrBreaks};
 ghost use Rattle.a2_page.specs.Kept.{FitsPage, IsStale, IsCompared, is_row_marked, with_row_marked, after_switch, after_refresh, marked_rows};
+ghost use Rattle.a2_page.specs.Grid.{Grid};
 ghost use Rattle.a2_page.specs.Picture.{page_grid, picture, attribute_rows, shown_by};
+ghost use Rattle.a2_page.specs.Told.{ToldPicturesFit};
 
 use crate::View;
 use crate::cells::{cell, row_offset};
@@ -55,9 +57,10 @@ fn count_marks(marks: &[bool; 24]) -> u8
 }
 
 impl Picture {
-    /// A picture of which every row is marked.
+    /// A picture of which every row is marked; so it fits any page.
     pub fn new() -> Picture
-        ensures { (row : ℕ) → row < 24 → is_row_marked result row ≡ true }
+        ensures marked { (row : ℕ) → row < 24 → is_row_marked result row ≡ true }
+        ensures fits { (page : Grid) → FitsPage result page }
     {
         Picture {
             page: [0; 1024],
@@ -83,7 +86,7 @@ impl Picture {
         }
     }
 
-    /// Takes note that a display switch was changed: every row is marked.
+    /// Takes note that a display switch was changed: every row is marked; so the picture fits any page.
     pub fn switched(&mut self)
         ensures { self.new ≡ after_switch self.old }
     {
@@ -180,3 +183,10 @@ impl Picture {
         put_text_rows(&self.page, view.switches, Mark::Attribute, writer)
     }
 }
+
+/// A law: a picture that fits, and is told of each store by `stored` and of each change of the switches by `switched`, goes
+/// on to fit, whatever was stored where and however the switches were set, in any order; so what it prints is what
+/// [`print`](crate::print) prints. The call does nothing.
+pub fn told_pictures_fit()
+    ensures { ToldPicturesFit }
+{}

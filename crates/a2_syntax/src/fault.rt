@@ -1,9 +1,9 @@
 //! Why a source text is refused.
 
-ghost use Rattle.std.specs.Prelude.{◌≡◌, Some};
+ghost use Rattle.std.specs.Prelude.{◌≡◌, ◌≤◌, Some, length};
 ghost use Rattle.a2_syntax.specs.Texts.{fault_line, fault_words, fault_text};
 
-use a2_text::Refusal;
+use a2_text::{RefusalText, refusal_text};
 use std::alloc::{AllocError, AllocFailed};
 use std::error::Error;
 use std::fmt;
@@ -61,9 +61,10 @@ impl Fault {
         }
     }
 
-    // The text of a refusal, behind its line.
-    fn text(&self) -> &'static str
-        ensures { result.now ≡ fault_words self.now }
+    // What a refusal says behind its line.
+    fn words(&self) -> &'static str
+        ensures said { result.now ≡ fault_words self.now }
+        ensures short { length result.now ≤ 22 }
     {
         match self {
             Fault::TooLarge(_) => "E1 TOO LARGE",
@@ -81,18 +82,20 @@ impl Fault {
             Fault::Memory => "NO MEMORY",
         }
     }
+
+    /// How the refusal is spelt: `LINE `, the line and a blank, where it is of a line, and what it says.
+    pub fn text(&self) -> RefusalText
+        ensures { result.bytes ≡ fault_text self.now }
+    {
+        refusal_text(usize::from(self.line()), self.words())
+    }
 }
 
-/// `LINE `, the line and a blank, where the refusal is of a line, and its text.
 impl fmt::Display for Fault {
     ghost output = { λ fault. Some (fault_text fault) };
 
     fn fmt<W: fmt::Write>(&self, f: &mut fmt::Formatter<W>) -> fmt::Result {
-        Refusal {
-            line: usize::from(self.line()),
-            text: self.text(),
-        }
-        .fmt(f)
+        f.write_str(self.text().as_str())
     }
 }
 

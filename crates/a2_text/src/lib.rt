@@ -10,5 +10,5 @@ mod words;
 pub use digits::{decimal, hex_pair, hex_word};
 pub use lines::cut;
 pub use numbers::{capital, is_blank, number_in};
-pub use refusal::Refusal;
+pub use refusal::{RefusalText, refusal_text};
 pub use words::{behind_blanks, first_word, front_len};

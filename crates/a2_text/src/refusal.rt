@@ -1,27 +1,26 @@
 //! A refusal as it is shown.
 
-ghost use Rattle.std.specs.Prelude.{Some};
+ghost use Rattle.std.specs.Prelude.{◌≡◌, ◌≤◌, length};
 ghost use Rattle.a2_text.specs.Refusals.{of_line};
 
-use std::fmt;
+use arrayvec::ArrayString;
+use itoa::Buffer;
 
-/// A refusal's text, and the line that is refused, counted from 1; 0 where it is of no line.
-#[derive(Clone, Copy)]
-pub struct Refusal<'a> {
-    pub line: usize,
-    pub text: &'a str,
-}
+/// A refusal as it is shown: `LINE `, at most 20 digits, a blank, and words of at most 22 bytes.
+pub type RefusalText = ArrayString<48>;
 
-/// `LINE `, the line and a blank, where the refusal is of a line, and its text. This project's profile.
-impl fmt::Display for Refusal<'_> {
-    ghost output = { λ refusal. Some (of_line refusal.line refusal.text.now) };
-
-    fn fmt<W: fmt::Write>(&self, f: &mut fmt::Formatter<W>) -> fmt::Result {
-        let Refusal { line, text } = *self;
-        if line == 0 {
-            f.write_str(text)
-        } else {
-            write!(f, "LINE {line} {text}")
-        }
+/// `LINE `, the line and a blank, where the refusal is of a line, and its words, at most 22 bytes. A line counts from 1, and 0
+/// is no line. This project's profile.
+pub fn refusal_text(line: usize, words: &str) -> RefusalText
+    requires { length words.now ≤ 22 }
+    ensures { result.bytes ≡ of_line line words.now }
+{
+    let mut text = RefusalText::new();
+    if line > 0 {
+        text.push_str("LINE ");
+        text.push_str(Buffer::new().format(line));
+        text.push_str(" ");
     }
+    text.push_str(words);
+    text
 }
