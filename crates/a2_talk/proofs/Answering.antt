@@ -1,7 +1,7 @@
 -- Lines that are answered one after another.
-use Rattle.std.specs.Prelude.{IsErr, codes}
-use Rattle.std.specs.Io.KnownBytes.{IsAtEnd, Keeps}
-use Rattle.std.proofs.Common.{◌≡◌, ℕ, ◌<◌, ◌≤◌, List, [], ◌∷◌, ◌++◌, length, Option, Some, None, Result, Ok, Err, refl, sym, ap, ◌∙◌, subst, inl, inr, arith}
+use Rattle.std.specs.Prelude.{codes}
+use Rattle.std.specs.Io.KnownBytes.{IsAtEnd}
+use Rattle.std.proofs.Common.{◌≡◌, ℕ, List, [], ◌∷◌, ◌++◌, Option, Some, None, Result, Ok, Err, refl, sym, ap, ◌∙◌, subst, inl, inr}
 use Rattle.std.proofs.lemmas.List.{append_assoc, append-nil}
 use Rattle.a2_text.specs.Lines.{lines}
 use Rattle.a2_stream.specs.Stream.{Taker, Giver, Sends, Breaks, SendsOrBreaks}
@@ -12,7 +12,6 @@ use Rattle.a2_talk.specs.declared.fault.TalkFault.TheVariants.{Read, Write, Endl
 use Rattle.a2_talk.specs.declared.hearing.Heard.{Heard}
 use Rattle.a2_talk.specs.declared.hearing.Heard.TheVariants.{Line, Long, End}
 use Rattle.a2_talk.specs.Hearing.{Loses, IsHeard, IsTextOf}
-use Rattle.a2_talk.proofs.Pieces.{heard-some}
 use Rattle.a2_talk.specs.Turns.{RepliesTo, MeetsOr, AreAnswered, Told, IsTalk, IsQuit, closing}
 
 pub loses-nil : (a : Option (List ℕ)) → Loses a a []

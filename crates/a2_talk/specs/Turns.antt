@@ -1,8 +1,7 @@
 -- A session: lines that are answered one after another, each behind a prompt. This project's profile.
-use Rattle.std.specs.Prelude.{◌≡◌, ◌⊎◌, ℕ, ◌<◌, ◌≤◌, ◌==◌, List, [], ◌∷◌, ◌++◌, length, map, codes, Option, Some, None, Result, Ok, Err, if◌then◌else◌}
+use Rattle.std.specs.Prelude.{◌≡◌, ◌⊎◌, ℕ, ◌<◌, ◌≤◌, ◌==◌, List, [], ◌∷◌, ◌++◌, length, map, codes, Option, Result, Ok, Err, if◌then◌else◌}
 use Rattle.std.specs.Io.KnownBytes.{IsAtEnd}
 use Rattle.a2_text.specs.Bytes.{capital}
-use Rattle.a2_text.specs.Lines.{lines}
 use Rattle.a2_stream.specs.Stream.{Taker, Giver, Sends, Breaks, SendsOrBreaks}
 use Rattle.a2_stream.specs.declared.WriteFault.{WriteFault}
 use Rattle.a2_talk.specs.declared.fault.TalkFault.{TalkFault}

@@ -1,6 +1,5 @@
-use Rattle.std.proofs.Common.{◌≡◌, ℕ, List, [], arith, rules, ◌∙◌, sym, ap, true, false}
+use Rattle.std.proofs.Common.{arith, ◌∙◌, sym}
 use Rattle.std.proofs.lemmas.Bool.{false≢true}
-use Rattle.a2_talk.specs.declared.hearing.Ending.TheVariants.{Input}
 use Rattle.a2_talk.proofs.Pieces.{heard-line, heard-long}
 use Rattle.a2_talk.proofs.hearing.hear.Goals as goal
 

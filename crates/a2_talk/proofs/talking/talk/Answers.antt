@@ -1,8 +1,7 @@
-use Rattle.std.proofs.Common.{◌≡◌, ℕ, List, Ok, subst, sym, ◌∙◌, ap, arith, rules}
+use Rattle.std.proofs.Common.{ℕ, List, subst, sym}
 use Rattle.std.proofs.lemmas.Result.{err_from_is_err_and}
-use Rattle.a2_talk.specs.declared.hearing.Heard.{Heard}
-use Rattle.a2_talk.specs.Hearing.{IsHeard, IsTextOf}
-use Rattle.a2_talk.specs.Turns.{MeetsOr, RepliesTo, closing, IsQuit}
+use Rattle.a2_talk.specs.Hearing.{IsTextOf}
+use Rattle.a2_talk.specs.Turns.{MeetsOr, IsQuit}
 use Rattle.a2_talk.proofs.Pieces.{heard-some}
 use Rattle.a2_talk.proofs.Answering.{far-nil, far-more, broke-prompt, failed, endless-lines, heard-ended, heard-broke-end, heard-quits, broke-answer}
 use Rattle.a2_talk.proofs.talking.talk.Goals as goal
