@@ -205,6 +205,51 @@ fn follow<W: Output, E: Output>(
     }
 }
 
+// Answers Monitor lines over what a file holds.
+fn talk_over<S: Shelf, R: Input, W: Output, E: Output>(
+    alloc: Global,
+    name: &str,
+    prompts: bool,
+    shelf: &mut S,
+    input: &mut R,
+    output: &mut W,
+    complaints: &mut E,
+) -> u8
+    ensures { result ≤ 5 }
+{
+    match text_of(alloc, Some(name), shelf, input, complaints) {
+        Ok(text) => mon(
+            alloc,
+            Some(text.as_slice()),
+            prompts,
+            input,
+            output,
+            complaints,
+        ),
+        Err(status) => status,
+    }
+}
+
+// Answers Monitor lines, over a file where the words name one.
+fn talk_of<S: Shelf, R: Input, W: Output, E: Output>(
+    alloc: Global,
+    word: &Word,
+    words: &[String],
+    prompts: bool,
+    shelf: &mut S,
+    input: &mut R,
+    output: &mut W,
+    complaints: &mut E,
+) -> u8
+    ensures { result ≤ 5 }
+{
+    match file_in(words) {
+        Ok(Some(name)) => talk_over(alloc, name, prompts, shelf, input, output, complaints),
+        Ok(None) => mon(alloc, None, prompts, input, output, complaints),
+        Err(fault) => refused(word, behind(words), fault, complaints),
+    }
+}
+
 // Does what a word says.
 fn act<S: Shelf, R: Input, W: Output, E: Output>(
     alloc: Global,
@@ -236,15 +281,9 @@ fn act<S: Shelf, R: Input, W: Output, E: Output>(
             }
             Err(fault) => Err(refused(word, behind(words), fault, complaints)),
         },
-        Tool::Mon => match file_in(words) {
-            Ok(None) => Ok(mon(alloc, None, prompts, input, output, complaints)),
-            Ok(file) => {
-                let text = text_of(alloc, file, shelf, input, complaints)?;
-                let text = Some(text.as_slice());
-                Ok(mon(alloc, text, prompts, input, output, complaints))
-            }
-            Err(fault) => Err(refused(word, behind(words), fault, complaints)),
-        },
+        Tool::Mon => Ok(talk_of(
+            alloc, word, words, prompts, shelf, input, output, complaints,
+        )),
         Tool::Film | Tool::Profile | Tool::Run | Tool::Trace => match order_of(words) {
             Ok(order) => {
                 let text = text_of(alloc, order.file, shelf, input, complaints)?;
@@ -272,7 +311,7 @@ fn behind(words: &[String]) -> &[String] {
     }
 }
 
-/// Whether the words ask for a session whose lines someone may type.
+/// Whether `words`, the first of which is the program's name, ask for a session whose lines someone may type.
 pub fn talks(words: &[String]) -> bool {
     match words {
         [_, word, ..] => match word_named(word.as_str()) {
@@ -294,8 +333,9 @@ fn has_limit(words: &[String]) -> bool {
 }
 
 /// Does what `words` ask for, and answers the exit status, 0 to 5. The first word is the program's name, and the second says
-/// what is done. Files are opened in `shelf`; what is asked for goes to `output`, and why it is refused to `complaints`. Without
-/// a second word the page of help goes to `complaints`, with status 2. This project's profile.
+/// what is done. Files are opened in `shelf`; what is asked for goes to `output`, and why it is refused to `complaints`.
+/// `prompts` says whether a prompt stands before each line of a session. Without a second word the page of help goes to
+/// `complaints`, with status 2. This project's profile.
 pub fn obey<S: Shelf, R: Input, W: Output, E: Output>(
     alloc: Global,
     words: &[String],

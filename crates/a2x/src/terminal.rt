@@ -30,7 +30,14 @@ fn monitor_with(alloc: Global, text: Option<&[u8]>) -> Result<Monitor, RunFault>
     }
 }
 
-/// Answers Monitor lines, with a text loaded first where there is one. `prompts` says whether a prompt stands before each.
+// What stands before each line.
+fn prompt_where(prompts: bool) -> &'static [u8] {
+    if prompts { b"*" } else { b"" }
+}
+
+/// Answers the Monitor lines of `input` on `output`, each before the next is read, up to its end or `quit`. What `text`
+/// holds, object lines or a source, is loaded first. `prompts` says whether a prompt stands before each line. The status is 1
+/// where the source is refused, 4 where a read or a write fails, and 5 for want of memory, each told on `complaints`.
 pub fn mon<R: Input, W: Output, E: Output>(
     alloc: Global,
     text: Option<&[u8]>,
@@ -41,9 +48,11 @@ pub fn mon<R: Input, W: Output, E: Output>(
 ) -> u8
     ensures { result ≤ 5 }
 {
-    let prompt: &[u8] = if prompts { b"*" } else { b"" };
     match monitor_with(alloc, text) {
-        Ok(mut monitor) => ended(talk(&mut monitor, prompt, input, output), complaints),
+        Ok(mut monitor) => {
+            let answer = talk(&mut monitor, prompt_where(prompts), input, output);
+            ended(answer, complaints)
+        }
         Err(fault) => told(fault, complaints),
     }
 }
