@@ -5,31 +5,40 @@ mod help;
 mod named;
 mod program;
 mod table;
+mod terminal;
 mod tools;
 mod words;
 
 use a2_host::{HostFiles, HostWordsFault, complain, words_of};
 use a2_run::{RunFault, fault_status};
-use a2_stream::{FromRead, ToWrite};
-use program::obey;
-use std::io::{BufWriter, Write};
+use a2_stream::{FromRead, Output, ToWrite};
+use program::{obey, talks};
+use std::io::{BufWriter, IsTerminal, Write};
 use std::process::ExitCode;
 
-// Does what the words ask for; many lines go out by one write.
+// Does what the words ask for, with this writer.
+fn obeyed<W: Output>(rt: &HostRuntime, words: &[String], output: &mut W) -> u8 {
+    obey(
+        rt.alloc(),
+        words,
+        rt.stdin().is_terminal(),
+        &mut HostFiles::new(rt),
+        &mut FromRead::new(rt.stdin()),
+        output,
+        &mut ToWrite::new(rt.stderr()),
+    )
+}
+
+// Does what the words ask for. Many lines go out by one write, but where someone waits for each answer.
 fn act(rt: &HostRuntime, words: &[String]) -> Result<u8, RunFault> {
+    if talks(words) {
+        return Ok(obeyed(rt, words, &mut ToWrite::new(rt.stdout())));
+    }
     let mut lines = match BufWriter::new(rt.alloc(), rt.stdout()) {
         Ok(lines) => lines,
         Err(_) => return Err(RunFault::Memory),
     };
-    let mut complaints = ToWrite::new(rt.stderr());
-    let status = obey(
-        rt.alloc(),
-        words,
-        &mut HostFiles::new(rt),
-        &mut FromRead::new(rt.stdin()),
-        &mut ToWrite::new(&mut lines),
-        &mut complaints,
-    );
+    let status = obeyed(rt, words, &mut ToWrite::new(&mut lines));
     let is_broken = status != 4 && lines.flush().is_err();
     // What a failed write left is given up: dropped as they are, `lines` would write it again.
     let _ = lines.into_parts();

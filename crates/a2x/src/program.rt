@@ -5,6 +5,7 @@ ghost use Rattle.std.specs.Prelude.{◌≤◌, IfOk, IfErr};
 use crate::help::{put_page, put_use, put_version};
 use crate::named::{check_order, file_in};
 use crate::table::{Tool, Word, nearest, word_named};
+use crate::terminal::mon;
 use crate::tools::{check, film, list, profile, run, told, trace, written};
 use crate::words::{Misfit, Order, WordsFault, misfit_in, order_of};
 use a2_host::Shelf;
@@ -204,11 +205,57 @@ fn follow<W: Output, E: Output>(
     }
 }
 
+// Answers Monitor lines over what a file holds.
+fn talk_over<S: Shelf, R: Input, W: Output, E: Output>(
+    alloc: Global,
+    name: &str,
+    prompts: bool,
+    shelf: &mut S,
+    input: &mut R,
+    output: &mut W,
+    complaints: &mut E,
+) -> u8
+    ensures { result ≤ 5 }
+{
+    match text_of(alloc, Some(name), shelf, input, complaints) {
+        Ok(text) => mon(
+            alloc,
+            Some(text.as_slice()),
+            prompts,
+            input,
+            output,
+            complaints,
+        ),
+        Err(status) => status,
+    }
+}
+
+// Answers Monitor lines, over a file where the words name one.
+fn talk_of<S: Shelf, R: Input, W: Output, E: Output>(
+    alloc: Global,
+    word: &Word,
+    words: &[String],
+    prompts: bool,
+    shelf: &mut S,
+    input: &mut R,
+    output: &mut W,
+    complaints: &mut E,
+) -> u8
+    ensures { result ≤ 5 }
+{
+    match file_in(words) {
+        Ok(Some(name)) => talk_over(alloc, name, prompts, shelf, input, output, complaints),
+        Ok(None) => mon(alloc, None, prompts, input, output, complaints),
+        Err(fault) => refused(word, behind(words), fault, complaints),
+    }
+}
+
 // Does what a word says.
 fn act<S: Shelf, R: Input, W: Output, E: Output>(
     alloc: Global,
     word: &Word,
     words: &[String],
+    prompts: bool,
     shelf: &mut S,
     input: &mut R,
     output: &mut W,
@@ -234,6 +281,9 @@ fn act<S: Shelf, R: Input, W: Output, E: Output>(
             }
             Err(fault) => Err(refused(word, behind(words), fault, complaints)),
         },
+        Tool::Mon => Ok(talk_of(
+            alloc, word, words, prompts, shelf, input, output, complaints,
+        )),
         Tool::Film | Tool::Profile | Tool::Run | Tool::Trace => match order_of(words) {
             Ok(order) => {
                 let text = text_of(alloc, order.file, shelf, input, complaints)?;
@@ -261,6 +311,17 @@ fn behind(words: &[String]) -> &[String] {
     }
 }
 
+/// Whether `words`, the first of which is the program's name, ask for a session whose lines someone may type.
+pub fn talks(words: &[String]) -> bool {
+    match words {
+        [_, word, ..] => match word_named(word.as_str()) {
+            Some(found) => matches!(found.tool, Tool::Mon),
+            None => false,
+        },
+        _ => false,
+    }
+}
+
 // Whether the words have a limit.
 fn has_limit(words: &[String]) -> bool {
     for word in words {
@@ -272,11 +333,13 @@ fn has_limit(words: &[String]) -> bool {
 }
 
 /// Does what `words` ask for, and answers the exit status, 0 to 5. The first word is the program's name, and the second says
-/// what is done. Files are opened in `shelf`; what is asked for goes to `output`, and why it is refused to `complaints`. Without
-/// a second word the page of help goes to `complaints`, with status 2. This project's profile.
+/// what is done. Files are opened in `shelf`; what is asked for goes to `output`, and why it is refused to `complaints`.
+/// `prompts` says whether a prompt stands before each line of a session. Without a second word the page of help goes to
+/// `complaints`, with status 2. This project's profile.
 pub fn obey<S: Shelf, R: Input, W: Output, E: Output>(
     alloc: Global,
     words: &[String],
+    prompts: bool,
     shelf: &mut S,
     input: &mut R,
     output: &mut W,
@@ -292,7 +355,9 @@ pub fn obey<S: Shelf, R: Input, W: Output, E: Output>(
         }
         [word, rest @ ..] => match word_named(word.as_str()) {
             Some(found) if asks_for_help(rest) => written(put_use(&found, output), complaints),
-            Some(found) => match act(alloc, &found, words, shelf, input, output, complaints) {
+            Some(found) => match act(
+                alloc, &found, words, prompts, shelf, input, output, complaints,
+            ) {
                 Ok(status) | Err(status) => status,
             },
             None => answer(alloc, word.as_str(), output, complaints),

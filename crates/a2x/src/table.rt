@@ -12,6 +12,7 @@ pub enum Tool {
     Film,
     Help,
     List,
+    Mon,
     Profile,
     Run,
     Trace,
@@ -31,7 +32,7 @@ pub struct Word {
 }
 
 /// All words, in the order of the page of help.
-pub static WORDS: [Word; 7] = [
+pub static WORDS: [Word; 8] = [
     Word {
         name: "run",
         arguments: "[options] [F]",
@@ -73,6 +74,13 @@ pub static WORDS: [Word; 7] = [
         runs: true,
         says: "writes F's run as a page that goes backwards",
         tool: Tool::Film,
+    },
+    Word {
+        name: "mon",
+        arguments: "[F]",
+        runs: false,
+        says: "answers Monitor lines as they are typed",
+        tool: Tool::Mon,
     },
     Word {
         name: "help",

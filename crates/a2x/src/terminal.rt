@@ -1,0 +1,58 @@
+//! Words that talk with whoever sits at the terminal. A word answers the exit status, 0 to 5.
+
+ghost use Rattle.std.specs.Prelude.{◌≤◌};
+
+use crate::tools::told;
+use a2_run::RunFault;
+use a2_stream::{Input, Output};
+use a2_syntax::Fault;
+use a2_talk::{TalkFault, talk};
+use a2_terminal::Monitor;
+use std::alloc::Global;
+
+// The status of a session that ended.
+fn ended<E: Output>(answer: Result<(), TalkFault>, complaints: &mut E) -> u8
+    ensures { result ≤ 5 }
+{
+    match answer {
+        Ok(()) => 0,
+        Err(TalkFault::Read) => told(RunFault::Read, complaints),
+        Err(TalkFault::Write) => told(RunFault::Write, complaints),
+        Err(TalkFault::Endless) => told(RunFault::Script(Fault::TooLarge(0)), complaints),
+    }
+}
+
+// The Monitor with a text, or with nothing.
+fn monitor_with(alloc: Global, text: Option<&[u8]>) -> Result<Monitor, RunFault> {
+    match text {
+        Some(text) => Monitor::with(alloc, text),
+        None => Ok(Monitor::new(alloc)?),
+    }
+}
+
+// What stands before each line.
+fn prompt_where(prompts: bool) -> &'static [u8] {
+    if prompts { b"*" } else { b"" }
+}
+
+/// Answers the Monitor lines of `input` on `output`, each before the next is read, up to its end or `quit`. What `text`
+/// holds, object lines or a source, is loaded first. `prompts` says whether a prompt stands before each line. The status is 1
+/// where the source is refused, 4 where a read or a write fails, and 5 for want of memory, each told on `complaints`.
+pub fn mon<R: Input, W: Output, E: Output>(
+    alloc: Global,
+    text: Option<&[u8]>,
+    prompts: bool,
+    input: &mut R,
+    output: &mut W,
+    complaints: &mut E,
+) -> u8
+    ensures { result ≤ 5 }
+{
+    match monitor_with(alloc, text) {
+        Ok(mut monitor) => {
+            let answer = talk(&mut monitor, prompt_where(prompts), input, output);
+            ended(answer, complaints)
+        }
+        Err(fault) => told(fault, complaints),
+    }
+}
