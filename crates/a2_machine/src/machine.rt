@@ -8,6 +8,7 @@ ghost use Rattle.a2_bus.specs.BoardState.{IsMarked};
 ghost use Rattle.a2_bus.specs.Devices.{keys_typed};
 ghost use Rattle.a2_bus.specs.Memory.{ram_end, with_ram, peek as peek_of};
 ghost use Rattle.a2_bus.specs.View.{memory_of};
+ghost use Rattle.a2_cpu.specs.Spare.{spare_bits_of};
 ghost use Rattle.a2_hex.specs.Images.{held};
 ghost use Rattle.a2_machine.specs.Meaning.{stuck};
 ghost use Rattle.a2_machine.specs.ProgramGuard.{guard_of_program};
@@ -69,7 +70,8 @@ pub struct Machine<A: Allocator = Global> {
 }
 
 impl<A: Allocator> Model for Machine<A> {
-    ghost use Rattle.std.specs.Prelude.{◌≤◌, ◌*◌};
+    ghost use Rattle.std.specs.Prelude.{◌≡◌, ◌≤◌, ◌*◌};
+    ghost use Rattle.a2_cpu.specs.Spare.{spare_bits_of};
     ghost use Rattle.a2_machine.specs.State.{Device, most_steps};
     ghost use Rattle.a2_machine.specs.Outcome.{most_cost};
 
@@ -80,7 +82,7 @@ impl<A: Allocator> Model for Machine<A> {
       made = m.made;
     } };
 
-    ghost invariant = { λ m. (m.steps ≤ most_steps) × (m.cycles ≤ most_cost * m.steps) };
+    ghost invariant = { λ m. (m.steps ≤ most_steps) × (m.cycles ≤ most_cost * m.steps) × (spare_bits_of m.regs.p ≡ 0) };
 }
 
 impl<A: Allocator + Copy> Machine<A> {
@@ -151,9 +153,11 @@ impl<A: Allocator> Machine<A> {
         self.board.type_keys(keys)
     }
 
-    /// The registers as they stand before the next step.
+    /// The registers as they stand before the next step. Bits 5 and 4 of the flags, which are none, are clear, whatever was
+    /// called before.
     pub fn regs(&self) -> Regs
-        ensures { result ≡ self.now.state.regs }
+        ensures value { result ≡ self.now.state.regs }
+        ensures spare { spare_bits_of result.p ≡ 0 }
     {
         self.regs
     }

@@ -16,7 +16,8 @@ use a2_cpu::live::Live;
 use a2_cpu::run::live_step;
 use a2_cpu::{GuardedStep, live_refusal};
 use a2_hex::RAM_END;
-use a2_services::{Served, Service, call, refusal, service_at};
+use a2_services::live::{call, refusal};
+use a2_services::{Served, Service, service_at};
 use std::alloc::Allocator;
 
 /// What came of a step: one of so many cycles, or none for a cause.

@@ -49,6 +49,17 @@ IsCalled service registers bus new_registers new_bus answer.Keys =
     (fits service registers (memory_of bus) ≡ true) × (lacks_keys service (memory_of bus) ≡ true)
     × IsSame registers bus new_registers new_bus
 
+-- a fact that holds where a call was made, and one that holds where it was not
+abbrev pub OnServed : Served → Type 0 → Type 0
+OnServed (answer.Next cycles) fact = fact
+OnServed answer.Window fact = Unit {0}
+OnServed answer.Keys fact = Unit {0}
+
+abbrev pub OnUnserved : Served → Type 0 → Type 0
+OnUnserved (answer.Next cycles) fact = Unit {0}
+OnUnserved answer.Window fact = fact
+OnUnserved answer.Keys fact = fact
+
 -- each byte of RAM out of a service's reach is as it was
 abbrev pub IsUnreached : Service → BusState → BusState → Type 0
 IsUnreached service bus new_bus =

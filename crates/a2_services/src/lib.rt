@@ -1,4 +1,6 @@
-//! The Monitor's services: each call of one as a single step on the registers and the address space.
+//! The Monitor's services: each call of one as a single step on the registers and the board.
+//!
+//! [`call`] calls a service. Who makes many steps in a row and keeps the registers apart meanwhile has [`live::call`].
 //!
 //! The names, addresses and purposes are those of the Apple II Reference Manual (1979), chapter 3, "The System
 //! Monitor", chapter 2, "Conversation with Apples", on standard output, the text window, standard input and GETLN, and
@@ -17,15 +19,16 @@ mod ends;
 mod entries;
 mod hooks;
 mod line;
+pub mod live;
 mod locations;
 mod needs;
+mod on_board;
 mod put;
 mod rows;
 mod screen;
 
-pub use calls::call;
 pub use entries::{reach, service_at};
-pub use needs::refusal;
+pub use on_board::call;
 
 /// A service of the Monitor. A hook takes 5 cycles, WAIT as many as A says, each other 6 (this project's profile).
 ///
@@ -125,6 +128,6 @@ pub enum Served {
     Next(u32),
     /// The window, the cursor or a place of blocks does not lie where the service needs it, and nothing changed.
     Window,
-    /// They lie there, but the keys that the service needs are not waiting, and nothing changed. [`refusal`] tells both.
+    /// They lie there, but the keys that the service needs are not waiting, and nothing changed. [`live::refusal`] tells both.
     Keys,
 }

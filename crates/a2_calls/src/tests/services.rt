@@ -1,9 +1,10 @@
 //! Worked calls on a board as it starts: what they leave on the screen, in the registers and in the line.
 
-use a2_bus::{AddressSpace, Bus, Keys};
+use a2_bus::{Board, Bus, Keys};
 use a2_cpu::Regs;
 use a2_cpu::live::Live;
-use a2_services::{Served, Service, call, reach, refusal, service_at};
+use a2_services::live::refusal;
+use a2_services::{Served, Service, call, reach, service_at};
 
 /// What is done to a board, or is wanted of it.
 #[derive(Clone, Copy)]
@@ -237,21 +238,21 @@ const LINES: [(&[u8], u8, &[u8], &[u8]); 5] = [
 ];
 
 // Whether the keys are taken.
-fn types(space: &mut AddressSpace, typed: &[u8]) -> bool {
+fn types(board: &mut Board, typed: &[u8]) -> bool {
     let mut keys = Keys::new();
     for key in typed {
         if keys.push(*key).is_err() {
             return false;
         }
     }
-    space.type_keys(&keys).is_ok()
+    board.type_keys(&keys).is_ok()
 }
 
 // Whether these bytes stand from an address on.
-fn holds(space: &AddressSpace, address: u16, bytes: &[u8]) -> bool {
+fn holds(board: &Board, address: u16, bytes: &[u8]) -> bool {
     let mut at = address;
     for byte in bytes {
-        if space.peek(at) != Some(*byte) {
+        if board.peek(at) != Some(*byte) {
             return false;
         }
         at = at.wrapping_add(1);
@@ -260,17 +261,11 @@ fn holds(space: &AddressSpace, address: u16, bytes: &[u8]) -> bool {
 }
 
 // Whether each of the calls answers so.
-fn calls(
-    space: &mut AddressSpace,
-    live: &mut Live,
-    times: u8,
-    service: Service,
-    wanted: Served,
-) -> bool {
-    let start = *live;
+fn calls(board: &mut Board, regs: &mut Regs, times: u8, service: Service, wanted: Served) -> bool {
+    let start = *regs;
     for _ in 0..times {
-        *live = start;
-        if call(service, live, space) != wanted {
+        *regs = start;
+        if call(service, regs, board) != wanted {
             return false;
         }
     }
@@ -278,25 +273,25 @@ fn calls(
 }
 
 // Does what is to be done, and tells whether what is wanted is so.
-fn does(space: &mut AddressSpace, live: &mut Live, act: Act) -> bool {
+fn does(board: &mut Board, regs: &mut Regs, act: Act) -> bool {
     match act {
         Act::Store(address, byte) => {
-            space.write(address, byte);
+            board.write(address, byte);
             true
         }
-        Act::Type(typed) => types(space, typed),
+        Act::Type(typed) => types(board, typed),
         Act::Call(times, service, a, y, wanted) => {
-            *live = Live::of(&Regs {
+            *regs = Regs {
                 a,
                 y,
                 ..Regs::start(0x300)
-            });
-            calls(space, live, times, service, wanted)
+            };
+            calls(board, regs, times, service, wanted)
         }
-        Act::Leaves(a, x, s, pc) => live.a == a && live.x == x && live.s == s && live.pc == pc,
-        Act::Refused(service, wanted) => refusal(service, live, space) == wanted,
-        Act::Holds(address, bytes) => holds(space, address, bytes),
-        Act::Waits(typed) => space.waiting() == typed,
+        Act::Leaves(a, x, s, pc) => regs.a == a && regs.x == x && regs.s == s && regs.pc == pc,
+        Act::Refused(service, wanted) => refusal(service, &Live::of(regs), board.space()) == wanted,
+        Act::Holds(address, bytes) => holds(board, address, bytes),
+        Act::Waits(typed) => board.waiting() == typed,
     }
 }
 
@@ -304,11 +299,11 @@ fn does(space: &mut AddressSpace, live: &mut Live, act: Act) -> bool {
 #[test]
 fn boards(rt: HostRuntime) {
     for (number, acts) in BOARDS.iter().enumerate() {
-        let mut space = AddressSpace::new(rt.alloc()).expect(&rt, "memory");
-        let mut live = Live::of(&Regs::start(0x300));
+        let mut board = Board::new(rt.alloc()).expect(&rt, "memory");
+        let mut regs = Regs::start(0x300);
         for (place, act) in acts.iter().enumerate() {
             assert!(rt;
-                does(&mut space, &mut live, *act),
+                does(&mut board, &mut regs, *act),
                 "board {number}, act {place}"
             );
         }
@@ -318,8 +313,8 @@ fn boards(rt: HostRuntime) {
 #[test]
 fn lines(rt: HostRuntime) {
     for (typed, length, row0, row1) in LINES {
-        let mut space = AddressSpace::new(rt.alloc()).expect(&rt, "memory");
-        let mut live = Live::of(&Regs::start(0x300));
+        let mut board = Board::new(rt.alloc()).expect(&rt, "memory");
+        let mut regs = Regs::start(0x300);
         for act in [
             Act::Type(typed),
             Act::Call(1, Service::Getln, 0, 0, DONE),
@@ -327,7 +322,7 @@ fn lines(rt: HostRuntime) {
             Act::Holds(0x400, row0),
             Act::Holds(0x480, row1),
         ] {
-            assert!(rt; does(&mut space, &mut live, act), "line of {length}");
+            assert!(rt; does(&mut board, &mut regs, act), "line of {length}");
         }
     }
 }

@@ -20,7 +20,7 @@ returns-in_err-put_instruction_row g c =
     (subst (Breaks before after)
     (instruction_row c.args.machine.now c.step.new.self (seen_by c.of-before.result) c.as_slice.result.now c.requires c.peek.ensures.size c.of-before.ensures
     (c.as_slice.ensures.value ∙ c.writes-addresses.ensures
-    ∙ ap₂ (λ (r : Regs) (b : BusState). step_stores board_access (before_step r b)) c.regs.ensures c.space.ensures))
+    ∙ ap₂ (λ (r : Regs) (b : BusState). step_stores board_access (before_step r b)) c.regs.ensures.value c.space.ensures))
     c.in_err-put_instruction_row.ensures)
 
 pub returns : goal.returns
@@ -30,6 +30,6 @@ returns g c = (
   subst (Sends (g.W.Output.taker c.args.writer.now) (g.W.Output.taker c.put_instruction_row.new.writer))
       (instruction_row c.args.machine.now c.step.new.self (seen_by c.of-before.result) c.as_slice.result.now c.requires c.peek.ensures.size c.of-before.ensures
       (c.as_slice.ensures.value ∙ c.writes-addresses.ensures
-      ∙ ap₂ (λ (r : Regs) (b : BusState). step_stores board_access (before_step r b)) c.regs.ensures c.space.ensures))
+      ∙ ap₂ (λ (r : Regs) (b : BusState). step_stores board_access (before_step r b)) c.regs.ensures.value c.space.ensures))
       c.in_ok-put_instruction_row.ensures,
 )

@@ -13,7 +13,7 @@ use Rattle.a2_film.proofs.head.put_registers.Goals as goal
 
 pub returns : goal.returns
 returns g c =
-    let regs = c.regs-regs.ensures in
+    let regs = c.regs-regs.ensures.value in
     let seen = ap (λ (d : Devices). d.switches) (devices_seen c.args.machine.now.state.bus) in
     let pc = c.hex_word.ensures ∙ ap (λ (r : Regs). hex_word r.pc) regs in
     let a = c.hex_pair.ensures ∙ ap (λ (r : Regs). hex_pair r.a) regs in

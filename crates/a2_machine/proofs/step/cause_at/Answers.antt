@@ -9,9 +9,9 @@ use Rattle.a2_cpu.specs.declared.GuardedStep.{GuardedStep}
 use Rattle.a2_cpu.specs.Live.{live_registers}
 use Rattle.a2_services.specs.World.{world_of}
 use Rattle.a2_machine.specs.declared.Cause.{Cause}
-use Rattle.a2_machine.specs.Outcome.{protected_by, cause_in, stop_of}
+use Rattle.a2_machine.specs.Outcome.{protected_by, cause_in}
 use Rattle.a2_machine.proofs.Calls.{refused, found-off}
-use Rattle.a2_machine.proofs.Outcomes.{instruction_stops, why_stops, no_service, no_return}
+use Rattle.a2_machine.proofs.Outcomes.{stop_of, instruction_stops, why_stops, no_service, no_return}
 use Rattle.a2_machine.proofs.step.cause_at.Goals as goal
 
 pub returns-then-not-admits : goal.returns-then-not-admits

@@ -24,9 +24,9 @@ loop-preserved g c =
     subst (IsCounted (code_of start) (world_of_state start) c.step.new.self (c.loop.counter + 1)) (sym c.count_step.ensures)
     (counted-next (code_of start) (world_of_state start) c.loop.machine c.step.new.self c.loop.counter c.loop.profile c.loop.invariant c.in_default.ensures.made
     pc (c.cycles.result - c.cycles-before.result) (not (nat_eq c.regs.result.pc ((pc + 2) % 65536)))
-    (ap (λ (regs : Regs). regs.pc) c.regs-pc.ensures) (omega (arith, c.regs-pc.type_inv))
+    (ap (λ (regs : Regs). regs.pc) c.regs-pc.ensures.value) (omega (arith, c.regs-pc.type_inv))
     (ap₂ (λ (a b : ℕ). a - b) c.cycles.ensures c.cycles-before.ensures)
-    (ap (λ (regs : Regs). not (nat_eq regs.pc ((pc + 2) % 65536))) c.regs.ensures)
+    (ap (λ (regs : Regs). not (nat_eq regs.pc ((pc + 2) % 65536))) c.regs.ensures.value)
     (omega (arith, c.loop-test.true, c.ranges.limit.fits)) c.in_default.ensures.cause)
 
 pub returns : goal.returns

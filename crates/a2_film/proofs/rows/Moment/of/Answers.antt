@@ -11,7 +11,7 @@ returns g c =
     let switches = c.view.ensures.switches ∙ sym (ap (λ (d : Devices). d.switches) seen) in
     let keys = c.waiting.ensures.keys ∙ ap (λ (b : BusState). b.devices.keys) c.space.ensures ∙ sym (ap (λ (d : Devices). d.keys) seen) in
     λ i. record {
-      registers = registers_of (c.regs.ensures i);
+      registers = registers_of (c.regs.ensures.value i);
       cycles = c.cycles.ensures i;
       switches = switches i;
       waiting = length (keys i);

@@ -1,0 +1,35 @@
+//! A call of a service over registers and board.
+
+ghost use Rattle.std.specs.Prelude.{◌≡◌, length};
+ghost use Rattle.a2_cpu.specs.Spare.{spare_bits_of};
+ghost use Rattle.a2_cpu.specs.View.{registers_of};
+ghost use Rattle.a2_services.specs.Called.{IsCalled, IsUnreached, OnServed, OnUnserved};
+
+use crate::{Served, Service, live};
+use a2_bus::Board;
+use a2_cpu::Regs;
+use a2_cpu::live::Live;
+use std::alloc::Allocator;
+
+/// One call of a service, as [`Service`] says of each: registers and board become what it leaves, and PC is pulled as RTS
+/// does, or for a hook is where it leads. The answer is `Served::Next` with the cycles that it took. Apple II Reference
+/// Manual (1979), chapters 2 and 3; the exact effects are this project's profile.
+///
+/// Where the service lacks something the answer is what [`live::refusal`] tells, and nothing changes. A call leaves bits 5
+/// and 4 of the flags clear, which are none. No byte of RAM changes outside the service's [`reach`](crate::reach). What is
+/// kept of the screen is not looked at: a row that the call changed counts as marked, as [`Board::marked`] says.
+pub fn call<A: Allocator>(service: Service, regs: &mut Regs, board: &mut Board<A>) -> Served
+    ensures called { IsCalled service (registers_of regs.old) board.old.bus (registers_of regs.new) board.new.bus result }
+    ensures refused { OnUnserved result ((regs.new ≡ regs.old) × (board.new ≡ board.old)) }
+    ensures spare { OnServed result (spare_bits_of regs.new.p ≡ 0) }
+    ensures unreached { IsUnreached service board.old.bus board.new.bus }
+    ensures picture { board.new.picture ≡ board.old.picture }
+    ensures size { length board.new.bus.bytes ≡ length board.old.bus.bytes }
+{
+    let mut apart = Live::of(regs);
+    let answer = live::call(service, &mut apart, board.space_mut());
+    if let Served::Next(_) = answer {
+        *regs = apart.regs();
+    }
+    answer
+}
