@@ -1,5 +1,5 @@
 -- What a command is with one more subcommand.
-use Rattle.std.specs.Prelude.{◌≡◌, Bool, true, false, ◌||◌}
+use Rattle.std.specs.Prelude.{◌||◌}
 use Rattle.std.proofs.Common.{ap, ap₂, ◌∙◌}
 use Rattle.clap.specs.Words.{App, AddsSubcommand, with_subcommand}
 use Rattle.clap.specs.declared.builder.Command.{Command}

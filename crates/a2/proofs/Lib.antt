@@ -1,3 +1,4 @@
 mod Adding
 mod LooseKeys
 mod RunWords
+mod Told

@@ -1,5 +1,5 @@
 -- Where loose keys stand in a list of words.
-use Rattle.std.specs.Prelude.{◌≡◌, ◌⊎◌, ℕ, ◌+◌, ◌-◌, ◌<◌, ◌≤◌, List, Some, IsTrue, codes, length, map, nat_eq, option_map, slice_get, slice_index_or, unwrap_or}
+use Rattle.std.specs.Prelude.{◌≡◌, ℕ, ◌+◌, ◌-◌, ◌<◌, ◌≤◌, List, Some, IsTrue, codes, length, map, nat_eq, option_map, slice_get, slice_index_or, unwrap_or}
 use Rattle.std.specs.List.{starts_with}
 use Rattle.std.proofs.Common.{ap, arith, inl, inr, refl, subst, sym, ◌∙◌}
 use Rattle.std.proofs.Math.Nat.{eq-or-lt_of_le}

@@ -1,3 +1,4 @@
 pub mod Grammar
 pub mod Words
+pub mod Telling
 pub mod Program

@@ -1,11 +1,11 @@
 -- What the program does: with a text that an input gives, with files, with words. This project's profile.
-use Rattle.std.specs.Prelude.{◌≡◌, ◌⊎◌, ℕ, ◌≤◌, List, [], Some, None, Result, Ok, Err, IfSome, MatchOption, MatchResult, true}
+use Rattle.std.specs.Prelude.{◌≡◌, ◌⊎◌, ℕ, ◌≤◌, List, [], Result, Err, IfSome, MatchOption, MatchResult, true}
 use Rattle.a2_stream.specs.Stream.{Giver, Taker, Sends, TakesAtMost, count_after}
 use Rattle.a2_machine.specs.declared.Cause.{Cause}
 use Rattle.a2_run.specs.declared.Options.{Options}
 use Rattle.a2_run.specs.declared.fault.RunFault.{RunFault}
 use Rattle.a2_run.specs.declared.fault.RunFault.TheVariants.{Read}
-use Rattle.a2_run.specs.Answers.{Answers, OfSource, OfScript, NothingSent, is_read_fault, is_write_fault}
+use Rattle.a2_run.specs.Answers.{Answers, LeavesBehind, OfSource, OfScript, NothingSent, RestsOnTexts, is_read_fault, is_write_fault}
 use Rattle.a2_run.specs.Meaning.{IsRefused, IsRun, AreObjectLines}
 use Rattle.a2_run.specs.Scripts.{IsRefusedScript, IsMonText}
 use Rattle.a2_run.specs.DebugScripts.{IsDebugRefusal, IsDebugText, ReadsFail}
@@ -16,15 +16,18 @@ use Rattle.a2.specs.declared.words.Order.{Order}
 use Rattle.a2.specs.declared.words.Order.TheVariants.{Asm, Mon, Debug, Run}
 use Rattle.a2.specs.declared.words.RunOrder.{RunOrder}
 use Rattle.a2.specs.declared.words.WordsFault.{WordsFault}
+use Rattle.a2.specs.Telling.{TellsFault}
 use Rattle.a2.specs.Words.{done_status, status_of_words, text_of_words}
 
 -- the text that an input gave was answered: what went out and the answer are those of its meaning, where the text has some
--- refusals or gives some values with their outputs; nothing was read past its 65,537th byte; a fault other than of the output
--- means that nothing went out; and a fault of the input or of the output comes exactly where one of its calls failed
+-- refusals or gives some values with their outputs; nothing was read past its 65,537th byte, and all up to there, but where a
+-- read failed or there was no memory; a fault other than of the output means that nothing went out; and a fault of the input or
+-- of the output comes exactly where one of its calls failed
 pub record AnswersInput {T : Type 0} (refuses : List ℕ → RunFault → Type 0) (gives : List ℕ → T → List ℕ → Type 0)
     (input left : Giver) (old new : Taker) (answer : Result T RunFault) : Type 0 where
   pub meaning : IfSome input.bytes (λ text. Answers (refuses text) (gives text) old new answer)
   pub front : TakesAtMost 65537 input left
+  pub through : RestsOnTexts answer → LeavesBehind 65537 input left
   pub silent : NothingSent old new answer
   pub reader : left.failures ≡ count_after (is_read_fault answer) input.failures
   pub writer : new.failures ≡ count_after (is_write_fault answer) old.failures
@@ -45,6 +48,7 @@ pub record DebugsInputs (source source' script script' : Giver) (old new : Taker
   pub meaning : IfSome source.bytes (λ text. IfSome script.bytes (λ lines.
       Answers (IsDebugRefusal text lines) (λ _. IsDebugText text lines) old new answer))
   pub fronts : TakesAtMost 65537 source source' × TakesAtMost 65537 script script'
+  pub through : RestsOnTexts answer → LeavesBehind 65537 source source' × LeavesBehind 65537 script script'
   pub silent : NothingSent old new answer
   pub readers : ReadsFail (is_read_fault answer) source source' script script'
   pub writer : new.failures ≡ count_after (is_write_fault answer) old.failures
@@ -74,16 +78,16 @@ RunsSource giver order shelf shelf' input input' old new answer = MatchOption or
     ((shelf' ≡ shelf) × RunsInput order.keys order.limit order.options input input' old new answer)
     (λ name. AnswersFile giver (RunsInput order.keys order.limit order.options) name.now shelf shelf' old new answer)
 
--- what was done for an order, and the status, which is that of the answer
-abbrev pub Does : {R : Type 0} → (R → Giver) → Order → Shelved → Shelved → Giver → Giver → Taker → Taker → ℕ → Type 0
-Does giver (Asm source) shelf shelf' input input' old new status = (answer : Result (Unit {0}) RunFault) × (status ≡ done_status answer)
-    × AnswersFile giver AssemblesInput source.now shelf shelf' old new answer
-Does giver (Mon script) shelf shelf' input input' old new status = (answer : Result (Unit {0}) RunFault) × (status ≡ done_status answer)
-    × AnswersFile giver AnswersLines script.now shelf shelf' old new answer
-Does giver (Debug source script) shelf shelf' input input' old new status = (answer : Result (Unit {0}) RunFault) × (status ≡ done_status answer)
-    × DebugsFiles giver source.now script.now shelf shelf' old new answer
-Does giver (Run order) shelf shelf' input input' old new status = (answer : Result Cause RunFault) × (status ≡ status_of answer)
-    × RunsSource giver order shelf shelf' input input' old new answer
+-- what was done for an order; the fault of its answer, if it has one, was told; and the status is that of the answer
+abbrev pub Does : {R : Type 0} → (R → Giver) → Order → Shelved → Shelved → Giver → Giver → Taker → Taker → Taker → Taker → ℕ → Type 0
+Does giver (Asm source) shelf shelf' input input' old new told told' status = (answer : Result (Unit {0}) RunFault)
+    × (status ≡ done_status answer) × TellsFault answer told told' × AnswersFile giver AssemblesInput source.now shelf shelf' old new answer
+Does giver (Mon script) shelf shelf' input input' old new told told' status = (answer : Result (Unit {0}) RunFault)
+    × (status ≡ done_status answer) × TellsFault answer told told' × AnswersFile giver AnswersLines script.now shelf shelf' old new answer
+Does giver (Debug source script) shelf shelf' input input' old new told told' status = (answer : Result (Unit {0}) RunFault)
+    × (status ≡ done_status answer) × TellsFault answer told told' × DebugsFiles giver source.now script.now shelf shelf' old new answer
+Does giver (Run order) shelf shelf' input input' old new told told' status = (answer : Result Cause RunFault)
+    × (status ≡ status_of answer) × TellsFault answer told told' × RunsSource giver order shelf shelf' input input' old new answer
 
 -- words that ask for nothing: no file was opened, nothing was written, their fault was told, and the status is its own
 pub record Refuses (fault : WordsFault) (shelf shelf' : Shelved) (old new told told' : Taker) (status : ℕ) : Type 0 where

@@ -1,5 +1,5 @@
 -- The words of the command line, what they ask for, and which are refused. This project's profile.
-use Rattle.std.specs.Prelude.{◌≡◌, ◌≢◌, ◌⊎◌, ℕ, ◌+◌, ◌<◌, ◌≤◌, Bool, true, false, List, [], ◌∷◌, codes, length, Option, Some, None, option_map, Result, Ok, Err, IfOk, IfErr, IsTrue, nat_eq, slice_get}
+use Rattle.std.specs.Prelude.{◌≡◌, ◌≢◌, ◌⊎◌, ℕ, ◌+◌, ◌<◌, ◌≤◌, Bool, true, false, List, [], codes, length, Option, Some, None, option_map, Result, Ok, Err, IfOk, IfErr, IsTrue, nat_eq, slice_get}
 use Rattle.std.specs.List.{starts_with}
 use Rattle.std.specs.Str.Parse.{digits_value}
 use Rattle.clap.specs.Words.{Row, Text, fault_of, first_of, one_of, subcommand_of}

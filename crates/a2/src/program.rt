@@ -5,15 +5,16 @@ ghost use Rattle.a2_machine.specs.declared.Cause.{Cause as Stop};
 ghost use Rattle.a2_run.specs.declared.fault.RunFault.{RunFault as Fault};
 ghost use Rattle.a2_run.specs.declared.fault.RunFault.TheVariants.{Read};
 ghost use Rattle.a2_run.specs.Status.{status_of};
-ghost use Rattle.a2_host.specs.Complaints.{TellsLine, TellsSome};
+ghost use Rattle.a2_host.specs.Complaints.{TellsLine};
 ghost use Rattle.a2_host.specs.Shelves.{Opens};
 ghost use Rattle.a2.specs.declared.words.Order.{Order as Asked};
 ghost use Rattle.a2.specs.declared.words.WordsFault.{WordsFault as Refusal};
 ghost use Rattle.a2.specs.Program.{AnswersFile, AnswersLines, AssemblesInput, DebugsFiles, Does, Refuses, RunsInput, RunsSource, Tells};
+ghost use Rattle.a2.specs.Telling.{IsToldBy, TellsFault};
 ghost use Rattle.a2.specs.Words.{Asks, NamesFile, done_status, plain, status_of_words, text_of_words};
 
 use crate::words::{Order, RunOrder, WordsFault, order_of};
-use a2_host::{Shelf, complain};
+use a2_host::{Shelf, tell};
 use a2_machine::Cause;
 use a2_run::{RunFault, asm_text, debug_text, fault_status, mon_text, run_text, status};
 use a2_stream::{Input, Output, put};
@@ -131,10 +132,10 @@ fn debug_files<S: Shelf, W: Output>(
 // Tells the fault of an answer, if it has one.
 fn tell_fault<T, E: Output>(answer: &Result<T, RunFault>, complaints: &mut E)
     ensures silent { IsOk answer.now → complaints.new ≡ complaints.old }
-    ensures told { IsErr answer.now → TellsSome (E.taker complaints.old) (E.taker complaints.new) }
+    ensures told { TellsFault answer.now (E.taker complaints.old) (E.taker complaints.new) }
 {
     if let Err(fault) = answer {
-        complain(*fault, complaints);
+        tell(fault.text().as_str(), complaints);
     }
 }
 
@@ -142,7 +143,7 @@ fn tell_fault<T, E: Output>(answer: &Result<T, RunFault>, complaints: &mut E)
 fn tell_done<E: Output>(answer: &Result<(), RunFault>, complaints: &mut E) -> u8
     ensures status { result ≡ done_status answer.now }
     ensures silent { result ≡ 0 ⊎ result ≡ 3 → complaints.new ≡ complaints.old }
-    ensures told { result ≢ 0 → result ≢ 3 → TellsSome (E.taker complaints.old) (E.taker complaints.new) }
+    ensures told { TellsFault answer.now (E.taker complaints.old) (E.taker complaints.new) }
 {
     tell_fault(answer, complaints);
     match answer {
@@ -155,7 +156,7 @@ fn tell_done<E: Output>(answer: &Result<(), RunFault>, complaints: &mut E) -> u8
 fn tell_run<E: Output>(answer: &Result<Cause, RunFault>, complaints: &mut E) -> u8
     ensures status { result ≡ status_of answer.now }
     ensures silent { result ≡ 0 ⊎ result ≡ 3 → complaints.new ≡ complaints.old }
-    ensures told { result ≢ 0 → result ≢ 3 → TellsSome (E.taker complaints.old) (E.taker complaints.new) }
+    ensures told { TellsFault answer.now (E.taker complaints.old) (E.taker complaints.new) }
 {
     tell_fault(answer, complaints);
     status(answer)
@@ -171,10 +172,10 @@ fn follow<S: Shelf, R: Input, W: Output, E: Output>(
     complaints: &mut E,
 ) -> u8
     ensures done { Does S.Reader.giver order.now (S.shelved shelf.old) (S.shelved shelf.new)
-        (R.giver input.old) (R.giver input.new) (W.taker output.old) (W.taker output.new) result }
+        (R.giver input.old) (R.giver input.new) (W.taker output.old) (W.taker output.new)
+        (E.taker complaints.old) (E.taker complaints.new) result }
     ensures output { Tells result (W.taker output.old) (W.taker output.new) }
     ensures silent { result ≡ 0 ⊎ result ≡ 3 → complaints.new ≡ complaints.old }
-    ensures told { result ≢ 0 → result ≢ 3 → TellsSome (E.taker complaints.old) (E.taker complaints.new) }
     ensures unread { NamesFile order.now → input.new ≡ input.old }
 {
     match order {
@@ -194,7 +195,8 @@ fn follow<S: Shelf, R: Input, W: Output, E: Output>(
 
 /// Does what `words` ask for, and answers the exit status, 0 to 5. The first word is the program's name; without
 /// another the text that `input` gives is run. Files are opened in `shelf`, and what is asked for goes to `output`. A
-/// fault, of the words, the source, a read, a write or memory, is told to `complaints` by a line. This project's profile.
+/// fault, of the words, the source, a read, a write or memory, is told to `complaints` by a line of its text. This project's
+/// profile.
 pub fn obey<S: Shelf, R: Input, W: Output, E: Output>(
     alloc: Global,
     words: &[String],
@@ -203,20 +205,22 @@ pub fn obey<S: Shelf, R: Input, W: Output, E: Output>(
     output: &mut W,
     complaints: &mut E,
 ) -> u8
-    // What the words ask for is done, over the files that they name; or the words are refused.
+    // What the words ask for is done, over the files that they name, and a fault is told; or the words are refused.
     ensures done { (asked : Result Asked Refusal) × Asks (map string_bytes words.now) asked × MatchResult asked
         (λ order. Does S.Reader.giver order (S.shelved shelf.old) (S.shelved shelf.new)
-        (R.giver input.old) (R.giver input.new) (W.taker output.old) (W.taker output.new) result)
+        (R.giver input.old) (R.giver input.new) (W.taker output.old) (W.taker output.new)
+        (E.taker complaints.old) (E.taker complaints.new) result)
         (λ fault. Refuses fault (S.shelved shelf.old) (S.shelved shelf.new)
         (W.taker output.old) (W.taker output.new) (E.taker complaints.old) (E.taker complaints.new) result) }
     // Without words the input is run, guarded, with no keys and at most 1,000,000 steps.
     ensures plain { length words.now ≤ 1 → (answer : Result Stop Fault) × (result ≡ status_of answer)
+        × TellsFault answer (E.taker complaints.old) (E.taker complaints.new)
         × RunsInput [] 1000000 plain (R.giver input.old) (R.giver input.new) (W.taker output.old) (W.taker output.new) answer }
     // Whatever the words: at most 5; by 1, 2 or 5 nothing went out, by 0 or 3 no write failed, and by 4 one did, or nothing went out.
     ensures output { Tells result (W.taker output.old) (W.taker output.new) }
-    // By 0 and 3 nothing is told, and by another status a line is.
+    // By 0 and 3 nothing is told, and by another status a line is, of a text that goes with the status.
     ensures silent { result ≡ 0 ⊎ result ≡ 3 → complaints.new ≡ complaints.old }
-    ensures told { result ≢ 0 → result ≢ 3 → TellsSome (E.taker complaints.old) (E.taker complaints.new) }
+    ensures told { IsToldBy result (E.taker complaints.old) (E.taker complaints.new) }
     // With a word behind the name the input is not read.
     ensures unread { 1 < length words.now → input.new ≡ input.old }
 {

@@ -6,10 +6,6 @@ use Rattle.a2_stream.specs.Stream.{Taker, Sends, Breaks}
 abbrev pub TellsLine : Taker → Taker → List ℕ → Type 0
 TellsLine old new text = Sends old new (text ++ codes "\n") ⊎ Breaks old new (text ++ codes "\n")
 
--- a line went out, of whatever text; or a front of one, and a call failed
-abbrev pub TellsSome : Taker → Taker → Type 0
-TellsSome old new = (text : List ℕ) × TellsLine old new text
-
 -- the text that is told of a fault: what its type says that it writes, where it says so; or FAULT, where that can't be written
 abbrev pub IsToldAs : Option (List ℕ) → List ℕ → Type 0
 IsToldAs output text = IfSome output (λ output. (text ≡ output) ⊎ (text ≡ codes "FAULT"))

@@ -5,7 +5,7 @@ ghost use Rattle.std.specs.Prelude.{◌≡◌, ◌++◌, List, ℕ, IfSome, None
 ghost use Rattle.a2_host.specs.Complaints.{IsToldAs, TellsLine};
 ghost use Rattle.a2_host.specs.Shelves.{Opens, Shelved};
 
-use a2_stream::{FromRead, Input, Output, ReadFault, put};
+use a2_stream::{FromRead, Input, Output, ReadFault, put, put_all};
 use arrayvec::ArrayString;
 use std::alloc::AllocError;
 use std::fmt::{Display, Write};
@@ -93,14 +93,34 @@ pub fn words_of(rt: &HostRuntime) -> Result<Vec<String>, HostWordsFault> {
     }
 }
 
-// The text of a fault and LF, where that can be written in 64 bytes.
-fn line_of<F: Display + Drop>(fault: F) -> Option<ArrayString<64>>
-    ensures { IfSome result (λ line. (text : List ℕ) × (line.bytes ≡ text ++ codes "\n") × IfSome (F.output fault) (λ output. text ≡ output)) }
+// A text and LF, where these fit in 64 bytes.
+fn line_of(text: &str) -> Option<ArrayString<64>>
+    ensures { IfSome result (λ line. line.bytes ≡ text.now ++ codes "\n") }
 {
     let mut line = ArrayString::<64>::new();
-    write!(line, "{fault}").ok()?;
+    line.try_push_str(text).ok()?;
     line.try_push_str("\n").ok()?;
     Some(line)
+}
+
+/// Writes `text` and LF to `complaints`, by one write where it takes that and the text has at most 63 bytes. Where a write
+/// fails, a front of the line went out, and nothing tells of it.
+pub fn tell<E: Output>(text: &str, complaints: &mut E)
+    ensures { TellsLine (E.taker complaints.old) (E.taker complaints.new) text.now }
+{
+    let _ = match line_of(text) {
+        Some(line) => put(line.as_str().as_bytes(), complaints),
+        None => put_all(&[text.as_bytes(), b"\n"], complaints),
+    };
+}
+
+// The text of a fault, where that can be written in 63 bytes.
+fn text_of<F: Display + Drop>(fault: F) -> Option<ArrayString<63>>
+    ensures { IfSome result (λ text. IfSome (F.output fault) (λ output. text.bytes ≡ output)) }
+{
+    let mut text = ArrayString::<63>::new();
+    write!(text, "{fault}").ok()?;
+    Some(text)
 }
 
 /// Writes the text of `fault` and LF to `complaints`, by one write where it takes that; `FAULT` for a text that cannot be
@@ -108,8 +128,8 @@ fn line_of<F: Display + Drop>(fault: F) -> Option<ArrayString<64>>
 pub fn complain<F: Display + Drop, E: Output>(fault: F, complaints: &mut E)
     ensures { (text : List ℕ) × IsToldAs (F.output fault) text × TellsLine (E.taker complaints.old) (E.taker complaints.new) text }
 {
-    let _ = match line_of(fault) {
-        Some(line) => put(line.as_str().as_bytes(), complaints),
-        None => put(b"FAULT\n", complaints),
-    };
+    match text_of(fault) {
+        Some(text) => tell(text.as_str(), complaints),
+        None => tell("FAULT", complaints),
+    }
 }

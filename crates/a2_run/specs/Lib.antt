@@ -1,5 +1,6 @@
 pub mod Meaning
 pub mod Answers
+pub mod Texts
 pub mod Status
 pub mod Started
 pub mod Laws

@@ -2,7 +2,7 @@
 
 ghost use Rattle.std.specs.Prelude.{◌≡◌, IfOk, IfSome, take};
 ghost use Rattle.a2_stream.specs.Stream.{count_after, TakesAtMost};
-ghost use Rattle.a2_run.specs.Answers.{read_of, Answers, OfSource, OfScript, is_read_fault, is_unread, is_write_fault, NothingSent};
+ghost use Rattle.a2_run.specs.Answers.{read_of, Answers, LeavesBehind, OfSource, OfScript, RestsOnTexts, is_read_fault, is_unread, is_write_fault, NothingSent};
 ghost use Rattle.a2_run.specs.Meaning.{IsRefused, IsRun, AreObjectLines};
 ghost use Rattle.a2_run.specs.DebugScripts.{IsDebugRefusal, IsDebugText, ReadsFail};
 ghost use Rattle.a2_run.specs.Scripts.{IsMonText, IsRefusedScript};
@@ -30,6 +30,7 @@ fn read_front<A: Allocator + Copy, R: Input>(
 ) -> Result<Vec<u8, A>, ReadingFault>
     ensures text { IfOk result (λ text. IfSome (R.giver reader.old).bytes (λ input. text.items ≡ take most input)) }
     ensures front { TakesAtMost most (R.giver reader.old) (R.giver reader.new) }
+    ensures through { IfOk result (λ _. LeavesBehind most (R.giver reader.old) (R.giver reader.new)) }
     ensures counted { (R.giver reader.new).failures ≡ count_after (is_unread result) (R.giver reader.old).failures }
 {
     let mut text = Vec::from_elem(alloc, 0u8, most)?;
@@ -47,6 +48,8 @@ pub fn read_text<A: Allocator + Copy, R: Input>(
     ensures text { IfOk result (λ text. IfSome (R.giver reader.old).bytes (λ input. text.items ≡ read_of input)) }
     // Nothing is read past the byte that shows that the text is too long.
     ensures front { TakesAtMost 65537 (R.giver reader.old) (R.giver reader.new) }
+    // And a text that is given is whole, up to that byte.
+    ensures through { IfOk result (λ _. LeavesBehind 65537 (R.giver reader.old) (R.giver reader.new)) }
     // A read failed exactly where that is the fault.
     ensures counted { (R.giver reader.new).failures ≡ count_after (is_unread result) (R.giver reader.old).failures }
 {
@@ -69,6 +72,8 @@ pub fn run_text<A: Allocator + Copy, R: Input, W: Output>(
         Answers (OfSource (IsRefused input)) (IsRun input keys.now limit options) (W.taker writer.old) (W.taker writer.new) result) }
     // Nothing is read past the 65,537th byte.
     ensures front { TakesAtMost 65537 (R.giver reader.old) (R.giver reader.new) }
+    // And all is read up to there, but where a read fails, or memory is wanting.
+    ensures through { RestsOnTexts result → LeavesBehind 65537 (R.giver reader.old) (R.giver reader.new) }
     // Whatever the reader gives, a fault other than of the writer means that nothing was written.
     ensures silent { NothingSent (W.taker writer.old) (W.taker writer.new) result }
     // A fault of the reader or writer comes exactly where one of its calls failed.
@@ -91,6 +96,8 @@ pub fn asm_text<A: Allocator + Copy, R: Input, W: Output>(
         Answers (OfSource (IsRefused input)) (λ _. AreObjectLines input) (W.taker writer.old) (W.taker writer.new) result) }
     // Nothing is read past the 65,537th byte.
     ensures front { TakesAtMost 65537 (R.giver reader.old) (R.giver reader.new) }
+    // And all is read up to there, but where a read fails, or memory is wanting.
+    ensures through { RestsOnTexts result → LeavesBehind 65537 (R.giver reader.old) (R.giver reader.new) }
     // Whatever the reader gives, a fault other than of the writer means that nothing was written.
     ensures silent { NothingSent (W.taker writer.old) (W.taker writer.new) result }
     // A fault of the reader or writer comes exactly where one of its calls failed.
@@ -113,6 +120,8 @@ pub fn mon_text<A: Allocator + Copy, R: Input, W: Output>(
         Answers (OfScript (IsRefusedScript input)) (λ _. IsMonText input) (W.taker writer.old) (W.taker writer.new) result) }
     // Nothing is read past the 65,537th byte.
     ensures front { TakesAtMost 65537 (R.giver reader.old) (R.giver reader.new) }
+    // And all is read up to there, but where a read fails, or memory is wanting.
+    ensures through { RestsOnTexts result → LeavesBehind 65537 (R.giver reader.old) (R.giver reader.new) }
     // Whatever the reader gives, a fault other than of the writer means that nothing was written.
     ensures silent { NothingSent (W.taker writer.old) (W.taker writer.new) result }
     // A fault of the reader or writer comes exactly where one of its calls failed.
@@ -139,6 +148,9 @@ pub fn debug_text<A: Allocator + Copy, R: Input, S: Input, W: Output>(
     // Nothing is read past the 65,537th byte of either.
     ensures fronts { TakesAtMost 65537 (R.giver source.old) (R.giver source.new)
         × TakesAtMost 65537 (S.giver script.old) (S.giver script.new) }
+    // And all of both is read up to there, but where a read fails, or memory is wanting: so also where the source is refused.
+    ensures through { RestsOnTexts result → LeavesBehind 65537 (R.giver source.old) (R.giver source.new)
+        × LeavesBehind 65537 (S.giver script.old) (S.giver script.new) }
     // Whatever the readers give, a fault other than of the writer means that nothing was written.
     ensures silent { NothingSent (W.taker writer.old) (W.taker writer.new) result }
     // A fault of a reader or of the writer comes exactly where one of its calls failed.

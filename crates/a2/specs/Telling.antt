@@ -1,0 +1,21 @@
+-- What is told to standard error. This project's profile.
+use Rattle.std.specs.Prelude.{◌≡◌, ◌⊎◌, ℕ, codes, Result, Ok, Err}
+use Rattle.a2_stream.specs.Stream.{Taker}
+use Rattle.a2_run.specs.declared.fault.RunFault.{RunFault}
+use Rattle.a2_run.specs.Status.{fault_status}
+use Rattle.a2_run.specs.Texts.{run_fault_text}
+use Rattle.a2_host.specs.Complaints.{TellsLine}
+
+-- a fault is told by a line of its text; and of an answer that has none nothing is told
+abbrev pub TellsFault : {T : Type 0} → Result T RunFault → Taker → Taker → Type 0
+TellsFault (Ok _) told told' = told' ≡ told
+TellsFault (Err fault) told told' = TellsLine told told' (run_fault_text fault)
+
+-- What a status says of what was told: by 0 and 3 nothing was; by 1 the text of a refusal; by 2 that words or keys are bad;
+-- by 4 that a read or a write failed; by 5 that there was no memory
+pub record IsToldBy (status : ℕ) (told told' : Taker) : Type 0 where
+  pub silent : status ≡ 0 ⊎ status ≡ 3 → told' ≡ told
+  pub refused : status ≡ 1 → (fault : RunFault) × (fault_status fault ≡ 1) × TellsLine told told' (run_fault_text fault)
+  pub words : status ≡ 2 → TellsLine told told' (codes "BAD WORDS") ⊎ TellsLine told told' (codes "BAD KEYS")
+  pub failed : status ≡ 4 → TellsLine told told' (codes "READ FAULT") ⊎ TellsLine told told' (codes "WRITE FAULT")
+  pub memory : status ≡ 5 → TellsLine told told' (codes "NO MEMORY")
