@@ -1,2 +1,3 @@
 pub mod NamedLaws
+pub mod ReleaseLaws
 pub mod WordLaws

@@ -3,9 +3,6 @@
 use crate::table::{WORDS, Word};
 use a2_stream::{Output, WriteFault, put, put_all};
 
-/// The version of the program.
-pub const VERSION: &str = "1.0.0";
-
 // What stands above the words.
 const HEAD: &[u8] = b"a2x has tools beside a2, the 6502 assembler with its modelled Apple II.
 
@@ -22,7 +19,9 @@ F is a source; without it the standard input is taken. Options of a run, before 
               and 100,000 of a film
   --free      without the guard: code may begin anywhere, and be stored to
 
-N of --format is short, for editors, or json.
+N of --format is short, for editors, or json. Alone stands:
+
+  --version   the version, and the commit that the program was packaged from
 
 Status: 0 well, 1 source refused, 2 words or keys refused, 3 another stop,
 4 a read or write failed, 5 no memory.
@@ -67,9 +66,4 @@ pub fn put_use<W: Output>(word: &Word, writer: &mut W) -> Result<(), WriteFault>
         b"\n",
     ];
     put_all(&parts, writer)
-}
-
-/// Writes the line of the version.
-pub fn put_version<W: Output>(writer: &mut W) -> Result<(), WriteFault> {
-    put_all(&[b"a2x ", VERSION.as_bytes(), b"\n"], writer)
 }

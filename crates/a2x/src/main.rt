@@ -4,6 +4,7 @@
 mod help;
 mod named;
 mod program;
+mod release;
 mod table;
 mod terminal;
 mod tools;
@@ -13,15 +14,44 @@ use a2_host::{HostFiles, HostWordsFault, complain, words_of};
 use a2_run::{RunFault, fault_status};
 use a2_stream::{FromRead, Output, ToWrite};
 use program::{obey, talks};
-use std::io::{BufWriter, IsTerminal, Write};
+use std::env;
+use std::io::{BufWriter, ErrorKind, IsTerminal, Write};
+use std::path::PathBuf;
 use std::process::ExitCode;
 
+// Where packages have their release file, below the folder above that of the program.
+const RELEASE: &str = "share/a2/VERSION";
+
+// The path of the release file, none where the system does not say which file the program is.
+fn release_path(rt: &HostRuntime) -> Result<Option<PathBuf>, RunFault> {
+    let program = match env::current_exe(rt) {
+        Ok(program) => program,
+        Err(error) if matches!(error.kind(), ErrorKind::OutOfMemory) => {
+            return Err(RunFault::Memory);
+        }
+        Err(_) => return Ok(None),
+    };
+    let Some(folder) = program.parent() else {
+        return Ok(None);
+    };
+    match folder.parent() {
+        Some(prefix) => Ok(Some(prefix.join(rt.alloc(), RELEASE)?)),
+        None => Ok(None),
+    }
+}
+
 // Does what the words ask for, with this writer.
-fn obeyed<W: Output>(rt: &HostRuntime, words: &[String], output: &mut W) -> u8 {
+fn obeyed<W: Output>(
+    rt: &HostRuntime,
+    words: &[String],
+    release: Option<&str>,
+    output: &mut W,
+) -> u8 {
     obey(
         rt.alloc(),
         words,
         rt.stdin().is_terminal(),
+        release,
         &mut HostFiles::new(rt),
         &mut FromRead::new(rt.stdin()),
         output,
@@ -31,14 +61,19 @@ fn obeyed<W: Output>(rt: &HostRuntime, words: &[String], output: &mut W) -> u8 {
 
 // Does what the words ask for. Many lines go out by one write, but where someone waits for each answer.
 fn act(rt: &HostRuntime, words: &[String]) -> Result<u8, RunFault> {
+    let path = release_path(rt)?;
+    let release = match &path {
+        Some(path) => Some(path.as_str()),
+        None => None,
+    };
     if talks(words) {
-        return Ok(obeyed(rt, words, &mut ToWrite::new(rt.stdout())));
+        return Ok(obeyed(rt, words, release, &mut ToWrite::new(rt.stdout())));
     }
     let mut lines = match BufWriter::new(rt.alloc(), rt.stdout()) {
         Ok(lines) => lines,
         Err(_) => return Err(RunFault::Memory),
     };
-    let status = obeyed(rt, words, &mut ToWrite::new(&mut lines));
+    let status = obeyed(rt, words, release, &mut ToWrite::new(&mut lines));
     let is_broken = status != 4 && lines.flush().is_err();
     // What a failed write left is given up: dropped as they are, `lines` would write it again.
     let _ = lines.into_parts();

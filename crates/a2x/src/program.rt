@@ -2,8 +2,9 @@
 
 ghost use Rattle.std.specs.Prelude.{◌≤◌, IfOk, IfErr};
 
-use crate::help::{put_page, put_use, put_version};
+use crate::help::{put_page, put_use};
 use crate::named::{check_order, file_in};
+use crate::release::put_version;
 use crate::table::{Tool, Word, nearest, word_named};
 use crate::terminal::mon;
 use crate::tools::{check, film, list, profile, run, told, trace, written};
@@ -334,12 +335,14 @@ fn has_limit(words: &[String]) -> bool {
 
 /// Does what `words` ask for, and answers the exit status, 0 to 5. The first word is the program's name, and the second says
 /// what is done. Files are opened in `shelf`; what is asked for goes to `output`, and why it is refused to `complaints`.
-/// `prompts` says whether a prompt stands before each line of a session. Without a second word the page of help goes to
-/// `complaints`, with status 2. This project's profile.
+/// `prompts` says whether a prompt stands before each line of a session, and `release` names the file that says of which commit
+/// the program is, where there may be one. Without a second word the page of help goes to `complaints`, with status 2. This
+/// project's profile.
 pub fn obey<S: Shelf, R: Input, W: Output, E: Output>(
     alloc: Global,
     words: &[String],
     prompts: bool,
+    release: Option<&str>,
     shelf: &mut S,
     input: &mut R,
     output: &mut W,
@@ -360,7 +363,7 @@ pub fn obey<S: Shelf, R: Input, W: Output, E: Output>(
             ) {
                 Ok(status) | Err(status) => status,
             },
-            None => answer(alloc, word.as_str(), output, complaints),
+            None => answer(alloc, word.as_str(), release, shelf, output, complaints),
         },
     }
 }
@@ -374,12 +377,22 @@ fn asks_for_help(words: &[String]) -> bool {
 }
 
 // Answers a question that is no word, or tells that it is none.
-fn answer<W: Output, E: Output>(alloc: Global, name: &str, output: &mut W, complaints: &mut E) -> u8
+fn answer<S: Shelf, W: Output, E: Output>(
+    alloc: Global,
+    name: &str,
+    release: Option<&str>,
+    shelf: &mut S,
+    output: &mut W,
+    complaints: &mut E,
+) -> u8
     ensures { result ≤ 5 }
 {
     match name {
         "--help" | "-h" => written(put_page(output), complaints),
-        "--version" => written(put_version(output), complaints),
+        "--version" => match put_version(alloc, release, shelf, output) {
+            Ok(()) => 0,
+            Err(fault) => told(fault, complaints),
+        },
         _ => unknown(alloc, name, complaints),
     }
 }
