@@ -22,8 +22,9 @@ use std::alloc::Allocator;
 /// The most bytes that are read: one more than a text may have.
 const MOST_READ: usize = 65_537;
 
-// Reads at most so many bytes.
-fn read_front<A: Allocator + Copy, R: Input>(
+/// Reads a text up to its end, but at most `most` bytes, for which memory is taken at once. Refused where a read fails, and for
+/// want of memory.
+pub fn read_front<A: Allocator + Copy, R: Input>(
     alloc: A,
     reader: &mut R,
     most: usize,
