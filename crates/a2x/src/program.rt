@@ -11,15 +11,49 @@ use crate::tools::{check, film, list, profile, run, told, trace, written};
 use crate::words::{Misfit, Order, WordsFault, misfit_in, order_of};
 use a2_host::Shelf;
 use a2_manual::{manual, near, topic};
-use a2_run::{RunFault, read_text};
+use a2_run::{RunFault, read_front, read_text};
 use a2_stream::{Input, Output, put, put_all};
+use a2_syntax::Fault;
 use std::alloc::Global;
+
+// The most bytes of a text that a session begins with: object lines of all of RAM, eight bytes each, have 184,320.
+const MOST_LOADED: usize = 1 << 20;
 
 // Writes a line of these parts behind the program's name. Where that fails there is no place left to tell it.
 fn tell<E: Output>(parts: &[&[u8]], complaints: &mut E) {
     let _ = put_all(&[b"a2x: "], complaints);
     let _ = put_all(parts, complaints);
     let _ = put_all(&[b"\n"], complaints);
+}
+
+// Tells that a file cannot be opened, and gives the status.
+fn tell_unopened<E: Output>(name: &str, complaints: &mut E) -> u8
+    ensures { result ≤ 5 }
+{
+    tell(
+        &[b"no file ", name.as_bytes(), b" can be opened here"],
+        complaints,
+    );
+    4
+}
+
+// What a session is to begin with, of the file with this name; or the status, where that is told.
+fn loaded_text<S: Shelf, E: Output>(
+    alloc: Global,
+    name: &str,
+    shelf: &mut S,
+    complaints: &mut E,
+) -> Result<Vec<u8>, u8>
+    ensures { IfErr result (λ status. status ≤ 5) }
+{
+    let Ok(mut reader) = shelf.open(name) else {
+        return Err(tell_unopened(name, complaints));
+    };
+    match read_front(alloc, &mut reader, MOST_LOADED + 1) {
+        Ok(text) if text.len() <= MOST_LOADED => Ok(text),
+        Ok(_) => Err(told(RunFault::Source(Fault::TooLarge(0)), complaints)),
+        Err(fault) => Err(told(RunFault::from(fault), complaints)),
+    }
 }
 
 // The text of a file, or of the standard input where none is named; or the status, where that is told.
@@ -35,11 +69,7 @@ fn text_of<S: Shelf, R: Input, E: Output>(
     let read = match file {
         Some(name) => {
             let Ok(mut reader) = shelf.open(name) else {
-                tell(
-                    &[b"no file ", name.as_bytes(), b" can be opened here"],
-                    complaints,
-                );
-                return Err(4);
+                return Err(tell_unopened(name, complaints));
             };
             read_text(alloc, &mut reader)
         }
@@ -218,7 +248,7 @@ fn talk_over<S: Shelf, R: Input, W: Output, E: Output>(
 ) -> u8
     ensures { result ≤ 5 }
 {
-    match text_of(alloc, Some(name), shelf, input, complaints) {
+    match loaded_text(alloc, name, shelf, complaints) {
         Ok(text) => mon(
             alloc,
             Some(text.as_slice()),
