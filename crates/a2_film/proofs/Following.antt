@@ -5,7 +5,7 @@ use Rattle.a2_page.specs.declared.Switches.{Switches}
 use Rattle.a2_page.specs.Grid.{cleared, byte_in}
 use Rattle.a2_page.specs.Text.{blocks_of}
 use Rattle.a2_opcode.specs.declared.Row.{Row}
-use Rattle.a2_bus.specs.Access.{IsSimulation}
+use Rattle.a2_bus.proofs.Relating.{IsSimulation}
 use Rattle.a2_bus.specs.Devices.{Devices, key_taken, switched, after_access}
 use Rattle.a2_bus.specs.Memory.{Memory, ram_byte, ram_end, with_ram, memory_access}
 use Rattle.a2_cpu.specs.Instruction.{performed}

@@ -1,6 +1,6 @@
 -- What a screen shows of the two text pages, as the switches say. Apple II Reference Manual (1979), pages 12 to 20;
 -- the lines are this project's profile, and one of them stands for the hi-res picture.
-use Rattle.std.specs.Prelude.{◌≡◌, ℕ, ◌+◌, ◌*◌, ◌/◌, ◌%◌, Bool, List, [], ◌∷◌, ◌++◌, flat_map, slice_index, take, drop, codes, if◌then◌else◌, true, false, replicate, refl}
+use Rattle.std.specs.Prelude.{ℕ, ◌+◌, ◌*◌, ◌/◌, ◌%◌, List, [], ◌++◌, slice_index, take, drop, codes, if◌then◌else◌}
 use Rattle.a2_page.specs.declared.Switches.{Switches}
 use Rattle.a2_page.specs.declared.View.{View}
 use Rattle.a2_page.specs.Grid.{Grid, grid_of}
@@ -39,29 +39,3 @@ picture switches page1 page2 = lines_of_page switches (shown_page switches page1
 -- the attributes of the rows that are shown as text
 abbrev pub attribute_rows : Switches → Grid → Grid → List ℕ
 attribute_rows switches page1 page2 = attribute_lines (drop (first_text_row switches) (shown_page switches page1 page2))
-
--- Small screens of 21 rows, of which the last says A
-
-abbrev small_screen : Grid
-small_screen = replicate 20 (0x12 ∷ []) ++ (0xC1 ∷ []) ∷ []
-
-abbrev switches_at : Bool → Bool → Bool → Switches
-switches_at text mixed hires = record { text = text; mixed = mixed; page2 = false; hires = hires }
-
-pub page_example : picture (record (switches_at true true true) { page2 = true }) small_screen ((0xC2 ∷ []) ∷ []) ≡ codes "B\n"
-page_example = refl
-
-pub lores_example : picture (switches_at false false false) ((0xC1 ∷ 0x10 ∷ []) ∷ []) [] ≡ codes "10\nC1\n"
-lores_example = refl
-
-pub mixed_example : picture (switches_at false true false) small_screen [] ≡ flat_map {X = List ℕ} (λ line. line) (replicate 20 (codes "2\n1\n")) ++ codes "A\n"
-mixed_example = refl
-
-pub hires_example : picture (switches_at false true true) small_screen [] ≡ codes "HI-RES NOT SHOWN\nA\n"
-hires_example = refl
-
-pub attributes_example : attribute_rows (switches_at false true true) small_screen [] ≡ codes ".\n"
-attributes_example = refl
-
-pub no_attributes_example : attribute_rows (switches_at false false false) small_screen [] ≡ []
-no_attributes_example = refl

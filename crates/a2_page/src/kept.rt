@@ -57,10 +57,11 @@ fn count_marks(marks: &[bool; 24]) -> u8
 }
 
 impl Picture {
-    /// A picture of which every row is marked; so it fits any page.
+    /// A picture of which every row is marked; so it fits any page, and [`told_pictures_fit`] speaks of it.
     pub fn new() -> Picture
         ensures marked { (row : ℕ) → row < 24 → is_row_marked result row ≡ true }
         ensures fits { (page : Grid) → FitsPage result page }
+        ensures size { length result.marks ≡ 24 }
     {
         Picture {
             page: [0; 1024],
