@@ -9,7 +9,7 @@ ghost use Rattle.a2_cpu.specs.Code.{place_for, acting_stores, refused_at};
 
 use crate::found::{Place, find};
 use crate::live::Live;
-use crate::writes::{Targets, targets_of};
+use crate::stores::{Targets, targets_of};
 use crate::{GuardedStep, Protection, Regs};
 use a2_bus::Bus;
 use a2_opcode::Mnemonic;

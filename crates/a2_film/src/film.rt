@@ -19,7 +19,7 @@ use crate::head::{put_opening, put_program, put_start};
 use crate::rows::{Moment, put_differing, put_fields, put_listed};
 use a2_asm::Program;
 use a2_bus::Keys;
-use a2_cpu::writes::writes;
+use a2_cpu::writes;
 use a2_film_page::{head, tail};
 use a2_hex::RAM_END;
 use a2_machine::{Cause, Machine, write_cause};
