@@ -1,6 +1,6 @@
-//! What only calls of the libraries show of sources and scripts, as tests: programs, machines and debuggers in the middle of
-//! a run, and the four calls that take texts.
+//! Runs call by call: machines, debuggers and texts, also where memory, reads and writes are refused, each in its turn.
 #![tactic(auto)]
 
+pub mod ration;
 #[cfg(test)]
 mod tests;

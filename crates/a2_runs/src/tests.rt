@@ -1,8 +1,13 @@
-//! Programs, machines, debuggers and texts. What sources and scripts show when the program runs them stands in the cases of
-//! `tests/program`.
+//! What no program shows: parts and counts of machines and debuggers, and each allocation, each write and each read that
+//! fails in its turn. Behind the last refusal each call is compared whole, so one that is always refused is found too.
 
 mod debuggers;
+mod examples;
+mod lines;
 mod machines;
-mod perform_all;
-mod scripts;
+mod memory;
+mod parts;
+mod reads;
+mod starts;
 mod texts;
+mod writes;

@@ -1,129 +1,181 @@
-//! A program by its parts, and a machine step by step.
+//! A program by its parts, and machines call by call.
 
-use a2_asm::{Program, a_source_has_one_layout, assemble};
+use super::examples::{FIVE_LINES, program_of};
+use a2_asm::{Program, a_source_has_one_layout};
 use a2_bus::Keys;
+use a2_hex::{Image, load_lines};
 use a2_machine::{Cause, Machine};
 use a2_page::{print, print_attributes};
 use a2_stream::ToWrite;
-use a2_syntax::{Fault, parse};
-use a2_worked::FIVE_LINES;
-use std::alloc::AllocError;
-use std::process::Abort;
-use std::test::Fail;
+use std::alloc::Global;
 
-/// The program of a text.
-pub fn program_of(rt: &impl AllocGlobal, text: &[u8]) -> Result<Program, Fault> {
-    let source = parse(rt.alloc(), text)?;
-    assemble(rt.alloc(), &source)
+// Whether these are the parts of the five lines.
+fn has_parts(program: &Program) -> bool {
+    program.entry() == 0x300
+        && program.statements().len() == 3
+        && program.is_code(0x304)
+        && !program.is_code(0x306)
+        && program.instr_at(0x302).is_some()
+        && program.instr_at(0x303).is_none()
+        && program.name("COUT") == Some(0xFDED)
+        && program.name("cout").is_none()
+        && program.names().len() == 1
 }
 
-/// A machine under the guard of a program, at its start.
-pub fn guarded(rt: &impl AllocGlobal, program: &Program) -> Result<Machine, AllocError> {
-    let mut machine = Machine::new(rt.alloc())?;
-    machine.boot(program.image(), program.entry());
-    machine.guard(program);
-    Ok(machine)
+fn is_image(found: &Image, wanted: &Image) -> bool {
+    for address in 0..=0xFFFFu16 {
+        if found.get(address) != wanted.get(address) {
+            return false;
+        }
+    }
+    true
+}
+
+// Whether object lines load to the image of the source.
+fn loads_to_image(alloc: Global, source: &str, lines: &str) -> bool {
+    match (
+        program_of(alloc, source.as_bytes()),
+        load_lines(alloc, lines.as_bytes()),
+    ) {
+        (Some(program), Ok(image)) => is_image(&image, program.image()),
+        _ => false,
+    }
+}
+
+// Whether a source has the parts of the five lines.
+fn is_five_lines(alloc: Global, source: &str) -> bool {
+    match program_of(alloc, source.as_bytes()) {
+        Some(program) => has_parts(&program),
+        None => false,
+    }
 }
 
 #[test]
-fn parts_of_a_program(rt: HostRuntime) -> Result<(), Fail> {
-    let program = program_of(&rt, FIVE_LINES.as_bytes())?;
-    assert_eq!(rt; program.entry(), 0x300);
-    assert_eq!(rt; program.statements().len(), 3);
-    assert!(rt; program.is_code(0x304));
-    assert!(rt; !program.is_code(0x306));
-    assert!(rt; program.instr_at(0x302).is_some());
-    assert!(rt; program.instr_at(0x303).is_none());
-    assert_eq!(rt; program.name("COUT"), Some(0xFDED));
-    assert_eq!(rt; program.name("cout"), None);
-    assert_eq!(rt; program.names().len(), 1);
+fn programs(rt: HostRuntime) {
     a_source_has_one_layout();
-    Ok(())
+    assert!(rt; is_five_lines(rt.alloc(), FIVE_LINES));
+    for (source, lines) in [
+        (FIVE_LINES, "0300:A9 C1 20 ED FD 60\n"),
+        (
+            " ORG $400\n ASC \"HELLO\"\n ORG $300\n RTS",
+            "0300:60\n0400:C8 C5 CC CC CF\n",
+        ),
+    ] {
+        assert!(rt; loads_to_image(rt.alloc(), source, lines));
+    }
+}
+
+/// What is done with a machine, or is wanted of it.
+#[derive(Clone, Copy)]
+enum Act {
+    /// The program is loaded, at its start.
+    Boot,
+    Guard,
+    Free,
+    /// A step, which ends so.
+    Step(Option<Cause>),
+    /// A run of so many steps, which ends so.
+    Run(u32, Cause),
+    /// PC and the cycles.
+    At(u16, u64),
+    /// The steps since the start, and those made in all.
+    Steps(u64, u64),
+    Accumulator(u8),
+    Poke(u16, u8),
+    Peek(u16, u8),
+    /// The rows that may have changed, each as a bit.
+    Marks(u32),
+    /// It prints by the rows that it kept what is printed of its view.
+    Print,
+    /// It does so before each four of so many steps, at whose end it has returned.
+    PrintEachFour(u32),
+    /// So many keys are typed one by one, and whether all are taken.
+    TypeQ(u32, bool),
+    /// A new machine becomes its copy, with the same marks.
+    Copy,
 }
 
 // The five lines, one step after another, and again.
-#[test]
-fn steps_of_a_machine(rt: HostRuntime) -> Result<(), Fail> {
-    let program = program_of(&rt, FIVE_LINES.as_bytes())?;
-    let mut machine = guarded(&rt, &program)?;
-    for (pc, cycles) in [
-        (0x302, 2),
-        (0xFDED, 8),
-        (0xFDF0, 13),
-        (0x305, 19),
-        (0xFF69, 25),
-    ] {
-        assert_eq!(rt; machine.step(), None);
-        assert_eq!(rt; (machine.regs().pc, machine.cycles()), (pc, cycles));
-    }
-    assert_eq!(rt; machine.step(), Some(Cause::Returned));
-    assert_eq!(rt; machine.run(1), Cause::Returned);
-    let page = machine.view().page1;
-    assert_eq!(rt; page[0], 0xC1);
-    machine.boot(program.image(), program.entry());
-    assert_eq!(rt; machine.run(3), Cause::Limit);
-    assert_eq!(rt; (machine.steps(), machine.made()), (3, 8));
-    Ok(())
-}
+const STEPS: &[Act] = &[
+    Act::Step(None),
+    Act::At(0x302, 2),
+    Act::Step(None),
+    Act::At(0xFDED, 8),
+    Act::Step(None),
+    Act::At(0xFDF0, 13),
+    Act::Step(None),
+    Act::At(0x305, 19),
+    Act::Step(None),
+    Act::At(0xFF69, 25),
+    Act::Step(Some(Cause::Returned)),
+    Act::Run(1, Cause::Returned),
+    Act::Peek(0x400, 0xC1),
+    Act::Boot,
+    Act::Run(3, Cause::Limit),
+    Act::Steps(3, 8),
+];
 
 // Who looks again sees the rows that changed since: a poke marks its row, a run the row that it wrote.
-#[test]
-fn rows_that_changed(rt: HostRuntime) -> Result<(), Fail> {
-    let program = program_of(&rt, FIVE_LINES.as_bytes())?;
-    let mut machine = guarded(&rt, &program)?;
-    let mut shown = Vec::new(rt.alloc());
-    for row in 0..24u8 {
-        assert!(rt; machine.marked(row));
-    }
-    assert_eq!(rt; machine.print(&mut ToWrite::new(&mut shown)), Ok(()));
-    machine.poke(0x0480, 0xA0);
-    for row in 0..24u8 {
-        assert_eq!(rt; machine.marked(row), row == 1);
-    }
-    assert_eq!(rt; machine.print(&mut ToWrite::new(&mut shown)), Ok(()));
-    assert_eq!(rt; machine.run(9), Cause::Returned);
-    for row in 0..24u8 {
-        assert_eq!(rt; machine.marked(row), row == 0);
-    }
-    let mut other = Machine::new(rt.alloc())?;
-    other.copy_from(&machine);
-    assert!(rt; other.marked(0) && !other.marked(1));
-    Ok(())
-}
+const MARKS: &[Act] = &[
+    Act::Marks(0xFF_FFFF),
+    Act::Print,
+    Act::Poke(0x0480, 0xA0),
+    Act::Marks(0b10),
+    Act::Print,
+    Act::Run(9, Cause::Returned),
+    Act::Marks(1),
+    Act::Copy,
+];
+
+const PRINTS_ALIKE: &[Act] = &[Act::PrintEachFour(160)];
 
 // Without its guard a machine goes on where the guard stopped it.
-#[test]
-fn guard_set_and_taken_away(rt: HostRuntime) -> Result<(), Fail> {
-    let program = program_of(&rt, b" ORG $300\n JMP $D000")?;
-    let mut machine = guarded(&rt, &program)?;
-    assert_eq!(rt; machine.run(9), Cause::OffStatement);
-    machine.free();
-    assert_eq!(rt; machine.run(9), Cause::Rom);
-    assert_eq!(rt; machine.steps(), 1);
-    Ok(())
-}
+const GUARD: &[Act] = &[
+    Act::Run(9, Cause::OffStatement),
+    Act::Free,
+    Act::Run(9, Cause::Rom),
+    Act::Steps(1, 1),
+    Act::Boot,
+    Act::Guard,
+    Act::Run(9, Cause::OffStatement),
+];
 
 // 4,096 keys wait, and one more is refused; a service takes the first, and there is room for one.
-#[test]
-fn room_for_4096_keys(rt: HostRuntime) -> Result<(), Fail> {
-    let program = program_of(&rt, b" JSR $FD0C\n BRK")?;
-    let mut machine = guarded(&rt, &program)?;
-    let mut one = Keys::new();
-    assert!(rt; one.push(b'Q').is_ok());
-    for _ in 0..4096usize {
-        assert!(rt; machine.type_keys(&one).is_ok());
-    }
-    assert!(rt; machine.type_keys(&one).is_err());
-    assert_eq!(rt; machine.run(3), Cause::Brk);
-    assert_eq!(rt; machine.regs().a, 0xD1);
-    assert!(rt; machine.type_keys(&one).is_ok());
-    assert!(rt; machine.type_keys(&one).is_err());
-    Ok(())
+const KEYS: &[Act] = &[
+    Act::TypeQ(4096, true),
+    Act::TypeQ(1, false),
+    Act::Run(3, Cause::Brk),
+    Act::Accumulator(0xD1),
+    Act::TypeQ(1, true),
+    Act::TypeQ(1, false),
+];
+
+/// A source, and what is done with a machine under its guard.
+struct Row {
+    source: &'static str,
+    acts: &'static [Act],
 }
 
-// Sources that scroll, that switch to another page and to lo-res, and that clear a window and print in inverse.
-const PRINTED: [&str; 3] = [
-    "COUT EQU $FDED
+// Those that print alike scroll, switch to another page and to lo-res, and clear a window and print in inverse.
+const ROWS: [Row; 7] = [
+    Row {
+        source: FIVE_LINES,
+        acts: STEPS,
+    },
+    Row {
+        source: FIVE_LINES,
+        acts: MARKS,
+    },
+    Row {
+        source: " ORG $300\n JMP $D000",
+        acts: GUARD,
+    },
+    Row {
+        source: " JSR $FD0C\n BRK",
+        acts: KEYS,
+    },
+    Row {
+        source: "COUT EQU $FDED
 CROUT EQU $FD8E
  ORG $300
  LDA #$5A
@@ -141,7 +193,10 @@ L JSR CROUT
  LDA $47F
  RTS
 ",
-    " ORG $300
+        acts: PRINTS_ALIKE,
+    },
+    Row {
+        source: " ORG $300
  LDA #$C1
  STA $800
  STA $A50
@@ -150,7 +205,10 @@ L JSR CROUT
  INC $C050
  RTS
 ",
-    "COUT EQU $FDED
+        acts: PRINTS_ALIKE,
+    },
+    Row {
+        source: "COUT EQU $FDED
 HOME EQU $FC58
  ORG $300
  LDA #10
@@ -168,40 +226,135 @@ HOME EQU $FC58
  JSR COUT
  RTS
 ",
+        acts: PRINTS_ALIKE,
+    },
 ];
 
-// What the machine prints, by rows that it kept or of its view; with attribute rows behind.
-fn printed(
-    rt: &(impl Abort + AllocGlobal),
-    machine: &mut Machine,
-    is_kept: bool,
-) -> Result<Vec<u8>, Fail> {
-    let mut shown = Vec::new(rt.alloc());
-    let mut writer = ToWrite::new(&mut shown);
-    if is_kept {
-        assert_eq!(rt; machine.print(&mut writer), Ok(()));
-        assert_eq!(rt; machine.print_attributes(&mut writer), Ok(()));
-    } else {
-        assert_eq!(rt; print(&machine.view(), &mut writer), Ok(()));
-        assert_eq!(rt; print_attributes(&machine.view(), &mut writer), Ok(()));
-    }
-    Ok(shown)
+// Whether it prints by kept rows what is printed of its view, with attribute rows behind.
+fn prints_alike(alloc: Global, machine: &mut Machine) -> bool {
+    let mut kept = Vec::new(alloc);
+    let mut plain = Vec::new(alloc);
+    machine.print(&mut ToWrite::new(&mut kept)).is_ok()
+        && machine
+            .print_attributes(&mut ToWrite::new(&mut kept))
+            .is_ok()
+        && print(&machine.view(), &mut ToWrite::new(&mut plain)).is_ok()
+        && print_attributes(&machine.view(), &mut ToWrite::new(&mut plain)).is_ok()
+        && kept.as_slice() == plain.as_slice()
 }
 
-// At the start, behind each four steps, and at its end a machine prints by kept rows what is printed of its view.
-#[test]
-fn kept_rows_print_alike(rt: HostRuntime) -> Result<(), Fail> {
-    for source in PRINTED {
-        let program = program_of(&rt, source.as_bytes())?;
-        let mut machine = guarded(&rt, &program)?;
-        let mut cause = Cause::Limit;
-        for _ in 0..40u32 {
-            let kept = printed(&rt, &mut machine, true)?;
-            let plain = printed(&rt, &mut machine, false)?;
-            assert_eq!(rt; kept.as_slice(), plain.as_slice(), "{source}");
-            cause = machine.run(4);
+fn prints_each_four(alloc: Global, machine: &mut Machine, steps: u32) -> bool {
+    for _ in 0..steps / 4 {
+        if !prints_alike(alloc, machine) {
+            return false;
         }
-        assert_eq!(rt; cause, Cause::Returned);
+        let _ = machine.run(4);
     }
-    Ok(())
+    machine.run(0) == Cause::Returned
+}
+
+// The marked rows, each as a bit.
+fn marked_rows(machine: &Machine) -> u32 {
+    let mut rows = 0;
+    for row in 0..24u8 {
+        if machine.marked(row) {
+            rows |= 1u32 << row;
+        }
+    }
+    rows
+}
+
+// Whether so many keys are all taken.
+fn types(machine: &mut Machine, count: u32) -> bool {
+    let mut one = Keys::new();
+    let _ = one.push(b'Q');
+    for _ in 0..count {
+        if machine.type_keys(&one).is_err() {
+            return false;
+        }
+    }
+    true
+}
+
+// (a device is not poked)
+fn pokes(machine: &mut Machine, address: u16, byte: u8) -> bool {
+    if address < 0xC000 {
+        machine.poke(address, byte);
+    }
+    address < 0xC000
+}
+
+fn is_copied(alloc: Global, machine: &Machine) -> bool {
+    match Machine::new(alloc) {
+        Ok(mut other) => {
+            other.copy_from(machine);
+            marked_rows(&other) == marked_rows(machine)
+        }
+        Err(_) => false,
+    }
+}
+
+// Does what is to be done, and tells whether what is wanted is so.
+fn does(alloc: Global, machine: &mut Machine, program: &Program, act: Act) -> bool {
+    match act {
+        Act::Boot => {
+            machine.boot(program.image(), program.entry());
+            true
+        }
+        Act::Guard => {
+            machine.guard(program);
+            true
+        }
+        Act::Free => {
+            machine.free();
+            true
+        }
+        Act::Step(cause) => machine.step() == cause,
+        Act::Run(steps, cause) => machine.run(steps) == cause,
+        Act::At(pc, cycles) => machine.regs().pc == pc && machine.cycles() == cycles,
+        Act::Steps(steps, made) => machine.steps() == steps && machine.made() == made,
+        Act::Accumulator(byte) => machine.regs().a == byte,
+        Act::Poke(address, byte) => pokes(machine, address, byte),
+        Act::Peek(address, byte) => machine.peek(address) == Some(byte),
+        Act::Marks(rows) => marked_rows(machine) == rows,
+        Act::Print => prints_alike(alloc, machine),
+        Act::PrintEachFour(steps) => prints_each_four(alloc, machine, steps),
+        Act::TypeQ(count, taken) => types(machine, count) == taken,
+        Act::Copy => is_copied(alloc, machine),
+    }
+}
+
+// The first act that goes wrong.
+fn wrong_among(
+    alloc: Global,
+    machine: &mut Machine,
+    program: &Program,
+    acts: &[Act],
+) -> Option<usize> {
+    machine.boot(program.image(), program.entry());
+    machine.guard(program);
+    for (number, act) in acts.iter().enumerate() {
+        if !does(alloc, machine, program, *act) {
+            return Some(number);
+        }
+    }
+    None
+}
+
+// The first act that goes wrong, of a machine under the guard of a program at its start.
+fn wrong_act(alloc: Global, row: &Row) -> Option<usize> {
+    match (
+        Machine::new(alloc),
+        program_of(alloc, row.source.as_bytes()),
+    ) {
+        (Ok(mut machine), Some(program)) => { wrong_among(alloc, &mut machine, &program, row.acts) }
+        _ => Some(0),
+    }
+}
+
+#[test]
+fn machines_call_by_call(rt: HostRuntime) {
+    for row in ROWS.iter() {
+        assert_eq!(rt; wrong_act(rt.alloc(), row), None);
+    }
 }

@@ -26,9 +26,9 @@ use Rattle.std.specs.declared.option.Option.{Option}
 use Rattle.std.specs.declared.option.Option.TheVariants.{None, Some}
 use Rattle.std.specs.contracts.option.Option as O
 use Rattle.std.proofs.alloc.Calls.{Al, seen}
-use Rattle.a2_hostile.specs.contracts.ration.Ration as R
-use Rattle.a2_hostile.specs.contracts.ration.Ration.grant as F
-use Rattle.a2_hostile.specs.contracts.ration.Ration.grant.Key as key
+use Rattle.a2_runs.specs.contracts.ration.Ration as R
+use Rattle.a2_runs.specs.contracts.ration.Ration.grant as F
+use Rattle.a2_runs.specs.contracts.ration.Ration.grant.Key as key
 
 abbrev pub shown_val : {X : Type 0} → Option (Bor X) → Val
 shown_val None = live 0 (of_list [])

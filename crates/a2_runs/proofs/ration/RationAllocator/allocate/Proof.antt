@@ -37,10 +37,10 @@ use denote.Builtin.{usize, RefOf}
 use denote.Triple.Call.{calls_at}
 use Rattle.std.specs.declared.result.Result.TheVariants.{Ok, Err}
 use Rattle.std.proofs.alloc.Calls.{Al, Answer, answer_val, Answer-typed, Answer-Ok, Answer-err, takes_key, Takes, at_takes, Answered, Takes-goes, Takes-gives, answers, token}
-use Rattle.a2_hostile.specs.contracts.ration.RationAllocator.allocate as F
-use Rattle.a2_hostile.specs.contracts.ration.RationAllocator.allocate.Key as key
-use Rattle.a2_hostile.proofs.ration.RationAllocator.allocate.Statement as stated
-use Rattle.a2_hostile.proofs.ration.RationAllocator.allocate.Code as code
+use Rattle.a2_runs.specs.contracts.ration.RationAllocator.allocate as F
+use Rattle.a2_runs.specs.contracts.ration.RationAllocator.allocate.Key as key
+use Rattle.a2_runs.proofs.ration.RationAllocator.allocate.Statement as stated
+use Rattle.a2_runs.proofs.ration.RationAllocator.allocate.Code as code
 use mathlib.Core.Path.{sym, subst}
 use lib.Dec.{T}
 use mir.Syntax.{place}
@@ -59,9 +59,9 @@ use denote.Triple.Call.{calls_at, calls_at_last}
 use Rattle.std.specs.declared.option.Option.{Option}
 use Rattle.std.specs.declared.option.Option.TheVariants.{None, Some}
 use Rattle.std.proofs.alloc.Shapes.{after, front, arm_body}
-use Rattle.a2_hostile.specs.contracts.ration.Ration as R
-use Rattle.a2_hostile.proofs.Grants.{Held, grant_key, Grants, at_grant, Told, shown_val, seen_if, Shown-typed, grant_goes, grant_gives}
-use Rattle.a2_hostile.proofs.ration.Ration.grant.Met as grant_met
+use Rattle.a2_runs.specs.contracts.ration.Ration as R
+use Rattle.a2_runs.proofs.Grants.{Held, grant_key, Grants, at_grant, Told, shown_val, seen_if, Shown-typed, grant_goes, grant_gives}
+use Rattle.a2_runs.proofs.ration.Ration.grant.Met as grant_met
 
 module _ (Z : Al) where
   abbrev args : Args
@@ -159,4 +159,4 @@ allocate_spec 𝓤 𝓛 𝓜 𝓡 wired Y L g d d' met _ =
     entered 𝓤 𝓛.H (triple_of 𝓛 (F.signature Y) (F.spec Y g d d' 𝓛 𝓜.mem 𝓡.returns)) 𝓣.C 𝓣.Λ (key.name (args Z)) (here Z) (code.unfolded 𝓤 𝓛.H 𝓜 𝓡 wired (Y, tt) d d')
     (walk_Meets 𝓛 (ended Z) (stayed Z) (Goes-dropped 𝓛 2 (self Z) yes (λ κs x f. refl), (Goes-dropped 𝓛 2 (plain (λ _. usize)) yes (λ κs x f. refl), (Goes-dropped 𝓛 2 (plain (λ _. usize)) yes (λ κs x f. refl), tt))) c (WpFn 𝓤 𝓛.H 𝓣.C 𝓣.Λ (here Z)) (WpFn-mono 𝓤 𝓛.H 𝓛.laws 𝓣 (here Z))
     (walked 𝓛 (ended Z) (stayed Z) c (WpFn 𝓤 𝓛.H 𝓣.C 𝓣.Λ (here Z)) (λ κs. (shr_vals, (uint_vals w64, (uint_vals w64, tt)))) (λ κs. ((λ r vs s. s.0), (uint_Tells w64, (uint_Tells w64, tt))))
-    (λ κs qs bounds a τ are. walk Z 𝓛 𝓜.mem 𝓡.returns 𝓣 (met.allocate d') (grant_met.met 𝓤 𝓛 𝓜 𝓡 (code.calls-a2_hostile::ration::Ration::grant 𝓡.env wired) Y L) κs.0 κs.1.0 qs.0 qs.1.0 bounds.0 a.0 a.1.0 a.1.1.0 τ are.1.0.1 are.1.1.0.1)))
+    (λ κs qs bounds a τ are. walk Z 𝓛 𝓜.mem 𝓡.returns 𝓣 (met.allocate d') (grant_met.met 𝓤 𝓛 𝓜 𝓡 (code.calls-a2_runs::ration::Ration::grant 𝓡.env wired) Y L) κs.0 κs.1.0 qs.0 qs.1.0 bounds.0 a.0 a.1.0 a.1.1.0 τ are.1.0.1 are.1.1.0.1)))

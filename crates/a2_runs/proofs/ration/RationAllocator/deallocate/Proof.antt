@@ -38,11 +38,11 @@ use denote.RawPtr.{Ptr, block_ptr, null_ptr, ptr_val, rawptr_vals, rawptr_Tells}
 use denote.Builtin.{usize, RawPtr, RefOf}
 use denote.Triple.Call.{calls_at}
 use Rattle.std.proofs.alloc.Calls.{Al, α, seen, token, gives_key, Gives, at_gives, Gives-goes, Gives-Gives}
-use Rattle.a2_hostile.specs.contracts.ration.Ration as wrapper
-use Rattle.a2_hostile.specs.contracts.ration.RationAllocator.deallocate as F
-use Rattle.a2_hostile.specs.contracts.ration.RationAllocator.deallocate.Key as key
-use Rattle.a2_hostile.proofs.ration.RationAllocator.deallocate.Statement as stated
-use Rattle.a2_hostile.proofs.ration.RationAllocator.deallocate.Code as code
+use Rattle.a2_runs.specs.contracts.ration.Ration as wrapper
+use Rattle.a2_runs.specs.contracts.ration.RationAllocator.deallocate as F
+use Rattle.a2_runs.specs.contracts.ration.RationAllocator.deallocate.Key as key
+use Rattle.a2_runs.proofs.ration.RationAllocator.deallocate.Statement as stated
+use Rattle.a2_runs.proofs.ration.RationAllocator.deallocate.Code as code
 
 module _ (Z : Al) where
   abbrev args : Args
