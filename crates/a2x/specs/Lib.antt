@@ -1,2 +1,3 @@
+pub mod Filmed
 pub mod Named
 pub mod Words

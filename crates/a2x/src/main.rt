@@ -1,6 +1,7 @@
 //! Tools beside the program `a2`: one program, a word for each.
 #![tactic(auto)]
 
+mod film;
 mod help;
 mod named;
 mod program;
@@ -9,6 +10,7 @@ mod terminal;
 mod tools;
 mod words;
 
+use a2_desk::HostDesk;
 use a2_host::{HostFiles, HostWordsFault, complain, words_of};
 use a2_run::{RunFault, fault_status};
 use a2_stream::{FromRead, Output, ToWrite};
@@ -23,6 +25,7 @@ fn obeyed<W: Output>(rt: &HostRuntime, words: &[String], output: &mut W) -> u8 {
         words,
         rt.stdin().is_terminal(),
         &mut HostFiles::new(rt),
+        &mut HostDesk::new(rt),
         &mut FromRead::new(rt.stdin()),
         output,
         &mut ToWrite::new(rt.stderr()),
