@@ -18,7 +18,7 @@ _a2() {
         # (a value is anything)
         [[ "$what" != "$before"=* ]] || return 0
         case "$what" in
-            --*) options+=" ${what%=*}" ;;
+            -*) options+=" ${what%=*}" ;;
             *) IFS=, read -ra endings <<<"$what" ;;
         esac
     done <<<"$_a2_words"

@@ -11,10 +11,12 @@ for line in (string split \n -- $words)
     if test $row[3] != -
         set behind 2
         set when "__fish_seen_subcommand_from $row[3]"
-        string match -q -- '--*' $row[4]
+        string match -q -- '-*' $row[4]
         or complete -c $program -n __fish_use_subcommand -f -a $row[3] -d $row[5]
     end
     switch $row[4]
+        case '-?=*'
+            complete -c $program -n $when -x -s (string sub -s 2 -l 1 -- $row[4]) -d $row[5]
         case '--*=*'
             complete -c $program -n $when -x -l (string replace -r -- '^--(.*)=.*' '$1' $row[4]) -d $row[5]
         case '--*'

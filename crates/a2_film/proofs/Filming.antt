@@ -35,15 +35,15 @@ cause-stuck d low = go (stuck (code_of d.state) (world_of_state d.state)) refl
 
 -- so many steps are made, and their rows went out
 pub record IsFilmed (code : Code) (start : World) (a b : Taker) (d : Device) (n : ℕ) : Type 0 where
-  pub steps : d.state.steps ≡ n
+  pub low : d.state.steps < n + 4_294_967_296
   pub world : world_of_state d.state ≡ world_at code start n
   pub code_is : code_of d.state ≡ code
   pub going : (k : ℕ) → k < n → stuck code (world_at code start k) ≡ None
   pub sent : Sends a b (rows code start n)
 
-pub filmed-none : (d : Device) (a : Taker) → d.state.steps ≡ 0 → IsFilmed (code_of d.state) (world_of_state d.state) a a d 0
+pub filmed-none : (d : Device) (a : Taker) → d.state.steps < 4_294_967_296 → IsFilmed (code_of d.state) (world_of_state d.state) a a d 0
 unfolding world_at
-filmed-none d a e = record { steps = e; world = refl; code_is = refl; going = λ k lt. absurd (omega (arith, lt)); sent = Sends-nil a }
+filmed-none d a e = record { low = omega (arith, e); world = refl; code_is = refl; going = λ k lt. absurd (omega (arith, lt)); sent = Sends-nil a }
 
 below_next : (n : ℕ) (P : ℕ → Type 0) → P n → ((k : ℕ) → k < n → P k) → (k : ℕ) → k < suc n → P k
 below_next n P here before k lt = go (split k lt)
@@ -56,11 +56,11 @@ below_next n P here before k lt = go (split k lt)
     go (inr l) = before k l
 
 -- a machine that steps is not stuck
-steps-on : (code : Code) (start : World) (a b : Taker) (d : Device) (n : ℕ) → IsFilmed code start a b d n → n < most_steps → None ≡ cause_of d.state
+steps-on : (code : Code) (start : World) (a b : Taker) (d : Device) (n : ℕ) → IsFilmed code start a b d n → n + 4_294_967_296 ≤ most_steps → None ≡ cause_of d.state
     → stuck code (world_at code start n) ≡ None
 steps-on code start a b d n h low none =
     sym (subst (λ k. stuck k (world_of_state d.state) ≡ stuck code (world_at code start n)) (sym h.code_is) (ap (stuck code) h.world))
-    ∙ sym (cause-stuck d (omega (arith, h.steps, low))) ∙ sym none
+    ∙ sym (cause-stuck d (omega (arith, h.low, low))) ∙ sym none
 
 -- the row of the next step, behind those before it
 next-rows : (code : Code) (start : World) (a b : Taker) (old new : Device) (n : ℕ) → IsFilmed code start a b old n → IsStep old new
@@ -72,12 +72,12 @@ next-rows code start a b old new n h step =
     ap₂ (λ (v w : World). rows code start n ++ row_text (change_of v w)) h.world after ∙ ap (rows code start) one
 
 -- a step was made, and its row went out
-pub filmed-next : (code : Code) (start : World) (a b e : Taker) (old new : Device) (n : ℕ) → IsFilmed code start a b old n → n < most_steps
+pub filmed-next : (code : Code) (start : World) (a b e : Taker) (old new : Device) (n : ℕ) → IsFilmed code start a b old n → n + 4_294_967_296 ≤ most_steps
     → FilmsStep old new b e (Ok None) → IsFilmed code start a e new (n + 1)
 unfolding world_at
 filmed-next code start a b e old new n h low (none, step, row) =
     let one : suc n ≡ n + 1 = omega arith in record {
-      steps = omega (arith, h.steps, step.steps);
+      low = omega (arith, h.low, step.steps);
       world = step.world ∙ ap (λ (k : Code). next k (world_of_state old.state)) h.code_is ∙ ap (next code) h.world ∙ ap (world_at code start) one;
       code_is = ap bytes step.guard ∙ h.code_is;
       going = subst (λ (m : ℕ). (k : ℕ) → k < m → stuck code (world_at code start k) ≡ None) one
@@ -87,13 +87,13 @@ filmed-next code start a b e old new n h low (none, step, row) =
 
 -- The end of the run
 
-pub end-stuck : (code : Code) (start : World) (a b : Taker) (d : Device) (n limit : ℕ) (cause : Cause) → IsFilmed code start a b d n → n ≤ limit → n < most_steps
+pub end-stuck : (code : Code) (start : World) (a b : Taker) (d : Device) (n limit : ℕ) (cause : Cause) → IsFilmed code start a b d n → n ≤ limit → n + 4_294_967_296 ≤ most_steps
     → Some cause ≡ cause_of d.state → IsEnd code start limit (record { world = world_of_state d.state; steps = n; cause = cause })
 end-stuck code start a b d n limit cause h within low e = record {
   within = within;
   reached = h.world;
   first = h.going;
-  cause = inl (subst (λ k. stuck k (world_of_state d.state) ≡ Some cause) h.code_is (sym (cause-stuck d (omega (arith, h.steps, low))) ∙ sym e));
+  cause = inl (subst (λ k. stuck k (world_of_state d.state) ≡ Some cause) h.code_is (sym (cause-stuck d (omega (arith, h.low, low))) ∙ sym e));
 }
 
 pub end-limit : (code : Code) (start : World) (a b : Taker) (old new : Device) (limit : ℕ) (cause : Cause) → IsFilmed code start a b old limit
@@ -176,7 +176,7 @@ lines-broken code start a c n limit going within broke =
     )
 
 pub films-broken : (code : Code) (start : World) (a b e : Taker) (old new : Device) (n limit : ℕ) (r : Result Cause WriteFault) → IsErr r
-    → IsFilmed code start a b old n → n < limit → n < most_steps → (None ≡ cause_of old.state) × IsStep old new × Breaks b e (row_between old new)
+    → IsFilmed code start a b old n → n < limit → n + 4_294_967_296 ≤ most_steps → (None ≡ cause_of old.state) × IsStep old new × Breaks b e (row_between old new)
     → Films code start limit a e r
 films-broken code start a b e old new n limit (Ok _) failed h within low broke = cc
 films-broken code start a b e old new n limit (Err _) failed h within low (none, step, broke) =
@@ -189,7 +189,7 @@ films-broken code start a b e old new n limit (Err _) failed h within low (none,
 
 -- a cause forbids the next step, and its line goes out or breaks off
 pub films-stuck : (code : Code) (start : World) (a b e c : Taker) (old new : Device) (n limit : ℕ) (cause : Cause) (r : Result Cause WriteFault)
-    → IsFilmed code start a b old n → n < limit → n < most_steps → FilmsStep old new b e (Ok (Some cause))
+    → IsFilmed code start a b old n → n < limit → n + 4_294_967_296 ≤ most_steps → FilmsStep old new b e (Ok (Some cause))
     → SendsOrBreaks e c r (cause_line cause) → IfOk r (λ told. told ≡ cause) → Films code start limit a c r
 films-stuck code start a b e c old new n limit cause r h within low (why, kept, none) sent same =
     films-end code start a b c old n limit cause r h (end-stuck code start a b old n limit cause h (omega (arith, within)) low why)

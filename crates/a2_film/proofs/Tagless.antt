@@ -18,9 +18,11 @@ use Rattle.a2_machine.specs.declared.Cause.{Cause}
 use Rattle.a2_machine.specs.declared.Cause.TheVariants.{Returned, CodeWrite, Window, Keys, OffStatement, Rom, Opcode, Brk, Decimal, Limit}
 use Rattle.a2_machine.specs.Meaning.{Code, world_at}
 use Rattle.a2_machine.specs.Output.{cause_line}
-use Rattle.a2_run.specs.Meaning.{start_of_run}
 use Rattle.a2_film.specs.Changes.{Store, Change, switch_digit, differing, change_of}
-use Rattle.a2_film.specs.Rows.{byte_text, switches_text, keys_text, store_text, stores_text, no_address, fields_of_parts, fields_text, row_text, plain_byte, plain_text, digits_of_bytes, title_lines, guard_text, opening, source_line, laid, line_of_statement, statement_line, name_line, program_lines, memory_line, line_of_registers, registers_line, start_lines}
+use Rattle.a2_film.specs.declared.chapters.Place.{Place}
+use Rattle.a2_film.specs.declared.chapters.Place.TheVariants.{Step, Line}
+use Rattle.a2_film.specs.declared.chapters.Chapter.{Chapter}
+use Rattle.a2_film.specs.Rows.{place_text, chapter_line, line_of_counts, byte_text, switches_text, keys_text, store_text, stores_text, no_address, fields_of_parts, fields_text, row_text, plain_byte, plain_text, digits_of_bytes, title_lines, guard_text, opening, source_line, laid, line_of_statement, statement_line, name_line, program_lines, memory_line, line_of_registers, registers_line, start_lines}
 use Rattle.a2_film.specs.Runs.{rows, run_lines}
 use Rattle.a2_film.specs.Film.{film_head}
 use Rattle.a2_film.specs.Laws.{HasNoTag, DataHaveNoTag}
@@ -213,6 +215,16 @@ opening-tagless title free keys =
     (append-tagless (guard_text free) (digits_of_bytes keys ++ codes "\n") (guard-tagless free)
     (append-tagless (digits_of_bytes keys) (codes "\n") (flat_map-tagless (λ b. hex_pair b) hex_pair-tagless keys) (by_test (codes "\n") refl)))
 
+place-tagless : (place : Place) → HasNoTag (place_text place)
+place-tagless (Step n) = append-tagless (codes "C ") (decimal n) (by_test (codes "C ") refl) (decimal-tagless n)
+place-tagless (Line n) = append-tagless (codes "D ") (decimal n) (by_test (codes "D ") refl) (decimal-tagless n)
+
+chapter-tagless : (chapter : Chapter) → HasNoTag (chapter_line chapter)
+chapter-tagless chapter =
+    append-tagless (place_text chapter.place) (codes " " ++ (plain_text chapter.text.now ++ codes "\n")) (place-tagless chapter.place)
+    (append-tagless (codes " ") (plain_text chapter.text.now ++ codes "\n") (by_test (codes " ") refl)
+    (append-tagless (plain_text chapter.text.now) (codes "\n") (plain-tagless chapter.text.now) (by_test (codes "\n") refl)))
+
 source-tagless : (text : List ℕ) → HasNoTag (source_line text)
 source-tagless text =
     append-tagless (codes "S ") (plain_text text ++ codes "\n") (by_test (codes "S ") refl)
@@ -252,6 +264,14 @@ program-tagless program texts =
     (append-tagless (flat_map (statement_line (held program.image)) program.statements) (flat_map name_line program.names)
     (flat_map-tagless (statement_line (held program.image)) (statement-tagless (held program.image)) program.statements)
     (flat_map-tagless (λ e. name_line e) name-tagless program.names))
+
+counts-tagless : (steps cycles : ℕ) → HasNoTag (line_of_counts (decimal steps) (decimal cycles))
+unfolding line_of_counts
+counts-tagless steps cycles =
+    concat-tagless (codes "B " ∷ decimal steps ∷ codes " " ∷ decimal cycles ∷ codes "\n" ∷ []) (
+      by_test (codes "B ") refl,
+      (decimal-tagless steps, (by_test (codes " ") refl, (decimal-tagless cycles, (by_test (codes "\n") refl, tt)))),
+    )
 
 memory-tagless : (start : World) → HasNoTag (memory_line start)
 unfolding memory_line
@@ -309,10 +329,14 @@ registers-tagless start =
     )
 
 pub data-tagless : DataHaveNoTag
-data-tagless text title keys free program code start end =
-    let begin = start_of_run program keys in
-    append-tagless (film_head title text keys free program) (run_lines code start end)
-    (append-tagless (opening title free keys) (program_lines program (lines text) ++ start_lines begin) (opening-tagless title free keys)
-    (append-tagless (program_lines program (lines text)) (start_lines begin) (program-tagless program (lines text))
-    (append-tagless (memory_line begin) (registers_line begin) (memory-tagless begin) (registers-tagless begin))))
+data-tagless text title chapters free program code steps start end =
+    let keys = start.memory.devices.keys in
+    let listed = program_lines program (lines text) in
+    let first = flat_map chapter_line chapters in
+    append-tagless (film_head title chapters text free program steps start) (run_lines code start end)
+    (append-tagless (opening title free keys) (first ++ (listed ++ start_lines steps start)) (opening-tagless title free keys)
+    (append-tagless first (listed ++ start_lines steps start) (flat_map-tagless (λ c. chapter_line c) chapter-tagless chapters)
+    (append-tagless listed (start_lines steps start) (program-tagless program (lines text))
+    (append-tagless (line_of_counts (decimal steps) (decimal start.cycles)) (memory_line start ++ registers_line start) (counts-tagless steps start.cycles)
+    (append-tagless (memory_line start) (registers_line start) (memory-tagless start) (registers-tagless start))))))
     (append-tagless (rows code start end.steps) (cause_line end.cause) (rows-tagless code start end.steps) (cause-tagless end.cause))

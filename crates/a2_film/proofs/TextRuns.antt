@@ -1,14 +1,18 @@
 -- The film of the text's run: that of the machine's.
-use Rattle.std.specs.Prelude.{◌≡◌, ℕ, zero, suc, ◌<◌, ◌≤◌, Bool, List, ◌++◌, None, refl}
+use Rattle.std.specs.Prelude.{◌≡◌, ℕ, zero, suc, ◌+◌, ◌-◌, ◌<◌, ◌≤◌, Bool, List, ◌++◌, None, Option, refl}
+use Rattle.std.specs.List.{flat_map}
 use Rattle.std.proofs.Common.{sym, ap, ap₂, ◌∙◌, subst, arith}
 use Rattle.a2_stream.specs.Stream.{Taker, Sends, Breaks}
 use Rattle.a2_stream.proofs.Joined.{Sends-then, Breaks-then, Breaks-more}
 use Rattle.a2_text.specs.Lines.{lines}
 use Rattle.a2_services.specs.World.{World}
 use Rattle.a2_machine.specs.declared.Cause.{Cause}
-use Rattle.a2_machine.specs.ByteRun.{bytes}
+use Rattle.a2_bus.specs.Devices.{Devices}
+use Rattle.a2_bus.proofs.Viewing.{devices_seen}
+use Rattle.a2_machine.specs.ByteRun.{Guard, bytes}
 use Rattle.a2_machine.specs.Meaning.{Code, End, IsEnd, stuck, world_at}
-use Rattle.a2_machine.specs.State.{MachineState, world_of_state, code_of}
+use Rattle.a2_machine.specs.State.{MachineState, Device, world_of_state, code_of, most_steps, steps_left}
+use Rattle.a2_machine.specs.State as machine
 use Rattle.a2_machine.proofs.RunFrom.{run_from}
 use Rattle.a2_machine.proofs.Runs.{run-is_end, end-unique}
 use Rattle.a2_machine.specs.Output.{cause_line}
@@ -18,12 +22,15 @@ use Rattle.a2_run.specs.Started.{IsStarted, guard_of_run}
 use Rattle.a2_run.proofs.Runs.{meant, sound-of}
 use Rattle.a2_film.specs.Changes.{Frame, change_of, applied, frame_at}
 use Rattle.a2_film_page.specs.Page as page
-use Rattle.a2_film.specs.Rows.{row_text, opening, program_lines, start_lines}
+use Rattle.a2_film.specs.declared.chapters.Chapter.{Chapter}
+use Rattle.a2_film.specs.declared.film.Window.{Window}
+use Rattle.a2_film.specs.Rows.{row_text, opening, chapter_line, program_lines, start_lines}
 use Rattle.a2_film.specs.Runs.{rows, run_lines, AreRunLines}
 use Rattle.a2_film.specs.Film.{film_head, IsFilmOf}
 use Rattle.a2_film.specs.Laws.{Shows, FramesShowTheRun}
 use Rattle.a2_film.proofs.FrameLaws.{frames-show}
 use Rattle.a2_film.proofs.Filming.{end-late}
+use Rattle.a2_film.proofs.Windows.{shift, Going, going-first, going-behind, with_steps, end-joined, end-split}
 
 -- each end of the one code's runs from a start is an end of the other's
 abbrev EndAlike : Code → Code → World → Type 0
@@ -64,18 +71,14 @@ same-run code other start limit cause output alike is = record {
   output_is = is.output_is ∙ ap (λ (l : List ℕ). l ++ cause_line is.end.cause) (same-rows code other start is.end.steps alike is.is_end.first);
 }
 
--- the lines of a machine's run from the start of a program's are those of the text's
-pub run-of : (text keys : List ℕ) (limit : ℕ) (free : Bool) (program : Assembled) (state : MachineState) → IsProgramOf text program → IsStarted free program keys state
-    → (cause : Cause) (output : List ℕ) → AreRunLines (code_of state) (world_of_state state) limit cause output
-    → AreRunLines (code_of_run free program) (start_of_run program keys) limit cause output
-run-of text keys limit free program state made started cause output is =
-    same-run (bytes (guard_of_run free program)) (code_of_run free program) (start_of_run program keys) limit cause output
-    (λ most end ends. meant free program keys most end (sound-of text program made) ends)
-    (subst (λ (k : Code). AreRunLines k (start_of_run program keys) limit cause output) (ap bytes started.guard)
-    (subst (λ (w : World). AreRunLines (code_of state) w limit cause output) started.world is))
+-- so they are from each world that is come to
+alike-behind : (code other : Code) (start : World) (m : ℕ) → EndAlike code other start → Going code start m → EndAlike code other (world_at code start m)
+alike-behind code other start m alike going limit end is =
+    subst (λ (w : World). IsEnd other w limit end) (sym (same-world code other start m alike going))
+    (end-split other start m limit end (alike (m + limit) (with_steps m end) (end-joined code start m limit end going is)))
 
 pub frames_show_the_run : FramesShowTheRun
-frames_show_the_run text keys limit free program end made is n within =
+frames_show_the_run text keys limit free program end made is from n within =
     let guard = guard_of_run free program in
     let start = start_of_run program keys in
     let other = code_of_run free program in
@@ -84,9 +87,16 @@ frames_show_the_run text keys limit free program end made is n within =
     let ends = run-is_end (bytes guard) start limit in
     let same : last ≡ end = end-unique other start limit last end (alike limit last ends) is in
     let steps : last.steps ≡ end.steps = ap (λ (e : End). e.steps) same in
-    let going : (k : ℕ) → k < n → stuck (bytes guard) (world_at (bytes guard) start k) ≡ None = λ k low. ends.first k (omega (arith, low, within, steps)) in
-    subst (λ (w : World). Shows (frame_at other start n) w) (same-world (bytes guard) other start n alike going)
-    (subst (λ (f : Frame). Shows f (world_at (bytes guard) start n)) (same-frames (bytes guard) other start n alike going) (frames-show guard start n going))
+    let going : Going (bytes guard) start (from + n) = going-first (bytes guard) start (from + n) last.steps (omega (arith, within, steps)) ends.first in
+    let first : Going (bytes guard) start from = going-first (bytes guard) start from (from + n) (omega arith) going in
+    let here = world_at (bytes guard) start from in
+    let onward : Going (bytes guard) here n = going-behind (bytes guard) start from n going in
+    let frames : frame_at (bytes guard) here n ≡ frame_at other (world_at other start from) n =
+    same-frames (bytes guard) other here n (alike-behind (bytes guard) other start from alike first) onward
+    ∙ ap (λ (w : World). frame_at other w n) (same-world (bytes guard) other start from alike first) in
+    subst (λ (w : World). Shows (frame_at other (world_at other start from) n) w)
+    (shift (bytes guard) start from n ∙ same-world (bytes guard) other start (from + n) alike going)
+    (subst (λ (f : Frame). Shows f (world_at (bytes guard) here n)) frames (frames-show guard here n onward))
 
 -- The film of a text, as it goes out
 
@@ -96,40 +106,90 @@ any-run code start limit =
     let end = run_from code start 0 limit in
     (end.cause, run_lines code start end, record { end = end; is_end = run-is_end code start limit; cause_is = refl; output_is = refl })
 
-module _ (text title keys : List ℕ) (limit : ℕ) (free : Bool) (program : Assembled) (state : MachineState) (texts : List (List ℕ))
-    (made : IsProgramOf text program) (started : IsStarted free program keys state) (cut : texts ≡ lines text) where
+-- the machine went from the start of the program's run to that of the film
+module _ (text title : List ℕ) (chapters : List Chapter) (keys : List ℕ) (window : Window) (free : Bool) (program : Assembled) (old new : Device)
+    (why : Cause) (texts : List (List ℕ)) (low : window.from < 4_294_967_296) (made : IsProgramOf text program) (started : IsStarted free program keys old.state)
+    (moved : machine.IsMachineRun window.from old new why) (cut : texts ≡ lines text) where
+  abbrev code : Code
+  code = bytes (guard_of_run free program)
+
+  abbrev start : World
+  start = start_of_run program keys
+
+  abbrev end_at : ℕ → End
+  end_at n = record { world = world_of_state new.state; steps = n; cause = why }
+
+  before_is : IsEnd code start window.from (end_at new.state.steps)
+  before_is = subst Steps steps (subst Most most (subst Start started.world (subst Guarded started.guard moved.end)))
+    where
+      Guarded : Option Guard → Type 0
+      Guarded guard = IsEnd (bytes guard) (world_of_state old.state) (steps_left window.from old.state) (end_at (new.state.steps - old.state.steps))
+
+      Start : World → Type 0
+      Start w = IsEnd code w (steps_left window.from old.state) (end_at (new.state.steps - old.state.steps))
+
+      Most : ℕ → Type 0
+      Most n = IsEnd code start n (end_at (new.state.steps - old.state.steps))
+
+      Steps : ℕ → Type 0
+      Steps n = IsEnd code start window.from (end_at n)
+
+      most : steps_left window.from old.state ≡ window.from
+      most = omega (arith, started.steps, low)
+
+      steps : new.state.steps - old.state.steps ≡ new.state.steps
+      steps = omega (arith, started.steps)
+
+  alike : EndAlike code (code_of_run free program) start
+  alike most end ends = meant free program keys most end (sound-of text program made) ends
+
+  -- the machine's lines from there on are those of the text's run
+  lines_are : (cause : Cause) (run : List ℕ) → AreRunLines (code_of new.state) (world_of_state new.state) window.steps cause run
+      → AreRunLines (code_of_run free program) (world_of_state new.state) window.steps cause run
+  lines_are cause run are =
+      same-run code (code_of_run free program) (world_of_state new.state) window.steps cause run
+      (subst (λ (w : World). EndAlike code (code_of_run free program) w) (sym before_is.reached)
+      (alike-behind code (code_of_run free program) start new.state.steps alike before_is.first))
+      (subst (λ (k : Code). AreRunLines k (world_of_state new.state) window.steps cause run) (ap bytes (moved.guard ∙ started.guard)) are)
+
   -- what stands before the rows, as it is written
   abbrev written : List ℕ
-  written = page.head ++ (opening title free keys ++ (program_lines program texts ++ start_lines (world_of_state state)))
+  written =
+      page.head ++ (opening title free new.state.bus.devices.keys
+      ++ (flat_map chapter_line chapters ++ (program_lines program texts ++ start_lines new.state.steps (world_of_state new.state))))
 
-  written_is : written ≡ page.head ++ film_head title text keys free program
+  written_is : written ≡ page.head ++ film_head title chapters text free program new.state.steps (world_of_state new.state)
   written_is =
-      ap₂ (λ (l : List (List ℕ)) (w : World). page.head ++ (opening title free keys ++ (program_lines program l ++ start_lines w))) cut started.world
+      ap₂ (λ (l : List (List ℕ)) (d : Devices). page.head ++ (opening title free d.keys
+      ++ (flat_map chapter_line chapters ++ (program_lines program l ++ start_lines new.state.steps (world_of_state new.state)))))
+      cut (sym (devices_seen new.state.bus))
 
-  film-is : (cause : Cause) (run : List ℕ) → AreRunLines (code_of state) (world_of_state state) limit cause run
-      → IsFilmOf text title keys limit free cause (written ++ (run ++ page.tail))
+  film-is : (cause : Cause) (run : List ℕ) → AreRunLines (code_of new.state) (world_of_state new.state) window.steps cause run
+      → IsFilmOf text title chapters keys window free cause (written ++ (run ++ page.tail))
   film-is cause run are = record {
     program = program;
     is_program = made;
+    before = end_at new.state.steps;
+    is_before = alike window.from (end_at new.state.steps) before_is;
     run = run;
-    are_lines = run-of text keys limit free program state made started cause run are;
+    are_lines = lines_are cause run are;
     output_is = ap (λ (h : List ℕ). h ++ (run ++ page.tail)) written_is;
   }
 
   pub film-done : (a b c : Taker) (cause : Cause) → Sends a b written
-      → ((run : List ℕ) × AreRunLines (code_of state) (world_of_state state) limit cause run × Sends b c (run ++ page.tail))
-      → (output : List ℕ) × IsFilmOf text title keys limit free cause output × Sends a c output
+      → ((run : List ℕ) × AreRunLines (code_of new.state) (world_of_state new.state) window.steps cause run × Sends b c (run ++ page.tail))
+      → (output : List ℕ) × IsFilmOf text title chapters keys window free cause output × Sends a c output
   film-done a b c cause first (run, are, sent) =
       (written ++ (run ++ page.tail), film-is cause run are, Sends-then a b c written (run ++ page.tail) first sent)
 
   pub film-broken : (a b c : Taker) → Sends a b written
-      → ((cause : Cause) × (run : List ℕ) × AreRunLines (code_of state) (world_of_state state) limit cause run × Breaks b c (run ++ page.tail))
-      → (cause : Cause) × (output : List ℕ) × IsFilmOf text title keys limit free cause output × Breaks a c output
+      → ((cause : Cause) × (run : List ℕ) × AreRunLines (code_of new.state) (world_of_state new.state) window.steps cause run × Breaks b c (run ++ page.tail))
+      → (cause : Cause) × (output : List ℕ) × IsFilmOf text title chapters keys window free cause output × Breaks a c output
   film-broken a b c first (cause, run, are, broke) =
       (cause, written ++ (run ++ page.tail), film-is cause run are, Breaks-then a b c written (run ++ page.tail) first broke)
 
   pub head-broken : (a b : Taker) → Breaks a b written
-      → (cause : Cause) × (output : List ℕ) × IsFilmOf text title keys limit free cause output × Breaks a b output
+      → (cause : Cause) × (output : List ℕ) × IsFilmOf text title chapters keys window free cause output × Breaks a b output
   head-broken a b broke =
-      let (cause, run, are) = any-run (code_of state) (world_of_state state) limit in
+      let (cause, run, are) = any-run (code_of new.state) (world_of_state new.state) window.steps in
       (cause, written ++ (run ++ page.tail), film-is cause run are, Breaks-more a b written (run ++ page.tail) broke)

@@ -1,10 +1,11 @@
 -- Laws of films.
-use Rattle.std.specs.Prelude.{◌≡◌, ◌≢◌, ℕ, ◌<◌, ◌≤◌, Bool, List, ◌++◌, All}
+use Rattle.std.specs.Prelude.{◌≡◌, ◌≢◌, ℕ, ◌+◌, ◌<◌, ◌≤◌, Bool, List, ◌++◌, All}
 use Rattle.a2_bus.specs.Memory.{ram_byte, ram_end}
 use Rattle.a2_asm.specs.Assembled.{Assembled}
 use Rattle.a2_services.specs.World.{World}
 use Rattle.a2_machine.specs.Meaning.{Code, End, IsEnd, world_at}
 use Rattle.a2_run.specs.Meaning.{IsProgramOf, code_of_run, start_of_run}
+use Rattle.a2_film.specs.declared.chapters.Chapter.{Chapter}
 use Rattle.a2_film.specs.Changes.{Frame, frame_at}
 use Rattle.a2_film.specs.Film.{film_head}
 use Rattle.a2_film.specs.Runs.{run_lines}
@@ -16,20 +17,23 @@ pub record Shows (frame : Frame) (world : World) : Type 0 where
   pub devices : frame.devices ≡ world.memory.devices
   pub cycles : frame.cycles ≡ world.cycles
 
--- with each text, keys and limit, for each n up to the steps that are made: the first n changes of the run, applied to its
--- start, are the world that the run's meaning gives at n
+-- with each text, keys and limit, for each two numbers whose sum is no more than the steps that are made: the world that the
+-- run's meaning gives at the first, with as many of the changes behind it as the second says, is the world that the meaning
+-- gives at the sum
 abbrev pub FramesShowTheRun : Type 0
 FramesShowTheRun =
     (text keys : List ℕ) (limit : ℕ) (free : Bool) (program : Assembled) (end : End) → IsProgramOf text program
-    → IsEnd (code_of_run free program) (start_of_run program keys) limit end → (n : ℕ) → n ≤ end.steps
-    → Shows (frame_at (code_of_run free program) (start_of_run program keys) n) (world_at (code_of_run free program) (start_of_run program keys) n)
+    → IsEnd (code_of_run free program) (start_of_run program keys) limit end → (from n : ℕ) → from + n ≤ end.steps
+    → let code = code_of_run free program in
+    let start = start_of_run program keys in
+    Shows (frame_at code (world_at code start from) n) (world_at code start (from + n))
 
 -- no byte is <, which alone could end a script or open a tag
 abbrev pub HasNoTag : List ℕ → Type 0
 HasNoTag text = All (λ c. c ≢ 0x3C) text
 
--- whatever a text, its title and its keys are, the data of its film have none
+-- whatever a text, its title, its chapters and its keys are, the data of its film have none
 abbrev pub DataHaveNoTag : Type 0
 DataHaveNoTag =
-    (text title keys : List ℕ) (free : Bool) (program : Assembled) (code : Code) (start : World) (end : End)
-    → HasNoTag (film_head title text keys free program ++ run_lines code start end)
+    (text title : List ℕ) (chapters : List Chapter) (free : Bool) (program : Assembled) (code : Code) (steps : ℕ) (start : World) (end : End)
+    → HasNoTag (film_head title chapters text free program steps start ++ run_lines code start end)

@@ -9,6 +9,9 @@ use Rattle.a2_hex.specs.Images.{held}
 use Rattle.a2_asm.specs.declared.program.Statement.{Statement}
 use Rattle.a2_asm.specs.Assembled.{Assembled}
 use Rattle.a2_services.specs.World.{World}
+use Rattle.a2_film.specs.declared.chapters.Place.{Place}
+use Rattle.a2_film.specs.declared.chapters.Place.TheVariants.{Step, Line}
+use Rattle.a2_film.specs.declared.chapters.Chapter.{Chapter}
 use Rattle.a2_film.specs.Changes.{Store, Change, switch_digit, differing}
 
 -- Rows
@@ -79,6 +82,15 @@ guard_text free = if free then codes "G FREE\nK " else codes "G GUARDED\nK "
 abbrev pub opening : List ℕ → Bool → List ℕ → List ℕ
 opening title free keys = title_lines title ++ (guard_text free ++ (digits_of_bytes keys ++ codes "\n"))
 
+-- where a chapter begins: at a step of the run, or where a line of the source first comes next
+abbrev pub place_text : Place → List ℕ
+place_text (Step number) = codes "C " ++ decimal number
+place_text (Line number) = codes "D " ++ decimal number
+
+-- a chapter of a lesson: where it begins, and its text
+abbrev pub chapter_line : Chapter → List ℕ
+chapter_line chapter = place_text chapter.place ++ (codes " " ++ (plain_text chapter.text.now ++ codes "\n"))
+
 -- a line of the source
 abbrev pub source_line : List ℕ → List ℕ
 source_line text = codes "S " ++ (plain_text text ++ codes "\n")
@@ -103,6 +115,10 @@ abbrev pub program_lines : Assembled → List (List ℕ) → List ℕ
 program_lines program texts =
     flat_map source_line texts ++ (flat_map (statement_line (held program.image)) program.statements ++ flat_map name_line program.names)
 
+-- the film begins behind so many steps and cycles of the run
+unfoldable pub line_of_counts : List ℕ → List ℕ → List ℕ
+line_of_counts steps cycles = concat (codes "B " ∷ steps ∷ codes " " ∷ cycles ∷ codes "\n" ∷ [])
+
 -- the bytes of RAM at the start that are not 0
 unfoldable pub memory_line : World → List ℕ
 memory_line start = codes "M " ++ (stores_text no_address (differing (λ _. 0) (ram_byte start.memory) 0 ram_end) ++ codes "\n")
@@ -119,5 +135,6 @@ registers_line start =
     line_of_registers (hex_word registers.pc) (hex_pair registers.a) (hex_pair registers.x) (hex_pair registers.y) (hex_pair registers.s)
     (hex_pair (byte_of_flags registers.flags)) (hex_digit (switch_digit start.memory.devices.switches))
 
-abbrev pub start_lines : World → List ℕ
-start_lines start = memory_line start ++ registers_line start
+-- the start of a film, behind so many steps of the run
+abbrev pub start_lines : ℕ → World → List ℕ
+start_lines steps start = line_of_counts (decimal steps) (decimal start.cycles) ++ (memory_line start ++ registers_line start)

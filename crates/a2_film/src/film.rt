@@ -1,11 +1,12 @@
 //! The film of a run.
 
 ghost use Rattle.std.specs.Prelude.{◌≡◌, ◌<◌, ◌++◌, ℕ, length, true, false, is_some, codes, map, IfOk, slice_index};
+ghost use Rattle.std.specs.List.{flat_map};
 ghost use Rattle.a2_stream.specs.Stream.{SendsOrBreaks};
 ghost use Rattle.a2_bus.specs.Memory.{ram_byte, ram_end};
 ghost use Rattle.a2_bus.specs.View.{memory_of};
 ghost use Rattle.a2_machine.specs.Output as output;
-ghost use Rattle.a2_machine.specs.State.{code_of, world_of_state};
+ghost use Rattle.a2_machine.specs.State.{code_of, world_of_state, IsMachineRun};
 ghost use Rattle.a2_services.specs.Services.{service_at as service_at_of};
 ghost use Rattle.a2_run.specs.Answers.{Answers, OfSource, is_read_fault};
 ghost use Rattle.a2_run.specs.Meaning.{IsRefused};
@@ -15,7 +16,8 @@ ghost use Rattle.a2_film.specs.Film.{IsFilmOf};
 ghost use Rattle.a2_film.specs.Filmed.{seen_by, seen_of, fields_between, FilmsStep, Films, FilmsRest};
 ghost use Rattle.a2_film.specs.Rows as spelt;
 
-use crate::head::{put_opening, put_program, put_start};
+use crate::chapters::Chapter;
+use crate::head::{put_chapters, put_opening, put_program, put_start};
 use crate::rows::{Moment, put_differing, put_fields, put_listed};
 use a2_asm::Program;
 use a2_bus::Keys;
@@ -28,6 +30,15 @@ use a2_services::service_at;
 use a2_stream::{Output, WriteFault, put};
 use a2_text::cut;
 use std::alloc::{AllocError, Allocator};
+
+/// The part of a run that a film shows.
+#[derive(Clone, Copy, Drop)]
+pub struct Window {
+    /// Behind how many steps of the run it begins. A run that ends before is shown as it ends.
+    pub from: u32,
+    /// How many steps it has at most.
+    pub steps: u32,
+}
 
 // Copies RAM.
 fn copy_ram<A: Allocator>(machine: &Machine<A>, ram: &mut [u8])
@@ -144,7 +155,7 @@ fn film_run<A: Allocator, W: Output>(
     limit: u32,
     writer: &mut W,
 ) -> Result<Cause, WriteFault>
-    requires steps { machine.old.state.steps ≡ 0 }
+    requires steps { machine.old.state.steps < 4_294_967_296 }
     requires size { length ram.old ≡ ram_end }
     ensures { Films (code_of machine.old.state) (world_of_state machine.old.state) limit (W.taker writer.old) (W.taker writer.new) result }
 {
@@ -155,6 +166,15 @@ fn film_run<A: Allocator, W: Output>(
     }
     let cause = machine.run(0);
     put_end(cause, writer)
+}
+
+// Makes so many steps, or those up to the run's end.
+fn go_on<A: Allocator>(machine: &mut Machine<A>, steps: u32) -> Cause
+    ensures run { IsMachineRun steps machine.old machine.new result }
+    // For the prover alone: a caller has the number in a field, of which no range is known there.
+    ensures range { steps < 4_294_967_296 }
+{
+    machine.run(steps)
 }
 
 // RAM that is 0 everywhere.
@@ -170,9 +190,9 @@ fn blank_ram<A: Allocator>(alloc: A, size: usize) -> Result<Vec<u8, A>, AllocErr
 #[tactic(auto, using(a2_stream::proofs::Joined::broke_off, a2_stream::proofs::Joined::went_on))]
 fn put_head<A: Allocator, W: Output>(
     title: &[u8],
+    chapters: &[Chapter<'_>],
     texts: &[&[u8]],
     free: bool,
-    keys: &Keys,
     program: &Program<A>,
     ram: &[u8],
     machine: &Machine<A>,
@@ -181,11 +201,13 @@ fn put_head<A: Allocator, W: Output>(
     requires size { length ram.now ≡ ram_end }
     requires zeros { (a : ℕ) → slice_index ram.now a ≡ 0 }
     ensures { SendsOrBreaks (W.taker writer.old) (W.taker writer.new) result
-        (page.head ++ (spelt.opening title.now free keys.now ++ (spelt.program_lines program.now (map (λ x. x.now) texts.now)
-        ++ spelt.start_lines (world_of_state machine.now.state)))) }
+        (page.head ++ (spelt.opening title.now free machine.now.state.bus.devices.keys ++ (flat_map spelt.chapter_line chapters.now
+        ++ (spelt.program_lines program.now (map (λ x. x.now) texts.now)
+        ++ spelt.start_lines machine.now.state.steps (world_of_state machine.now.state))))) }
 {
     put(head(), writer)?;
-    put_opening(title, free, keys, writer)?;
+    put_opening(title, free, machine.space().waiting(), writer)?;
+    put_chapters(chapters, writer)?;
     put_program(program, texts, writer)?;
     put_start(ram, machine, writer)
 }
@@ -197,7 +219,7 @@ fn film_rest<A: Allocator, W: Output>(
     limit: u32,
     writer: &mut W,
 ) -> Result<Cause, WriteFault>
-    requires steps { machine.old.state.steps ≡ 0 }
+    requires steps { machine.old.state.steps < 4_294_967_296 }
     requires size { length ram.old ≡ ram_end }
     ensures { FilmsRest (code_of machine.old.state) (world_of_state machine.old.state) limit (W.taker writer.old) (W.taker writer.new) result }
 {
@@ -206,37 +228,40 @@ fn film_rest<A: Allocator, W: Output>(
     Ok(cause)
 }
 
-/// Assembles and runs a source with these keys waiting, and writes its film: one page of HTML that shows the run forwards and
-/// backwards. `title` is any bytes, which the page shows as its title; `limit` is the most steps, `free` runs without the
-/// guard. Rows are written as the run goes, and nothing of it is kept. The cause is that of the run's end. Refused where
-/// the source is, where a write fails, and for want of memory. This project's profile.
+/// Assembles and runs a source with these keys waiting, and writes the film of a window of its run: one page of HTML that shows
+/// it forwards and backwards. `title` is any bytes, which the page shows as its title, and `chapters` are what it tells on the
+/// way, in any order; `free` runs without the guard. Rows are written as the run goes, and nothing of it is kept. The cause is
+/// that of the run's end, and `Cause::Limit` where the window ends before. Refused where the source is, where a write
+/// fails, and for want of memory. This project's profile.
 pub fn film_source<A: Allocator + Copy, W: Output>(
     alloc: A,
     source: &[u8],
     title: &[u8],
+    chapters: &[Chapter<'_>],
     keys: &Keys,
-    limit: u32,
+    window: Window,
     free: bool,
     writer: &mut W,
 ) -> Result<Cause, RunFault>
-    ensures meaning { Answers (OfSource (IsRefused source.now)) (IsFilmOf source.now title.now keys.now limit free)
+    ensures meaning { Answers (OfSource (IsRefused source.now)) (IsFilmOf source.now title.now chapters.now keys.now window free)
         (W.taker writer.old) (W.taker writer.new) result }
     ensures no_reader { is_read_fault result ≡ false }
 {
     let program = program_of(alloc, source)?;
     let texts = cut(alloc, source)?;
     let mut machine = started(alloc, &program, keys, free)?;
+    let _ = go_on(&mut machine, window.from);
     let mut ram = blank_ram(alloc, usize::from(RAM_END))?;
     put_head(
         title,
+        chapters,
         texts.as_slice(),
         free,
-        keys,
         &program,
         &ram,
         &machine,
         writer,
     )?;
-    let cause = film_rest(&mut machine, &mut ram, limit, writer)?;
+    let cause = film_rest(&mut machine, &mut ram, window.steps, writer)?;
     Ok(cause)
 }

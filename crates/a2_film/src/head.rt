@@ -13,10 +13,10 @@ ghost use Rattle.a2_machine.specs.State.{world_of_state};
 ghost use Rattle.a2_film.specs.Changes.{differing};
 ghost use Rattle.a2_film.specs.Rows as spelt;
 
+use crate::chapters::{Chapter, Place};
 use crate::rows::put_differing;
 use crate::texts::{hex_digit, put_between, put_digits, switch_digit};
 use a2_asm::{Names, Program, Statement};
-use a2_bus::Keys;
 use a2_hex::Image;
 use a2_machine::Machine;
 use a2_stream::{Output, WriteFault, put, put_all};
@@ -44,11 +44,11 @@ fn guard_text(free: bool) -> &'static [u8]
 
 // Writes whether the run has no guard, and its keys.
 #[tactic(auto, using(a2_stream::proofs::Joined::broke_off, a2_stream::proofs::Joined::went_on))]
-fn put_conditions<W: Output>(free: bool, keys: &Keys, writer: &mut W) -> Result<(), WriteFault>
+fn put_conditions<W: Output>(free: bool, keys: &[u8], writer: &mut W) -> Result<(), WriteFault>
     ensures { SendsOrBreaks (W.taker writer.old) (W.taker writer.new) result (spelt.guard_text free ++ (spelt.digits_of_bytes keys.now ++ codes "\n")) }
 {
     put(guard_text(free), writer)?;
-    put_digits(keys.bytes(), writer)?;
+    put_digits(keys, writer)?;
     put(b"\n", writer)
 }
 
@@ -57,13 +57,42 @@ fn put_conditions<W: Output>(free: bool, keys: &Keys, writer: &mut W) -> Result<
 pub fn put_opening<W: Output>(
     title: &[u8],
     free: bool,
-    keys: &Keys,
+    keys: &[u8],
     writer: &mut W,
 ) -> Result<(), WriteFault>
     ensures { SendsOrBreaks (W.taker writer.old) (W.taker writer.new) result (spelt.opening title.now free keys.now) }
 {
     put_title(title, writer)?;
     put_conditions(free, keys, writer)
+}
+
+// Writes where a chapter begins.
+fn put_place<W: Output>(place: Place, writer: &mut W) -> Result<(), WriteFault>
+    ensures { SendsOrBreaks (W.taker writer.old) (W.taker writer.new) result (spelt.place_text place) }
+{
+    match place {
+        Place::Step(number) => put_all(&[b"C ", decimal(u64::from(number)).as_slice()], writer),
+        Place::Line(number) => put_all(&[b"D ", decimal(u64::from(number)).as_slice()], writer),
+    }
+}
+
+// Writes a chapter.
+#[tactic(auto, using(a2_stream::proofs::Joined::broke_off, a2_stream::proofs::Joined::went_on))]
+fn put_chapter<W: Output>(chapter: &Chapter<'_>, writer: &mut W) -> Result<(), WriteFault>
+    ensures { SendsOrBreaks (W.taker writer.old) (W.taker writer.new) result (spelt.chapter_line chapter.now) }
+{
+    put_place(chapter.place, writer)?;
+    put_between(b" ", chapter.text, b"\n", writer)
+}
+
+/// Writes the chapters.
+pub fn put_chapters<W: Output>(chapters: &[Chapter<'_>], writer: &mut W) -> Result<(), WriteFault>
+    ensures { SendsOrBreaks (W.taker writer.old) (W.taker writer.new) result (flat_map spelt.chapter_line chapters.now) }
+{
+    for chapter in chapters {
+        put_chapter(chapter, writer)?;
+    }
+    Ok(())
 }
 
 // Writes a line of the source.
@@ -175,6 +204,24 @@ pub fn put_program<A: Allocator, W: Output>(
     put_names(program.names(), writer)
 }
 
+// Writes how many steps and cycles of the run stand before the film.
+#[tactic(auto, unfolding(crate::specs::Rows::line_of_counts))]
+fn put_counts<W: Output>(steps: u64, cycles: u64, writer: &mut W) -> Result<(), WriteFault>
+    ensures { SendsOrBreaks (W.taker writer.old) (W.taker writer.new) result
+        (spelt.line_of_counts (decimal_of steps) (decimal_of cycles)) }
+{
+    put_all(
+        &[
+            b"B ",
+            decimal(steps).as_slice(),
+            b" ",
+            decimal(cycles).as_slice(),
+            b"\n",
+        ],
+        writer,
+    )
+}
+
 // Writes RAM behind a piece, where it is other than `blank`.
 #[tactic(auto, using(a2_stream::proofs::Joined::broke_off, a2_stream::proofs::Joined::went_on))]
 fn put_ram<A: Allocator, W: Output>(
@@ -273,8 +320,9 @@ pub fn put_start<A: Allocator, W: Output>(
 ) -> Result<(), WriteFault>
     requires size { length blank.now ≡ ram_end }
     requires zeros { (a : ℕ) → slice_index blank.now a ≡ 0 }
-    ensures { SendsOrBreaks (W.taker writer.old) (W.taker writer.new) result (spelt.start_lines (world_of_state machine.now.state)) }
+    ensures { SendsOrBreaks (W.taker writer.old) (W.taker writer.new) result (spelt.start_lines machine.now.state.steps (world_of_state machine.now.state)) }
 {
+    put_counts(machine.steps(), machine.cycles(), writer)?;
     put_memory(blank, machine, writer)?;
     put_registers(machine, writer)
 }

@@ -6,22 +6,24 @@
 
 ghost use Rattle.a2_film.specs.Laws.{FramesShowTheRun, DataHaveNoTag};
 
+mod chapters;
 mod film;
 mod head;
 mod rows;
 mod texts;
 
-pub use film::film_source;
+pub use chapters::{Chapter, Place, ScriptFault, chapters_of};
+pub use film::{Window, film_source};
 
-/// A law, and no code: for each number of steps up to those that a run makes, that many of its changes, as the rows of its film
-/// say them, applied to the start, give the world that the run's meaning has then: the same registers, cycles, keys and
-/// switches, and the same byte at each address of RAM.
+/// A law, and no code: from each world of a run on, for each number of steps that the run makes behind it, that many changes, as
+/// the rows of its film say them, applied to that world, give the world that the run's meaning has then: the same registers,
+/// cycles, keys and switches, and the same byte at each address of RAM.
 pub fn frames_show_the_run()
     ensures { FramesShowTheRun }
 {}
 
-/// A law, and no code: whatever the bytes of a source, of its title and of its keys are, the data of its film hold no `<`,
-/// so that nothing in them ends the script that they stand in, or begins a tag.
+/// A law, and no code: whatever the bytes of a source, of its title, of its chapters and of its keys are, the data of its film
+/// hold no `<`, so that nothing in them ends the script that they stand in, or begins a tag.
 pub fn data_have_no_tag()
     ensures { DataHaveNoTag }
 {}

@@ -1,6 +1,6 @@
 //! What the program says of itself.
 
-use crate::table::{WORDS, Word};
+use crate::table::{Tool, WORDS, Word};
 use a2_stream::{Output, WriteFault, put, put_all};
 
 // What stands above the words.
@@ -19,12 +19,25 @@ F is a source; without it the standard input is taken. Options of a run, before 
               and 100,000 of a film
   --free      without the guard: code may begin anywhere, and be stored to
 
-N of --format is short, for editors, or json. Alone stands:
+A film has more, which a2x help film tells. N of --format is short, for
+editors, or json. Alone stands:
 
   --version   the version, and the commit that the program was packaged from
 
 Status: 0 well, 1 source refused, 2 words or keys refused, 3 another stop,
 4 a read or write failed, 5 no memory.
+";
+
+// The options that a film alone has.
+const FILM_OPTIONS: &[u8] = b"
+Options of a run, and of a film alone, before F:
+
+  -o PAGE     the page goes into this file, whole or not at all
+  --from N    the film begins behind N steps of the run, to 100,000,000
+  --steps M   it has at most so many steps, to 1,000,000; --limit then
+              counts those before it too, and is as great at most
+  --script S  chapters of a lesson, a line each: 120 TEXT tells the text
+              from step 120 on, line 12 TEXT where line 12 first comes next
 ";
 
 const BLANKS: &[u8] = b"                      ";
@@ -54,9 +67,17 @@ pub fn put_page<W: Output>(writer: &mut W) -> Result<(), WriteFault> {
     put(TAIL, writer)
 }
 
+// The options that a word alone has.
+fn own_options(tool: Tool) -> &'static [u8] {
+    match tool {
+        Tool::Film => FILM_OPTIONS,
+        _ => b"",
+    }
+}
+
 /// Writes how a word is used.
 pub fn put_use<W: Output>(word: &Word, writer: &mut W) -> Result<(), WriteFault> {
-    let parts: [&[u8]; 7] = [
+    let parts: [&[u8]; 8] = [
         b"a2x ",
         word.name.as_bytes(),
         b" ",
@@ -64,6 +85,7 @@ pub fn put_use<W: Output>(word: &Word, writer: &mut W) -> Result<(), WriteFault>
         b"\n",
         word.says.as_bytes(),
         b"\n",
+        own_options(word.tool),
     ];
     put_all(&parts, writer)
 }

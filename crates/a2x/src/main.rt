@@ -1,6 +1,7 @@
 //! Tools beside the program `a2`: one program, a word for each.
 #![tactic(auto)]
 
+mod film;
 mod help;
 mod named;
 mod program;
@@ -10,6 +11,7 @@ mod terminal;
 mod tools;
 mod words;
 
+use a2_desk::HostDesk;
 use a2_host::{HostFiles, HostWordsFault, complain, words_of};
 use a2_run::{RunFault, fault_status};
 use a2_stream::{FromRead, Output, ToWrite};
@@ -53,6 +55,7 @@ fn obeyed<W: Output>(
         rt.stdin().is_terminal(),
         release,
         &mut HostFiles::new(rt),
+        &mut HostDesk::new(rt),
         &mut FromRead::new(rt.stdin()),
         output,
         &mut ToWrite::new(rt.stderr()),

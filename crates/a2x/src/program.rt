@@ -2,6 +2,7 @@
 
 ghost use Rattle.std.specs.Prelude.{◌≤◌, IfOk, IfErr};
 
+use crate::film::{FilmFault, FilmOrder, is_film_limit, parted, window_of};
 use crate::help::{put_page, put_use};
 use crate::named::{check_order, file_in};
 use crate::release::put_version;
@@ -9,11 +10,14 @@ use crate::table::{Tool, Word, nearest, word_named};
 use crate::terminal::mon;
 use crate::tools::{check, film, list, profile, run, told, trace, written};
 use crate::words::{Misfit, Order, WordsFault, misfit_in, order_of};
+use a2_desk::Desk;
+use a2_film::{ScriptFault, chapters_of};
 use a2_host::Shelf;
 use a2_manual::{manual, near, topic};
 use a2_run::{RunFault, read_front, read_text};
 use a2_stream::{Input, Output, put, put_all};
 use a2_syntax::Fault;
+use a2_text::decimal;
 use std::alloc::Global;
 
 // The most bytes of a text that a session begins with: object lines of all of RAM, eight bytes each, have 184,320.
@@ -104,14 +108,23 @@ fn tell_value<E: Output>(name: &[u8], option: &[u8], complaints: &mut E) {
     )
 }
 
-// Tells that a limit is none.
-fn tell_limit<E: Output>(name: &[u8], number: &[u8], complaints: &mut E) {
+// Tells that the value of an option is no number up to the most.
+fn tell_number<E: Output>(
+    name: &[u8],
+    option: &[u8],
+    number: &[u8],
+    most: &[u8],
+    complaints: &mut E,
+) {
     tell(
         &[
             name,
-            b": --limit ",
+            b": ",
+            option,
+            b" ",
             number,
-            b" is no number from 0 to 100000000",
+            b" is no number from 0 to ",
+            most,
         ],
         complaints,
     )
@@ -122,7 +135,13 @@ fn tell_misfit<E: Output>(name: &[u8], misfit: Misfit, complaints: &mut E) {
     match misfit {
         Misfit::Option(option) => tell_option(name, option.as_bytes(), complaints),
         Misfit::Value(option) => tell_value(name, option.as_bytes(), complaints),
-        Misfit::Limit(number) => tell_limit(name, number.as_bytes(), complaints),
+        Misfit::Limit(number) => tell_number(
+            name,
+            b"--limit",
+            number.as_bytes(),
+            b"100000000",
+            complaints,
+        ),
         Misfit::Files => tell(
             &[name, b" takes one file, behind its options (a2x help)"],
             complaints,
@@ -222,14 +241,12 @@ fn follow<W: Output, E: Output>(
     alloc: Global,
     source: &[u8],
     order: &Order,
-    is_limited: bool,
     output: &mut W,
     complaints: &mut E,
 ) -> u8
     ensures { result ≤ 5 }
 {
     match tool {
-        Tool::Film => film(alloc, source, order, is_limited, output, complaints),
         Tool::Trace => trace(alloc, source, order, output, complaints),
         Tool::Profile => profile(alloc, source, order, output, complaints),
         _ => run(alloc, source, order, output, complaints),
@@ -281,13 +298,188 @@ fn talk_of<S: Shelf, R: Input, W: Output, E: Output>(
     }
 }
 
+// Tells why the words of a film are refused; the status.
+fn refused_film<E: Output>(fault: FilmFault<'_>, complaints: &mut E) -> u8
+    ensures { result ≤ 5 }
+{
+    match fault {
+        FilmFault::Value(option) => tell_value(b"film", option.as_bytes(), complaints),
+        FilmFault::Number(option, number, most) => tell_number(
+            b"film",
+            option.as_bytes(),
+            number.as_bytes(),
+            most.as_bytes(),
+            complaints,
+        ),
+        FilmFault::Memory => return told(RunFault::Memory, complaints),
+    }
+    2
+}
+
+// Tells why a script of this name has no chapters; the status.
+fn refused_script<E: Output>(name: &str, fault: ScriptFault, complaints: &mut E) -> u8
+    ensures { result ≤ 5 }
+{
+    match fault {
+        ScriptFault::Line(line) => {
+            tell(
+                &[
+                    b"film: ",
+                    name.as_bytes(),
+                    b", line ",
+                    decimal(line as u64).as_slice(),
+                    b": a chapter is 120 TEXT, or line 12 TEXT (a2x help film)",
+                ],
+                complaints,
+            );
+            1
+        }
+        ScriptFault::Memory => told(RunFault::Memory, complaints),
+    }
+}
+
+// Tells that the page would take the place of a file that is read, where it would.
+fn spares_input<D: Desk, E: Output>(
+    page: Option<&str>,
+    input: Option<&str>,
+    desk: &D,
+    complaints: &mut E,
+) -> Result<(), u8>
+    ensures { IfErr result (λ status. status ≤ 5) }
+{
+    let (Some(page), Some(input)) = (page, input) else {
+        return Ok(());
+    };
+    if page == input || desk.are_one(page, input) {
+        tell(
+            &[
+                b"film: the page would take the place of ",
+                input.as_bytes(),
+                b": give -o another name",
+            ],
+            complaints,
+        );
+        return Err(2);
+    }
+    Ok(())
+}
+
+// The script of a film, which is empty where the words name none; or the status, where that is told.
+fn script_of<S: Shelf, R: Input, E: Output>(
+    alloc: Global,
+    script: Option<&str>,
+    shelf: &mut S,
+    input: &mut R,
+    complaints: &mut E,
+) -> Result<Vec<u8>, u8>
+    ensures { IfErr result (λ status. status ≤ 5) }
+{
+    match script {
+        Some(_) => text_of(alloc, script, shelf, input, complaints),
+        None => Ok(Vec::new(alloc)),
+    }
+}
+
+// The most steps that the words of a run name; or the status, where a film has none so great.
+fn film_limit<E: Output>(
+    words: &[String],
+    order: &Order,
+    complaints: &mut E,
+) -> Result<Option<u32>, u8>
+    ensures { IfErr result (λ status. status ≤ 5) }
+{
+    if !has_limit(words) {
+        return Ok(None);
+    }
+    if is_film_limit(order.limit) {
+        return Ok(Some(order.limit));
+    }
+    tell(
+        &[
+            b"film: --limit is to be at most 1000000: --from N --steps M films a part of a longer run",
+        ],
+        complaints,
+    );
+    Err(2)
+}
+
+// Writes the film that the words ask for, whose own are taken out of them.
+fn film_by<S: Shelf, D: Desk, R: Input, W: Output, E: Output>(
+    alloc: Global,
+    asked: &FilmOrder<'_>,
+    order: &Order,
+    limit: Option<u32>,
+    shelf: &mut S,
+    desk: &mut D,
+    input: &mut R,
+    output: &mut W,
+    complaints: &mut E,
+) -> Result<u8, u8>
+    ensures done { IfOk result (λ status. status ≤ 5) }
+    ensures refused { IfErr result (λ status. status ≤ 5) }
+{
+    spares_input(asked.page, order.file, desk, complaints)?;
+    spares_input(asked.page, asked.script, desk, complaints)?;
+    let text = text_of(alloc, order.file, shelf, input, complaints)?;
+    let script = script_of(alloc, asked.script, shelf, input, complaints)?;
+    let chapters = match chapters_of(alloc, script.as_slice()) {
+        Ok(chapters) => chapters,
+        Err(fault) => {
+            let name = asked.script.unwrap_or("-");
+            return Err(refused_script(name, fault, complaints));
+        }
+    };
+    Ok(film(
+        alloc,
+        text.as_slice(),
+        chapters.as_slice(),
+        order,
+        asked,
+        window_of(asked, limit),
+        desk,
+        output,
+        complaints,
+    ))
+}
+
+// Writes the film that words ask for.
+fn film_of<S: Shelf, D: Desk, R: Input, W: Output, E: Output>(
+    alloc: Global,
+    word: &Word,
+    words: &[String],
+    shelf: &mut S,
+    desk: &mut D,
+    input: &mut R,
+    output: &mut W,
+    complaints: &mut E,
+) -> Result<u8, u8>
+    ensures done { IfOk result (λ status. status ≤ 5) }
+    ensures refused { IfErr result (λ status. status ≤ 5) }
+{
+    let (asked, others) = match parted(alloc, words) {
+        Ok(parts) => parts,
+        Err(fault) => return Err(refused_film(fault, complaints)),
+    };
+    let others = others.as_slice();
+    match order_of(others) {
+        Ok(order) => {
+            let limit = film_limit(others, &order, complaints)?;
+            film_by(
+                alloc, &asked, &order, limit, shelf, desk, input, output, complaints,
+            )
+        }
+        Err(fault) => Err(refused(word, behind(others), fault, complaints)),
+    }
+}
+
 // Does what a word says.
-fn act<S: Shelf, R: Input, W: Output, E: Output>(
+fn act<S: Shelf, D: Desk, R: Input, W: Output, E: Output>(
     alloc: Global,
     word: &Word,
     words: &[String],
     prompts: bool,
     shelf: &mut S,
+    desk: &mut D,
     input: &mut R,
     output: &mut W,
     complaints: &mut E,
@@ -315,16 +507,15 @@ fn act<S: Shelf, R: Input, W: Output, E: Output>(
         Tool::Mon => Ok(talk_of(
             alloc, word, words, prompts, shelf, input, output, complaints,
         )),
-        Tool::Film | Tool::Profile | Tool::Run | Tool::Trace => match order_of(words) {
+        Tool::Film => film_of(alloc, word, words, shelf, desk, input, output, complaints),
+        Tool::Profile | Tool::Run | Tool::Trace => match order_of(words) {
             Ok(order) => {
                 let text = text_of(alloc, order.file, shelf, input, complaints)?;
-                let is_limited = has_limit(words);
                 Ok(follow(
                     word.tool,
                     alloc,
                     text.as_slice(),
                     &order,
-                    is_limited,
                     output,
                     complaints,
                 ))
@@ -364,16 +555,17 @@ fn has_limit(words: &[String]) -> bool {
 }
 
 /// Does what `words` ask for, and answers the exit status, 0 to 5. The first word is the program's name, and the second says
-/// what is done. Files are opened in `shelf`; what is asked for goes to `output`, and why it is refused to `complaints`.
-/// `prompts` says whether a prompt stands before each line of a session, and `release` names the file that says of which commit
-/// the program is, where there may be one. Without a second word the page of help goes to `complaints`, with status 2. This
-/// project's profile.
-pub fn obey<S: Shelf, R: Input, W: Output, E: Output>(
+/// what is done. Files are opened in `shelf`, and written on `desk`; what is asked for goes to `output`, and why it is refused to
+/// `complaints`. `prompts` says whether a prompt stands before each line of a session, and `release` names the file that says of
+/// which commit the program is, where there may be one. Without a second word the page of help goes to `complaints`, with status
+/// 2. This project's profile.
+pub fn obey<S: Shelf, D: Desk, R: Input, W: Output, E: Output>(
     alloc: Global,
     words: &[String],
     prompts: bool,
     release: Option<&str>,
     shelf: &mut S,
+    desk: &mut D,
     input: &mut R,
     output: &mut W,
     complaints: &mut E,
@@ -389,7 +581,7 @@ pub fn obey<S: Shelf, R: Input, W: Output, E: Output>(
         [word, rest @ ..] => match word_named(word.as_str()) {
             Some(found) if asks_for_help(rest) => written(put_use(&found, output), complaints),
             Some(found) => match act(
-                alloc, &found, words, prompts, shelf, input, output, complaints,
+                alloc, &found, words, prompts, shelf, desk, input, output, complaints,
             ) {
                 Ok(status) | Err(status) => status,
             },

@@ -2,10 +2,12 @@
 
 ghost use Rattle.std.specs.Prelude.{◌≤◌};
 
+use crate::film::{FilmOrder, film_into};
 use crate::words::Order;
 use a2_check::{Format, TellFault, put_refusals, refusals_of};
+use a2_desk::Desk;
 use a2_explain::explain_stop;
-use a2_film::film_source;
+use a2_film::{Chapter, Window, film_source};
 use a2_host::complain;
 use a2_list::{list_source, put_line_refused};
 use a2_profile::profile_source;
@@ -124,23 +126,29 @@ pub fn profile<W: Output, E: Output>(
     status(&answer)
 }
 
-// The most steps of a film whose words have no limit.
-const FILM_LIMIT: u32 = 100_000;
-
-/// Writes the film of a source's run, titled by the file's name. `is_limited` says whether the words have a limit.
-pub fn film<W: Output, E: Output>(
+/// Writes the film of a window of a source's run, titled by the file's name, into the file that the words name, whole or not at
+/// all, or else to `output`.
+pub fn film<D: Desk, W: Output, E: Output>(
     alloc: Global,
     source: &[u8],
+    chapters: &[Chapter<'_>],
     order: &Order,
-    is_limited: bool,
+    film: &FilmOrder<'_>,
+    window: Window,
+    desk: &mut D,
     output: &mut W,
     complaints: &mut E,
 ) -> u8
     ensures { result ≤ 5 }
 {
     let title = order.file.unwrap_or("a2").as_bytes();
-    let limit = if is_limited { order.limit } else { FILM_LIMIT };
-    let answer = film_source(alloc, source, title, &order.keys, limit, order.free, output);
+    let (keys, free) = (&order.keys, order.free);
+    let answer = match film.page {
+        Some(page) => film_into(
+            alloc, source, title, chapters, keys, window, free, page, desk,
+        ),
+        None => film_source(alloc, source, title, chapters, keys, window, free, output),
+    };
     if let Err(fault) = answer {
         complain(fault, complaints);
     }
