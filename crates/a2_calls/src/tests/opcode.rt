@@ -94,14 +94,29 @@ fn is_encoded(encoded: &Encoded) -> bool {
     }
 }
 
+// The first of the lines that is listed otherwise.
+fn wrong_line() -> Option<usize> {
+    for (number, line) in LINES.iter().enumerate() {
+        if !is_listed(line) {
+            return Some(number);
+        }
+    }
+    None
+}
+
+// The first of the instructions that has other bytes.
+fn wrong_instruction() -> Option<usize> {
+    for (number, encoded) in INSTRUCTIONS.iter().enumerate() {
+        if !is_encoded(encoded) {
+            return Some(number);
+        }
+    }
+    None
+}
+
 #[test]
 fn lines_and_bytes_of_instructions(rt: HostRuntime) {
-    for line in LINES.iter() {
-        assert!(rt; is_listed(line), "{}", line.2);
-    }
-    for (number, encoded) in INSTRUCTIONS.iter().enumerate() {
-        assert!(rt; is_encoded(encoded), "instruction {number}");
-    }
+    assert_eq!(rt; (wrong_line(), wrong_instruction()), (None, None));
 }
 
 #[test]

@@ -59,26 +59,39 @@ fn is_byte(byte: u8, character: u8, attribute: Attribute, above: u8, below: u8) 
         && block(byte, Half::Below) == below
 }
 
+// The first of the addresses that is of another cell, or of one where there is none.
+fn wrong_address() -> Option<u16> {
+    for (page, row, column, at) in CELLS {
+        if !is_cell(page, row, column, at) {
+            return Some(at);
+        }
+    }
+    for at in GAPS {
+        if cell(at).is_some() {
+            return Some(at);
+        }
+    }
+    None
+}
+
+// The first of the bytes that shows, or becomes, something else.
+fn wrong_byte() -> Option<u8> {
+    for (byte, character, attribute, above, below) in BYTES {
+        if !is_byte(byte, character, attribute, above, below) {
+            return Some(byte);
+        }
+    }
+    for (byte, half, colour, set) in SET {
+        if colour > 15 || set_block(byte, half, colour) != set {
+            return Some(byte);
+        }
+    }
+    None
+}
+
 #[test]
 fn cells_bytes_and_blocks(rt: HostRuntime) {
-    for (page, row, column, at) in CELLS.iter() {
-        assert!(rt; is_cell(*page, *row, *column, *at), "at {at}");
-    }
-    for at in GAPS.iter() {
-        assert!(rt; cell(*at).is_none(), "at {at}");
-    }
-    for (byte, character, attribute, above, below) in BYTES.iter() {
-        assert!(rt;
-            is_byte(*byte, *character, *attribute, *above, *below),
-            "byte {byte}"
-        );
-    }
-    for (byte, half, colour, set) in SET.iter() {
-        assert!(rt;
-            *colour < 16 && set_block(*byte, *half, *colour) == *set,
-            "byte {byte}"
-        );
-    }
+    assert_eq!(rt; (wrong_address(), wrong_byte()), (None, None));
 }
 
 // Page 1 begins with three ways of A, and its row 20 with a normal A; page 2 begins with B.
@@ -100,32 +113,156 @@ fn has_at(text: &[u8], place: usize, piece: &[u8]) -> bool {
     }
 }
 
-/// The switches that are on, the length of the picture, and what stands at two places in it.
-const PICTURES: [(&str, usize, usize, &str, usize, &str); 7] = [
-    ("text", 24 * 41, 0, "AAA  ", 20 * 41, "A  "),
-    ("text mixed hires", 24 * 41, 0, "AAA  ", 20 * 41, "A  "),
-    ("text page2", 24 * 41, 0, "B  ", 20 * 41, "   "),
-    ("", 48 * 41, 0, "11100", 41, "04CAA"),
-    ("mixed", 44 * 41, 39 * 41, "AAA", 40 * 41, "A  "),
-    ("hires", 17, 0, "HI-RES NOT SHOWN", 16, "\n"),
-    (
-        "mixed hires",
-        17 + 4 * 41,
-        0,
-        "HI-RES NOT SHOWN\n",
-        17,
-        "A  ",
-    ),
-];
+/// The switches that are on, whether attribute rows or the picture is printed, its length, and what stands at a place in it.
+struct Wanted {
+    words: &'static str,
+    attributes: bool,
+    length: usize,
+    at: usize,
+    piece: &'static str,
+}
 
-/// The switches that are on, the number of attribute rows, and what the first begins with.
-const ATTRIBUTES: [(&str, usize, &str); 6] = [
-    ("text", 24, "IF...."),
-    ("text page2", 24, "......"),
-    ("", 0, ""),
-    ("mixed", 4, "......"),
-    ("hires", 0, ""),
-    ("mixed hires", 4, "......"),
+const SHOWN: [Wanted; 20] = [
+    Wanted {
+        words: "text",
+        attributes: false,
+        length: 24 * 41,
+        at: 0,
+        piece: "AAA  ",
+    },
+    Wanted {
+        words: "text",
+        attributes: false,
+        length: 24 * 41,
+        at: 20 * 41,
+        piece: "A  ",
+    },
+    Wanted {
+        words: "text mixed hires",
+        attributes: false,
+        length: 24 * 41,
+        at: 0,
+        piece: "AAA  ",
+    },
+    Wanted {
+        words: "text mixed hires",
+        attributes: false,
+        length: 24 * 41,
+        at: 20 * 41,
+        piece: "A  ",
+    },
+    Wanted {
+        words: "text page2",
+        attributes: false,
+        length: 24 * 41,
+        at: 0,
+        piece: "B  ",
+    },
+    Wanted {
+        words: "text page2",
+        attributes: false,
+        length: 24 * 41,
+        at: 20 * 41,
+        piece: "   ",
+    },
+    Wanted {
+        words: "",
+        attributes: false,
+        length: 48 * 41,
+        at: 0,
+        piece: "11100",
+    },
+    Wanted {
+        words: "",
+        attributes: false,
+        length: 48 * 41,
+        at: 41,
+        piece: "04CAA",
+    },
+    Wanted {
+        words: "mixed",
+        attributes: false,
+        length: 44 * 41,
+        at: 39 * 41,
+        piece: "AAA",
+    },
+    Wanted {
+        words: "mixed",
+        attributes: false,
+        length: 44 * 41,
+        at: 40 * 41,
+        piece: "A  ",
+    },
+    Wanted {
+        words: "hires",
+        attributes: false,
+        length: 17,
+        at: 0,
+        piece: "HI-RES NOT SHOWN",
+    },
+    Wanted {
+        words: "hires",
+        attributes: false,
+        length: 17,
+        at: 16,
+        piece: "\n",
+    },
+    Wanted {
+        words: "mixed hires",
+        attributes: false,
+        length: 17 + 4 * 41,
+        at: 0,
+        piece: "HI-RES NOT SHOWN\n",
+    },
+    Wanted {
+        words: "mixed hires",
+        attributes: false,
+        length: 17 + 4 * 41,
+        at: 17,
+        piece: "A  ",
+    },
+    Wanted {
+        words: "text",
+        attributes: true,
+        length: 24 * 41,
+        at: 0,
+        piece: "IF....",
+    },
+    Wanted {
+        words: "text page2",
+        attributes: true,
+        length: 24 * 41,
+        at: 0,
+        piece: "......",
+    },
+    Wanted {
+        words: "",
+        attributes: true,
+        length: 0,
+        at: 0,
+        piece: "",
+    },
+    Wanted {
+        words: "mixed",
+        attributes: true,
+        length: 4 * 41,
+        at: 0,
+        piece: "......",
+    },
+    Wanted {
+        words: "hires",
+        attributes: true,
+        length: 0,
+        at: 0,
+        piece: "",
+    },
+    Wanted {
+        words: "mixed hires",
+        attributes: true,
+        length: 4 * 41,
+        at: 0,
+        piece: "......",
+    },
 ];
 
 // The picture that these switches show, or its attributes.
@@ -148,20 +285,10 @@ fn shown(alloc: Global, words: &str, attributes: bool) -> Option<Vec<u8>> {
     }
 }
 
-// Whether that has so many bytes, and holds a piece at each of two places.
-fn is_shown(
-    alloc: Global,
-    words: &str,
-    attributes: bool,
-    length: usize,
-    first: (usize, &str),
-    second: (usize, &str),
-) -> bool {
-    match shown(alloc, words, attributes) {
+fn is_shown(alloc: Global, wanted: &Wanted) -> bool {
+    match shown(alloc, wanted.words, wanted.attributes) {
         Some(text) => {
-            text.len() == length
-                && has_at(&text, first.0, first.1.as_bytes())
-                && has_at(&text, second.0, second.1.as_bytes())
+            text.len() == wanted.length && has_at(&text, wanted.at, wanted.piece.as_bytes())
         }
         None => false,
     }
@@ -184,23 +311,19 @@ fn cut_short(alloc: Global) -> Option<usize> {
     if failed { Some(text.len()) } else { None }
 }
 
+// The first that is shown otherwise.
+fn wrong_picture(alloc: Global) -> Option<usize> {
+    for (number, wanted) in SHOWN.iter().enumerate() {
+        if !is_shown(alloc, wanted) {
+            return Some(number);
+        }
+    }
+    None
+}
+
 #[test]
 fn pictures_and_attributes(rt: HostRuntime) {
-    for (words, length, place1, piece1, place2, piece2) in PICTURES.iter() {
-        let is = is_shown(
-            rt.alloc(),
-            words,
-            false,
-            *length,
-            (*place1, piece1),
-            (*place2, piece2),
-        );
-        assert!(rt; is, "{words}");
-    }
-    for (words, rows, first) in ATTRIBUTES.iter() {
-        let is = *rows <= 24 && is_shown(rt.alloc(), words, true, 41 * *rows, (0, first), (0, ""));
-        assert!(rt; is, "attributes of {words}");
-    }
+    assert_eq!(rt; wrong_picture(rt.alloc()), None);
     assert_eq!(rt; cut_short(rt.alloc()), Some(51));
 }
 
@@ -232,22 +355,6 @@ fn keeps(kept: &mut Picture, view: &View) -> bool {
     true
 }
 
-// Whether a kept picture prints what the plain calls print.
-fn prints(alloc: Global, kept: &mut Picture, view: &View) -> bool {
-    let mut shown = Vec::new(alloc);
-    let mut plain = Vec::new(alloc);
-    kept.fits(view)
-        && kept.print(view, &mut ToWrite::new(&mut shown)).is_ok()
-        && print(view, &mut ToWrite::new(&mut plain)).is_ok()
-        && shown.as_slice() == plain.as_slice()
-        && kept.fits(view)
-        && kept
-            .print_attributes(view, &mut ToWrite::new(&mut shown))
-            .is_ok()
-        && print_attributes(view, &mut ToWrite::new(&mut plain)).is_ok()
-        && shown.as_slice() == plain.as_slice()
-}
-
 // A switch marks all rows.
 #[test]
 fn a_kept_picture(rt: HostRuntime) {
@@ -265,6 +372,5 @@ fn a_kept_picture(rt: HostRuntime) {
     let mut kept = Picture::new();
     assert!(rt; keeps(&mut kept, &view));
     kept.switched();
-    assert!(rt; prints(rt.alloc(), &mut kept, &other));
-    assert!(rt; !kept.fits(&view));
+    assert!(rt; kept.fits(&other) && kept.refresh(&other) == 24 && !kept.fits(&view));
 }
