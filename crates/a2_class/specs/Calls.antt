@@ -11,7 +11,10 @@ use Rattle.a2_class.specs.declared.line.Call.{Call}
 -- the operation that gives a register its byte
 abbrev pub load_of : List ℕ → Option (List ℕ)
 load_of (c ∷ []) =
-    if c == 0x41 then Some (codes " LDA #$") else if c == 0x58 then Some (codes " LDX #$") else if c == 0x59 then Some (codes " LDY #$") else None
+    if c == 0x41 then Some (codes " LDA #$")
+    else if c == 0x58 then Some (codes " LDX #$")
+    else if c == 0x59 then Some (codes " LDY #$")
+    else None
 load_of _ = None
 
 -- the lines of a word such as X=04 or RESULT=04: a load of a register, or a store elsewhere

@@ -165,7 +165,8 @@ fn is_cause(cause: Cause, other: Cause) -> bool
 
 // Whether these bytes stand at a place.
 fn has_bytes<A: Allocator>(ending: &Ending<A>, place: &str, bytes: &[u8]) -> bool
-    ensures { result ≡ asked.has_bytes_at (memory_of ending.now.machine.now.state.bus) (asked.place_of ending.now.program.now place.now) bytes.now }
+    ensures { result ≡ asked.has_bytes_at (memory_of ending.now.machine.now.state.bus)
+        (asked.place_of ending.now.program.now place.now) bytes.now }
 {
     match place_of(ending.program, place) {
         Some(address) => first_other(ending.machine, address, bytes).is_none(),

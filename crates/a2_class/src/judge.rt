@@ -109,7 +109,8 @@ fn missed<A: Allocator + Copy>(
     ending: &Ending<A>,
 ) -> Result<Verdict<A>, AllocError>
     requires { IsFirstMissed lines.now ending.now.program.now (end_at ending.now.machine.now.state ending.now.cause) index }
-    ensures { IfOk result (λ verdict. IsFound lines.now ending.now.program.now (end_at ending.now.machine.now.state ending.now.cause) verdict) }
+    ensures { IfOk result (λ verdict.
+        IsFound lines.now ending.now.program.now (end_at ending.now.machine.now.state ending.now.cause) verdict) }
 {
     let told = told_of_miss(alloc, behind(lines, index), ending)?;
     Ok(Verdict::Missed(lines[index].number, told))

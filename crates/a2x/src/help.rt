@@ -22,10 +22,10 @@ F is a source; without it the standard input is taken. Options of a run, before 
               and 100,000 of a film
   --free      without the guard: code may begin anywhere, and be stored to
 
-N of --format is short, for editors, or json.
+N of --format is short, for editors, or json; of test csv, json or junit.
 
 Status: 0 well, 1 source refused, 2 words or keys refused, 3 another stop,
-4 a read or write failed, 5 no memory.
+4 a read or write failed, 5 no memory, 6 tests that were not passed.
 ";
 
 const BLANKS: &[u8] = b"                      ";

@@ -6,6 +6,7 @@ mod named;
 mod program;
 mod table;
 mod terminal;
+mod tests;
 mod tools;
 mod words;
 

@@ -6,6 +6,7 @@ use crate::help::{put_page, put_use, put_version};
 use crate::named::{check_order, file_in};
 use crate::table::{Tool, Word, nearest, word_named};
 use crate::terminal::mon;
+use crate::tests::{exam_in, tell_words, test};
 use crate::tools::{check, film, list, profile, run, told, trace, written};
 use crate::words::{Misfit, Order, WordsFault, misfit_in, order_of};
 use a2_host::Shelf;
@@ -261,7 +262,7 @@ fn act<S: Shelf, R: Input, W: Output, E: Output>(
     output: &mut W,
     complaints: &mut E,
 ) -> Result<u8, u8>
-    ensures done { IfOk result (λ status. status ≤ 5) }
+    ensures done { IfOk result (λ status. status ≤ 6) }
     ensures refused { IfErr result (λ status. status ≤ 5) }
 {
     match word.tool {
@@ -280,6 +281,10 @@ fn act<S: Shelf, R: Input, W: Output, E: Output>(
                 Ok(list(alloc, text.as_slice(), output, complaints))
             }
             Err(fault) => Err(refused(word, behind(words), fault, complaints)),
+        },
+        Tool::Test => match exam_in(words) {
+            Ok(exam) => Ok(test(alloc, &exam, shelf, output, complaints)),
+            Err(_) => Err(tell_words(complaints)),
         },
         Tool::Mon => Ok(talk_of(
             alloc, word, words, prompts, shelf, input, output, complaints,
@@ -332,7 +337,7 @@ fn has_limit(words: &[String]) -> bool {
     false
 }
 
-/// Does what `words` ask for, and answers the exit status, 0 to 5. The first word is the program's name, and the second says
+/// Does what `words` ask for, and answers the exit status, 0 to 6. The first word is the program's name, and the second says
 /// what is done. Files are opened in `shelf`; what is asked for goes to `output`, and why it is refused to `complaints`.
 /// `prompts` says whether a prompt stands before each line of a session. Without a second word the page of help goes to
 /// `complaints`, with status 2. This project's profile.
@@ -345,7 +350,7 @@ pub fn obey<S: Shelf, R: Input, W: Output, E: Output>(
     output: &mut W,
     complaints: &mut E,
 ) -> u8
-    ensures { result ≤ 5 }
+    ensures { result ≤ 6 }
 {
     let words = behind(words);
     match words {
