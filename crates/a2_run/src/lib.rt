@@ -17,7 +17,9 @@ pub use laws::{
     a_text_is_refused_or_means_a_program, a_text_means_one_output,
 };
 pub use limits::{MOST_STEPS, step_limit};
-pub use run::{asm_text, debug_text, fault_status, mon_text, read_front, read_text, run_text, status};
+pub use run::{
+    asm_text, debug_text, fault_status, mon_text, read_front, read_text, run_text, status,
+};
 pub use sources::{program_of, started};
 
 /// What a run may do, and what it shows.

@@ -20,12 +20,12 @@ F is a source; without it the standard input is taken. Options of a run, before 
   --free      without the guard: code may begin anywhere, and be stored to
 
 A film has more, which a2x help film tells. N of --format is short, for
-editors, or json. Alone stands:
+editors, or json; of test csv, json or junit. Alone stands:
 
   --version   the version, and the commit that the program was packaged from
 
 Status: 0 well, 1 source refused, 2 words or keys refused, 3 another stop,
-4 a read or write failed, 5 no memory.
+4 a read or write failed, 5 no memory, 6 tests that were not passed.
 ";
 
 // The options that a film alone has.

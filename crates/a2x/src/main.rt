@@ -8,6 +8,7 @@ mod program;
 mod release;
 mod table;
 mod terminal;
+mod tests;
 mod tools;
 mod words;
 

@@ -8,6 +8,7 @@ use crate::named::{check_order, file_in};
 use crate::release::put_version;
 use crate::table::{Tool, Word, nearest, word_named};
 use crate::terminal::mon;
+use crate::tests::{exam_in, tell_words, test};
 use crate::tools::{check, film, list, profile, run, told, trace, written};
 use crate::words::{Misfit, Order, WordsFault, misfit_in, order_of};
 use a2_desk::Desk;
@@ -484,7 +485,7 @@ fn act<S: Shelf, D: Desk, R: Input, W: Output, E: Output>(
     output: &mut W,
     complaints: &mut E,
 ) -> Result<u8, u8>
-    ensures done { IfOk result (λ status. status ≤ 5) }
+    ensures done { IfOk result (λ status. status ≤ 6) }
     ensures refused { IfErr result (λ status. status ≤ 5) }
 {
     match word.tool {
@@ -503,6 +504,10 @@ fn act<S: Shelf, D: Desk, R: Input, W: Output, E: Output>(
                 Ok(list(alloc, text.as_slice(), output, complaints))
             }
             Err(fault) => Err(refused(word, behind(words), fault, complaints)),
+        },
+        Tool::Test => match exam_in(words) {
+            Ok(exam) => Ok(test(alloc, &exam, shelf, output, complaints)),
+            Err(_) => Err(tell_words(complaints)),
         },
         Tool::Mon => Ok(talk_of(
             alloc, word, words, prompts, shelf, input, output, complaints,
@@ -554,7 +559,7 @@ fn has_limit(words: &[String]) -> bool {
     false
 }
 
-/// Does what `words` ask for, and answers the exit status, 0 to 5. The first word is the program's name, and the second says
+/// Does what `words` ask for, and answers the exit status, 0 to 6. The first word is the program's name, and the second says
 /// what is done. Files are opened in `shelf`, and written on `desk`; what is asked for goes to `output`, and why it is refused to
 /// `complaints`. `prompts` says whether a prompt stands before each line of a session, and `release` names the file that says of
 /// which commit the program is, where there may be one. Without a second word the page of help goes to `complaints`, with status
@@ -570,7 +575,7 @@ pub fn obey<S: Shelf, D: Desk, R: Input, W: Output, E: Output>(
     output: &mut W,
     complaints: &mut E,
 ) -> u8
-    ensures { result ≤ 5 }
+    ensures { result ≤ 6 }
 {
     let words = behind(words);
     match words {

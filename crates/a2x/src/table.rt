@@ -15,6 +15,7 @@ pub enum Tool {
     Mon,
     Profile,
     Run,
+    Test,
     Trace,
 }
 
@@ -32,7 +33,7 @@ pub struct Word {
 }
 
 /// All words, in the order of the page of help.
-pub static WORDS: [Word; 8] = [
+pub static WORDS: [Word; 9] = [
     Word {
         name: "run",
         arguments: "[options] [F]",
@@ -74,6 +75,13 @@ pub static WORDS: [Word; 8] = [
         runs: true,
         says: "writes F's run as a page that goes backwards",
         tool: Tool::Film,
+    },
+    Word {
+        name: "test",
+        arguments: "WANT F..",
+        runs: false,
+        says: "judges solutions by the cases of WANT",
+        tool: Tool::Test,
     },
     Word {
         name: "mon",

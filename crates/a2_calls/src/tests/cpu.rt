@@ -4,8 +4,7 @@ ghost use Rattle.std.specs.Prelude.{◌≡◌, ◌==◌};
 
 use a2_bus::{Bus, Flat};
 use a2_cpu::run::{guarded_step, step};
-use a2_cpu::writes;
-use a2_cpu::{GuardedStep, NoProtection, Protection, Regs, Status, Step, guarded_refusal};
+use a2_cpu::{GuardedStep, NoProtection, Protection, Regs, Status, Step, guarded_refusal, writes};
 use std::alloc::Global;
 
 // One protected address.

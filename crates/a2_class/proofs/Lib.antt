@@ -1,0 +1,5 @@
+pub mod Below
+pub mod Ends
+pub mod Joining
+pub mod RowLaws
+pub mod Verdicts

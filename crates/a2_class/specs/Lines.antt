@@ -1,0 +1,37 @@
+-- The lines of a WANT. This project's profile.
+use Rattle.std.specs.Prelude.{◌≡◌, ℕ, not, List, [], ◌∷◌, codes, take, drop}
+use Rattle.std.specs.List.{prefix_len}
+use Rattle.std.specs.Str.Parse.{digits_value}
+use Rattle.a2_text.specs.Bytes.{is_blank}
+use Rattle.a2_text.specs.Words.{behind_blanks}
+use Rattle.a2_run.specs.Limits.{IsStepLimit}
+use Rattle.a2_class.specs.declared.line.Verb.{Verb}
+use Rattle.a2_class.specs.declared.line.Verb.TheVariants.{Case, Keys, Limit, Call, Screen, Mem, Reg, Stop, Cycles, Bytes, Must}
+
+-- the letters of a verb
+abbrev pub verb_letters : Verb → List ℕ
+verb_letters Case = codes "case"
+verb_letters Keys = codes "keys"
+verb_letters Limit = codes "limit"
+verb_letters Call = codes "call"
+verb_letters Screen = codes "screen"
+verb_letters Mem = codes "mem"
+verb_letters Reg = codes "reg"
+verb_letters Stop = codes "stop"
+verb_letters Cycles = codes "cycles"
+verb_letters Bytes = codes "bytes"
+verb_letters Must = codes "must"
+
+-- the first word of a text, and what stands behind it
+abbrev pub first_length : List ℕ → ℕ
+first_length text = prefix_len (λ c. not (is_blank c)) (behind_blanks text)
+
+unfoldable pub first_word : List ℕ → List ℕ
+first_word text = take (first_length text) (behind_blanks text)
+
+unfoldable pub behind_word : List ℕ → List ℕ
+behind_word text = drop (first_length text) (behind_blanks text)
+
+-- a word spells a number, 0 to 100,000,000
+abbrev pub IsNumber : List ℕ → ℕ → Type 0
+IsNumber word n = IsStepLimit word × (n ≡ digits_value 10 word)

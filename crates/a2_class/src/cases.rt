@@ -1,0 +1,76 @@
+//! The lines and cases of a WANT.
+
+ghost use Rattle.std.specs.Prelude.{◌≤◌, length};
+
+use crate::line::{Asked, Line, line_of};
+use std::alloc::{AllocError, Allocator};
+
+/// A case: its name, empty where the WANT names none, and its lines, before which those stand that come before the first case.
+#[derive(Drop)]
+pub struct Case<'a, A: Allocator> {
+    pub name: &'a [u8],
+    pub lines: Vec<Asked<'a>, A>,
+}
+
+/// What each line of a WANT says. Refused only for want of memory.
+pub fn lines_of<'a, A: Allocator>(
+    alloc: A,
+    texts: &[&'a [u8]],
+) -> Result<Vec<Asked<'a>, A>, AllocError> {
+    let mut lines = Vec::new(alloc);
+    for (index, text) in texts.iter().enumerate() {
+        let line = line_of(*text);
+        lines.push(Asked {
+            number: index + 1,
+            line,
+        })?;
+    }
+    Ok(lines)
+}
+
+// How many lines stand before the first that begins a case.
+fn front_of(lines: &[Asked]) -> usize
+    ensures { result ≤ length lines.now }
+{
+    for (index, asked) in lines.iter().enumerate() {
+        if let Line::Case(_) = asked.line {
+            return index;
+        }
+    }
+    lines.len()
+}
+
+// The case of this name with these lines behind those of the head.
+fn case_of<'a, A: Allocator>(
+    alloc: A,
+    name: &'a [u8],
+    head: &[Asked<'a>],
+    body: &[Asked<'a>],
+) -> Result<Case<'a, A>, AllocError> {
+    let mut lines = Vec::new(alloc);
+    lines.extend_from_slice(head)?;
+    lines.extend_from_slice(body)?;
+    Ok(Case { name, lines })
+}
+
+/// The cases of lines: each begins with a line `case NAME` and ends before the next. What stands before the first is asked in
+/// each; where there is none, that alone is a case without a name. Refused only for want of memory.
+pub fn cases_of<'a, A: Allocator + Copy>(
+    alloc: A,
+    lines: &[Asked<'a>],
+) -> Result<Vec<Case<'a, A>, A>, AllocError> {
+    let mut cases = Vec::new(alloc);
+    let (head, rest) = lines.split_at(front_of(lines));
+    if rest.is_empty() {
+        cases.push(case_of(alloc, b"", head, &[])?)?;
+        return Ok(cases);
+    }
+    for (index, asked) in rest.iter().enumerate() {
+        if let Line::Case(name) = asked.line {
+            let behind = &rest[index + 1..];
+            let body = &behind[..front_of(behind)];
+            cases.push(case_of(alloc, name, head, body)?)?;
+        }
+    }
+    Ok(cases)
+}

@@ -1,0 +1,327 @@
+//! The lines of a WANT.
+
+ghost use Rattle.std.specs.Prelude.{◌≡◌, ◌≤◌, ◌∷◌, ℕ, List, [], drop, length, IfSome, IfNone};
+ghost use Rattle.a2_text.specs.Words.{words};
+ghost use Rattle.a2_class.specs.Lines as said;
+ghost use Rattle.a2_class.specs.declared.line.Verb.{Verb as DeclaredVerb};
+
+use crate::settings::{byte_of, digits_in, name_in};
+use a2_bus::Keys;
+use a2_machine::Cause;
+use a2_opcode::Mnemonic;
+use a2_run::step_limit;
+use a2_text::{behind_blanks, first_word, front_len, is_blank};
+
+/// What a line of a WANT says. Of the texts in it each is a part of the line.
+#[derive(Clone, Copy)]
+pub enum Line<'a> {
+    /// Nothing: blanks alone, or `;` and a comment.
+    Silent,
+    /// `case NAME`: a case begins.
+    Case(&'a [u8]),
+    /// `keys K`: these keys wait at the start, spelt as in a command line.
+    Keys(&'a str),
+    /// `limit N`: at most so many steps, 0 to 100,000,000.
+    Limit(u32),
+    /// `call NAME A=3 $320=05`: the routine of this name is called, with these bytes at these places.
+    Call(Call<'a>),
+    /// `screen`: the rows that stand in the lines behind it are the screen's, from the top; those behind them are blank.
+    Screen,
+    /// `|TEXT`: a row of the screen.
+    Row(&'a [u8]),
+    /// `screen holds "TEXT"`: a row of the screen has this text in it.
+    Holds(&'a [u8]),
+    /// `mem $320 = A9 01`: at this place, a number or a name, and behind it stand these bytes.
+    Mem(&'a str, &'a [u8]),
+    /// `reg A=E9 X=00`: these registers hold these bytes.
+    Reg(&'a [u8]),
+    /// `stop RETURNED`: the run stops by this cause.
+    Stop(Cause),
+    /// `cycles <= N`: the run takes at most so many cycles.
+    Cycles(u32),
+    /// `bytes <= N`: the statements have at most so many bytes.
+    Bytes(u32),
+    /// `must use BNE`: an instruction has this mnemonic.
+    Uses(Mnemonic),
+    /// `must not use BNE`: no instruction has it.
+    Avoids(Mnemonic),
+    /// It is in no form of these.
+    Unknown,
+}
+
+/// The call of a routine: its name, and words such as `A=3` that give places their bytes.
+#[derive(Clone, Copy)]
+pub struct Call<'a> {
+    pub name: &'a [u8],
+    pub settings: &'a [u8],
+}
+
+/// A line of a WANT with its number, from 1.
+#[derive(Clone, Copy)]
+pub struct Asked<'a> {
+    pub number: usize,
+    pub line: Line<'a>,
+}
+
+/// The lines behind so many.
+pub(crate) fn behind<'a, 'b>(lines: &'b [Asked<'a>], count: usize) -> &'b [Asked<'a>]
+    requires { count ≤ length lines.now }
+    ensures { result.now ≡ drop count lines.now }
+{
+    &lines[count..]
+}
+
+/// The word that a line begins with.
+#[derive(Clone, Copy, Debug, PartialEq, Eq)]
+pub(crate) enum Verb {
+    Case,
+    Keys,
+    Limit,
+    Call,
+    Screen,
+    Mem,
+    Reg,
+    Stop,
+    Cycles,
+    Bytes,
+    Must,
+}
+
+// The verb that a word is.
+fn verb_of(word: &[u8]) -> Option<Verb>
+    ensures found { IfSome result (λ v. said.verb_letters v ≡ word.now) }
+    ensures only { (v : DeclaredVerb) → said.verb_letters v ≡ word.now → result ≡ Some v }
+{
+    match word {
+        b"case" => Some(Verb::Case),
+        b"keys" => Some(Verb::Keys),
+        b"limit" => Some(Verb::Limit),
+        b"call" => Some(Verb::Call),
+        b"screen" => Some(Verb::Screen),
+        b"mem" => Some(Verb::Mem),
+        b"reg" => Some(Verb::Reg),
+        b"stop" => Some(Verb::Stop),
+        b"cycles" => Some(Verb::Cycles),
+        b"bytes" => Some(Verb::Bytes),
+        b"must" => Some(Verb::Must),
+        _ => None,
+    }
+}
+
+// The first word of a text and what stands behind it.
+#[tactic(auto, unfolding(crate::specs::Lines::first_word, crate::specs::Lines::behind_word))]
+fn split_word(text: &[u8]) -> (&[u8], &[u8])
+    ensures word { result.0.now ≡ said.first_word text.now }
+    ensures behind { result.1.now ≡ said.behind_word text.now }
+{
+    let here = behind_blanks(text);
+    here.split_at(front_len(here, |c| !is_blank(c)))
+}
+
+// The number that a word spells, 0 to 100,000,000.
+fn number_of(word: &[u8]) -> Option<u32>
+    ensures { IfSome result (λ n. said.IsNumber word.now n) }
+{
+    let Ok(text) = std::str::from_utf8(word) else {
+        return None;
+    };
+    step_limit(text)
+}
+
+// The one word of a text, where it has one and no other.
+fn only_word(text: &[u8]) -> Option<&[u8]>
+    ensures some { IfSome result (λ word. words text.now ≡ word.now ∷ []) }
+    ensures none { IfNone result ((word : List ℕ) → words text.now ≡ word ∷ [] → ⊥) }
+{
+    let (word, behind) = first_word(text)?;
+    match first_word(behind) {
+        Some(_) => None,
+        None => Some(word),
+    }
+}
+
+// The line of a verb that has one number behind it.
+fn limit_in(rest: &[u8]) -> Option<u32> {
+    number_of(only_word(rest)?)
+}
+
+// The number that stands behind `<=`.
+fn most_in(rest: &[u8]) -> Option<u32> {
+    match first_word(rest)? {
+        (b"<=", behind) => number_of(only_word(behind)?),
+        _ => None,
+    }
+}
+
+// The keys that stand behind the one blank.
+fn keys_in(rest: &[u8]) -> Option<&str> {
+    let (_, text) = rest.split_first()?;
+    let Ok(text) = std::str::from_utf8(text) else {
+        return None;
+    };
+    Keys::parse(text)?;
+    Some(text)
+}
+
+// What the words of a text have to be.
+#[derive(Clone, Copy, PartialEq, Eq)]
+enum Kind {
+    Byte,
+    Setting,
+    Register,
+}
+
+// Whether a word is a byte.
+fn is_byte(word: &[u8]) -> bool {
+    byte_of(word).is_some()
+}
+
+// Whether a word is `PLACE=BYTE`.
+fn is_setting(word: &[u8]) -> bool {
+    !name_in(word).is_empty() && is_byte(digits_in(word))
+}
+
+// Whether a word is a register with a byte, such as `A=E9`.
+fn is_register(word: &[u8]) -> bool {
+    matches!(name_in(word), b"A" | b"X" | b"Y" | b"P" | b"S") && is_byte(digits_in(word))
+}
+
+// Whether a word is of a kind.
+fn is_kind(kind: Kind, word: &[u8]) -> bool {
+    match kind {
+        Kind::Byte => is_byte(word),
+        Kind::Setting => is_setting(word),
+        Kind::Register => is_register(word),
+    }
+}
+
+// Whether all words of a text are of a kind.
+fn are_all(kind: Kind, text: &[u8]) -> bool {
+    let mut rest = text;
+    while let Some((word, behind)) = first_word(rest) {
+        if !is_kind(kind, word) {
+            return false;
+        }
+        rest = behind;
+    }
+    true
+}
+
+// The causes, by their names.
+fn cause_in(rest: &[u8]) -> Option<Cause> {
+    let (first, behind) = first_word(rest)?;
+    match first_word(behind) {
+        None => match first {
+            b"RETURNED" => Some(Cause::Returned),
+            b"WINDOW" => Some(Cause::Window),
+            b"KEYS" => Some(Cause::Keys),
+            b"ROM" => Some(Cause::Rom),
+            b"OPCODE" => Some(Cause::Opcode),
+            b"BRK" => Some(Cause::Brk),
+            b"DECIMAL" => Some(Cause::Decimal),
+            b"LIMIT" => Some(Cause::Limit),
+            _ => None,
+        },
+        Some((second, end)) => match (first, second, first_word(end)) {
+            (b"CODE", b"WRITE", None) => Some(Cause::CodeWrite),
+            (b"OFF", b"STATEMENT", None) => Some(Cause::OffStatement),
+            _ => None,
+        },
+    }
+}
+
+// The mnemonic that is the one word of a text.
+fn mnemonic_in(rest: &[u8]) -> Option<Mnemonic> {
+    Mnemonic::named(only_word(rest)?)
+}
+
+// What stands behind `must`.
+fn must<'a>(rest: &'a [u8]) -> Option<Line<'a>> {
+    match first_word(rest)? {
+        (b"use", behind) => Some(Line::Uses(mnemonic_in(behind)?)),
+        (b"not", behind) => match first_word(behind)? {
+            (b"use", name) => Some(Line::Avoids(mnemonic_in(name)?)),
+            _ => None,
+        },
+        _ => None,
+    }
+}
+
+// What stands behind `screen`.
+fn screen<'a>(rest: &'a [u8]) -> Option<Line<'a>> {
+    let Some((word, behind)) = first_word(rest) else {
+        return Some(Line::Screen);
+    };
+    match (word, behind_blanks(behind)) {
+        (b"holds", [b'"', text @ .., b'"']) => Some(Line::Holds(text)),
+        _ => None,
+    }
+}
+
+// What stands behind `mem`.
+fn mem<'a>(rest: &'a [u8]) -> Option<Line<'a>> {
+    let (place, behind) = first_word(rest)?;
+    let Ok(place) = std::str::from_utf8(place) else {
+        return None;
+    };
+    match first_word(behind)? {
+        (b"=", bytes) if first_word(bytes).is_some() && are_all(Kind::Byte, bytes) => {
+            Some(Line::Mem(place, bytes))
+        }
+        _ => None,
+    }
+}
+
+// What stands behind `reg`.
+fn reg<'a>(rest: &'a [u8]) -> Option<Line<'a>> {
+    if first_word(rest).is_some() && are_all(Kind::Register, rest) {
+        Some(Line::Reg(rest))
+    } else {
+        None
+    }
+}
+
+// What stands behind `call`.
+fn called<'a>(rest: &'a [u8]) -> Option<Line<'a>> {
+    let (name, settings) = first_word(rest)?;
+    if are_all(Kind::Setting, settings) {
+        Some(Line::Call(Call { name, settings }))
+    } else {
+        None
+    }
+}
+
+// What a verb and what stands behind it say.
+fn said<'a>(verb: Verb, rest: &'a [u8]) -> Option<Line<'a>> {
+    match verb {
+        Verb::Case => Some(Line::Case(behind_blanks(rest))),
+        Verb::Keys => Some(Line::Keys(keys_in(rest)?)),
+        Verb::Limit => Some(Line::Limit(limit_in(rest)?)),
+        Verb::Call => called(rest),
+        Verb::Screen => screen(rest),
+        Verb::Mem => mem(rest),
+        Verb::Reg => reg(rest),
+        Verb::Stop => Some(Line::Stop(cause_in(rest)?)),
+        Verb::Cycles => Some(Line::Cycles(most_in(rest)?)),
+        Verb::Bytes => Some(Line::Bytes(most_in(rest)?)),
+        Verb::Must => must(rest),
+    }
+}
+
+// What a line says that begins with a word.
+fn worded<'a>(text: &'a [u8]) -> Option<Line<'a>> {
+    let (word, rest) = split_word(text);
+    said(verb_of(word)?, rest)
+}
+
+/// What a line says.
+pub(crate) fn line_of<'a>(text: &'a [u8]) -> Line<'a> {
+    match behind_blanks(text) {
+        [] | [b';', ..] => Line::Silent,
+        [b'|', row @ ..] => Line::Row(row),
+        here => match worded(here) {
+            Some(line) => line,
+            None => Line::Unknown,
+        },
+    }
+}

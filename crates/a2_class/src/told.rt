@@ -1,0 +1,229 @@
+//! What is told of a line whose demand does not hold: what is wanted, what is there, and where the run came to its end.
+
+use crate::asks::{Ending, first_other, first_wrong, place_of, register_byte, size_of, user_of};
+use crate::line::{Asked, Line, behind};
+use crate::rows::{first_row, row_count, row_fits};
+use crate::settings::name_in;
+use a2_asm::Statement;
+use a2_machine::Cause;
+use a2_opcode::Mnemonic;
+use a2_text::{decimal, hex_pair, hex_word, is_blank};
+use std::alloc::{AllocError, Allocator};
+
+// Appends pieces.
+fn tell<A: Allocator>(text: &mut Vec<u8, A>, pieces: &[&[u8]]) -> Result<(), AllocError> {
+    for piece in pieces {
+        text.extend_from_slice(piece)?;
+    }
+    Ok(())
+}
+
+// A row without the blanks at its end.
+fn trimmed(row: &[u8]) -> &[u8] {
+    let mut rest = row;
+    while let [front @ .., c] = rest {
+        if !is_blank(*c) {
+            return rest;
+        }
+        rest = front;
+    }
+    rest
+}
+
+// The name of a cause.
+fn cause_name(cause: Cause) -> &'static [u8] {
+    match cause {
+        Cause::Returned => b"RETURNED",
+        Cause::CodeWrite => b"CODE WRITE",
+        Cause::Window => b"WINDOW",
+        Cause::Keys => b"KEYS",
+        Cause::OffStatement => b"OFF STATEMENT",
+        Cause::Rom => b"ROM",
+        Cause::Opcode => b"OPCODE",
+        Cause::Brk => b"BRK",
+        Cause::Decimal => b"DECIMAL",
+        Cause::Limit => b"LIMIT",
+    }
+}
+
+// Tells the first row of the screen that is not as it is wanted.
+fn tell_rows<A: Allocator>(
+    text: &mut Vec<u8, A>,
+    lines: &[Asked],
+    shown: &[&[u8]],
+) -> Result<(), AllocError> {
+    let mut used: usize = 0;
+    for (number, row) in shown.iter().enumerate() {
+        let here = behind(lines, used.min(lines.len()));
+        let wanted = first_row(here);
+        if !row_fits(wanted, row) {
+            let number = decimal(number as u64);
+            return tell(
+                text,
+                &[
+                    b"screen row ",
+                    number.as_slice(),
+                    b": want \"",
+                    trimmed(wanted),
+                    b"\", got \"",
+                    trimmed(row),
+                    b"\"",
+                ],
+            );
+        }
+        used = used.saturating_add(row_count(here));
+    }
+    tell(text, &[b"the screen has fewer rows"])
+}
+
+// Appends two hexadecimal digits, or `no byte`.
+fn tell_byte<A: Allocator>(text: &mut Vec<u8, A>, byte: Option<u8>) -> Result<(), AllocError> {
+    match byte {
+        Some(byte) => tell(text, &[&hex_pair(byte)]),
+        None => tell(text, &[b"no byte"]),
+    }
+}
+
+// Tells the first byte of memory that is not as it is wanted.
+fn tell_memory<A: Allocator>(
+    text: &mut Vec<u8, A>,
+    place: &str,
+    bytes: &[u8],
+    ending: &Ending<A>,
+) -> Result<(), AllocError> {
+    let Some(address) = place_of(ending.program, place) else {
+        return tell(
+            text,
+            &[b"mem: no name ", place.as_bytes(), b" in the source"],
+        );
+    };
+    let Some((at, wanted)) = first_other(ending.machine, address, bytes) else {
+        return Ok(());
+    };
+    tell(
+        text,
+        &[b"mem $", &hex_word(at), b": want ", wanted, b", got "],
+    )?;
+    tell_byte(text, ending.machine.peek(at))
+}
+
+// Tells the first register that does not hold its byte.
+fn tell_registers<A: Allocator>(
+    text: &mut Vec<u8, A>,
+    words: &[u8],
+    ending: &Ending<A>,
+) -> Result<(), AllocError> {
+    let Some(word) = first_wrong(ending.machine, words) else {
+        return Ok(());
+    };
+    tell(text, &[b"reg: want ", word, b", got "])?;
+    tell_byte(text, register_byte(ending.machine, name_in(word)))
+}
+
+// Tells that a number is above the most.
+fn tell_most<A: Allocator>(
+    text: &mut Vec<u8, A>,
+    name: &[u8],
+    most: u32,
+    found: u64,
+) -> Result<(), AllocError> {
+    let most = decimal(u64::from(most));
+    let found = decimal(found);
+    tell(
+        text,
+        &[
+            name,
+            b": at most ",
+            most.as_slice(),
+            b", got ",
+            found.as_slice(),
+        ],
+    )
+}
+
+// Tells where a mnemonic is used, or that it is nowhere.
+fn tell_use<A: Allocator>(
+    text: &mut Vec<u8, A>,
+    mnemonic: Mnemonic,
+    ending: &Ending<A>,
+) -> Result<(), AllocError> {
+    let name = mnemonic.name().as_bytes();
+    match user_of(ending.program.statements(), mnemonic) {
+        Some(statement) => {
+            let line = decimal(u64::from(statement.line));
+            tell(text, &[b"uses ", name, b" in line ", line.as_slice()])
+        }
+        None => tell(text, &[b"does not use ", name]),
+    }
+}
+
+// Tells the difference.
+fn tell_difference<A: Allocator>(
+    text: &mut Vec<u8, A>,
+    lines: &[Asked],
+    ending: &Ending<A>,
+) -> Result<(), AllocError> {
+    let [asked, rest @ ..] = lines else {
+        return Ok(());
+    };
+    match asked.line {
+        Line::Screen => tell_rows(text, rest, ending.rows),
+        Line::Holds(part) => tell(text, &[b"no row of the screen has \"", part, b"\""]),
+        Line::Mem(place, bytes) => tell_memory(text, place, bytes, ending),
+        Line::Reg(words) => tell_registers(text, words, ending),
+        Line::Stop(cause) => tell(
+            text,
+            &[
+                b"stop: want ",
+                cause_name(cause),
+                b", got ",
+                cause_name(ending.cause),
+            ],
+        ),
+        Line::Cycles(most) => tell_most(text, b"cycles", most, ending.machine.cycles()),
+        Line::Bytes(most) => {
+            let size = size_of(ending.program.statements()).min(u128::from(u64::MAX));
+            tell_most(text, b"bytes", most, size as u64)
+        }
+        Line::Uses(mnemonic) | Line::Avoids(mnemonic) => tell_use(text, mnemonic, ending),
+        _ => Ok(()),
+    }
+}
+
+// The statement with a byte at an address.
+fn statement_at(statements: &[Statement], address: u16) -> Option<Statement> {
+    for statement in statements {
+        if statement.addr <= address && address - statement.addr < statement.length {
+            return Some(*statement);
+        }
+    }
+    None
+}
+
+// Tells where a run ended that did not come to its end by itself.
+fn tell_end<A: Allocator>(text: &mut Vec<u8, A>, ending: &Ending<A>) -> Result<(), AllocError> {
+    if matches!(ending.cause, Cause::Returned | Cause::Brk) {
+        return Ok(());
+    }
+    let pc = ending.machine.regs().pc;
+    tell(text, &[b"; stopped by ", cause_name(ending.cause)])?;
+    match statement_at(ending.program.statements(), pc) {
+        Some(statement) => {
+            let line = decimal(u64::from(statement.line));
+            tell(text, &[b" in line ", line.as_slice()])
+        }
+        None => tell(text, &[b" at $", &hex_word(pc)]),
+    }
+}
+
+/// What is told of the first of these lines, whose demand does not hold of a run's end.
+pub(crate) fn told_of_miss<A: Allocator + Copy>(
+    alloc: A,
+    lines: &[Asked],
+    ending: &Ending<A>,
+) -> Result<Vec<u8, A>, AllocError> {
+    let mut text = Vec::new(alloc);
+    tell_difference(&mut text, lines, ending)?;
+    tell_end(&mut text, ending)?;
+    Ok(text)
+}
