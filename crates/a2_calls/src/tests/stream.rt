@@ -255,3 +255,24 @@ fn pinched_calls_pass_and_fail(rt: HostRuntime) {
         assert!(rt; pinched_writes(rt.alloc(), failing, failed) && pinched_reads(failing));
     }
 }
+
+// Whether a buffer of so many bytes is filled by one call of a reader, and its bytes taken by one of a writer.
+fn passes_at_once(alloc: Global, size: usize) -> bool {
+    let (Ok(text), Ok(mut buffer)) = (
+        Vec::from_elem(alloc, 0xC1u8, size),
+        Vec::from_elem(alloc, 0u8, size),
+    ) else {
+        return false;
+    };
+    let mut taken = Vec::new(alloc);
+    FromRead::new(text.as_slice()).read(buffer.as_mut_slice()) == Ok(size)
+        && ToWrite::new(&mut taken).write(buffer.as_slice()) == Ok(size)
+        && taken.as_slice() == text.as_slice()
+}
+
+#[test]
+fn buffers_of_each_size(rt: HostRuntime) {
+    for size in [1usize, 8, 1_000, 65_537] {
+        assert!(rt; passes_at_once(rt.alloc(), size), "{size}");
+    }
+}
