@@ -21,7 +21,7 @@ use a2_syntax::Fault;
 use a2_text::decimal;
 use std::alloc::Global;
 
-// The most bytes of a text that a session begins with: object lines of all of RAM, eight bytes each, have 184,320.
+// The most bytes of a text that a session begins with: object lines of all of RAM, eight bytes each, have 178,176.
 const MOST_LOADED: usize = 1 << 20;
 
 // Writes a line of these parts behind the program's name. Where that fails there is no place left to tell it.
