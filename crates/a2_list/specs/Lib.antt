@@ -1,2 +1,2 @@
 pub mod Listing
-pub mod Refused
+pub mod Told

@@ -2,7 +2,7 @@
 #![tactic(auto)]
 
 mod listing;
-mod refused;
+mod told;
 
 pub use listing::list_source;
-pub use refused::put_line_refused;
+pub use told::list_told;

@@ -4,6 +4,7 @@ ghost use Rattle.std.specs.Prelude.{◌≡◌, ◌+◌, ◌*◌, ◌≤◌, ◌+
 ghost use Rattle.std.specs.List.{flat_map};
 ghost use Rattle.std.specs.Fmt.{decimal as decimal_of};
 ghost use Rattle.arrayvec.specs.ArrayVec.{array_vec_len};
+ghost use Rattle.a2_text.specs.Lines.{lines};
 ghost use Rattle.a2_stream.specs.Stream.{SendsOrBreaks};
 ghost use Rattle.a2_hex.specs.Images.{held};
 ghost use Rattle.a2_hex.specs.ObjectText.{after_blank, run};
@@ -333,6 +334,22 @@ fn put_listing<A: Allocator, W: Output>(
     put_table(program, writer)
 }
 
+// Writes the listing of a source whose lines these are.
+pub(crate) fn list_lines<A: Allocator + Copy, W: Output>(
+    alloc: A,
+    source: &[u8],
+    texts: &[&[u8]],
+    writer: &mut W,
+) -> Result<(), RunFault>
+    requires { map (λ x. x.now) texts.now ≡ lines source.now }
+    ensures meaning { Answers (OfSource (IsRefused source.now)) (λ _. IsListing source.now) (W.taker writer.old) (W.taker writer.new) result }
+    ensures no_reader { is_read_fault result ≡ false }
+{
+    let program = program_of(alloc, source)?;
+    put_listing(&program, texts, writer)?;
+    Ok(())
+}
+
 /// Assembles a source and writes its listing: for each line the address and the bytes of its statement, three bytes a row,
 /// the line's number and the line; then an empty line; then each name with its value, in the order of the lines that define
 /// them. Refused where the source is, where a write fails, and for want of memory. This project's profile.
@@ -344,8 +361,6 @@ pub fn list_source<A: Allocator + Copy, W: Output>(
     ensures meaning { Answers (OfSource (IsRefused source.now)) (λ _. IsListing source.now) (W.taker writer.old) (W.taker writer.new) result }
     ensures no_reader { is_read_fault result ≡ false }
 {
-    let program = program_of(alloc, source)?;
     let texts = cut(alloc, source)?;
-    put_listing(&program, texts.as_slice(), writer)?;
-    Ok(())
+    list_lines(alloc, source, texts.as_slice(), writer)
 }

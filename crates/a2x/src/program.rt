@@ -1,6 +1,6 @@
 //! What the program does, over any files and streams.
 
-ghost use Rattle.std.specs.Prelude.{◌≤◌, IfOk, IfErr};
+ghost use Rattle.std.specs.Prelude.{◌≡◌, ◌≢◌, ◌≤◌, None, IfOk, IfErr};
 
 use crate::film::{FilmFault, FilmOrder, is_film_limit, parted, window_of};
 use crate::help::{put_page, put_use};
@@ -69,7 +69,9 @@ fn text_of<S: Shelf, R: Input, E: Output>(
     input: &mut R,
     complaints: &mut E,
 ) -> Result<Vec<u8>, u8>
-    ensures { IfErr result (λ status. status ≤ 5) }
+    ensures refused { IfErr result (λ status. status ≤ 5) }
+    // A file that does not open is not taken for the standard input.
+    ensures unread { file.entry ≢ None → input.new ≡ input.old }
 {
     let read = match file {
         Some(name) => {

@@ -9,7 +9,7 @@ use a2_desk::Desk;
 use a2_explain::explain_stop;
 use a2_film::{Chapter, Window, film_source};
 use a2_host::complain;
-use a2_list::{list_source, put_line_refused};
+use a2_list::list_told;
 use a2_profile::profile_source;
 use a2_run::{Options, RunFault, fault_status, run_text, status};
 use a2_stream::{FromRead, Output, WriteFault};
@@ -43,14 +43,10 @@ pub fn list<W: Output, E: Output>(
 ) -> u8
     ensures { result ≤ 5 }
 {
-    let Err(fault) = list_source(alloc, source, output) else {
-        return 0;
-    };
-    let status = told(fault, complaints);
-    if let RunFault::Source(refusal) = fault {
-        let _ = put_line_refused(alloc, source, refusal, complaints);
+    match list_told(alloc, source, output, complaints) {
+        Ok(()) => 0,
+        Err(fault) => fault_status(&fault),
     }
-    status
 }
 
 /// Runs a source as a2 does, and tells why it stopped.

@@ -4,5 +4,5 @@ use Rattle.a2_list.proofs.listing.list_source.Goals as goal
 
 pub returns-in_err-texts-clause-meaning : goal.returns-in_err-texts-clause-meaning
 returns-in_err-texts-clause-meaning g c =
-    let fault = err_from_is_err_and c.from_residual-in_err-texts.result c.from_residual-in_err-texts.ensures.1 in
+    let fault = err_from_is_err_and c.from_residual.result c.from_residual.ensures.1 in
     rw (fault.1, fault.2) (Sends-nil (g.W.Output.taker c.args.writer.now))

@@ -1,0 +1,36 @@
+-- What is told where a source has no listing. This project's profile.
+use Rattle.std.specs.Prelude.{◌≡◌, ◌⊎◌, ℕ, ◌-◌, ◌==◌, List, [], ◌++◌, codes, Option, Some, None, slice_get, if◌then◌else◌, Result, Ok, Err}
+use Rattle.a2_stream.specs.Stream.{Taker, Sends, Breaks}
+use Rattle.a2_text.specs.Lines.{lines}
+use Rattle.a2_syntax.specs.declared.fault.Fault.{Fault}
+use Rattle.a2_syntax.specs.Texts.{fault_line}
+use Rattle.a2_run.specs.declared.fault.RunFault.{RunFault}
+use Rattle.a2_run.specs.declared.fault.RunFault.TheVariants.{Source}
+use Rattle.a2_run.specs.Texts.{run_fault_text}
+
+-- the line that a refusal is of, if it is of one; lines count from 1
+abbrev pub line_in : List (List ℕ) → Fault → Option (List ℕ)
+line_in texts fault = if fault_line fault == 0 then None else slice_get texts (fault_line fault - 1)
+
+-- the same of a fault: one that is no refusal of the source is of no line
+abbrev pub line_of : List (List ℕ) → RunFault → Option (List ℕ)
+line_of texts (Source refusal) = line_in texts refusal
+line_of texts _ = None
+
+-- a line and LF, where there is one
+abbrev pub with_end : Option (List ℕ) → List ℕ
+with_end None = []
+with_end (Some line) = line ++ codes "\n"
+
+-- a fault's text and LF, and the line that it is of
+abbrev pub fault_shown : RunFault → Option (List ℕ) → List ℕ
+fault_shown fault line = run_fault_text fault ++ (codes "\n" ++ with_end line)
+
+-- a text went out; or a front of it, and a call failed
+abbrev pub Tells : Taker → Taker → List ℕ → Type 0
+Tells old new text = Sends old new text ⊎ Breaks old new text
+
+-- of a listing nothing is told; a fault is told, and behind a refusal of a line of the source that line
+abbrev pub IsTold : List ℕ → Taker → Taker → Result (Unit {0}) RunFault → Type 0
+IsTold text old new (Ok _) = new ≡ old
+IsTold text old new (Err fault) = Tells old new (fault_shown fault (line_of (lines text) fault))
