@@ -98,7 +98,7 @@ impl Elsewhere {
     }
 
     /// What stands for it here, in front of the operand; or, where that is no operation, what is to be done.
-    pub(crate) fn here<'a>(self) -> &'a [u8] {
+    pub(crate) fn here(self) -> &'static [u8] {
         match self {
             Elsewhere::Origin => b" ORG ",
             Elsewhere::Equate => b" EQU ",

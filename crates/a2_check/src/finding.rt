@@ -98,16 +98,21 @@ fn in_label<'a>(parts: &Parts<'a>) -> Option<Finding<'a>> {
     if let [b'0'..=b'9', ..] = word {
         return in_number(0, word);
     }
+    found(of_label(word), 0, word)
+}
+
+// What is wrong with a word that stands in column 1 and begins with no digit.
+fn of_label(word: &[u8]) -> Mistake {
     if is_address(word) && word.len() >= 4 && !word.ends_with(b":") {
-        return found(Mistake::Listing, 0, word);
+        return Mistake::Listing;
     }
     if is_operation(word) || is_glued(word) {
-        return found(Mistake::OperationInFirstColumn, 0, word);
+        return Mistake::OperationInFirstColumn;
     }
-    if let Some(other) = known_elsewhere(word) {
-        return found(Mistake::OtherInFirstColumn(other), 0, word);
+    match known_elsewhere(word) {
+        Some(other) => Mistake::OtherInFirstColumn(other),
+        None => in_name(word),
     }
-    found(in_name(word), 0, word)
 }
 
 // What is wrong with a word that is no name.
@@ -150,29 +155,31 @@ fn is_near(word: &[u8], name: &[u8]) -> bool {
     }
 }
 
-// What is wrong with a word that is no operation.
+// What is wrong with a word that is no operation and begins with no digit.
+fn of_operation(word: &[u8]) -> Mistake {
+    match word {
+        [b'*', b'=', ..] => Mistake::StarOrigin,
+        [a, b, c, b'.', _] if Mnemonic::named(&[*a, *b, *c]).is_some() => Mistake::ForcedForm,
+        _ if is_comment(word) => Mistake::Comment,
+        _ if is_glued(word) => Mistake::Glued,
+        [_, .., b':'] => Mistake::Colon,
+        _ => match near_mnemonic(word) {
+            Some(name) => Mistake::NearMnemonic(name),
+            None => Mistake::NoOperation,
+        },
+    }
+}
+
+// What is wrong with what stands in the place of an operation, and is none.
 fn in_operation<'a>(parts: &Parts<'a>) -> Option<Finding<'a>> {
-    let word = parts.operation;
-    let at = parts.operation_at;
+    let (word, at) = (parts.operation, parts.operation_at);
     if let Some(other) = known_elsewhere(word) {
         return found(Mistake::Other(other), at, word);
     }
-    match word {
-        [b'0'..=b'9', ..] => in_number(at, word),
-        [b'*', b'=', ..] => found(Mistake::StarOrigin, at, word),
-        [a, b, c, b'.', _] if Mnemonic::named(&[*a, *b, *c]).is_some() => found(
-            Mistake::ForcedForm,
-            at,
-            word,
-        ),
-        _ if is_comment(word) => found(Mistake::Comment, at, word),
-        _ if is_glued(word) => found(Mistake::Glued, at, word),
-        [_, .., b':'] => found(Mistake::Colon, at, word),
-        _ => match near_mnemonic(word) {
-            Some(name) => found(Mistake::NearMnemonic(name), at, word),
-            None => found(Mistake::NoOperation, at, word),
-        },
+    if let [b'0'..=b'9', ..] = word {
+        return in_number(at, word);
     }
+    found(of_operation(word), at, word)
 }
 
 // What is wrong with the operand of an operation.

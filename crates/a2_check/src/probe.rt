@@ -1,7 +1,7 @@
 //! A source in which one line says something else, so that the rest tells where that line lies and what a value is.
 
 use crate::unread::refused;
-use a2_asm::{Program, assemble};
+use a2_asm::{Program, Statement, assemble};
 use a2_syntax::parse;
 use std::alloc::{AllocError, Allocator};
 
@@ -56,12 +56,13 @@ fn tried<A: Allocator + Copy>(
     pieces: &[&[u8]],
 ) -> Result<Option<Program<A>>, AllocError> {
     let mut text = changed(alloc, texts, index, pieces)?;
-    let program = accepted(alloc, text.as_slice())?;
-    if program.is_some() {
-        return Ok(program);
+    match accepted(alloc, text.as_slice())? {
+        Some(program) => Ok(Some(program)),
+        None => {
+            text.extend_from_slice(b" NOP")?;
+            accepted(alloc, text.as_slice())
+        }
     }
-    text.extend_from_slice(b" NOP")?;
-    accepted(alloc, text.as_slice())
 }
 
 /// The address of a line of two bytes and the value of an expression in it, where the rest of the source is accepted.
@@ -90,6 +91,21 @@ fn word_at<A: Allocator>(program: &Program<A>, address: u16) -> Option<(u16, u16
     Some((address, u16::from_le_bytes([low, high])))
 }
 
+// The line of the first statement, by its address, that reaches over an address and stands in front of the line at an index.
+fn first_over(statements: &[Statement], index: usize, here: u16) -> Option<u16> {
+    let mut found = None;
+    let mut least = u16::MAX;
+    for statement in statements {
+        let end = u32::from(statement.addr) + u32::from(statement.length);
+        let is_earlier = usize::from(statement.line) <= index;
+        if is_earlier && end > u32::from(here) && statement.addr < least {
+            least = statement.addr;
+            found = Some(statement.line);
+        }
+    }
+    found
+}
+
 /// The line of the first statement, by its address, that reaches over the address of a line, where the rest of the source is
 /// accepted.
 pub(crate) fn in_the_way<A: Allocator + Copy>(
@@ -112,15 +128,5 @@ pub(crate) fn in_the_way<A: Allocator + Copy>(
     let Some(here) = program.name(name) else {
         return Ok(None);
     };
-    let mut found = None;
-    let mut least = u16::MAX;
-    for statement in program.statements() {
-        let end = u32::from(statement.addr) + u32::from(statement.length);
-        let is_earlier = usize::from(statement.line) <= index;
-        if is_earlier && end > u32::from(here) && statement.addr < least {
-            least = statement.addr;
-            found = Some(statement.line);
-        }
-    }
-    Ok(found)
+    Ok(first_over(program.statements(), index, here))
 }

@@ -318,22 +318,34 @@ fn put_count<W: Output>(count: usize, writer: &mut W) -> Result<(), WriteFault> 
     )
 }
 
-// Writes a refusal that stands at an index among them.
-fn put_refusal<A: Allocator, W: Output>(
-    texts: &[&[u8]],
+// Writes what is told of a refusal that stands at an index among those of a source, whose lines are these texts.
+fn put_refusal<A: Allocator + Copy, W: Output>(
+    alloc: A,
     name: &str,
+    source: &[u8],
+    texts: &[&[u8]],
     (index, fault): (usize, Fault),
-    told: &Told<A>,
     format: Format,
     writer: &mut W,
-) -> Result<(), WriteFault> {
+) -> Result<(), TellFault> {
+    let told = told_of(alloc, source, texts, fault)?;
     match format {
-        Format::Long => put_long(texts, fault, told, writer),
-        Format::Short => put_short(name, fault, told, writer),
+        Format::Long => put_long(texts, fault, &told, writer)?,
+        Format::Short => put_short(name, fault, &told, writer)?,
         Format::Json => {
             put(if index == 0 { b"[" } else { b",\n " }, writer)?;
-            put_object(name, fault, told, writer)
+            put_object(name, fault, &told, writer)?;
         }
+    }
+    Ok(())
+}
+
+// Writes what stands behind so many refusals.
+fn put_end<W: Output>(format: Format, count: usize, writer: &mut W) -> Result<(), WriteFault> {
+    match format {
+        Format::Long => put_count(count, writer),
+        Format::Short => Ok(()),
+        Format::Json => put(if count == 0 { b"[]\n" } else { b"]\n" }, writer),
     }
 }
 
@@ -348,26 +360,15 @@ pub fn put_refusals<A: Allocator + Copy, W: Output>(
     writer: &mut W,
 ) -> Result<(), TellFault> {
     let texts = cut(alloc, source)?;
+    let texts = texts.as_slice();
     let most = if format == Format::Long {
         MOST_AT_LENGTH
     } else {
         refusals.len()
     };
     for (index, fault) in refusals.iter().take(most).enumerate() {
-        let told = told_of(alloc, source, texts.as_slice(), *fault)?;
-        put_refusal(
-            texts.as_slice(),
-            name,
-            (index, *fault),
-            &told,
-            format,
-            writer,
-        )?;
+        put_refusal(alloc, name, source, texts, (index, *fault), format, writer)?;
     }
-    match format {
-        Format::Long => put_count(refusals.len(), writer)?,
-        Format::Short => {}
-        Format::Json => put(if refusals.is_empty() { b"[]\n" } else { b"]\n" }, writer)?,
-    }
+    put_end(format, refusals.len(), writer)?;
     Ok(())
 }

@@ -1,7 +1,7 @@
 //! What is told of a refusal.
 
 use crate::line::parts_of;
-use crate::mistake::Finding;
+use crate::mistake::{Finding, Sentence};
 use std::alloc::{AllocError, Allocator};
 
 /// What is told of a refusal: where it stands in its line, what is wrong and the mend. The texts are of characters that print.
@@ -51,14 +51,61 @@ pub(crate) fn tell_at<A: Allocator + Copy>(
     })
 }
 
+// Appends a text as it is shown.
+fn show<A: Allocator>(text: &mut Vec<u8, A>, word: &[u8]) -> Result<(), AllocError> {
+    for c in word {
+        text.push(shown(*c))?;
+    }
+    Ok(())
+}
+
+// The words that stand for the marks of a sentence.
+#[derive(Clone, Copy)]
+struct Words<'a> {
+    first: &'a [u8],
+    second: &'a [u8],
+    here: &'a [u8],
+}
+
+// A sentence as it is shown: `@` stands for its first word, `~` for its second, and `^` for what is written here.
+fn filled<A: Allocator>(
+    alloc: A,
+    sentence: Sentence,
+    words: &Words,
+) -> Result<Vec<u8, A>, AllocError> {
+    let mut text = Vec::new(alloc);
+    for c in sentence {
+        match *c {
+            b'@' => show(&mut text, words.first)?,
+            b'~' => show(&mut text, words.second)?,
+            b'^' => show(&mut text, words.here)?,
+            c => text.push(c)?,
+        }
+    }
+    Ok(text)
+}
+
 /// What is told of a mistake that a line shows.
 pub(crate) fn told_of_finding<A: Allocator + Copy>(
     alloc: A,
     text: &[u8],
     finding: Finding<'_>,
 ) -> Result<Told<A>, AllocError> {
+    let Finding { mistake, at, word } = finding;
     let parts = parts_of(text);
-    let what = finding.mistake.what(&parts, finding.word);
-    let mend = finding.mistake.mend(&parts, finding.word);
-    tell_at(alloc, finding.at, finding.word.len(), &what, &mend)
+    let words = Words {
+        first: mistake.first(&parts, word),
+        second: mistake.second(&parts),
+        here: mistake.here(),
+    };
+    let shown = Words {
+        first: mistake.shown(&parts, word),
+        ..words
+    };
+    Ok(Told {
+        at,
+        width: word.len().max(1),
+        what: filled(alloc, mistake.what(), &shown)?,
+        mend: filled(alloc, mistake.mend(&parts), &words)?,
+    })
 }
