@@ -1,0 +1,26 @@
+use Rattle.std.proofs.Common.{◌≤◌, arith}
+use Rattle.a2_page.proofs.Sending.{left_all, left_more, left_none, left_broke_off}
+use Rattle.a2_ansi.specs.Written.{cell_text, row_text}
+use Rattle.a2_ansi.proofs.Cells.{left_before, left_nothing}
+use Rattle.a2_ansi.proofs.changes.put_row.Goals as goal
+
+pub loop-column-init : goal.loop-column-init
+unfolding row_text
+loop-column-init g c = left_all _ _
+
+pub returns-in_err-put_cell : goal.returns-in_err-put_cell
+returns-in_err-put_cell g c =
+    left_broke_off _ _ _ c.from_residual.result _ _ _ _ c.from_residual.ensures.0
+    (left_before (cell_text c.args.before.now c.args.after.now c.args.colours c.args.row) 40 c.loop-column.column c.loop-column-test.true)
+    c.loop-column.invariant c.in_err-put_cell.ensures
+
+pub loop-column-preserved : goal.loop-column-preserved
+loop-column-preserved g c =
+    left_more _ _ _ _ _ _ _
+    (left_before (cell_text c.args.before.now c.args.after.now c.args.colours c.args.row) 40 c.loop-column.column c.loop-column-test.true)
+    c.loop-column.invariant c.in_ok-put_cell.ensures
+
+pub returns : goal.returns
+returns g c =
+    let all : 40 ≤ c.loop-column.column = omega arith in
+    left_none _ _ _ _ (left_nothing (cell_text c.args.before.now c.args.after.now c.args.colours c.args.row) 40 c.loop-column.column all) c.loop-column.invariant

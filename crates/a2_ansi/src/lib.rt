@@ -1,0 +1,12 @@
+//! The Apple's screen on an ANSI terminal: the cells that changed, each at its place.
+#![tactic(auto)]
+
+mod changes;
+mod colours;
+mod shot;
+mod tiles;
+
+pub use changes::put_changes;
+pub use colours::{Colours, put_tile};
+pub use shot::Shot;
+pub use tiles::{Tile, tile_of};
