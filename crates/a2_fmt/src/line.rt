@@ -1,0 +1,176 @@
+//! A line in columns.
+
+ghost use Rattle.std.specs.Prelude.{◌≡◌, ◌≤◌, ◌++◌, [], map, IfOk};
+ghost use Rattle.a2_text.specs.Bytes.{capital as capital_of};
+ghost use Rattle.a2_fmt.specs.Layout as layout;
+
+use crate::operand::{comment_at, put_tidied};
+use a2_text::{behind_blanks, capital, front_len, is_blank};
+use std::alloc::{AllocError, Allocator};
+
+// The columns that operations, operands and comments begin in, counted from 0.
+const OPERATION: usize = 8;
+
+const OPERAND: usize = 12;
+
+const COMMENT: usize = 28;
+
+// The most bytes of a line.
+const MOST_BYTES: usize = 255;
+
+// As many as stand before the last column.
+const BLANKS: &[u8] = b"                            ";
+
+// The word at the front of a text, up to a blank or a comment, and what stands behind it.
+fn parted(text: &[u8]) -> (&[u8], &[u8])
+    ensures word { result.0.now ≡ layout.word text.now }
+    ensures rest { result.1.now ≡ layout.behind_word text.now }
+{
+    text.split_at(front_len(text, |c| !is_blank(c) && c != b';'))
+}
+
+// A text without the white space at its end.
+fn trimmed(text: &[u8]) -> &[u8]
+    ensures { result.now ≡ layout.trimmed text.now }
+{
+    text.trim_ascii_end()
+}
+
+// Appends blanks up to a column, one at least.
+fn pad<A: Allocator>(row: &mut Vec<u8, A>, column: usize) -> Result<(), AllocError>
+    requires { column ≤ 28 }
+    ensures { IfOk result (λ _. row.new.items ≡ layout.padded column row.old.items) }
+{
+    let count = column.saturating_sub(row.len()).max(1);
+    row.extend_from_slice(&BLANKS[..count])
+}
+
+// Appends a word's capitals, where there is one, in its column.
+fn put_word<A: Allocator>(row: &mut Vec<u8, A>, word: &[u8]) -> Result<(), AllocError>
+    ensures { IfOk result (λ _. row.new.items ≡ layout.with_word row.old.items word.now) }
+{
+    if word.is_empty() {
+        return Ok(());
+    }
+    pad(row, OPERATION)?;
+    put_capitals(row, word)
+}
+
+// Appends the capitals of a word.
+fn put_capitals<A: Allocator>(row: &mut Vec<u8, A>, word: &[u8]) -> Result<(), AllocError>
+    ensures { IfOk result (λ _. row.new.items ≡ row.old.items ++ map capital_of word.now) }
+{
+    let mut rest = word;
+    while let Some((c, behind)) = rest.split_first() {
+        row.push(capital(*c))?;
+        rest = behind;
+    }
+    Ok(())
+}
+
+// Whether a word is a directive that takes a list, in which a name may stand behind a comma.
+fn takes_list(word: &[u8]) -> bool
+    ensures { result ≡ layout.takes_list word.now }
+{
+    word.eq_ignore_ascii_case(b"DFB") || word.eq_ignore_ascii_case(b"DW")
+}
+
+// Appends the operand of a word, where there is one, in its column.
+fn put_operand<A: Allocator>(
+    row: &mut Vec<u8, A>,
+    word: &[u8],
+    operand: &[u8],
+) -> Result<(), AllocError>
+    ensures { IfOk result (λ _. row.new.items ≡ layout.with_operand row.old.items word.now operand.now) }
+{
+    if operand.is_empty() {
+        return Ok(());
+    }
+    pad(row, OPERAND)?;
+    if operand.eq_ignore_ascii_case(b"A") {
+        row.extend_from_slice(b"A")
+    } else {
+        put_tidied(row, !takes_list(word), operand)
+    }
+}
+
+// Appends blanks up to where a comment begins, none where it begins its line.
+fn pad_comment<A: Allocator>(row: &mut Vec<u8, A>, line: &[u8]) -> Result<(), AllocError>
+    ensures { IfOk result (λ _. row.new.items ≡ layout.before_comment line.now row.old.items) }
+{
+    if let Some(b';') = line.first() {
+        return Ok(());
+    }
+    pad(row, if row.is_empty() { OPERATION } else { COMMENT })
+}
+
+// Appends a comment, where there is one, in its column.
+fn put_comment<A: Allocator>(
+    row: &mut Vec<u8, A>,
+    line: &[u8],
+    comment: &[u8],
+) -> Result<(), AllocError>
+    ensures { IfOk result (λ _. row.new.items ≡ layout.with_comment line.now row.old.items comment.now) }
+{
+    if comment.is_empty() {
+        return Ok(());
+    }
+    pad_comment(row, line)?;
+    row.extend_from_slice(comment)
+}
+
+// Lays out a statement in an empty row.
+fn put_statement<A: Allocator>(row: &mut Vec<u8, A>, line: &[u8]) -> Result<(), AllocError>
+    requires { row.old.items ≡ [] }
+    ensures { IfOk result (λ _. row.new.items ≡ layout.statement line.now) }
+{
+    let (label, rest) = parted(line);
+    let (word, rest) = parted(behind_blanks(rest));
+    let there = behind_blanks(rest);
+    let (operand, comment) = there.split_at(comment_at(there));
+    row.extend_from_slice(label)?;
+    put_word(row, word)?;
+    put_operand(row, word, trimmed(operand))?;
+    put_comment(row, line, trimmed(comment))
+}
+
+// Lays out a line of any length.
+fn put_any<A: Allocator>(row: &mut Vec<u8, A>, line: &[u8]) -> Result<(), AllocError>
+    ensures { IfOk result (λ _. row.new.items ≡ layout.any line.now) }
+{
+    row.clear();
+    match line.first() {
+        Some(b'*') => row.extend_from_slice(trimmed(line)),
+        _ => put_statement(row, line),
+    }
+}
+
+// Appends a line in columns, or as it is where it would be too long.
+fn put_fitting<A: Allocator>(
+    text: &mut Vec<u8, A>,
+    row: &[u8],
+    line: &[u8],
+) -> Result<(), AllocError>
+    requires { row.now ≡ layout.any line.now }
+    ensures { IfOk result (λ _. text.new.items ≡ text.old.items ++ layout.fitting line.now) }
+{
+    if row.len() <= MOST_BYTES {
+        text.extend_from_slice(row)
+    } else {
+        text.extend_from_slice(line)
+    }
+}
+
+/// Appends a line in columns and LF, or as it is where it would be too long. `row` is room for it.
+pub(crate) fn put_line<A: Allocator>(
+    text: &mut Vec<u8, A>,
+    row: &mut Vec<u8, A>,
+    line: &[u8],
+) -> Result<(), AllocError>
+    ensures { IfOk result (λ _. text.new.items ≡ text.old.items ++ layout.row line.now) }
+{
+    put_any(row, line)?;
+    put_fitting(text, row.as_slice(), line)?;
+    text.extend_from_slice(b"\n")?;
+    Ok(())
+}

@@ -1,0 +1,80 @@
+//! What stands behind an operation: its operand, and a comment.
+
+ghost use Rattle.std.specs.Prelude.{◌≡◌, ◌≤◌, ◌++◌, length, None, false, IfOk};
+ghost use Rattle.a2_syntax.specs.Names.{is_name_byte};
+ghost use Rattle.a2_fmt.specs.Operand as operand;
+
+use a2_text::{capital, is_blank};
+use std::alloc::{AllocError, Allocator};
+
+// The quote that is open behind a byte, where one may be open before it.
+fn quote_behind(quote: Option<u8>, c: u8) -> Option<u8>
+    ensures { result ≡ operand.quote_behind quote c }
+{
+    match quote {
+        None => if c == b'\'' || c == b'"' {
+            Some(c)
+        } else {
+            None
+        },
+        Some(same) if c == same => None,
+        _ => quote,
+    }
+}
+
+/// How many bytes stand before the comment of a text, a `;` outside quotes.
+pub(crate) fn comment_at(text: &[u8]) -> usize
+    ensures is { result ≡ operand.comment_at None text.now }
+    ensures within { result ≤ length text.now }
+{
+    let mut quote = None;
+    let mut rest = text;
+    while let Some((c, behind)) = rest.split_first() {
+        if quote.is_none() && *c == b';' {
+            break;
+        }
+        quote = quote_behind(quote, *c);
+        rest = behind;
+    }
+    text.len() - rest.len()
+}
+
+// Whether a byte may stand in a name or a number.
+fn is_of_run(c: u8) -> bool
+    ensures { result ≡ is_name_byte c }
+{
+    matches!(c, b'0'..=b'9' | b'A'..=b'Z' | b'a'..=b'z' | b'_')
+}
+
+// Whether letters behind a byte outside quotes are capitals.
+fn raises(indexed: bool, raised: bool, c: u8) -> bool
+    ensures { result ≡ operand.raises indexed raised c }
+{
+    c == b'$' || indexed && c == b',' || raised && is_of_run(c)
+}
+
+/// Appends an operand without blanks outside quotes, where digits of `$` are capitals, and, where it is `indexed`, what stands
+/// behind a comma too.
+pub(crate) fn put_tidied<A: Allocator>(
+    row: &mut Vec<u8, A>,
+    indexed: bool,
+    text: &[u8],
+) -> Result<(), AllocError>
+    ensures { IfOk result (λ _. row.new.items ≡ row.old.items ++ operand.tidied indexed None false text.now) }
+{
+    let mut quote = None;
+    let mut raised = false;
+    let mut rest = text;
+    while let Some((c, behind)) = rest.split_first() {
+        if quote.is_some() {
+            row.push(*c)?;
+            raised = false;
+        } else if !is_blank(*c) {
+            row.push(if raised { capital(*c) } else { *c })?;
+            raised = raises(indexed, raised, *c);
+        }
+        quote = quote_behind(quote, *c);
+        rest = behind;
+    }
+    Ok(())
+}
