@@ -1,0 +1,25 @@
+use Rattle.std.proofs.Common.{◌≡◌, ◌<◌, List, All, arith, ap, sym, ◌∙◌, subst}
+use Rattle.a2_machine.specs.State.{Device, world_of_state}
+use Rattle.a2_history.specs.Courses.{Course}
+use Rattle.a2_history.specs.Going.{Track, here, AreOn, with_typed}
+use Rattle.a2_history.proofs.Ways.{on-typed}
+use Rattle.a2_history.proofs.Histories.{waiting-keys}
+use Rattle.a2_history.proofs.history.History.type_keys.Goals as goal
+
+pub invariant_of-self-2 : goal.invariant_of-self-2
+invariant_of-self-2 g c =
+    let n = c.self.inside.machine.state.steps in
+    let noted = c.in_ok-type_keys.ensures.noted in
+    let before = subst (λ m. All (λ d. d.state.steps < m) c.forget_from.new.self) c.steps-position.ensures c.forget_from.ensures.before in (
+      c.in_ok-type_keys.ensures.on,
+      c.type_keys.ensures.guard ∙ c.self.invariant.1 ∙ sym (ap (λ (k : Course). k.origin.guard) noted),
+      omega (arith, c.type_keys.ensures.steps, c.self.invariant.2),
+      c.self.invariant.3 ∙ sym (ap (λ (k : Course). k.origin.guard) noted),
+      subst (λ (k : Course). AreOn k c.forget_from.new.self) (sym noted)
+          (on-typed c.self.inside.course n c.args.keys c.forget_from.new.self (c.forget_from.ensures.on c.self.inside.course c.self.invariant.4) before),
+    )
+
+pub returns-clause-room : goal.returns-clause-room
+returns-clause-room g c =
+    let same = c.self.invariant.0.world ∙ ap (λ (t : Track). here t) c.self.view_is in
+    omega (arith, waiting-keys c.self.inside.machine.state (here c.args.self.now) same, c.in_ok-type_keys.ensures.room)

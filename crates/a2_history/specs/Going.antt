@@ -1,0 +1,59 @@
+-- The ways through a run.
+use Rattle.std.specs.Prelude.{◌≡◌, ◌⊎◌, ℕ, ◌+◌, ◌<◌, ◌≤◌, min, Bool, true, false, nat_lt, nat_le, List, [], ◌∷◌, ◌++◌, filter, All, Option, Some, None}
+use Rattle.a2_services.specs.World.{World}
+use Rattle.a2_machine.specs.declared.Cause.{Cause}
+use Rattle.a2_machine.specs.declared.Cause.TheVariants.{Limit}
+use Rattle.a2_machine.specs.Meaning.{stuck}
+use Rattle.a2_machine.specs.State.{MachineState, Device, world_of_state, code_of}
+use Rattle.a2_history.specs.declared.Halt.{Halt}
+use Rattle.a2_history.specs.declared.Halt.TheVariants.{Seen, Stopped}
+use Rattle.a2_history.specs.declared.Typed.{Typed}
+use Rattle.a2_history.specs.Courses.{Course, arrived, world_on, NoneStuck}
+
+-- a run, and a position in it
+pub record Track : Type 0 where
+  pub course : Course
+  pub position : ℕ
+
+-- the world at the position
+abbrev pub here : Track → World
+here track = world_on track.course track.position
+
+-- the newest position from one on, before another, at which something is seen, or none
+abbrev pub IsNewest : (World → Bool) → Course → ℕ → ℕ → Option ℕ → Type 0
+IsNewest seen course from end None = (k : ℕ) → from ≤ k → k < end → seen (world_on course k) ≡ false
+IsNewest seen course from end (Some p) =
+    (from ≤ p) × (p < end) × (seen (world_on course p) ≡ true) × ((k : ℕ) → p < k → k < end → seen (world_on course k) ≡ false)
+
+-- why going forwards to an end, at the latest, ended here
+abbrev pub EndsBy : (World → Bool) → Course → ℕ → ℕ → ℕ → Halt → Type 0
+EndsBy seen course from end to Seen = (from < to) × (seen (world_on course to) ≡ true)
+EndsBy seen course from end to (Stopped cause) =
+    (from < to → seen (world_on course to) ≡ false)
+    × ((stuck (code_of course.origin) (world_on course to) ≡ Some cause)
+    ⊎ ((stuck (code_of course.origin) (world_on course to) ≡ None) × (to ≡ end) × (cause ≡ Limit)))
+
+-- steps were made to the first world that is seen, or that is stuck, or to an end
+pub record Advances (seen : World → Bool) (course : Course) (from end to : ℕ) (halt : Halt) : Type 0 where
+  pub ahead : from ≤ to
+  pub within : to ≤ end
+  pub passed : (k : ℕ) → from < k → k < to → seen (world_on course k) ≡ false
+  pub went : NoneStuck course to
+  pub ends : EndsBy seen course from end to halt
+
+-- the keys that were typed up to a position
+abbrev pub up_to : ℕ → List Typed → List Typed
+up_to position log = filter (λ t. nat_le t.position position) log
+
+-- keys typed at a position: those that were typed later are forgotten
+abbrev pub with_typed : ℕ → List ℕ → Course → Course
+with_typed position keys course = record course { log = up_to position course.log ++ record { position = position; keys = keys } ∷ [] }
+
+-- a machine's state is that at its position
+pub record IsOn (course : Course) (state : MachineState) : Type 0 where
+  pub world : world_of_state state ≡ world_on course state.steps
+  pub went : NoneStuck course state.steps
+
+-- all machines are at positions of a run, their guards left aside
+abbrev pub AreOn : Course → List Device → Type 0
+AreOn course devices = All (λ d. IsOn course d.state) devices

@@ -1,0 +1,4 @@
+pub mod Courses
+pub mod Typing
+pub mod Going
+pub mod Gone

@@ -1,0 +1,176 @@
+//! A run: where it starts, and the keys that were typed on the way.
+
+ghost use Rattle.std.specs.Prelude.{◌≡◌, ◌+◌, ◌<◌, ◌≤◌, ◌∷◌, [], None, Some, length, if◌then◌else◌, IfSome, IfNone, IfOk, IfErr, OnOk, OnErr};
+ghost use Rattle.a2_machine.specs.Meaning.{stuck};
+ghost use Rattle.a2_machine.specs.State.{world_of_state, code_of};
+ghost use Rattle.a2_history.specs.Courses.{NoneStuck};
+ghost use Rattle.a2_history.specs.Going.{IsNewest, IsOn, with_typed};
+ghost use Rattle.a2_history.specs.Typing.{IsTyped, IsTypedBy};
+ghost use Rattle.a2_history.specs.declared.fault.TypingFault.TheVariants.{Full};
+
+use crate::{Sight, Typed, TypingFault};
+use a2_bus::Keys;
+use a2_machine::{Cause, Machine};
+use std::alloc::{AllocError, Allocator, Global};
+use std::marker::Model;
+
+/// A run: a machine at its start, and the keys that were typed on the way.
+#[derive(Drop)]
+pub struct Course<A: Allocator = Global> {
+    origin: Machine<A>,
+    log: Vec<Typed, A>,
+}
+
+impl<A: Allocator> Model for Course<A> {
+    ghost use Rattle.std.specs.Prelude.{◌≡◌};
+    ghost use Rattle.a2_history.specs.Courses.{Course as Seen};
+
+    ghost Value = { Seen };
+
+    ghost view = { λ c. record { origin = c.origin.state; log = c.log.items } };
+
+    ghost invariant = { λ c. c.origin.state.steps ≡ 0 };
+}
+
+// Types keys, where they fit.
+fn type_fitting<A: Allocator>(machine: &mut Machine<A>, keys: &Keys)
+    ensures { IsTyped keys.now machine.old.state machine.new.state }
+{
+    let _ = machine.type_keys(keys);
+}
+
+// Types keys where they were typed at the machine's position.
+fn type_again<A: Allocator>(machine: &mut Machine<A>, typed: &Typed)
+    ensures { IsTypedBy (typed.now ∷ []) machine.old.state machine.new.state }
+{
+    if typed.position == machine.steps() {
+        type_fitting(machine, &typed.keys);
+    }
+}
+
+// Types those keys of a log that were typed at the machine's position, where they fit.
+fn type_logged<A: Allocator>(machine: &mut Machine<A>, log: &[Typed])
+    ensures { IsTypedBy log.now machine.old.state machine.new.state }
+{
+    for typed in log {
+        type_again(machine, typed);
+    }
+}
+
+// What was found so far: this position, where something is seen there.
+fn newer(found: Option<u64>, position: u64, is_seen: bool) -> Option<u64>
+    ensures { result ≡ (if is_seen then Some position else found) }
+{
+    if is_seen { Some(position) } else { found }
+}
+
+impl<A: Allocator + Copy> Course<A> {
+    /// That of a machine which has made no step, without keys typed later. Refused only for want of memory.
+    pub fn new(alloc: A, machine: &Machine<A>) -> Result<Course<A>, AllocError>
+        requires { machine.now.state.steps ≡ 0 }
+        ensures { IfOk result (λ c. c ≡ record { origin = machine.now.state; log = [] }) }
+    {
+        let mut origin = Machine::new(alloc)?;
+        origin.copy_from(machine);
+        Ok(Course {
+            origin,
+            log: Vec::new(alloc),
+        })
+    }
+}
+
+impl<A: Allocator> Course<A> {
+    /// Puts a machine at the start.
+    pub fn restart(&self, machine: &mut Machine<A>)
+        ensures on { IsOn self.now machine.new.state }
+        ensures steps { machine.new.state.steps ≡ 0 }
+        ensures guard { machine.new.state.guard ≡ machine.old.state.guard }
+    {
+        machine.restore(&self.origin);
+        type_logged(machine, self.log.as_slice());
+    }
+
+    /// Makes one step, and types the keys that were typed behind it; or answers why there is none.
+    pub fn make_step(&self, machine: &mut Machine<A>) -> Option<Cause>
+        requires on { IsOn self.now machine.old.state }
+        requires guard { machine.old.state.guard ≡ self.now.origin.guard }
+        requires few { machine.old.state.steps < 100_000_000 }
+        ensures on { IfNone result (IsOn self.now machine.new.state) }
+        ensures steps { IfNone result (machine.new.state.steps ≡ machine.old.state.steps + 1) }
+        ensures guard { machine.new.state.guard ≡ machine.old.state.guard }
+        ensures stuck { IfSome result (λ cause. stuck (code_of self.now.origin) (world_of_state machine.old.state) ≡ Some cause) }
+        ensures kept { IfSome result (λ _. machine.new ≡ machine.old) }
+    {
+        let cause = machine.step();
+        if cause.is_none() {
+            type_logged(machine, self.log.as_slice());
+        }
+        cause
+    }
+
+    /// Brings a machine forwards to a position that was reached.
+    pub fn bring(&self, machine: &mut Machine<A>, position: u64)
+        requires on { IsOn self.now machine.old.state }
+        requires guard { machine.old.state.guard ≡ self.now.origin.guard }
+        requires ahead { machine.old.state.steps ≤ position }
+        requires few { position ≤ 100_000_000 }
+        requires went { NoneStuck self.now position }
+        ensures on { IsOn self.now machine.new.state }
+        ensures steps { machine.new.state.steps ≡ position }
+        ensures guard { machine.new.state.guard ≡ machine.old.state.guard }
+    {
+        for _ in machine.steps()..position {
+            // No world on the way is stuck, so all steps are made.
+            let _ = self.make_step(machine);
+        }
+    }
+
+    /// The newest position, from that of the machine on and before an end that was reached, at which something is seen.
+    pub fn newest_seen<S: Sight>(
+        &self,
+        machine: &mut Machine<A>,
+        end: u64,
+        sight: &S,
+    ) -> Option<u64>
+        requires on { IsOn self.now machine.old.state }
+        requires guard { machine.old.state.guard ≡ self.now.origin.guard }
+        requires ahead { machine.old.state.steps ≤ end }
+        requires few { end ≤ 100_000_000 }
+        requires went { NoneStuck self.now end }
+        ensures newest { IsNewest (S.is_seen sight.now) self.now machine.old.state.steps end result }
+        ensures guard { machine.new.state.guard ≡ machine.old.state.guard }
+    {
+        let mut found = None;
+        for position in machine.steps()..end {
+            found = newer(found, position, sight.is_seen(machine));
+            // No world on the way is stuck, so all steps are made.
+            let _ = self.make_step(machine);
+        }
+        found
+    }
+
+    /// Types keys at a machine, behind those that wait, and notes them at its position; those that were typed later are forgotten. Refused,
+    /// with nothing changed, where more than 4,096 would wait, and for want of memory.
+    pub fn type_keys(&mut self, machine: &mut Machine<A>, keys: Keys) -> Result<(), TypingFault>
+        requires { IsOn self.old machine.old.state }
+        ensures typed { OnOk result (IsTyped keys machine.old.state machine.new.state) }
+        ensures noted { OnOk result (self.new ≡ with_typed machine.old.state.steps keys self.old) }
+        ensures on { OnOk result (IsOn self.new machine.new.state) }
+        ensures steps { machine.new.state.steps ≡ machine.old.state.steps }
+        ensures guard { machine.new.state.guard ≡ machine.old.state.guard }
+        ensures full { IfErr result (λ fault. fault ≡ Full → 4096 < length machine.old.state.bus.devices.keys + length keys) }
+        ensures room { OnOk result (length machine.old.state.bus.devices.keys + length keys ≤ 4096) }
+        ensures kept { OnErr result ((self.new ≡ self.old) × (machine.new ≡ machine.old)) }
+    {
+        if self.log.try_reserve(1).is_err() {
+            return Err(TypingFault::Memory);
+        }
+        if machine.type_keys(&keys).is_err() {
+            return Err(TypingFault::Full);
+        }
+        let position = machine.steps();
+        self.log.retain(|typed| typed.position <= position);
+        self.log.push_reserved(Typed { position, keys });
+        Ok(())
+    }
+}

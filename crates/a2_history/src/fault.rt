@@ -1,0 +1,10 @@
+//! Why keys are not typed.
+
+/// Why keys are not typed.
+#[derive(Clone, Copy, Debug, PartialEq, Eq)]
+pub enum TypingFault {
+    /// More than 4,096 would wait.
+    Full,
+    /// A growth of memory was refused.
+    Memory,
+}

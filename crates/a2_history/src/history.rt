@@ -1,0 +1,239 @@
+//! A run and the way through it.
+
+ghost use Rattle.std.specs.Prelude.{◌≡◌, ◌+◌, ◌<◌, ◌≤◌, ℕ, min, [], length, IfOk, OnOk, OnErr};
+ghost use Rattle.a2_machine.specs.State.{world_of_state};
+ghost use Rattle.a2_history.specs.Courses.{NoneStuck, with_keys};
+ghost use Rattle.a2_history.specs.Going.{here, Advances, IsNewest, IsOn, AreOn, with_typed};
+ghost use Rattle.a2_history.specs.Gone.{IsGone, IsCauseAt};
+
+use crate::checkpoints::Checkpoints;
+use crate::course::Course;
+use crate::{Halt, Sight, TypingFault};
+use a2_bus::Keys;
+use a2_machine::{Cause, Machine};
+use std::alloc::{AllocError, Allocator, Global};
+use std::marker::Model;
+
+/// The greatest position: the most steps of a history.
+const MOST_STEPS: u64 = 100_000_000;
+
+/// A run, and a position in it: how many steps lead there from the start, at most 100,000,000. Contracts see the machine at the start, the
+/// keys that were typed with their positions, and the position; the world at each position is a function of these.
+#[derive(Drop)]
+pub struct History<A: Allocator = Global> {
+    alloc: A,
+    course: Course<A>,
+    machine: Machine<A>,
+    // A machine that looks at earlier worlds.
+    scout: Machine<A>,
+    checkpoints: Checkpoints<A>,
+}
+
+impl<A: Allocator> Model for History<A> {
+    ghost use Rattle.std.specs.Prelude.{◌≡◌, ◌≤◌};
+    ghost use Rattle.a2_history.specs.Going.{Track, IsOn, AreOn};
+
+    ghost Value = { Track };
+
+    ghost view = { λ h. record { course = h.course; position = h.machine.state.steps } };
+
+    ghost invariant = { λ h. IsOn h.course h.machine.state
+        × (h.machine.state.guard ≡ h.course.origin.guard)
+        × (h.machine.state.steps ≤ 100_000_000)
+        × (h.scout.state.guard ≡ h.course.origin.guard)
+        × AreOn h.course h.checkpoints };
+}
+
+impl<A: Allocator + Copy> History<A> {
+    /// The history of a machine that has made no step, at its start, with at most `most` checkpoints later, of which each takes some
+    /// 124,000 bytes. Refused only for want of memory.
+    pub fn new(alloc: A, machine: Machine<A>, most: usize) -> Result<History<A>, AllocError>
+        requires { machine.state.steps ≡ 0 }
+        ensures { IfOk result (λ h. h ≡ record { course = record { origin = machine.state; log = [] }; position = 0 }) }
+    {
+        let course = Course::new(alloc, &machine)?;
+        let mut scout = Machine::new(alloc)?;
+        scout.copy_from(&machine);
+        Ok(History {
+            alloc,
+            course,
+            machine,
+            scout,
+            checkpoints: Checkpoints::new(alloc, most),
+        })
+    }
+
+    /// Makes steps up to the first behind which `sight` is seen, which is not looked for before the first step; up to a world that is
+    /// stuck; or `limit` of them, and none beyond position 100,000,000. Answers which it was, `Cause::Limit` only where no other cause
+    /// holds. Keys that were typed on the way are typed again.
+    pub fn advance<S: Sight>(&mut self, limit: u32, sight: &S) -> Halt
+        ensures course { self.new.course ≡ self.old.course }
+        ensures advances { Advances (S.is_seen sight.now) self.old.course self.old.position (min (self.old.position + limit) 100_000_000)
+            self.new.position result }
+    {
+        let from = self.machine.steps();
+        let end = (from + u64::from(limit)).min(MOST_STEPS);
+        let halt = go_on(
+            self.alloc,
+            &self.course,
+            &mut self.machine,
+            &mut self.checkpoints,
+            end,
+            sight,
+        );
+        match halt {
+            Some(halt) => halt,
+            None => Halt::Stopped(cause_at(&mut self.machine)),
+        }
+    }
+}
+
+// Why a machine is stuck; `Cause::Limit` where it is not.
+fn cause_at<A: Allocator>(machine: &mut Machine<A>) -> Cause
+    ensures cause { IsCauseAt machine.old.state result }
+    ensures kept { machine.new ≡ machine.old }
+{
+    machine.run(0)
+}
+
+// Makes steps up to an end, or before to a world that is seen or stuck: why it ended there.
+fn go_on<A: Allocator + Copy, S: Sight>(
+    alloc: A,
+    course: &Course<A>,
+    machine: &mut Machine<A>,
+    checkpoints: &mut Checkpoints<A>,
+    end: u64,
+    sight: &S,
+) -> Option<Halt>
+    requires on { IsOn course.now machine.old.state }
+    requires guard { machine.old.state.guard ≡ course.now.origin.guard }
+    requires kept { AreOn course.now checkpoints.old }
+    requires ahead { machine.old.state.steps ≤ end }
+    requires few { end ≤ 100_000_000 }
+    ensures on { IsOn course.now machine.new.state }
+    ensures guard { machine.new.state.guard ≡ course.now.origin.guard }
+    ensures kept { AreOn course.now checkpoints.new }
+    ensures gone { IsGone (S.is_seen sight.now) course.now machine.old.state.steps end machine.new.state.steps result }
+{
+    for _ in machine.steps()..end {
+        if let Some(cause) = course.make_step(machine) {
+            return Some(Halt::Stopped(cause));
+        }
+        checkpoints.keep(alloc, machine);
+        if sight.is_seen(machine) {
+            return Some(Halt::Seen);
+        }
+    }
+    None
+}
+
+// The newest position, from that of a machine on and before an end, at which something is seen.
+fn look_from<A: Allocator, S: Sight>(
+    course: &Course<A>,
+    scout: &mut Machine<A>,
+    from: &Machine<A>,
+    end: u64,
+    sight: &S,
+) -> Option<u64>
+    requires on { IsOn course.now from.now.state }
+    requires guard { scout.old.state.guard ≡ course.now.origin.guard }
+    requires ahead { from.now.state.steps ≤ end }
+    requires few { end ≤ 100_000_000 }
+    requires went { NoneStuck course.now end }
+    ensures newest { IsNewest (S.is_seen sight.now) course.now from.now.state.steps end result }
+    ensures guard { scout.new.state.guard ≡ scout.old.state.guard }
+{
+    scout.restore(from);
+    course.newest_seen(scout, end, sight)
+}
+
+// The newest position before an end that was reached at which something is seen, from the newest checkpoint on, and back to the start.
+fn look_back<A: Allocator, S: Sight>(
+    course: &Course<A>,
+    scout: &mut Machine<A>,
+    checkpoints: &Checkpoints<A>,
+    end: u64,
+    sight: &S,
+) -> Option<u64>
+    requires on { AreOn course.now checkpoints.now }
+    requires guard { scout.old.state.guard ≡ course.now.origin.guard }
+    requires few { end ≤ 100_000_000 }
+    requires went { NoneStuck course.now end }
+    ensures newest { IsNewest (S.is_seen sight.now) course.now 0 end result }
+    ensures guard { scout.new.state.guard ≡ scout.old.state.guard }
+{
+    let mut start = end;
+    for behind in 0..checkpoints.len() {
+        let kept = checkpoints.at(checkpoints.len() - 1 - behind);
+        if kept.steps() < start {
+            let found = look_from(course, scout, kept, start, sight);
+            if found.is_some() {
+                return found;
+            }
+            start = kept.steps();
+        }
+    }
+    course.restart(scout);
+    course.newest_seen(scout, start, sight)
+}
+
+impl<A: Allocator> History<A> {
+    /// The machine at the position.
+    pub fn machine(&self) -> &Machine<A>
+        ensures world { world_of_state result.now.state ≡ here self.now }
+        ensures steps { result.now.state.steps ≡ self.now.position }
+        ensures guard { result.now.state.guard ≡ self.now.course.origin.guard }
+    {
+        &self.machine
+    }
+
+    /// How many steps lead from the start to where it stands, 0 to 100,000,000.
+    pub fn position(&self) -> u64
+        ensures position { result ≡ self.now.position }
+        ensures most { result ≤ 100_000_000 }
+        ensures went { NoneStuck self.now.course self.now.position }
+    {
+        self.machine.steps()
+    }
+
+    /// How many checkpoints are held beside the start. No clause says how many.
+    pub fn kept(&self) -> usize {
+        self.checkpoints.len()
+    }
+
+    /// Goes back to `position`, which is not behind its own: to the newest checkpoint that is not behind that, and on from there.
+    pub fn go_back(&mut self, position: u64)
+        requires { position ≤ self.old.position }
+        ensures { self.new ≡ record self.old { position = position } }
+    {
+        match self.checkpoints.newest_before(position) {
+            Some(kept) => self.machine.restore(kept),
+            None => self.course.restart(&mut self.machine),
+        }
+        self.course.bring(&mut self.machine, position);
+    }
+
+    /// The newest position before its own, from the start on, at which `sight` is seen; none where it is seen at none of them. It stands
+    /// where it stood.
+    pub fn newest<S: Sight>(&mut self, sight: &S) -> Option<u64>
+        ensures newest { IsNewest (S.is_seen sight.now) self.old.course 0 self.old.position result }
+        ensures kept { self.new ≡ self.old }
+    {
+        let end = self.machine.steps();
+        look_back(&self.course, &mut self.scout, &self.checkpoints, end, sight)
+    }
+
+    /// Types `keys` at its position, behind those that wait; keys that were typed at later positions are forgotten. Refused, with nothing
+    /// changed, by `TypingFault::Full` where more than 4,096 would wait, and by `TypingFault::Memory` for want of memory.
+    pub fn type_keys(&mut self, keys: Keys) -> Result<(), TypingFault>
+        ensures typed { OnOk result (self.new ≡ record self.old { course = with_typed self.old.position keys self.old.course }) }
+        ensures here { OnOk result (here self.new ≡ with_keys keys (here self.old)) }
+        ensures room { OnOk result (length (here self.old).memory.devices.keys + length keys ≤ 4096) }
+        ensures kept { OnErr result (self.new ≡ self.old) }
+    {
+        let position = self.machine.steps();
+        self.course.type_keys(&mut self.machine, keys)?;
+        self.checkpoints.forget_from(position);
+        Ok(())
+    }
+}

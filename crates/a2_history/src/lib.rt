@@ -1,0 +1,30 @@
+//! A run that is gone along in both directions: forwards step by step, back to any position that was reached.
+#![tactic(auto)]
+
+mod checkpoints;
+mod course;
+mod fault;
+mod history;
+mod sight;
+
+use a2_bus::Keys;
+use a2_machine::Cause;
+pub use fault::TypingFault;
+pub use history::History;
+pub use sight::{Nothing, Sight};
+
+/// Keys that were typed at a position.
+#[derive(Drop)]
+pub struct Typed {
+    pub position: u64,
+    pub keys: Keys,
+}
+
+/// Why going forwards ended.
+#[derive(Clone, Copy, Debug, PartialEq, Eq)]
+pub enum Halt {
+    /// What was looked for is seen.
+    Seen,
+    /// The machine is stuck by this cause, or, by `Cause::Limit`, as many steps as were asked for were made.
+    Stopped(Cause),
+}

@@ -1,0 +1,30 @@
+//! What is looked for in the worlds of a run.
+
+ghost use Rattle.std.specs.Prelude.{◌≡◌, Bool, false};
+ghost use Rattle.a2_services.specs.World.{World};
+ghost use Rattle.a2_machine.specs.State.{world_of_state};
+
+use a2_machine::Machine;
+use std::alloc::Allocator;
+
+/// What is looked for in the worlds of a run.
+pub trait Sight {
+    /// Whether a world is one of these.
+    ghost is_seen: { Self → World → Bool };
+
+    /// Whether a machine's world is one of these.
+    fn is_seen<A: Allocator>(&self, machine: &Machine<A>) -> bool
+        ensures { result ≡ is_seen self.now (world_of_state machine.now.state) };
+}
+
+/// What is seen in no world.
+#[derive(Clone, Copy, PartialEq, Eq, Debug)]
+pub struct Nothing;
+
+impl Sight for Nothing {
+    ghost is_seen = { λ nothing world. false };
+
+    fn is_seen<A: Allocator>(&self, _machine: &Machine<A>) -> bool {
+        false
+    }
+}
