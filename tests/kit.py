@@ -1,0 +1,49 @@
+"""What the scripts of the gate take from the toolchain's own: its commands as modules."""
+import importlib.machinery
+import importlib.util
+import os
+import shutil
+import sys
+import threading
+from pathlib import Path
+
+KIT = Path(os.path.realpath(shutil.which("rt") or "rt")).parent.parent
+
+
+def module_of(file):
+    """A script of the kit's bin/ as a module."""
+    name = file.replace("-", "_") + "_of_kit"
+    loader = importlib.machinery.SourceFileLoader(name, str(KIT / "bin" / file))
+    made = importlib.util.module_from_spec(importlib.util.spec_from_loader(name, loader))
+    sys.modules[name] = made
+    loader.exec_module(made)
+    return made
+
+
+def sum_each_once(crate):
+    """Has a sum of a crate take each crate below it once. The kit's own takes it once for each way that leads there, which is a minute
+    of a processor where the crates stand in many layers."""
+    whole, known = crate.stamp, threading.local()
+
+    def stamp(self):
+        if hasattr(known, "sums"):
+            if self.folder not in known.sums:
+                known.sums[self.folder] = whole(self)
+            return known.sums[self.folder]
+        known.sums = {}
+        try:
+            return whole(self)
+        finally:
+            # (sources may be others at the next call)
+            del known.sums
+
+    crate.stamp = stamp
+
+
+def rt_of_kit():
+    """The kit's rt, by which crates are read and built as by its commands."""
+    made = module_of("rt")
+    sum_each_once(made.rtlib.Crate)
+    # (its first call sets a signal's handler, which only the main thread may)
+    made.rtlib.guarded()
+    return made
