@@ -2,4 +2,5 @@ pub mod Below
 pub mod Ends
 pub mod Joining
 pub mod RowLaws
+pub mod Verbs
 pub mod Verdicts

@@ -28,16 +28,29 @@ pub fn lines_of<'a, A: Allocator>(
     Ok(lines)
 }
 
+// The name of the case that a line begins, if it begins one.
+fn case_in<'a>(line: Line<'a>) -> Option<&'a [u8]> {
+    match line {
+        Line::Case(name) => Some(name),
+        _ => None,
+    }
+}
+
 // How many lines stand before the first that begins a case.
 fn front_of(lines: &[Asked]) -> usize
     ensures { result ≤ length lines.now }
 {
     for (index, asked) in lines.iter().enumerate() {
-        if let Line::Case(_) = asked.line {
+        if case_in(asked.line).is_some() {
             return index;
         }
     }
     lines.len()
+}
+
+// The lines before the first that begins a case.
+fn front<'a, 'b>(lines: &'b [Asked<'a>]) -> &'b [Asked<'a>] {
+    &lines[..front_of(lines)]
 }
 
 // The case of this name with these lines behind those of the head.
@@ -59,16 +72,14 @@ pub fn cases_of<'a, A: Allocator + Copy>(
     alloc: A,
     lines: &[Asked<'a>],
 ) -> Result<Vec<Case<'a, A>, A>, AllocError> {
-    let mut cases = Vec::new(alloc);
     let (head, rest) = lines.split_at(front_of(lines));
+    let mut cases = Vec::new(alloc);
     if rest.is_empty() {
         cases.push(case_of(alloc, b"", head, &[])?)?;
-        return Ok(cases);
     }
     for (index, asked) in rest.iter().enumerate() {
-        if let Line::Case(name) = asked.line {
-            let behind = &rest[index + 1..];
-            let body = &behind[..front_of(behind)];
+        if let Some(name) = case_in(asked.line) {
+            let body = front(&rest[index + 1..]);
             cases.push(case_of(alloc, name, head, body)?)?;
         }
     }

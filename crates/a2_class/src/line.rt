@@ -87,25 +87,53 @@ pub(crate) enum Verb {
     Must,
 }
 
+// All verbs.
+const VERBS: [Verb; 11] = [
+    Verb::Case,
+    Verb::Keys,
+    Verb::Limit,
+    Verb::Call,
+    Verb::Screen,
+    Verb::Mem,
+    Verb::Reg,
+    Verb::Stop,
+    Verb::Cycles,
+    Verb::Bytes,
+    Verb::Must,
+];
+
+impl Verb {
+    // The word that it is.
+    fn letters(self) -> &'static [u8]
+        ensures { result.now ≡ said.verb_letters self }
+    {
+        match self {
+            Verb::Case => b"case",
+            Verb::Keys => b"keys",
+            Verb::Limit => b"limit",
+            Verb::Call => b"call",
+            Verb::Screen => b"screen",
+            Verb::Mem => b"mem",
+            Verb::Reg => b"reg",
+            Verb::Stop => b"stop",
+            Verb::Cycles => b"cycles",
+            Verb::Bytes => b"bytes",
+            Verb::Must => b"must",
+        }
+    }
+}
+
 // The verb that a word is.
 fn verb_of(word: &[u8]) -> Option<Verb>
     ensures found { IfSome result (λ v. said.verb_letters v ≡ word.now) }
     ensures only { (v : DeclaredVerb) → said.verb_letters v ≡ word.now → result ≡ Some v }
 {
-    match word {
-        b"case" => Some(Verb::Case),
-        b"keys" => Some(Verb::Keys),
-        b"limit" => Some(Verb::Limit),
-        b"call" => Some(Verb::Call),
-        b"screen" => Some(Verb::Screen),
-        b"mem" => Some(Verb::Mem),
-        b"reg" => Some(Verb::Reg),
-        b"stop" => Some(Verb::Stop),
-        b"cycles" => Some(Verb::Cycles),
-        b"bytes" => Some(Verb::Bytes),
-        b"must" => Some(Verb::Must),
-        _ => None,
+    for verb in &VERBS {
+        if verb.letters() == word {
+            return Some(*verb);
+        }
     }
+    None
 }
 
 // The first word of a text and what stands behind it.
@@ -207,27 +235,55 @@ fn are_all(kind: Kind, text: &[u8]) -> bool {
     true
 }
 
-// The causes, by their names.
-fn cause_in(rest: &[u8]) -> Option<Cause> {
-    let (first, behind) = first_word(rest)?;
-    match first_word(behind) {
-        None => match first {
-            b"RETURNED" => Some(Cause::Returned),
-            b"WINDOW" => Some(Cause::Window),
-            b"KEYS" => Some(Cause::Keys),
-            b"ROM" => Some(Cause::Rom),
-            b"OPCODE" => Some(Cause::Opcode),
-            b"BRK" => Some(Cause::Brk),
-            b"DECIMAL" => Some(Cause::Decimal),
-            b"LIMIT" => Some(Cause::Limit),
-            _ => None,
-        },
-        Some((second, end)) => match (first, second, first_word(end)) {
-            (b"CODE", b"WRITE", None) => Some(Cause::CodeWrite),
-            (b"OFF", b"STATEMENT", None) => Some(Cause::OffStatement),
-            _ => None,
+// All causes.
+const CAUSES: [Cause; 10] = [
+    Cause::Returned,
+    Cause::CodeWrite,
+    Cause::Window,
+    Cause::Keys,
+    Cause::OffStatement,
+    Cause::Rom,
+    Cause::Opcode,
+    Cause::Brk,
+    Cause::Decimal,
+    Cause::Limit,
+];
+
+/// The name of a cause.
+pub(crate) fn cause_name(cause: Cause) -> &'static [u8] {
+    match cause {
+        Cause::Returned => b"RETURNED",
+        Cause::CodeWrite => b"CODE WRITE",
+        Cause::Window => b"WINDOW",
+        Cause::Keys => b"KEYS",
+        Cause::OffStatement => b"OFF STATEMENT",
+        Cause::Rom => b"ROM",
+        Cause::Opcode => b"OPCODE",
+        Cause::Brk => b"BRK",
+        Cause::Decimal => b"DECIMAL",
+        Cause::Limit => b"LIMIT",
+    }
+}
+
+// Whether two texts have the same words.
+fn are_same_words(text: &[u8], other: &[u8]) -> bool {
+    match first_word(text) {
+        None => first_word(other).is_none(),
+        Some((word, behind)) => match first_word(other) {
+            Some((same, rest)) if same == word => are_same_words(behind, rest),
+            _ => false,
         },
     }
+}
+
+// The cause whose name a text is.
+fn cause_in(rest: &[u8]) -> Option<Cause> {
+    for cause in &CAUSES {
+        if are_same_words(cause_name(*cause), rest) {
+            return Some(*cause);
+        }
+    }
+    None
 }
 
 // The mnemonic that is the one word of a text.

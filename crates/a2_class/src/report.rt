@@ -156,6 +156,33 @@ fn put_first<A: Allocator, W: Output>(
     Ok(())
 }
 
+// Writes how many cases passed, and of how many.
+fn put_share<W: Output>(passed: usize, all: usize, writer: &mut W) -> Result<(), WriteFault> {
+    let passed = decimal(passed as u64);
+    let all = decimal(all as u64);
+    put_all(&[passed.as_slice(), b"/", all.as_slice()], writer)
+}
+
+// Writes how a solution that was judged did, and the first case that did not pass.
+fn put_judged<A: Allocator, W: Output>(
+    cases: &[Case<A>],
+    verdicts: &[Verdict<A>],
+    writer: &mut W,
+) -> Result<(), WriteFault> {
+    let passed = passed_of(verdicts);
+    put_share(passed, verdicts.len(), writer)?;
+    if passed < verdicts.len() {
+        put(b"  ", writer)?;
+    }
+    put_first(Format::Table, cases, verdicts, writer)
+}
+
+// Writes for what reason a solution is refused.
+fn put_reason<W: Output>(format: Format, why: &[u8], writer: &mut W) -> Result<(), WriteFault> {
+    put(b"refused: ", writer)?;
+    put_text(format, why, writer)
+}
+
 // The blanks behind a name.
 const BLANKS: &[u8] = b"                        ";
 
@@ -167,27 +194,25 @@ fn put_row<A: Allocator, W: Output>(
     writer: &mut W,
 ) -> Result<(), WriteFault> {
     put_text(Format::Table, name, writer)?;
-    put(&BLANKS[..BLANKS.len().saturating_sub(name.len())], writer)?;
-    put(b" ", writer)?;
+    let blanks = &BLANKS[..BLANKS.len().saturating_sub(name.len())];
+    put_all(&[blanks, b" "], writer)?;
     match found {
-        Found::Judged(verdicts) => {
-            let passed = passed_of(*verdicts);
-            put_number(passed as u64, writer)?;
-            put(b"/", writer)?;
-            put_number(verdicts.len() as u64, writer)?;
-            if passed < verdicts.len() {
-                put(b"  ", writer)?;
-            }
-            put_first(Format::Table, cases, *verdicts, writer)?;
-        }
+        Found::Judged(verdicts) => put_judged(cases, *verdicts, writer)?,
         Found::Refused(why) => {
-            put(b"0/", writer)?;
-            put_number(cases.len() as u64, writer)?;
-            put(b"  refused: ", writer)?;
-            put_text(Format::Table, why, writer)?;
+            put_share(0, cases.len(), writer)?;
+            put(b"  ", writer)?;
+            put_reason(Format::Table, why, writer)?;
         }
     }
     put(b"\n", writer)
+}
+
+// How many cases a solution passed.
+fn passed_in<A: Allocator>(found: &Found<A>) -> usize {
+    match found {
+        Found::Judged(verdicts) => passed_of(*verdicts),
+        Found::Refused(_) => 0,
+    }
 }
 
 // Writes the record of a solution: file, passed cases, cases, first difference.
@@ -197,23 +222,33 @@ fn put_record<A: Allocator, W: Output>(
     found: &Found<A>,
     writer: &mut W,
 ) -> Result<(), WriteFault> {
+    let passed = decimal(passed_in(found) as u64);
+    let all = decimal(cases.len() as u64);
     put_quoted(Format::Csv, name, writer)?;
-    put(b",", writer)?;
-    match found {
-        Found::Judged(verdicts) => put_number(passed_of(*verdicts) as u64, writer)?,
-        Found::Refused(_) => put(b"0", writer)?,
-    }
-    put(b",", writer)?;
-    put_number(cases.len() as u64, writer)?;
-    put(b",\"", writer)?;
+    put_all(
+        &[b",", passed.as_slice(), b",", all.as_slice(), b",\""],
+        writer,
+    )?;
     match found {
         Found::Judged(verdicts) => put_first(Format::Csv, cases, *verdicts, writer)?,
-        Found::Refused(why) => {
-            put(b"refused: ", writer)?;
-            put_text(Format::Csv, why, writer)?;
-        }
+        Found::Refused(why) => put_reason(Format::Csv, why, writer)?,
     }
     put(b"\"\n", writer)
+}
+
+// Writes what the object of a case that did not pass has behind its name.
+fn put_difference<A: Allocator, W: Output>(
+    verdict: &Verdict<A>,
+    writer: &mut W,
+) -> Result<(), WriteFault> {
+    put(b",\"passed\":false", writer)?;
+    if let Verdict::Missed(number, _) = verdict {
+        put(b",\"line\":", writer)?;
+        put_number(*number as u64, writer)?;
+    }
+    put(b",\"difference\":\"", writer)?;
+    put_told(Format::Json, verdict, writer)?;
+    put(b"\"}", writer)
 }
 
 // Writes the object of a case.
@@ -225,16 +260,24 @@ fn put_object<A: Allocator, W: Output>(
     put(b"{\"case\":", writer)?;
     put_quoted(Format::Json, case.name, writer)?;
     match verdict {
-        Verdict::Passed => return put(b",\"passed\":true}", writer),
-        Verdict::Missed(number, _) => {
-            put(b",\"passed\":false,\"line\":", writer)?;
-            put_number(*number as u64, writer)?;
-        }
-        Verdict::NotCalled => put(b",\"passed\":false", writer)?,
+        Verdict::Passed => put(b",\"passed\":true}", writer),
+        _ => put_difference(verdict, writer),
     }
-    put(b",\"difference\":\"", writer)?;
-    put_told(Format::Json, verdict, writer)?;
-    put(b"\"}", writer)
+}
+
+// Writes the objects of cases, with commas between them.
+fn put_objects<A: Allocator, W: Output>(
+    cases: &[Case<A>],
+    verdicts: &[Verdict<A>],
+    writer: &mut W,
+) -> Result<(), WriteFault> {
+    for (index, (case, verdict)) in cases.iter().zip(verdicts).enumerate() {
+        if index > 0 {
+            put(b",", writer)?;
+        }
+        put_object(case, verdict, writer)?;
+    }
+    Ok(())
 }
 
 // Writes the object of a solution.
@@ -249,12 +292,7 @@ fn put_json<A: Allocator, W: Output>(
     match found {
         Found::Judged(verdicts) => {
             put(b",\"cases\":[", writer)?;
-            for (index, (case, verdict)) in cases.iter().zip(*verdicts).enumerate() {
-                if index > 0 {
-                    put(b",", writer)?;
-                }
-                put_object(case, verdict, writer)?;
-            }
+            put_objects(cases, *verdicts, writer)?;
             put(b"]}", writer)
         }
         Found::Refused(why) => {
@@ -298,6 +336,30 @@ fn put_error<W: Output>(name: &[u8], why: &[u8], writer: &mut W) -> Result<(), W
     put_failure(b"error", why, writer)
 }
 
+// Writes the test cases of a solution that was judged.
+fn put_tests<A: Allocator, W: Output>(
+    cases: &[Case<A>],
+    verdicts: &[Verdict<A>],
+    writer: &mut W,
+) -> Result<(), WriteFault> {
+    for (case, verdict) in cases.iter().zip(verdicts) {
+        put_test(case.name, verdict, writer)?;
+    }
+    Ok(())
+}
+
+// Writes the test cases of a solution that is refused, for this reason.
+fn put_errors<A: Allocator, W: Output>(
+    cases: &[Case<A>],
+    why: &[u8],
+    writer: &mut W,
+) -> Result<(), WriteFault> {
+    for case in cases {
+        put_error(case.name, why, writer)?;
+    }
+    Ok(())
+}
+
 // Writes the test suite of a solution.
 fn put_suite<A: Allocator, W: Output>(
     name: &[u8],
@@ -307,20 +369,11 @@ fn put_suite<A: Allocator, W: Output>(
 ) -> Result<(), WriteFault> {
     put(b"  <testsuite name=", writer)?;
     put_quoted(Format::Junit, name, writer)?;
-    put(b" tests=\"", writer)?;
-    put_number(cases.len() as u64, writer)?;
-    put(b"\">\n", writer)?;
+    let count = decimal(cases.len() as u64);
+    put_all(&[b" tests=\"", count.as_slice(), b"\">\n"], writer)?;
     match found {
-        Found::Judged(verdicts) => {
-            for (case, verdict) in cases.iter().zip(*verdicts) {
-                put_test(case.name, verdict, writer)?;
-            }
-        }
-        Found::Refused(why) => {
-            for case in cases {
-                put_error(case.name, *why, writer)?;
-            }
-        }
+        Found::Judged(verdicts) => put_tests(cases, *verdicts, writer)?,
+        Found::Refused(why) => put_errors(cases, *why, writer)?,
     }
     put(b"  </testsuite>\n", writer)
 }
@@ -358,6 +411,31 @@ pub fn put_solution<A: Allocator, W: Output>(
     }
 }
 
+// Writes the line of how many solutions there are, and of each kind.
+fn put_totals<W: Output>(totals: &Totals, writer: &mut W) -> Result<(), WriteFault> {
+    let files = totals
+        .passed
+        .saturating_add(totals.failed)
+        .saturating_add(totals.refused);
+    let files = decimal(files);
+    let passed = decimal(totals.passed);
+    let failed = decimal(totals.failed);
+    let refused = decimal(totals.refused);
+    put_all(
+        &[
+            files.as_slice(),
+            b" files: ",
+            passed.as_slice(),
+            b" pass, ",
+            failed.as_slice(),
+            b" fail, ",
+            refused.as_slice(),
+            b" refused\n",
+        ],
+        writer,
+    )
+}
+
 /// Writes what stands behind the solutions.
 pub fn put_tail<W: Output>(
     format: Format,
@@ -365,20 +443,7 @@ pub fn put_tail<W: Output>(
     writer: &mut W,
 ) -> Result<(), WriteFault> {
     match format {
-        Format::Table => {
-            let files = totals
-                .passed
-                .saturating_add(totals.failed)
-                .saturating_add(totals.refused);
-            put_number(files, writer)?;
-            put(b" files: ", writer)?;
-            put_number(totals.passed, writer)?;
-            put(b" pass, ", writer)?;
-            put_number(totals.failed, writer)?;
-            put(b" fail, ", writer)?;
-            put_number(totals.refused, writer)?;
-            put(b" refused\n", writer)
-        }
+        Format::Table => put_totals(totals, writer),
         Format::Csv => Ok(()),
         Format::Json => put(b"\n]\n", writer),
         Format::Junit => put(b"</testsuites>\n", writer),

@@ -1,7 +1,7 @@
 //! What is told of a line whose demand does not hold: what is wanted, what is there, and where the run came to its end.
 
 use crate::asks::{Ending, first_other, first_wrong, place_of, register_byte, size_of, user_of};
-use crate::line::{Asked, Line, behind};
+use crate::line::{Asked, Line, behind, cause_name};
 use crate::rows::{first_row, row_count, row_fits};
 use crate::settings::name_in;
 use a2_asm::Statement;
@@ -28,22 +28,6 @@ fn trimmed(row: &[u8]) -> &[u8] {
         rest = front;
     }
     rest
-}
-
-// The name of a cause.
-fn cause_name(cause: Cause) -> &'static [u8] {
-    match cause {
-        Cause::Returned => b"RETURNED",
-        Cause::CodeWrite => b"CODE WRITE",
-        Cause::Window => b"WINDOW",
-        Cause::Keys => b"KEYS",
-        Cause::OffStatement => b"OFF STATEMENT",
-        Cause::Rom => b"ROM",
-        Cause::Opcode => b"OPCODE",
-        Cause::Brk => b"BRK",
-        Cause::Decimal => b"DECIMAL",
-        Cause::Limit => b"LIMIT",
-    }
 }
 
 // Tells the first row of the screen that is not as it is wanted.
