@@ -1,10 +1,11 @@
 //! A run and the way through it.
 
-ghost use Rattle.std.specs.Prelude.{◌≡◌, ◌+◌, ◌<◌, ◌≤◌, ℕ, min, [], length, IfOk, OnOk, OnErr};
+ghost use Rattle.std.specs.Prelude.{◌≡◌, ◌+◌, ◌<◌, ◌≤◌, ℕ, min, [], length, IfOk, IfErr, OnOk, OnErr};
 ghost use Rattle.a2_machine.specs.State.{world_of_state};
 ghost use Rattle.a2_history.specs.Courses.{NoneStuck, with_keys};
 ghost use Rattle.a2_history.specs.Going.{here, Advances, IsNewest, IsOn, AreOn, with_typed};
 ghost use Rattle.a2_history.specs.Gone.{IsGone, IsCauseAt};
+ghost use Rattle.a2_history.specs.declared.fault.TypingFault.TheVariants.{Full};
 
 use crate::checkpoints::Checkpoints;
 use crate::course::Course;
@@ -229,6 +230,7 @@ impl<A: Allocator> History<A> {
         ensures typed { OnOk result (self.new ≡ record self.old { course = with_typed self.old.position keys self.old.course }) }
         ensures here { OnOk result (here self.new ≡ with_keys keys (here self.old)) }
         ensures room { OnOk result (length (here self.old).memory.devices.keys + length keys ≤ 4096) }
+        ensures full { IfErr result (λ fault. fault ≡ Full → 4096 < length (here self.old).memory.devices.keys + length keys) }
         ensures kept { OnErr result (self.new ≡ self.old) }
     {
         let position = self.machine.steps();

@@ -1,5 +1,6 @@
 use Rattle.std.proofs.Common.{◌≡◌, ◌<◌, List, All, arith, ap, sym, ◌∙◌, subst}
-use Rattle.a2_machine.specs.State.{Device, world_of_state}
+use Rattle.std.proofs.lemmas.Result.{err_from_is_err_and}
+use Rattle.a2_machine.specs.State.{Device}
 use Rattle.a2_history.specs.Courses.{Course}
 use Rattle.a2_history.specs.Going.{Track, here, AreOn, with_typed}
 use Rattle.a2_history.proofs.Ways.{on-typed}
@@ -23,3 +24,9 @@ pub returns-clause-room : goal.returns-clause-room
 returns-clause-room g c =
     let same = c.self.invariant.0.world ∙ ap (λ (t : Track). here t) c.self.view_is in
     omega (arith, waiting-keys c.self.inside.machine.state (here c.args.self.now) same, c.in_ok-type_keys.ensures.room)
+
+pub returns-in_err-type_keys-clause-full : goal.returns-in_err-type_keys-clause-full
+returns-in_err-type_keys-clause-full g c =
+    let p = err_from_is_err_and c.from_residual.result c.from_residual.ensures.1 in
+    let same = c.self.invariant.0.world ∙ ap (λ (t : Track). here t) c.self.view_is in
+    rw (p.1, p.2) (λ is_full. omega (arith, waiting-keys c.self.inside.machine.state (here c.args.self.now) same, c.in_err-type_keys.ensures.full is_full))
