@@ -1,10 +1,11 @@
 //! Bytes at addresses of RAM.
 
-ghost use Rattle.std.specs.Prelude.{◌≡◌, ◌<◌, ◌≤◌, ℕ, None, IfOk, OnErr, length, slice_index, unwrap_or, replicate};
+ghost use Rattle.std.specs.Prelude.{◌≡◌, ◌<◌, ◌≤◌, ℕ, None, IfOk, OnErr, length, slice_index, unwrap_or, replicate, vec_len};
 ghost use Rattle.a2_hex.specs.Images.{held, put, IsImage, IsWithin};
 
 use crate::fault::HexFault;
 use std::alloc::{AllocError, Allocator, Global};
+use std::boxed::BoxedSlice;
 use std::marker::Model;
 
 /// The end of RAM: the first address, $C000, that is none of it. Apple II Reference Manual (1979), the memory map.
@@ -13,7 +14,8 @@ pub const RAM_END: u16 = 0xC000;
 /// Bytes at addresses of RAM, which are those below $C000: at each address one or none.
 #[derive(Drop)]
 pub struct Image<A: Allocator = Global> {
-    cells: Vec<Option<u8>, A>,
+    // It cannot grow, and lends its allocator to nobody: no call behind `new` takes memory.
+    cells: BoxedSlice<Option<u8>, A>,
     // What is held lies from the first of these addresses up to the second.
     start: u16,
     end: u16,
@@ -21,15 +23,18 @@ pub struct Image<A: Allocator = Global> {
 
 impl<A: Allocator> Model for Image<A> {
     ghost use Rattle.std.specs.Prelude.{◌≡◌, ◌<◌, ◌≤◌, ℕ, length, IfSome};
+    ghost use Rattle.std.specs.Box.{boxed_slice_items, boxed_slice_len};
     ghost use Rattle.a2_hex.specs.Images.{Cells, held, IsWithin};
 
     ghost Value = { Cells };
 
-    ghost view = { λ image. image.cells.items };
+    ghost view = { λ image. boxed_slice_items image.cells };
 
     ghost invariant = { λ image.
-        (length image.cells.items ≡ 49152) × ((a : ℕ) → IfSome (held image.cells.items a) (λ byte. byte < 256))
-        × IsWithin image.cells.items image.start image.end × (image.end ≤ 49152) };
+        (length (boxed_slice_items image.cells) ≡ 49152)
+        × ((a : ℕ) → IfSome (held (boxed_slice_items image.cells) a) (λ byte. byte < 256))
+        × IsWithin (boxed_slice_items image.cells) image.start image.end
+        × (image.end ≤ 49152) × (boxed_slice_len image.cells ≡ 49152) };
 }
 
 impl<A: Allocator> Image<A> {
@@ -40,7 +45,7 @@ impl<A: Allocator> Image<A> {
     {
         let cells = no_cells(alloc)?;
         Ok(Image {
-            cells,
+            cells: cells.into_boxed_slice(),
             start: RAM_END,
             end: 0,
         })
@@ -91,7 +96,8 @@ impl<A: Allocator> Image<A> {
 
 // A cell without a byte for each address of RAM.
 fn no_cells<A: Allocator>(alloc: A) -> Result<Vec<Option<u8>, A>, AllocError>
-    ensures { IfOk result (λ cells. cells.items ≡ replicate 49152 None) }
+    ensures cells { IfOk result (λ cells. cells.items ≡ replicate 49152 None) }
+    ensures len { IfOk result (λ cells. vec_len cells ≡ 49152) }
 {
     vec![in alloc; None; usize::from(RAM_END)]
 }
