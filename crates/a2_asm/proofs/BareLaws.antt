@@ -40,7 +40,7 @@ known_term-bare all (Number n) = refl
 known_term-bare all (Named name) = refl
 known_term-bare all Here = refl
 
-known-bare : {A : Type 0} (all : Names) (e : Expr A) → is_known all (bare_expr {B = NoAllocator} e) ≡ is_known all e
+pub known-bare : {A : Type 0} (all : Names) (e : Expr A) → is_known all (bare_expr {B = NoAllocator} e) ≡ is_known all e
 known-bare all e =
     list_all-map (λ t. is_known_term all t.term) (bare_signed {B = NoAllocator}) e.terms ∙ (λ i. list_all (λ t. known_term-bare all t.term i) e.terms)
 
@@ -71,7 +71,7 @@ short-bare : {A : Type 0} (all : Names) (here : ℕ) (m : Mnemonic) (short long 
     → short_or_long all here m short long (bare_expr {B = NoAllocator} e) ≡ short_or_long all here m short long e
 short-bare all here m short long e = ap (λ b. if has_mode m short && (not (has_mode m long) || b) then short else long) (early-bare all here e)
 
-mode-bare : {A : Type 0} (all : Names) (here : ℕ) (m : Mnemonic) (o : Operand A) → mode_of all here m (bare_operand {B = NoAllocator} o) ≡ mode_of all here m o
+pub mode-bare : {A : Type 0} (all : Names) (here : ℕ) (m : Mnemonic) (o : Operand A) → mode_of all here m (bare_operand {B = NoAllocator} o) ≡ mode_of all here m o
 mode-bare all here m forms.Nothing = refl
 mode-bare all here m forms.Accumulator = refl
 mode-bare all here m (forms.Immediate e) = refl
@@ -134,7 +134,7 @@ label-bare all here (Dw es) = refl
 label-bare all here (Asc bytes) = refl
 label-bare all here (Ds e) = refl
 
-abbrev bare_row : {A : Type 0} → Row A → Row NoAllocator
+abbrev pub bare_row : {A : Type 0} → Row A → Row NoAllocator
 bare_row row = record { line = bare_line row.line; place = row.place; next = row.next; label = row.label }
 
 names-bare : {A : Type 0} (before : List (Row A)) → names (map bare_row before) ≡ names before
@@ -244,7 +244,7 @@ entry-bare (row ∷ more) = λ i. if instruction-bare row.line.body i then Some 
 
 -- Refusals
 
-first_behind-map : {X Y : Type 0} (v : X → Y) (f : List Y → Y → Option Fault) (g : List X → X → Option Fault)
+pub first_behind-map : {X Y : Type 0} (v : X → Y) (f : List Y → Y → Option Fault) (g : List X → X → Option Fault)
     → ((before : List X) (x : X) → f (map v before) (v x) ≡ g before x)
     → (before xs : List X) → first_behind f (map v before) (map v xs) ≡ first_behind g before xs
 first_behind-map v f g h before [] = refl
@@ -276,7 +276,7 @@ body-bare all earlier place (Dfb es) = refl
 body-bare all earlier place (Dw es) = refl
 body-bare all earlier place (Asc bytes) = refl
 
-place-bare : {A : Type 0} (all : Names) (before : List (Row A)) (row : Row A) → refuse_place all (map bare_row before) (bare_row row) ≡ refuse_place all before row
+pub place-bare : {A : Type 0} (all : Names) (before : List (Row A)) (row : Row A) → refuse_place all (map bare_row before) (bare_row row) ≡ refuse_place all before row
 place-bare all before row =
     ap (λ earlier. refuse_line all earlier row.place (bare_line {B = NoAllocator} row.line)) (names-bare before)
     ∙ ap (λ o. refuse_if (is_taken (names before) row.line.label) (faults.Duplicate row.place.number) otherwise o otherwise refuse_if (is_outside row.place) (faults.Outside row.place.number))
@@ -295,7 +295,7 @@ values-bare all most place es =
     ∙ (λ i. refuse_if (not (list_all (λ e. known-bare all e i) es)) (faults.Unknown place.number) otherwise
     refuse_if (not (list_all (λ e. is_some (number-bare all most place.address e i)) es)) (faults.Range place.number))
 
-operand_refusal-bare : {A : Type 0} (all : Names) (place : Place) (body : Body A) → refuse_operand all place (bare_body {B = NoAllocator} body) ≡ refuse_operand all place body
+pub operand_refusal-bare : {A : Type 0} (all : Names) (place : Place) (body : Body A) → refuse_operand all place (bare_body {B = NoAllocator} body) ≡ refuse_operand all place body
 operand_refusal-bare all place (Instr m forms.Nothing) = refl
 operand_refusal-bare all place (Instr m forms.Accumulator) = refl
 operand_refusal-bare all place (Instr m (forms.Immediate e)) = instr_refusal-bare all place e
@@ -318,19 +318,20 @@ bytes_refusal-bare all before row = λ i.
     operand_refusal-bare all row.place row.line.body i otherwise
     refuse_if (meets (λ a. image-bare all before a i) row.place.address (bytes-bare all row.place row.line.body i)) (faults.Overlap row.place.number)
 
+-- the places of the bare lines are refused as those of the lines are
+pub placed-bare : {A : Type 0} (lines : List (Line A)) → first_behind (refuse_place (names (source_rows (bare lines)))) [] (source_rows (bare lines)) ≡ first_behind (refuse_place (names (source_rows lines))) [] (source_rows lines)
+placed-bare lines =
+    (λ i. first_behind (refuse_place (names-rows lines i)) [] (rows-bare lines i))
+    ∙ first_behind-map bare_row (refuse_place (names (source_rows lines))) (refuse_place (names (source_rows lines))) (place-bare (names (source_rows lines))) [] (source_rows lines)
+
 -- the bare lines are refused as the lines are
 pub refusal-bare : {A : Type 0} (lines : List (Line A)) → layout_refusal (bare lines) ≡ layout_refusal lines
 refusal-bare lines = λ i.
     first_behind-map (bare_line {B = NoAllocator}) refuse_names refuse_names refuse_names-bare [] lines i otherwise
-    placed i otherwise
+    placed-bare lines i otherwise
     refuse_if (not (is_some (entered i))) faults.NoCode otherwise
     laid i
   where
-    placed : first_behind (refuse_place (names (source_rows (bare lines)))) [] (source_rows (bare lines)) ≡ first_behind (refuse_place (names (source_rows lines))) [] (source_rows lines)
-    placed =
-        (λ i. first_behind (refuse_place (names-rows lines i)) [] (rows-bare lines i))
-        ∙ first_behind-map bare_row (refuse_place (names (source_rows lines))) (refuse_place (names (source_rows lines))) (place-bare (names (source_rows lines))) [] (source_rows lines)
-
     entered : first_instruction (source_rows (bare lines)) ≡ first_instruction (source_rows lines)
     entered = ap first_instruction (rows-bare lines) ∙ entry-bare (source_rows lines)
 

@@ -66,6 +66,6 @@ first-refusal text fault more (inl (inr (fits, (numbers, e, some, all)))) =
     let f = of-lines (lines text) fault more numbers e all in
     inl (inr (fits, f.0, f.1, f.2))
 first-refusal text fault more (inr (source, is, inl (e, program, is_program))) = let never : fault ∷ more ≡ [] = e in cc
-first-refusal text fault more (inr (source, is, inr (other, e, refused))) =
+first-refusal text fault more (inr (source, is, inr (other, layout, refused, is_layout, e))) =
     let same : fault ≡ other = cc in
     inr (source, is, subst (IsLayoutRefusal source) (sym same) refused)

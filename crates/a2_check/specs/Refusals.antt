@@ -1,5 +1,5 @@
 -- The refusals of a text: none where it is accepted; else that of its size alone; else each line that is not in the grammar;
--- else the first refusal of its layout. This project's profile.
+-- else what is told of its layout. This project's profile.
 use Rattle.std.specs.Prelude.{◌≡◌, ◌⊎◌, ℕ, ◌<◌, List, [], ◌∷◌, length, map, Some, None}
 use Rattle.a2_text.specs.Lines.{lines}
 use Rattle.a2_syntax.specs.Bare.{BareLine}
@@ -7,16 +7,8 @@ use Rattle.a2_syntax.specs.Limits.{size_refusal}
 use Rattle.a2_syntax.specs.Sources.{IsSource}
 use Rattle.a2_syntax.specs.declared.fault.Fault.{Fault}
 use Rattle.a2_syntax.specs.declared.fault.Fault.TheVariants.{Syntax}
-use Rattle.a2_asm.specs.Assembled.{Assembled}
-use Rattle.a2_asm.specs.Programs.{IsProgram}
-use Rattle.a2_asm.specs.Refusals.{IsLayoutRefusal}
+use Rattle.a2_asm.specs.Every.{AreLayoutRefusals}
 use Rattle.a2_check.specs.Unread.{AreUnread}
-
--- the lines of a source are accepted, or their layout has a first refusal
-abbrev pub AreOfLayout : List BareLine → List Fault → Type 0
-AreOfLayout source faults =
-    ((faults ≡ []) × (program : Assembled) × IsProgram source program) ⊎
-    ((fault : Fault) × (faults ≡ fault ∷ []) × IsLayoutRefusal source fault)
 
 -- lines that are not in the grammar, all of them
 abbrev pub AreOfGrammar : List (List ℕ) → List Fault → Type 0
@@ -30,4 +22,4 @@ AreOfText text faults =
 
 -- all that is told of a text
 abbrev pub AreRefusals : List ℕ → List Fault → Type 0
-AreRefusals text faults = AreOfText text faults ⊎ ((source : List BareLine) × IsSource text source × AreOfLayout source faults)
+AreRefusals text faults = AreOfText text faults ⊎ ((source : List BareLine) × IsSource text source × AreLayoutRefusals source faults)

@@ -1,7 +1,6 @@
 //! A source in which one line says something else, so that the rest tells where that line lies and what a value is.
 
-use crate::unread::refused;
-use a2_asm::{Program, Statement, assemble};
+use a2_asm::{Program, Statement, assemble, refused};
 use a2_syntax::parse;
 use std::alloc::{AllocError, Allocator};
 

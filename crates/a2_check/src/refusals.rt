@@ -3,11 +3,11 @@
 ghost use Rattle.std.specs.Prelude.{◌≡◌, ◌∷◌, [], IfOk};
 ghost use Rattle.a2_syntax.specs.Sources.{IsTextRefusal};
 ghost use Rattle.a2_syntax.specs.declared.fault.Fault.{Fault};
-ghost use Rattle.a2_check.specs.Refusals.{AreOfLayout, AreOfText, AreRefusals};
+ghost use Rattle.a2_check.specs.Refusals.{AreOfText, AreRefusals};
 
-use crate::unread::{refused, unread};
-use a2_asm::assemble;
-use a2_syntax::{Fault, Source, lines, parse};
+use crate::unread::unread;
+use a2_asm::{refusals, refused};
+use a2_syntax::{Fault, lines, parse};
 use std::alloc::{AllocError, Allocator};
 
 // One refusal by itself.
@@ -30,24 +30,14 @@ fn of_text<A: Allocator + Copy>(alloc: A, text: &[u8]) -> Result<Vec<Fault, A>, 
     }
 }
 
-// The first refusal of the layout of a source, if there is one.
-fn of_layout<A: Allocator + Copy>(alloc: A, source: &Source<A>) -> Result<Vec<Fault, A>, AllocError>
-    ensures { IfOk result (λ faults. AreOfLayout source.now faults.items) }
-{
-    match assemble(alloc, source) {
-        Ok(_) => Ok(Vec::new(alloc)),
-        Err(fault) => alone(alloc, refused(fault)?),
-    }
-}
-
-/// The refusals of a source text, of any bytes, in the order of its lines; none where it is accepted. Of a text that is too
-/// large that one alone; else each line that is not in the grammar; else, since the layout stops there, its first refusal. The
+/// The refusals of a source text, of any bytes; none where it is accepted. Of a text that is too large that one alone; else each
+/// line that is not in the grammar, in order; else those of the layout that are known at once, the first of all in front. The
 /// first of them is what `a2` tells. Refused only for want of memory. This project's profile.
 pub fn refusals_of<A: Allocator + Copy>(alloc: A, text: &[u8]) -> Result<Vec<Fault, A>, AllocError>
     ensures { IfOk result (λ faults. AreRefusals text.now faults.items) }
 {
     match parse(alloc, text) {
-        Ok(source) => of_layout(alloc, &source),
+        Ok(source) => refusals(alloc, &source),
         Err(fault) => {
             refused(fault)?;
             of_text(alloc, text)

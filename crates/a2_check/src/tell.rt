@@ -3,7 +3,7 @@
 use crate::finding::finding;
 use crate::layout::Place;
 use crate::told::{Told, shown, tell_at, told_of_finding};
-use crate::unread::refused;
+use a2_asm::refused;
 use a2_stream::{Output, WriteFault, put, put_all};
 use a2_syntax::{Fault, parse};
 use a2_text::{cut, decimal};

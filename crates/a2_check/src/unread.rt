@@ -7,20 +7,10 @@ ghost use Rattle.a2_syntax.specs.Grammar.{IsLine};
 ghost use Rattle.a2_syntax.specs.declared.fault.Fault.{Fault};
 ghost use Rattle.a2_check.specs.Unread.{AreUnread};
 
+use a2_asm::refused;
 use a2_syntax::{Fault, parse};
 use arrayvec::ArrayVec;
 use std::alloc::{AllocError, Allocator};
-
-/// A refusal, but want of memory by itself.
-pub(crate) fn refused(fault: Fault) -> Result<Fault, AllocError>
-    ensures same { IfOk result (λ refusal. refusal ≡ fault) }
-    ensures source { IfOk result (λ _. fault ≢ Fault.Memory) }
-{
-    match fault {
-        Fault::Memory => Err(AllocError),
-        refusal => Ok(refusal),
-    }
-}
 
 // The text whose one line this is: it ends by a carriage return and a line feed, so that the line keeps one of its own.
 fn ended(line: &[u8]) -> ArrayVec<u8, 257>

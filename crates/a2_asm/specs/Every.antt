@@ -1,0 +1,104 @@
+-- Every refusal of a source that is known at once: the first, and those of other lines. Where each line may lie in its place,
+-- those are of values; else they are of names and forms, which hang on no place and no value. This project's profile.
+use Rattle.std.specs.Prelude.{◌≡◌, ◌⊎◌, ℕ, ◌+◌, ◌==◌, Bool, not, List, [], ◌∷◌, ◌++◌, length, fold, filter, filter_map, Option, None, is_some, if◌then◌else◌}
+use Rattle.std.specs.List.{list_all, cons_option}
+use Rattle.std.specs.Option.{option_map_or}
+use Rattle.a2_text.specs.Refusals.{◌otherwise◌, refuse_if}
+use Rattle.a2_opcode.specs.declared.Mnemonic.{Mnemonic}
+use Rattle.a2_syntax.specs.Bare.{NoAllocator, BareLine}
+use Rattle.a2_syntax.specs.Texts.{fault_line}
+use Rattle.a2_syntax.specs.declared.fault.Fault.{Fault}
+use Rattle.a2_syntax.specs.declared.fault.Fault.TheVariants as faults
+use Rattle.a2_syntax.specs.declared.source.Expr.{Expr}
+use Rattle.a2_syntax.specs.declared.source.Operand.{Operand}
+use Rattle.a2_syntax.specs.declared.source.Body.{Body}
+use Rattle.a2_syntax.specs.declared.source.Body.TheVariants.{Instr, Org, Equ, Dfb, Dw, Ds}
+use Rattle.a2_syntax.specs.declared.source.Line.{Line}
+use Rattle.a2_asm.specs.Assembled.{Assembled}
+use Rattle.a2_asm.specs.Values.{Names, is_known}
+use Rattle.a2_asm.specs.Modes.{has_mode, mode_of, expr_of}
+use Rattle.a2_asm.specs.Layout.{Row, IsLayout, defined_by, names}
+use Rattle.a2_asm.specs.Programs.{IsProgram}
+use Rattle.a2_asm.specs.Refusals.{first_behind, is_taken, refuse_place, refuse_operand, IsLayoutRefusal}
+
+-- what a check that sees what stands before each element refuses in a list
+abbrev pub each_behind : {X : Type 0} → (List X → X → Option Fault) → List X → List X → List Fault
+each_behind check before [] = []
+each_behind check before (x ∷ xs) = cons_option (check before x) (each_behind check (before ++ x ∷ []) xs)
+
+-- names with a label more, where it is not among them; what it stands for is not asked
+abbrev pub with_label : Names → Option (List ℕ) → Names
+with_label earlier label = if is_taken earlier label then earlier else earlier ++ defined_by label 0
+
+-- the labels of lines
+abbrev pub labels : {A : Type 0} → List (Line A) → Names
+labels lines = fold (λ earlier line. with_label earlier line.label) [] lines
+
+-- a name that is defined nowhere
+abbrev pub refuse_name : {A : Type 0} → Names → ℕ → Expr A → Option Fault
+refuse_name all number e = refuse_if (not (is_known all e)) (faults.Unknown number)
+
+-- in ORG, EQU and DS: that, and a name that no earlier line defines
+abbrev pub refuse_early : {A : Type 0} → Names → Names → ℕ → Expr A → Option Fault
+refuse_early all earlier number e =
+    refuse_name all number e otherwise refuse_if (not (is_known earlier e)) (faults.Forward number)
+
+-- in DFB and DW: a name that is defined nowhere
+abbrev pub refuse_unknown : {A : Type 0} → Names → ℕ → List (Expr A) → Option Fault
+refuse_unknown all number es = refuse_if (not (list_all (is_known all) es)) (faults.Unknown number)
+
+-- an instruction that the table lacks, wherever it lies
+abbrev pub lacks_form : {A : Type 0} → Names → Mnemonic → Operand A → Bool
+lacks_form earlier m operand = not (has_mode m (mode_of earlier 0 m operand))
+
+-- an instruction's form, and then its names
+abbrev pub refuse_instr : {A : Type 0} → Names → Names → ℕ → Mnemonic → Operand A → Option Fault
+refuse_instr all earlier number m operand =
+    refuse_if (lacks_form earlier m operand) (faults.NoMode number) otherwise
+    option_map_or (refuse_name all number) (expr_of operand) None
+
+-- what the names and the form of a line's body are refused for
+abbrev pub refuse_words : {A : Type 0} → Names → Names → ℕ → Body A → Option Fault
+refuse_words all earlier number (Instr m operand) = refuse_instr all earlier number m operand
+refuse_words all earlier number (Org e) = refuse_early all earlier number e
+refuse_words all earlier number (Equ e) = refuse_early all earlier number e
+refuse_words all earlier number (Ds e) = refuse_early all earlier number e
+refuse_words all earlier number (Dfb es) = refuse_unknown all number es
+refuse_words all earlier number (Dw es) = refuse_unknown all number es
+refuse_words all earlier number body = None
+
+-- what the label, the names and the form of a line are refused for, behind the lines that define earlier names
+abbrev pub refuse_names_in : {A : Type 0} → Names → Names → ℕ → Line A → Option Fault
+refuse_names_in all earlier number line =
+    refuse_if (is_taken earlier line.label) (faults.Duplicate number) otherwise refuse_words all earlier number line.body
+
+-- the same of a line behind these
+abbrev pub refuse_by_names : {A : Type 0} → Names → List (Line A) → Line A → Option Fault
+refuse_by_names all before line = refuse_names_in all (labels before) (length before + 1) line
+
+-- of each line what its names and its form are refused for
+abbrev pub by_names : {A : Type 0} → List (Line A) → List Fault
+by_names source = each_behind (refuse_by_names (labels source)) [] source
+
+-- of each line in its place what its values are refused for
+abbrev pub by_values : {A : Type 0} → Names → List (Row A) → List Fault
+by_values all rows = filter_map (λ row. refuse_operand all row.place row.line.body) rows
+
+-- what each line is refused for
+abbrev pub each_refusal : {A : Type 0} → List (Line A) → List (Row A) → List Fault
+each_refusal source rows =
+    if is_some (first_behind (refuse_place (names rows)) [] rows) then by_names source else by_values (names rows) rows
+
+-- a refusal, and those of other lines
+abbrev pub first_and_others : Fault → List Fault → List Fault
+first_and_others first told = first ∷ filter (λ fault. not (fault_line fault == fault_line first)) told
+
+-- all that is told of lines that are refused
+abbrev pub AreOfRefused : List BareLine → List Fault → Type 0
+AreOfRefused source told =
+    (first : Fault) × (layout : List (Row NoAllocator))
+    × IsLayoutRefusal source first × IsLayout source layout × (told ≡ first_and_others first (each_refusal source layout))
+
+-- all that is told of the layout of lines: nothing where they make a program
+abbrev pub AreLayoutRefusals : List BareLine → List Fault → Type 0
+AreLayoutRefusals source told = ((told ≡ []) × (program : Assembled) × IsProgram source program) ⊎ AreOfRefused source told

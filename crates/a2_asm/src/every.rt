@@ -1,0 +1,275 @@
+//! Every refusal of a source that is known at once.
+
+ghost use Rattle.std.specs.Prelude.{◌≡◌, ◌≢◌, ◌≤◌, ◌==◌, [], false, not, None, length, map, IfOk, OnOk};
+ghost use Rattle.a2_syntax.specs.Texts.{fault_line};
+ghost use Rattle.a2_syntax.specs.declared.fault.Fault.{Fault};
+ghost use Rattle.a2_asm.specs.Values.{Names as NameList};
+ghost use Rattle.a2_asm.specs.Layout.{names, mode_in};
+ghost use Rattle.a2_asm.specs.Pass.{source_rows};
+ghost use Rattle.a2_asm.specs.Refusals.{first_behind, refuse_place, refuse_operand, lacks_row};
+ghost use Rattle.a2_asm.specs.Entries.{entries};
+ghost use Rattle.a2_asm.specs.Every as every;
+ghost use Rattle.a2_asm.specs.Every.{AreLayoutRefusals};
+
+use crate::assembling::assemble;
+use crate::bytes::{are_known, expr_of, line_bytes};
+use crate::layout::{define, is_taken, place};
+use crate::modes::{has, mode_of};
+use crate::place::Place;
+use crate::program::Names;
+use crate::values::is_known;
+use a2_opcode::Mnemonic;
+use a2_syntax::{Body, Expr, Fault, Line, Operand, Source};
+use indexmap::IndexMap;
+use std::alloc::{AllocError, Allocator};
+
+/// A refusal, but want of memory by itself.
+pub fn refused(fault: Fault) -> Result<Fault, AllocError>
+    ensures same { IfOk result (λ refusal. refusal ≡ fault) }
+    ensures source { IfOk result (λ _. fault ≢ Fault.Memory) }
+{
+    match fault {
+        Fault::Memory => Err(AllocError),
+        refusal => Ok(refusal),
+    }
+}
+
+// Adds the label of a line, if there is one that is not among the names.
+fn add_label<A: Allocator + Copy>(
+    alloc: A,
+    known: &mut Names<A>,
+    line: &Line<A>,
+) -> Result<(), AllocError>
+    ensures { OnOk result (entries known.new ≡ every.with_label (entries known.old) line.now.label) }
+{
+    if is_taken(known, line) {
+        return Ok(());
+    }
+    match define(alloc, known, line, 0) {
+        Ok(()) => Ok(()),
+        Err(_) => Err(AllocError),
+    }
+}
+
+// The labels of lines.
+fn labels<A: Allocator + Copy>(alloc: A, lines: &[Line<A>]) -> Result<Names<A>, AllocError>
+    ensures { IfOk result (λ known. entries known ≡ every.labels lines.now) }
+{
+    let mut known: Names<A> = IndexMap::new(alloc);
+    for line in lines {
+        add_label(alloc, &mut known, line)?;
+    }
+    Ok(known)
+}
+
+// Why an expression is refused, by the names in it.
+fn refuse_name<A: Allocator>(all: &Names<A>, number: u16, e: &Expr<A>) -> Option<Fault>
+    ensures { result ≡ every.refuse_name (entries all.now) number e.now }
+{
+    if !is_known(all, e) {
+        return Some(Fault::Unknown(number));
+    }
+    None
+}
+
+// Why ORG, EQU or DS is refused, by the names in it.
+fn refuse_early<A: Allocator>(
+    all: &Names<A>,
+    earlier: &Names<A>,
+    number: u16,
+    e: &Expr<A>,
+) -> Option<Fault>
+    ensures { result ≡ every.refuse_early (entries all.now) (entries earlier.now) number e.now }
+{
+    if !is_known(all, e) {
+        return Some(Fault::Unknown(number));
+    }
+    if !is_known(earlier, e) {
+        return Some(Fault::Forward(number));
+    }
+    None
+}
+
+// Why the expressions of DFB or DW are refused, by the names in them.
+fn refuse_unknown<A: Allocator>(all: &Names<A>, number: u16, es: &[Expr<A>]) -> Option<Fault>
+    ensures { result ≡ every.refuse_unknown (entries all.now) number es.now }
+{
+    if !are_known(all, es) {
+        return Some(Fault::Unknown(number));
+    }
+    None
+}
+
+// Why an instruction is refused, by its form and the names in it.
+fn refuse_instr<A: Allocator>(
+    all: &Names<A>,
+    earlier: &Names<A>,
+    number: u16,
+    mnemonic: Mnemonic,
+    operand: &Operand<A>,
+) -> Option<Fault>
+    ensures { result ≡ every.refuse_instr (entries all.now) (entries earlier.now) number mnemonic operand.now }
+{
+    if !has(mnemonic, mode_of(earlier, 0, mnemonic, operand)) {
+        return Some(Fault::NoMode(number));
+    }
+    match expr_of(operand) {
+        Some(e) => refuse_name(all, number, e),
+        None => None,
+    }
+}
+
+// Why what a line says is refused, by its form and the names in it.
+fn refuse_words<A: Allocator>(
+    all: &Names<A>,
+    earlier: &Names<A>,
+    number: u16,
+    body: &Body<A>,
+) -> Option<Fault>
+    ensures { result ≡ every.refuse_words (entries all.now) (entries earlier.now) number body.now }
+{
+    match body {
+        Body::Instr(mnemonic, operand) => refuse_instr(all, earlier, number, *mnemonic, operand),
+        Body::Org(e) | Body::Equ(e) | Body::Ds(e) => refuse_early(all, earlier, number, e),
+        Body::Dfb(es) | Body::Dw(es) => refuse_unknown(all, number, es.get()),
+        _ => None,
+    }
+}
+
+// Why a line is refused, by its label, its form and the names in it.
+fn refuse_names_in<A: Allocator>(
+    all: &Names<A>,
+    earlier: &Names<A>,
+    number: u16,
+    line: &Line<A>,
+) -> Option<Fault>
+    ensures { result ≡ every.refuse_names_in (entries all.now) (entries earlier.now) number line.now }
+{
+    if is_taken(earlier, line) {
+        return Some(Fault::Duplicate(number));
+    }
+    refuse_words(all, earlier, number, &line.body)
+}
+
+// Of each line why it is refused, by its label, its form and the names in it.
+fn by_names<A: Allocator + Copy>(alloc: A, lines: &[Line<A>]) -> Result<Vec<Fault, A>, AllocError>
+    requires { length lines.now ≤ 4096 }
+    ensures { IfOk result (λ faults. faults.items ≡ every.by_names lines.now) }
+{
+    let all = labels(alloc, lines)?;
+    let mut known: Names<A> = IndexMap::new(alloc);
+    let mut faults = Vec::new(alloc);
+    let mut n: u16 = 1;
+    for line in lines {
+        let refusal = refuse_names_in(&all, &known, n, line);
+        if let Some(fault) = refusal {
+            faults.push(fault)?;
+        }
+        add_label(alloc, &mut known, line)?;
+        n += 1;
+    }
+    Ok(faults)
+}
+
+// Why one of the values of a line in its place is refused.
+fn refuse_operand<A: Allocator + Copy>(
+    alloc: A,
+    known: &Names<A>,
+    place: Place,
+    body: &Body<A>,
+) -> Result<Option<Fault>, AllocError>
+    requires row { lacks_row place body.now ≡ false }
+    requires form { (earlier : NameList) × (place.mode ≡ mode_in earlier place.address body.now) }
+    ensures { IfOk result (λ refusal. refusal ≡ refuse_operand (entries known.now) place body.now) }
+{
+    match line_bytes(alloc, known, place, body) {
+        Ok(_) => Ok(None),
+        Err(fault) => Ok(Some(refused(fault)?)),
+    }
+}
+
+// Of each line in its place why one of its values is refused.
+fn by_values<A: Allocator + Copy>(
+    alloc: A,
+    lines: &[Line<A>],
+    places: &[Place],
+    known: &Names<A>,
+) -> Result<Vec<Fault, A>, AllocError>
+    requires few { length lines.now ≤ 4096 }
+    requires places { places.now ≡ map (λ row. row.place) (source_rows lines.now) }
+    requires placed { first_behind (refuse_place (names (source_rows lines.now))) [] (source_rows lines.now) ≡ None }
+    ensures { IfOk result (λ faults. faults.items ≡ every.by_values (entries known.now) (source_rows lines.now)) }
+{
+    let mut faults = Vec::new(alloc);
+    for (i, line) in lines.iter().enumerate() {
+        let place = places[i];
+        let refusal = refuse_operand(alloc, known, place, &line.body)?;
+        if let Some(fault) = refusal {
+            faults.push(fault)?;
+        }
+    }
+    Ok(faults)
+}
+
+// What each line is refused for.
+fn each_refusal<A: Allocator + Copy>(
+    alloc: A,
+    lines: &[Line<A>],
+) -> Result<Vec<Fault, A>, AllocError>
+    requires { length lines.now ≤ 4096 }
+    ensures { IfOk result (λ faults. faults.items ≡ every.each_refusal lines.now (source_rows lines.now)) }
+{
+    match place(alloc, lines) {
+        Ok((places, known)) => by_values(alloc, lines, places.as_slice(), &known),
+        Err(fault) => {
+            refused(fault)?;
+            by_names(alloc, lines)
+        }
+    }
+}
+
+// Whether two refusals are of two lines.
+fn is_of_another_line(fault: Fault, first: Fault) -> bool
+    ensures { result ≡ not (fault_line fault == fault_line first) }
+{
+    fault.line() != first.line()
+}
+
+// A refusal, and those of other lines.
+fn first_and_others<A: Allocator>(
+    alloc: A,
+    first: Fault,
+    told: &[Fault],
+) -> Result<Vec<Fault, A>, AllocError>
+    ensures { IfOk result (λ faults. faults.items ≡ every.first_and_others first told.now) }
+{
+    let mut faults = Vec::new(alloc);
+    faults.push(first)?;
+    for fault in told {
+        if is_of_another_line(*fault, first) {
+            faults.push(*fault)?;
+        }
+    }
+    Ok(faults)
+}
+
+/// The refusals of a source that are known at once; none where it makes a program. The first is that of `assemble`, and behind
+/// it stand those of other lines, in their order. Where each line may lie in its place, these are of values: a name that is
+/// defined nowhere, a value out of range, a branch that goes too far. Else they are of names and forms, which hang on no place:
+/// a label of an earlier line, in ORG, EQU or DS a name that no earlier line defines, a name that is defined nowhere, a form
+/// that the table lacks. Refused only for want of memory. This project's profile.
+pub fn refusals<A: Allocator + Copy>(
+    alloc: A,
+    source: &Source<A>,
+) -> Result<Vec<Fault, A>, AllocError>
+    ensures { IfOk result (λ faults. AreLayoutRefusals source.now faults.items) }
+{
+    let fault = match assemble(alloc, source) {
+        Ok(_) => return Ok(Vec::new(alloc)),
+        Err(fault) => fault,
+    };
+    let first = refused(fault)?;
+    let lines = source.lines();
+    let told = each_refusal(alloc, lines)?;
+    first_and_others(alloc, first, told.as_slice())
+}
