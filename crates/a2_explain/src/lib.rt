@@ -5,4 +5,4 @@ mod pushes;
 mod scene;
 mod stop;
 
-pub use stop::explain_stop;
+pub use stop::{explain_stop, tell_stop};

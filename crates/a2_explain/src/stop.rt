@@ -224,3 +224,21 @@ pub fn explain_stop<A: Allocator + Copy, W: Output>(
     };
     explain(alloc, &scene, keys, limit, free, writer)
 }
+
+/// Writes where a run of this source, which is that of `program`, stopped with PC at `pc`, and what the cause means there, in
+/// one line that begins with `a2x: `. Refused where a write fails, and for want of memory. This project's profile.
+pub fn tell_stop<A: Allocator + Copy, W: Output>(
+    alloc: A,
+    source: &[u8],
+    program: &Program<A>,
+    pc: u16,
+    cause: Cause,
+    writer: &mut W,
+) -> Result<(), RunFault> {
+    let lines = cut(alloc, source)?;
+    let scene = Scene {
+        program,
+        lines: lines.as_slice(),
+    };
+    Ok(put_stop(&scene, pc, cause, writer)?)
+}
