@@ -1,0 +1,3 @@
+pub mod Paces
+pub mod Played
+pub mod Strokes

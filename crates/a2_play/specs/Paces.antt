@@ -1,0 +1,27 @@
+-- How many cycles are due. This project's profile.
+use Rattle.std.specs.Prelude.{ℕ, Bool, ◌*◌, ◌/◌, min, nat_le, if◌then◌else◌}
+use Rattle.a2_text.specs.Bytes.{is_between}
+use Rattle.a2_play.specs.declared.pace.Pace.{Pace}
+use Rattle.a2_play.specs.declared.pace.Pace.TheVariants.{Cycles, Max}
+
+-- the cycles that an Apple II makes in a second
+abbrev pub apple : Pace
+apple = Cycles 1_022_727
+
+-- the paces between which a session goes
+abbrev pub is_in_bounds : ℕ → Bool
+is_in_bounds cycles = is_between 1_000 1_000_000_000 cycles
+
+-- twice as fast, and half as fast, within bounds
+abbrev pub faster : Pace → Pace
+faster (Cycles cycles) = if nat_le cycles 500_000_000 then Cycles (cycles * 2) else Cycles 1_000_000_000
+faster Max = Max
+
+abbrev pub slower : Pace → Pace
+slower (Cycles cycles) = if nat_le (cycles / 2) 1_000 then Cycles 1_000 else Cycles (cycles / 2)
+slower Max = Max
+
+-- those of the time that went by, of a quarter of a second at most
+abbrev pub due : Pace → ℕ → ℕ
+due (Cycles cycles) micros = cycles * min micros 250_000 / 1_000_000
+due Max micros = 1_000_000

@@ -1,0 +1,86 @@
+-- A machine that is played: its world is that of the program's meaning under the keys typed at the steps where they were typed.
+use Rattle.std.specs.Prelude.{◌≡◌, ◌⊎◌, ℕ, zero, suc, ◌<◌, ◌≤◌, ◌==◌, Bool, true, false, List, [], ◌∷◌, ◌++◌, Option, Some, None, if◌then◌else◌}
+use Rattle.a2_hex.specs.Images.{held}
+use Rattle.a2_asm.specs.Assembled.{Assembled}
+use Rattle.a2_bus.specs.Devices.{keys_typed}
+use Rattle.a2_bus.specs.Memory.{Memory}
+use Rattle.a2_services.specs.World.{World}
+use Rattle.a2_machine.specs.declared.Cause.{Cause}
+use Rattle.a2_machine.specs.declared.Cause.TheVariants.{Limit}
+use Rattle.a2_machine.specs.Meaning.{Code, stuck, next}
+use Rattle.a2_machine.specs.ByteRun.{bytes}
+use Rattle.a2_machine.specs.ProgramGuard.{guard_of_program}
+use Rattle.a2_machine.specs.Start.{start_world}
+use Rattle.a2_machine.specs.State.{Device, MachineState, world_of_state, code_of}
+use Rattle.a2_play.specs.declared.player.Typed.{Typed}
+
+-- a machine, and the keys that were typed at it
+pub record Play : Type 0 where
+  pub machine : Device
+  pub log : List Typed
+
+-- a program's code, at whose bytes nothing may be stored, and the world at its start, with no key waiting
+unfoldable pub code_of_play : Assembled → Code
+code_of_play program = bytes (Some (guard_of_program program))
+
+unfoldable pub start : Assembled → World
+start program = start_world (held program.image) program.entry []
+
+-- the world after these keys are typed
+abbrev pub keys_typed_in : List ℕ → Memory → Memory
+keys_typed_in keys memory = record memory { devices = keys_typed memory.devices keys }
+
+unfoldable pub typed : List ℕ → World → World
+typed keys world = record world { memory = keys_typed_in keys world.memory }
+
+-- the keys that were typed behind so many steps
+abbrev pub keys_at : List Typed → ℕ → List ℕ
+keys_at [] n = []
+keys_at (t ∷ ts) n = if t.steps == n then t.key ∷ keys_at ts n else keys_at ts n
+
+-- the world behind so many steps, before the keys that were typed there, and with them
+unfoldable pub world_before_keys : Assembled → List Typed → ℕ → World
+world_before_keys program log zero = start program
+world_before_keys program log (suc n) = next (code_of_play program) (typed (keys_at log n) (world_before_keys program log n))
+
+unfoldable pub world_with_keys : Assembled → List Typed → ℕ → World
+world_with_keys program log n = typed (keys_at log n) (world_before_keys program log n)
+
+-- none was typed behind more steps
+abbrev pub NoneAbove : ℕ → List Typed → Type 0
+NoneAbove n [] = Unit {0}
+NoneAbove n (t ∷ ts) = (t.steps ≤ n) × NoneAbove n ts
+
+-- a program is played: the machine stands where its meaning comes to under the keys of the log, by none of whose steps it was stuck
+pub record IsPlayed (program : Assembled) (play : Play) : Type 0 where
+  pub holds : world_of_state play.machine.state ≡ world_with_keys program play.log play.machine.state.steps
+  pub went : (k : ℕ) → k < play.machine.state.steps → stuck (code_of_play program) (world_with_keys program play.log k) ≡ None
+  pub guarded : play.machine.state.guard ≡ Some (guard_of_program program)
+  pub past : NoneAbove play.machine.state.steps play.log
+
+-- a program with what is played of it
+pub record Sitting : Type 0 where
+  pub program : Assembled
+  pub play : Play
+
+-- a machine at which a key was typed, or, where there was no room, was not
+abbrev pub with_key : ℕ → Device → Device
+with_key key device =
+    let s = device.state in let b = s.bus in
+    record device { state = record s { bus = record b { devices = keys_typed b.devices (key ∷ []) } } }
+
+abbrev pub machine_after : Bool → ℕ → Device → Device
+machine_after is_typed key device = if is_typed then with_key key device else device
+
+-- the same with the log
+abbrev pub after_key : Bool → ℕ → Play → Play
+after_key false key play = play
+after_key true key play = record {
+  machine = with_key key play.machine;
+  log = play.log ++ record { steps = play.machine.state.steps; key = key } ∷ [];
+}
+
+-- the machine is stuck by the cause that is told, where it is none of the limits
+abbrev pub IsStuckBy : MachineState → Option Cause → Type 0
+IsStuckBy state None = Unit {0}
+IsStuckBy state (Some cause) = (cause ≡ Limit) ⊎ (stuck (code_of state) (world_of_state state) ≡ Some cause)

@@ -1,0 +1,167 @@
+//! A machine and the keys that were typed at it.
+
+ghost use Rattle.std.specs.Prelude.{◌≡◌, ◌↔◌, true, ◌<◌, ◌++◌, ◌∷◌, [], length, vec_len, vec_capacity, IfOk, IfErr};
+ghost use Rattle.a2_asm.specs.Assembled.{Assembled};
+ghost use Rattle.a2_play.specs.Played.{IsPlayed, IsStuckBy, machine_after, after_key};
+
+use a2_asm::Program;
+use a2_bus::Keys;
+use a2_machine::{Cause, Machine};
+use std::alloc::{AllocError, Allocator, Global};
+use std::marker::Model;
+
+/// The most runs of the machine in one call.
+const MOST_RUNS: u32 = 64;
+
+/// The most cycles of an instruction: so many steps fewer than cycles are due go by no instruction too far.
+const MOST_CYCLES: u64 = 7;
+
+/// The most steps of one run.
+const MOST_STEPS: u64 = 1_000_000;
+
+/// A key, and the steps that were made when it was typed.
+#[derive(Clone, Copy, Debug, PartialEq, Eq)]
+pub struct Typed {
+    pub steps: u64,
+    /// 0 to 127.
+    pub key: u8,
+}
+
+/// A machine, and the keys that were typed at it. Contracts see both.
+#[derive(Drop)]
+pub struct Player<A: Allocator = Global> {
+    machine: Machine<A>,
+    log: Vec<Typed, A>,
+}
+
+// A key alone.
+fn one_key(key: u8) -> Keys
+    requires { key < 128 }
+    ensures { result ≡ key ∷ [] }
+{
+    let mut keys = Keys::new();
+    // There is room for a first key.
+    let _ = keys.push(key);
+    keys
+}
+
+// Types a key where there is room: whether there was.
+fn type_at<A: Allocator>(machine: &mut Machine<A>, key: u8) -> bool
+    requires { key < 128 }
+    ensures room { (result ≡ true) ↔ (length machine.old.state.bus.devices.keys < 4096) }
+    ensures typed { machine.new ≡ machine_after result key machine.old }
+{
+    machine.type_keys(&one_key(key)).is_ok()
+}
+
+// Notes a key where there is room.
+fn note_key<A: Allocator>(log: &mut Vec<Typed, A>, typed: Typed)
+    requires { vec_len log.old < vec_capacity log.old }
+    ensures { log.new.items ≡ log.old.items ++ typed ∷ [] }
+{
+    // There is room, so memory is not wanted.
+    let _ = log.push(typed);
+}
+
+impl<A: Allocator> Model for Player<A> {
+    ghost use Rattle.a2_play.specs.Played.{Play};
+
+    ghost Value = { Play };
+
+    ghost view = { λ p. record { machine = p.machine; log = p.log.items } };
+}
+
+impl<A: Allocator + Copy> Player<A> {
+    /// A machine at the start of a program, guarded, with nothing typed yet. Refused only for want of memory.
+    pub fn new(alloc: A, program: &Program<A>) -> Result<Player<A>, AllocError>
+        ensures played { IfOk result (λ player. IsPlayed program.now player) }
+        ensures log { IfOk result (λ player. player.log ≡ []) }
+    {
+        let machine = Machine::new(alloc)?;
+        let mut player = Player {
+            machine,
+            log: Vec::new(alloc),
+        };
+        player.restart(program);
+        Ok(player)
+    }
+}
+
+impl<A: Allocator> Player<A> {
+    /// Begins again: the machine is at the start of the program, guarded, and nothing is typed.
+    pub fn restart(&mut self, program: &Program<A>)
+        ensures played { IsPlayed program.now self.new }
+        ensures log { self.new.log ≡ [] }
+    {
+        self.machine.boot(program.image(), program.entry());
+        self.machine.guard(program);
+        self.log.clear();
+    }
+
+    /// The machine.
+    pub fn machine(&self) -> &Machine<A>
+        ensures { result.now ≡ self.now.machine }
+    {
+        &self.machine
+    }
+
+    /// The keys, in the order in which they were typed.
+    pub fn log(&self) -> &[Typed]
+        ensures { result.now ≡ self.now.log }
+    {
+        self.log.as_slice()
+    }
+
+    /// Types a key, 0 to 127, where fewer than 4,096 wait: whether that was so. Refused only for want of memory. Where none was
+    /// typed nothing changes.
+    pub fn type_key(&mut self, key: u8) -> Result<bool, AllocError>
+        requires { key < 128 }
+        ensures room { IfOk result (λ is_typed. (is_typed ≡ true) ↔ (length self.old.machine.state.bus.devices.keys < 4096)) }
+        ensures typed { IfOk result (λ is_typed. self.new ≡ after_key is_typed key self.old) }
+        ensures kept { IfErr result (λ _. self.new ≡ self.old) }
+        ensures played { (program : Assembled) → IsPlayed program self.old → IsPlayed program self.new }
+    {
+        self.log.try_reserve(1)?;
+        let steps = self.machine.steps();
+        if !type_at(&mut self.machine, key) {
+            return Ok(false);
+        }
+        note_key(&mut self.log, Typed { steps, key });
+        Ok(true)
+    }
+
+    /// Makes at most so many steps, 1 or more, and answers why it makes no more, where it made fewer or none can follow.
+    pub fn run(&mut self, steps: u32) -> Option<Cause>
+        ensures log { self.new.log ≡ self.old.log }
+        ensures stuck { IsStuckBy self.new.machine.state result }
+        ensures played { (program : Assembled) → IsPlayed program self.old → IsPlayed program self.new }
+    {
+        let before = self.machine.steps();
+        let cause = self.machine.run(steps);
+        if cause == Cause::Limit && self.machine.steps() > before {
+            None
+        } else {
+            Some(cause)
+        }
+    }
+
+    /// Makes steps until so many cycles were made since the start, or a cause holds: that then. At most 64,000,064 steps are
+    /// made.
+    pub fn run_to(&mut self, cycles: u64) -> Option<Cause>
+        ensures log { self.new.log ≡ self.old.log }
+        ensures stuck { IsStuckBy self.new.machine.state result }
+        ensures played { (program : Assembled) → IsPlayed program self.old → IsPlayed program self.new }
+    {
+        for _ in 0..MOST_RUNS {
+            let made = self.machine.cycles();
+            if made >= cycles {
+                return None;
+            }
+            let steps = ((cycles - made) / MOST_CYCLES).min(MOST_STEPS) as u32;
+            if let Some(cause) = self.run(steps + 1) {
+                return Some(cause);
+            }
+        }
+        None
+    }
+}

@@ -1,0 +1,332 @@
+//! A session: what was typed, the cycles that are due, what changed; and again.
+
+ghost use Rattle.std.specs.Prelude.{◌≡◌, ◌<◌};
+ghost use Rattle.a2_play.specs.Played.{IsPlayed};
+
+use crate::pace::{Pace, due};
+use crate::panel::{Face, State, put_panel};
+use crate::player::Player;
+use crate::strokes::{Order, Stroke, first_stroke};
+use crate::{Clock, PlayFault};
+use a2_ansi::{Colours, Shot, put_changes};
+use a2_asm::Program;
+use a2_explain::tell_stop;
+use a2_machine::Cause;
+use a2_stream::{Input, Output, ToWrite, put};
+use std::alloc::Global;
+use std::marker::Model;
+
+/// The time between two draws, and between two looks for keys at `Pace::Max`, at least: a thirtieth of a second.
+const FRAME: u64 = 33_333;
+
+/// The time for which flashing characters stand one way.
+const BLINK: u64 = 500_000;
+
+/// The most stretches of cycles between two looks for keys at `Pace::Max`.
+const MOST_STRETCHES: u32 = 10_000;
+
+/// The bytes that one read takes at most.
+const TYPED: usize = 64;
+
+/// RETURN, which ends a session that stopped.
+const RETURN: u8 = 0x0D;
+
+/// What rings the terminal's bell.
+const BELL: &[u8] = b"\x07";
+
+/// A session with a source's program. Contracts see the program, and the machine with the keys that were typed at it: it always
+/// stands where the program's meaning comes to under these keys, each behind the steps where it was typed.
+#[derive(Drop)]
+pub struct Session<'a> {
+    source: &'a [u8],
+    program: &'a Program,
+    player: Player,
+    state: State,
+    pace: Pace,
+    colours: Colours,
+    /// The cycles that are due since the start.
+    goal: u64,
+    /// When these were reckoned, and when the screen was drawn.
+    reckoned: u64,
+    drawn: u64,
+    is_ordered: bool,
+    saves: bool,
+    is_over: bool,
+    rings: bool,
+    shot: Option<Shot>,
+    face: Option<Face>,
+}
+
+impl<'a> Model for Session<'a> {
+    ghost use Rattle.a2_play.specs.Played.{Sitting, IsPlayed};
+
+    ghost Value = { Sitting };
+
+    ghost view = { λ s. record { program = s.program.now; play = s.player } };
+
+    ghost invariant = { λ s. IsPlayed s.program.now s.player };
+}
+
+impl<'a> Session<'a> {
+    /// A session of this source's program, that goes on with this player.
+    pub fn new(
+        source: &'a [u8],
+        program: &'a Program,
+        player: Player,
+        pace: Pace,
+        colours: Colours,
+    ) -> Session<'a>
+        requires { IsPlayed program.now player }
+        ensures { result ≡ record { program = program.now; play = player } }
+    {
+        Session {
+            source,
+            program,
+            player,
+            state: State::Going,
+            pace,
+            colours,
+            goal: 0,
+            reckoned: 0,
+            drawn: 0,
+            is_ordered: false,
+            saves: false,
+            is_over: false,
+            rings: false,
+            shot: None,
+            face: None,
+        }
+    }
+
+    /// The player.
+    pub fn player(&self) -> &Player
+        ensures player { result.now ≡ self.now.play }
+        ensures played { IsPlayed self.now.program self.now.play }
+    {
+        &self.player
+    }
+
+    /// Whether the keys are to be told.
+    pub fn saves(&self) -> bool {
+        self.saves
+    }
+
+    /// Why the machine stopped, where it did.
+    pub fn cause(&self) -> Option<Cause> {
+        match self.state {
+            State::Stopped(cause) => Some(cause),
+            _ => None,
+        }
+    }
+
+    // Where the machine stands behind a run or a step, for which there is this cause.
+    fn note(&mut self, cause: Option<Cause>, otherwise: State, waiting: State) {
+        self.state = match cause {
+            None => otherwise,
+            Some(Cause::Keys) => waiting,
+            Some(cause) => State::Stopped(cause),
+        };
+    }
+
+    // Does an order.
+    fn obey(&mut self, order: Order) {
+        match (order, self.state) {
+            (Order::Quit, _) => self.is_over = true,
+            (Order::Pause, State::Paused) => self.state = State::Going,
+            (Order::Pause, State::Going | State::Waiting) => self.state = State::Paused,
+            (Order::Step, State::Going | State::Waiting | State::Paused) => {
+                let cause = self.player.run(1);
+                self.note(cause, State::Paused, State::Paused);
+            }
+            (Order::Pause | Order::Step, State::Stopped(_)) => {}
+            (Order::Faster, _) => self.pace = self.pace.faster(),
+            (Order::Slower, _) => self.pace = self.pace.slower(),
+            (Order::Restart, _) => {
+                self.player.restart(self.program);
+                self.goal = 0;
+                self.state = State::Going;
+            }
+            (Order::Save, _) => self.saves = true,
+            (Order::Redraw, _) => {
+                self.shot = None;
+                self.face = None;
+            }
+        }
+    }
+
+    // Types a key; where the machine stopped RETURN ends the session.
+    fn press(&mut self, key: u8) -> Result<(), PlayFault>
+        requires { key < 128 }
+    {
+        match self.state {
+            State::Stopped(_) => self.is_over = self.is_over || key == RETURN,
+            _ => {
+                if !self.player.type_key(key)? {
+                    self.rings = true;
+                }
+            }
+        }
+        Ok(())
+    }
+
+    // Does what typed bytes say.
+    fn hear(&mut self, bytes: &[u8]) -> Result<(), PlayFault> {
+        let mut ahead = bytes;
+        while let Some((stroke, rest)) = first_stroke(ahead, self.is_ordered) {
+            self.is_ordered = stroke == Stroke::Prefix;
+            match stroke {
+                Stroke::Key(key) => self.press(key)?,
+                Stroke::Order(order) => self.obey(order),
+                Stroke::Prefix | Stroke::Nothing => {}
+            }
+            ahead = rest;
+        }
+        Ok(())
+    }
+
+    // Makes the cycles that are due.
+    fn go_on(&mut self, now: u64) {
+        let late = now.saturating_sub(self.reckoned);
+        self.reckoned = now;
+        match self.state {
+            State::Going | State::Waiting => {
+                self.goal = self.goal.saturating_add(due(self.pace, late));
+                let cause = self.player.run_to(self.goal);
+                self.note(cause, State::Going, State::Waiting);
+            }
+            State::Paused | State::Stopped(_) => {}
+        }
+        // Cycles are not made up for that fell due while the machine waited.
+        if self.state != State::Going {
+            self.goal = self.player.machine().cycles();
+        }
+    }
+
+    // Whether the machine goes as fast as it can, and it is no time yet for a draw.
+    fn is_ahead(&self, now: u64) -> bool {
+        self.pace == Pace::Max
+            && self.state == State::Going
+            && now.saturating_sub(self.drawn) < FRAME
+    }
+
+    // What the panel is to tell.
+    fn face(&self) -> Face {
+        Face {
+            state: self.state,
+            pace: self.pace,
+            saves: self.saves,
+            steps: match self.state {
+                State::Going | State::Waiting => None,
+                State::Paused | State::Stopped(_) => Some(self.player.machine().steps()),
+            },
+        }
+    }
+}
+
+// What a stop means, in a line; nothing where there is none.
+fn stop_text(alloc: Global, session: &Session<'_>, pc: u16) -> Result<Vec<u8>, PlayFault> {
+    let mut text = Vec::new(alloc);
+    if let Some(cause) = session.cause() {
+        match tell_stop(
+            alloc,
+            session.source,
+            session.program,
+            pc,
+            cause,
+            &mut ToWrite::new(&mut text),
+        ) {
+            Ok(()) => {}
+            // A text in memory takes no more only where memory is wanted.
+            Err(_) => return Err(PlayFault::Memory),
+        }
+    }
+    Ok(text)
+}
+
+// Writes the panel, where it changed.
+fn put_face<W: Output>(
+    alloc: Global,
+    session: &mut Session<'_>,
+    writer: &mut W,
+) -> Result<(), PlayFault> {
+    let face = session.face();
+    if session.face == Some(face) {
+        return Ok(());
+    }
+    let machine = session.player.machine();
+    let told = stop_text(alloc, session, machine.regs().pc)?;
+    put_panel(alloc, &face, machine, told.as_slice(), writer)?;
+    session.face = Some(face);
+    Ok(())
+}
+
+// Writes the cells that changed, in one piece, so that a terminal shows no half of them.
+fn draw<W: Output>(
+    alloc: Global,
+    session: &mut Session<'_>,
+    now: u64,
+    output: &mut W,
+) -> Result<(), PlayFault> {
+    let is_lit = now / BLINK % 2 == 1;
+    let shot = Shot::new(&session.player.machine().view(), is_lit);
+    let mut frame = Vec::new(alloc);
+    let mut writer = ToWrite::new(&mut frame);
+    put_changes(&session.shot, &shot, session.colours, &mut writer)?;
+    put_face(alloc, session, &mut writer)?;
+    if session.rings {
+        put(BELL, &mut writer)?;
+    }
+    session.rings = false;
+    session.shot = Some(shot);
+    session.drawn = now;
+    Ok(put(frame.as_slice(), output)?)
+}
+
+// A read, and what it gave; or, at `Pace::Max`, the cycles that are made before the next look for keys.
+fn take_turn<R: Input, W: Output, C: Clock>(
+    alloc: Global,
+    session: &mut Session<'_>,
+    clock: &mut C,
+    input: &mut R,
+    output: &mut W,
+) -> Result<(), PlayFault> {
+    let mut typed = [0u8; TYPED];
+    let count = input.read(&mut typed)?;
+    session.hear(&typed[..count])?;
+    let mut now = clock.micros();
+    session.go_on(now);
+    for _ in 0..MOST_STRETCHES {
+        if !session.is_ahead(now) {
+            break;
+        }
+        now = clock.micros();
+        session.go_on(now);
+    }
+    if now.saturating_sub(session.drawn) >= FRAME || session.is_over {
+        draw(alloc, session, now, output)?;
+    }
+    Ok(())
+}
+
+/// Plays until the session is ended: reads what was typed, does what it says, makes the cycles that are due by `clock`, and
+/// draws what changed, at most thirty times a second. A read of `input` is to give what was typed, or nothing within the
+/// tenth of a second, or at `Pace::Max` at once. Refused where a read or write fails, and for want of memory: the session
+/// ends there.
+pub fn play<R: Input, W: Output, C: Clock>(
+    alloc: Global,
+    session: &mut Session<'_>,
+    clock: &mut C,
+    input: &mut R,
+    output: &mut W,
+) -> Result<(), PlayFault> {
+    let now = clock.micros();
+    session.reckoned = now;
+    draw(alloc, session, now, output)?;
+    for _ in 0..u64::MAX {
+        if session.is_over {
+            break;
+        }
+        take_turn(alloc, session, clock, input, output)?;
+    }
+    Ok(())
+}
