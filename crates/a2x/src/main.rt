@@ -1,9 +1,11 @@
 //! Tools beside the program `a2`: one program, a word for each.
 #![tactic(auto)]
 
+mod clock;
 mod film;
 mod help;
 mod named;
+mod play;
 mod program;
 mod release;
 mod table;
@@ -16,6 +18,8 @@ use a2_desk::HostDesk;
 use a2_host::{HostFiles, HostWordsFault, complain, words_of};
 use a2_run::{RunFault, fault_status};
 use a2_stream::{FromRead, Output, ToWrite};
+use clock::HostClock;
+use play::Seat;
 use program::{obey, talks};
 use std::env;
 use std::io::{BufWriter, ErrorKind, IsTerminal, Write};
@@ -53,10 +57,14 @@ fn obeyed<W: Output>(
     obey(
         rt.alloc(),
         words,
-        rt.stdin().is_terminal(),
+        Seat {
+            types: rt.stdin().is_terminal(),
+            sees: rt.stdout().is_terminal(),
+        },
         release,
         &mut HostFiles::new(rt),
         &mut HostDesk::new(rt),
+        &mut HostClock::new(rt),
         &mut FromRead::new(rt.stdin()),
         output,
         &mut ToWrite::new(rt.stderr()),

@@ -5,6 +5,7 @@ ghost use Rattle.std.specs.Prelude.{◌≡◌, ◌≢◌, ◌≤◌, None, IfOk,
 use crate::film::{FilmFault, FilmOrder, is_film_limit, parted, window_of};
 use crate::help::{put_page, put_use};
 use crate::named::{check_order, file_in};
+use crate::play::{Seat, play_of};
 use crate::release::put_version;
 use crate::table::{Tool, Word, nearest, word_named};
 use crate::terminal::mon;
@@ -15,6 +16,7 @@ use a2_desk::Desk;
 use a2_film::{ScriptFault, chapters_of};
 use a2_host::Shelf;
 use a2_manual::{manual, near, topic};
+use a2_play::Clock;
 use a2_run::{RunFault, read_front, read_text};
 use a2_stream::{Input, Output, put, put_all};
 use a2_syntax::Fault;
@@ -25,7 +27,7 @@ use std::alloc::Global;
 const MOST_LOADED: usize = 1 << 20;
 
 // Writes a line of these parts behind the program's name. Where that fails there is no place left to tell it.
-fn tell<E: Output>(parts: &[&[u8]], complaints: &mut E) {
+pub(crate) fn tell<E: Output>(parts: &[&[u8]], complaints: &mut E) {
     let _ = put_all(&[b"a2x: "], complaints);
     let _ = put_all(parts, complaints);
     let _ = put_all(&[b"\n"], complaints);
@@ -62,7 +64,7 @@ fn loaded_text<S: Shelf, E: Output>(
 }
 
 // The text of a file, or of the standard input where none is named; or the status, where that is told.
-fn text_of<S: Shelf, R: Input, E: Output>(
+pub(crate) fn text_of<S: Shelf, R: Input, E: Output>(
     alloc: Global,
     file: Option<&str>,
     shelf: &mut S,
@@ -89,7 +91,7 @@ fn text_of<S: Shelf, R: Input, E: Output>(
 }
 
 // Tells that a word is no option of this word.
-fn tell_option<E: Output>(name: &[u8], option: &[u8], complaints: &mut E) {
+pub(crate) fn tell_option<E: Output>(name: &[u8], option: &[u8], complaints: &mut E) {
     tell(
         &[
             name,
@@ -104,7 +106,7 @@ fn tell_option<E: Output>(name: &[u8], option: &[u8], complaints: &mut E) {
 }
 
 // Tells that an option has no value.
-fn tell_value<E: Output>(name: &[u8], option: &[u8], complaints: &mut E) {
+pub(crate) fn tell_value<E: Output>(name: &[u8], option: &[u8], complaints: &mut E) {
     tell(
         &[name, b": ", option, b" stands without a value (a2x help)"],
         complaints,
@@ -476,13 +478,14 @@ fn film_of<S: Shelf, D: Desk, R: Input, W: Output, E: Output>(
 }
 
 // Does what a word says.
-fn act<S: Shelf, D: Desk, R: Input, W: Output, E: Output>(
+fn act<S: Shelf, D: Desk, C: Clock, R: Input, W: Output, E: Output>(
     alloc: Global,
     word: &Word,
     words: &[String],
-    prompts: bool,
+    seat: Seat,
     shelf: &mut S,
     desk: &mut D,
+    clock: &mut C,
     input: &mut R,
     output: &mut W,
     complaints: &mut E,
@@ -512,8 +515,18 @@ fn act<S: Shelf, D: Desk, R: Input, W: Output, E: Output>(
             Err(_) => Err(tell_words(complaints)),
         },
         Tool::Mon => Ok(talk_of(
-            alloc, word, words, prompts, shelf, input, output, complaints,
+            alloc, word, words, seat.types, shelf, input, output, complaints,
         )),
+        Tool::Play => play_of(
+            alloc,
+            behind(words),
+            seat,
+            shelf,
+            clock,
+            input,
+            output,
+            complaints,
+        ),
         Tool::Film => film_of(alloc, word, words, shelf, desk, input, output, complaints),
         Tool::Profile | Tool::Run | Tool::Trace => match order_of(words) {
             Ok(order) => {
@@ -540,11 +553,11 @@ fn behind(words: &[String]) -> &[String] {
     }
 }
 
-/// Whether `words`, the first of which is the program's name, ask for a session whose lines someone may type.
+/// Whether `words`, the first of which is the program's name, ask for a session with someone who types.
 pub fn talks(words: &[String]) -> bool {
     match words {
         [_, word, ..] => match word_named(word.as_str()) {
-            Some(found) => matches!(found.tool, Tool::Mon),
+            Some(found) => matches!(found.tool, Tool::Mon | Tool::Play),
             None => false,
         },
         _ => false,
@@ -563,16 +576,17 @@ fn has_limit(words: &[String]) -> bool {
 
 /// Does what `words` ask for, and answers the exit status, 0 to 6. The first word is the program's name, and the second says
 /// what is done. Files are opened in `shelf`, and written on `desk`; what is asked for goes to `output`, and why it is refused to
-/// `complaints`. `prompts` says whether a prompt stands before each line of a session, and `release` names the file that says of
+/// `complaints`. `seat` says who sits there, `clock` tells the time of a session, and `release` names the file that says of
 /// which commit the program is, where there may be one. Without a second word the page of help goes to `complaints`, with status
 /// 2. This project's profile.
-pub fn obey<S: Shelf, D: Desk, R: Input, W: Output, E: Output>(
+pub fn obey<S: Shelf, D: Desk, C: Clock, R: Input, W: Output, E: Output>(
     alloc: Global,
     words: &[String],
-    prompts: bool,
+    seat: Seat,
     release: Option<&str>,
     shelf: &mut S,
     desk: &mut D,
+    clock: &mut C,
     input: &mut R,
     output: &mut W,
     complaints: &mut E,
@@ -588,7 +602,7 @@ pub fn obey<S: Shelf, D: Desk, R: Input, W: Output, E: Output>(
         [word, rest @ ..] => match word_named(word.as_str()) {
             Some(found) if asks_for_help(rest) => written(put_use(&found, output), complaints),
             Some(found) => match act(
-                alloc, &found, words, prompts, shelf, desk, input, output, complaints,
+                alloc, &found, words, seat, shelf, desk, clock, input, output, complaints,
             ) {
                 Ok(status) | Err(status) => status,
             },

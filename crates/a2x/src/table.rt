@@ -13,6 +13,7 @@ pub enum Tool {
     Help,
     List,
     Mon,
+    Play,
     Profile,
     Run,
     Test,
@@ -33,7 +34,7 @@ pub struct Word {
 }
 
 /// All words, in the order of the page of help.
-pub static WORDS: [Word; 9] = [
+pub static WORDS: [Word; 10] = [
     Word {
         name: "run",
         arguments: "[options] [F]",
@@ -89,6 +90,13 @@ pub static WORDS: [Word; 9] = [
         runs: false,
         says: "answers Monitor lines as they are typed",
         tool: Tool::Mon,
+    },
+    Word {
+        name: "play",
+        arguments: "[--pace N] F",
+        runs: false,
+        says: "runs F at a terminal, with the keys you type",
+        tool: Tool::Play,
     },
     Word {
         name: "help",
