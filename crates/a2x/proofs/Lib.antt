@@ -1,3 +1,4 @@
+pub mod ColumnLaws
 pub mod NamedLaws
 pub mod ReleaseLaws
 pub mod WordLaws

@@ -1,3 +1,4 @@
+pub mod Columns
 pub mod Filmed
 pub mod Named
 pub mod Release

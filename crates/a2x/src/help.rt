@@ -25,7 +25,7 @@ editors, or json; of test csv, json or junit. Alone stands:
   --version   the version, and the commit that the program was packaged from
 
 Status: 0 well, 1 source refused, 2 words or keys refused, 3 another stop,
-4 a read or write failed, 5 no memory, 6 tests that were not passed.
+4 a read or write failed, 5 no memory, 6 tests or checks that failed.
 ";
 
 // The options that a film alone has.
@@ -38,6 +38,16 @@ Options of a run, and of a film alone, before F:
               counts those before it too, and is as great at most
   --script S  chapters of a lesson, a line each: 120 TEXT tells the text
               from step 120 on, line 12 TEXT where line 12 first comes next
+";
+
+// The options that columns alone have.
+const FMT_OPTIONS: &[u8] = b"
+F goes out in columns. Before or behind files, of which there may be several:
+
+  --check     only the names of those go out that are not in columns, and
+              the status is 6 where there is one
+  -w          each that is not in columns is written so into its own file,
+              whole or not at all
 ";
 
 const BLANKS: &[u8] = b"                      ";
@@ -71,6 +81,7 @@ pub fn put_page<W: Output>(writer: &mut W) -> Result<(), WriteFault> {
 fn own_options(tool: Tool) -> &'static [u8] {
     match tool {
         Tool::Film => FILM_OPTIONS,
+        Tool::Fmt => FMT_OPTIONS,
         _ => b"",
     }
 }

@@ -3,6 +3,7 @@
 
 mod clock;
 mod film;
+mod fmt;
 mod help;
 mod named;
 mod play;

@@ -3,6 +3,7 @@
 ghost use Rattle.std.specs.Prelude.{◌≡◌, ◌≢◌, ◌≤◌, None, IfOk, IfErr};
 
 use crate::film::{FilmFault, FilmOrder, is_film_limit, parted, window_of};
+use crate::fmt::{Way, fmt, fmt_order, tell_fmt_words};
 use crate::help::{put_page, put_use};
 use crate::named::{check_order, file_in};
 use crate::play::{Seat, play_of};
@@ -477,6 +478,53 @@ fn film_of<S: Shelf, D: Desk, R: Input, W: Output, E: Output>(
     }
 }
 
+// Lays out the files that words name, or the standard input. The status is the greatest of those of the texts.
+fn fmt_of<S: Shelf, D: Desk, R: Input, W: Output, E: Output>(
+    alloc: Global,
+    words: &[String],
+    shelf: &mut S,
+    desk: &mut D,
+    input: &mut R,
+    output: &mut W,
+    complaints: &mut E,
+) -> u8
+    ensures { result ≤ 6 }
+{
+    let (way, files) = match fmt_order(words) {
+        Ok(order) => order,
+        Err(fault) => return tell_fmt_words(fault, complaints),
+    };
+    if files.is_empty() {
+        return fmt_text(alloc, way, None, shelf, desk, input, output, complaints);
+    }
+    let mut status = 0;
+    for file in files {
+        let name = Some(file.as_str());
+        status = fmt_text(alloc, way, name, shelf, desk, input, output, complaints).max(status);
+    }
+    status
+}
+
+// Lays out the text of a file, or of the standard input.
+fn fmt_text<S: Shelf, D: Desk, R: Input, W: Output, E: Output>(
+    alloc: Global,
+    way: Way,
+    file: Option<&str>,
+    shelf: &mut S,
+    desk: &mut D,
+    input: &mut R,
+    output: &mut W,
+    complaints: &mut E,
+) -> u8
+    ensures { result ≤ 6 }
+{
+    let name = file.unwrap_or("-");
+    match text_of(alloc, file, shelf, input, complaints) {
+        Ok(text) => fmt(alloc, way, name, text.as_slice(), desk, output, complaints),
+        Err(status) => status,
+    }
+}
+
 // Does what a word says.
 fn act<S: Shelf, D: Desk, C: Clock, R: Input, W: Output, E: Output>(
     alloc: Global,
@@ -527,6 +575,7 @@ fn act<S: Shelf, D: Desk, C: Clock, R: Input, W: Output, E: Output>(
             output,
             complaints,
         ),
+        Tool::Fmt => Ok(fmt_of(alloc, behind(words), shelf, desk, input, output, complaints)),
         Tool::Film => film_of(alloc, word, words, shelf, desk, input, output, complaints),
         Tool::Profile | Tool::Run | Tool::Trace => match order_of(words) {
             Ok(order) => {

@@ -10,6 +10,7 @@ use strsim::levenshtein;
 pub enum Tool {
     Check,
     Film,
+    Fmt,
     Help,
     List,
     Mon,
@@ -76,6 +77,13 @@ pub static WORDS: [Word; 10] = [
         runs: true,
         says: "writes F's run as a page that goes backwards",
         tool: Tool::Film,
+    },
+    Word {
+        name: "fmt",
+        arguments: "[--check|-w] [F..]",
+        runs: false,
+        says: "lays F out in columns",
+        tool: Tool::Fmt,
     },
     Word {
         name: "test",
