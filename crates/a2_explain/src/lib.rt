@@ -5,4 +5,5 @@ mod pushes;
 mod scene;
 mod stop;
 
-pub use stop::{explain_stop, tell_stop};
+pub use scene::{Scene, put_address, put_number, put_place, statement_at};
+pub use stop::{explain_stop, meaning, tell_stop};

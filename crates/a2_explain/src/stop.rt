@@ -15,8 +15,8 @@ use std::alloc::Allocator;
 // How many steps before the stop are gone through for what was pushed.
 const WATCHED: u32 = 100_000;
 
-// What a cause means at the place where PC stands, behind `at PC = `.
-fn meaning(cause: Cause) -> &'static [u8] {
+/// What a cause means at the place where PC stands, in words.
+pub fn meaning(cause: Cause) -> &'static [u8] {
     match cause {
         Cause::Returned => b"the last RTS was done",
         Cause::CodeWrite => b"what stands there would store into the bytes of an instruction",

@@ -1,0 +1,4 @@
+pub mod Words
+pub mod Places
+pub mod Sayings
+pub mod Inspections

@@ -1,0 +1,42 @@
+-- The words that lines begin with.
+use Rattle.std.specs.Prelude.{◌≡◌, ◌⊎◌, ℕ, ◌<◌, List, [], length, codes}
+use Rattle.a2_inspect.specs.declared.verbs.Verb.{Verb}
+use Rattle.a2_inspect.specs.declared.verbs.Verb.TheVariants.{Step, Back, Go, Until, Rback, Watch, Who, Break, Clear, Keys, Where, Regs, Mem, Screen, List as Lines, Info, Help}
+
+-- the letters of a verb, in capitals
+abbrev pub letters : Verb → List ℕ
+letters Step = codes "STEP"
+letters Back = codes "BACK"
+letters Go = codes "GO"
+letters Until = codes "UNTIL"
+letters Rback = codes "RBACK"
+letters Watch = codes "WATCH"
+letters Who = codes "WHO"
+letters Break = codes "BREAK"
+letters Clear = codes "CLEAR"
+letters Keys = codes "KEYS"
+letters Where = codes "WHERE"
+letters Regs = codes "REGS"
+letters Mem = codes "MEM"
+letters Screen = codes "SCREEN"
+letters Lines = codes "LIST"
+letters Info = codes "INFO"
+letters Help = codes "HELP"
+
+-- the letter that stands for it alone, where there is one
+abbrev pub letter : Verb → List ℕ
+letter Step = codes "S"
+letter Back = codes "B"
+letter Go = codes "G"
+letter Until = codes "U"
+letter Rback = codes "R"
+letter Where = codes "W"
+letter Mem = codes "X"
+letter Lines = codes "L"
+letter Info = codes "I"
+letter Help = codes "H"
+letter verb = []
+
+-- a word that is not empty, in capitals, is this verb
+abbrev pub IsVerb : List ℕ → Verb → Type 0
+IsVerb word verb = (word ≡ letters verb) ⊎ ((word ≡ letter verb) × (0 < length word))
