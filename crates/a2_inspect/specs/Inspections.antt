@@ -1,5 +1,5 @@
 -- What the lines of a debugger leave. This project's profile.
-use Rattle.std.specs.Prelude.{◌≡◌, ◌⊎◌, ℕ, ◌+◌, ◌-◌, ◌≤◌, min, not, nat_lt, List, [], ◌∷◌, ◌++◌, ◌==◌, length, map, take, Bool, false, Option, Some, None, if◌then◌else◌}
+use Rattle.std.specs.Prelude.{◌≡◌, ◌⊎◌, ℕ, ◌+◌, ◌-◌, min, not, nat_lt, List, [], ◌∷◌, ◌++◌, ◌==◌, length, map, take, Bool, false, Option, Some, None, if◌then◌else◌}
 use Rattle.a2_text.specs.Bytes.{is_among, capital}
 use Rattle.a2_text.specs.Words.{words}
 use Rattle.a2_bus.specs.Memory.{peek}
@@ -12,7 +12,7 @@ use Rattle.a2_history.specs.Going.{Track, here, Advances, IsNewest, with_typed}
 use Rattle.a2_inspect.specs.Words.{IsVerb}
 use Rattle.a2_inspect.specs.Sayings.{Says, SaysNone}
 use Rattle.a2_inspect.specs.declared.order.Order.{Order}
-use Rattle.a2_inspect.specs.declared.order.Order.TheVariants.{Step, Back, Go, Until, GoBack, Watch, Who, Break, Clear, TypeKeys, Show}
+use Rattle.a2_inspect.specs.declared.order.Order.TheVariants.{Step, Back, Go, Until, GoBack, Watch, Who, Break, Clear, TypeKeys}
 use Rattle.a2_inspect.specs.declared.verbs.Verb.{Verb}
 
 pub record Inspection : Type 0 where

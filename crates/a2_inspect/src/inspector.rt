@@ -1,6 +1,7 @@
 //! A source's run, and the lines of a debugger.
 
 ghost use Rattle.std.specs.Prelude.{◌≡◌, ◌-◌, false, IfOk, IfErr};
+ghost use Rattle.a2_text.specs.Bytes.{is_among};
 ghost use Rattle.a2_bus.specs.Memory.{peek as peek_of};
 ghost use Rattle.a2_history.specs.Going.{here};
 ghost use Rattle.a2_asm.specs.Assembled.{Assembled};
@@ -147,11 +148,18 @@ fn type_keys<A: Allocator + Copy>(history: &mut History<A>, keys: Keys) -> Outco
     }
 }
 
+// Whether there is a breakpoint at an address.
+fn is_set(breaks: &Breaks, address: u16) -> bool
+    ensures { result ≡ is_among breaks.now.items address }
+{
+    breaks.iter().any(|place| *place == address)
+}
+
 // Sets a breakpoint.
 fn set(breaks: &mut Breaks, address: u16) -> Outcome
     ensures { breaks.new.items ≡ marked breaks.old.items address }
 {
-    if breaks.iter().any(|place| *place == address) {
+    if is_set(breaks, address) {
         return Outcome::Set(address);
     }
     if breaks.len() < MOST_BREAKS {

@@ -2,6 +2,7 @@
 #![tactic(auto)]
 
 mod clock;
+mod debugging;
 mod film;
 mod fmt;
 mod help;

@@ -2,6 +2,7 @@
 
 ghost use Rattle.std.specs.Prelude.{◌≡◌, ◌≢◌, ◌≤◌, None, IfOk, IfErr};
 
+use crate::debugging::debug_of;
 use crate::film::{FilmFault, FilmOrder, is_film_limit, parted, window_of};
 use crate::fmt::{Way, fmt, fmt_order, tell_fmt_words};
 use crate::help::{put_page, put_use};
@@ -576,6 +577,10 @@ fn act<S: Shelf, D: Desk, C: Clock, R: Input, W: Output, E: Output>(
             complaints,
         ),
         Tool::Fmt => Ok(fmt_of(alloc, behind(words), shelf, desk, input, output, complaints)),
+        Tool::Debug => match order_of(words) {
+            Ok(order) => debug_of(alloc, &order, seat.types, shelf, input, output, complaints),
+            Err(fault) => Err(refused(word, behind(words), fault, complaints)),
+        },
         Tool::Film => film_of(alloc, word, words, shelf, desk, input, output, complaints),
         Tool::Profile | Tool::Run | Tool::Trace => match order_of(words) {
             Ok(order) => {
@@ -606,7 +611,7 @@ fn behind(words: &[String]) -> &[String] {
 pub fn talks(words: &[String]) -> bool {
     match words {
         [_, word, ..] => match word_named(word.as_str()) {
-            Some(found) => matches!(found.tool, Tool::Mon | Tool::Play),
+            Some(found) => matches!(found.tool, Tool::Debug | Tool::Mon | Tool::Play),
             None => false,
         },
         _ => false,

@@ -9,6 +9,7 @@ use strsim::levenshtein;
 #[derive(Clone, Copy, Debug, PartialEq, Eq)]
 pub enum Tool {
     Check,
+    Debug,
     Film,
     Fmt,
     Help,
@@ -35,7 +36,7 @@ pub struct Word {
 }
 
 /// All words, in the order of the page of help.
-pub static WORDS: [Word; 10] = [
+pub static WORDS: [Word; 12] = [
     Word {
         name: "run",
         arguments: "[options] [F]",
@@ -105,6 +106,13 @@ pub static WORDS: [Word; 10] = [
         runs: false,
         says: "runs F at a terminal, with the keys you type",
         tool: Tool::Play,
+    },
+    Word {
+        name: "debug",
+        arguments: "[options] F",
+        runs: true,
+        says: "goes along F's run in both directions, line by line",
+        tool: Tool::Debug,
     },
     Word {
         name: "help",

@@ -10,8 +10,8 @@ use a2_talk::{TalkFault, talk};
 use a2_terminal::Monitor;
 use std::alloc::Global;
 
-// The status of a session that ended.
-fn ended<E: Output>(answer: Result<(), TalkFault>, complaints: &mut E) -> u8
+/// The status of a session that ended.
+pub fn ended<E: Output>(answer: Result<(), TalkFault>, complaints: &mut E) -> u8
     ensures { result ≤ 5 }
 {
     match answer {

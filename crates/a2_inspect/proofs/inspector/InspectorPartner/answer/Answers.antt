@@ -1,0 +1,22 @@
+use Rattle.std.proofs.Common.{◌≡◌, ℕ, List, ap, ◌∙◌, subst}
+use Rattle.a2_inspect.specs.Inspections.{Inspection, IsObeyed, meant}
+use Rattle.a2_inspect.proofs.inspector.InspectorPartner.answer.Goals as goal
+
+noted : (seen obeyed : Inspection) (line said : List ℕ) → seen ≡ obeyed → line ≡ said → record seen { last = line } ≡ record obeyed { last = said }
+noted seen obeyed line said same lines =
+    ap (λ (i : Inspection). record i { last = line }) same ∙ ap (λ (l : List ℕ). record obeyed { last = l }) lines
+
+pub returns : goal.returns
+returns g c =
+    let (text, sends) = c.tell.ensures in
+    let obeyed = c.obey-outcome.new.self in
+    let said : c.meant_by-line.result.items ≡ meant c.args.line.now c.args.self.now.last =
+    c.meant_by-line.ensures ∙ ap (λ (i : Inspection). meant c.args.line.now i.last) c.self.view_is in (
+      text,
+      (
+        obeyed,
+        subst (λ (l : List ℕ). IsObeyed l c.args.self.now obeyed) (c.as_slice.ensures.value ∙ said) c.obey-outcome.ensures,
+        noted _ _ _ _ c.self-2.view_is said,
+      ),
+      sends,
+    )
