@@ -1,4 +1,6 @@
 pub mod Parts
+pub mod Reached
+pub mod Others
 pub mod Stepping
 pub mod Filming
 pub mod Following

@@ -1,25 +1,31 @@
 -- What the calls for a step write is the row of the step.
-use Rattle.std.proofs.Common.{◌≡◌, ℕ, ◌<◌, List, ◌++◌, length, codes, slice_index, slice_get, Option, Some, None, is_some, true, false, refl, sym, ap, ap₂, ◌∙◌, arith, true≢false, Result, Ok, Err, IsErr}
+use Rattle.std.proofs.Common.{◌≡◌, ℕ, ◌-◌, ◌<◌, ◌≤◌, List, ◌++◌, length, codes, slice_index, slice_range, slice_get, Option, Some, None, is_some, true, false, refl, sym, ap, ap₂, ◌∙◌, arith, true≢false, Result, Ok, Err, IsErr}
 use Rattle.a2_opcode.specs.Encoding.{Fetched, no_byte, undocumented, instruction, fetched}
 use Rattle.a2_bus.specs.BusState.{BusState, board_access}
 use Rattle.a2_bus.specs.Memory.{ram_byte, ram_end, peek, memory_access}
 use Rattle.a2_bus.specs.View.{memory_of}
+use Rattle.a2_page.proofs.Parts.{range-at}
 use Rattle.a2_cpu.specs.BusStep.{refusal_of}
+use Rattle.a2_cpu.specs.Instruction.{performed}
 use Rattle.a2_cpu.specs.Registers.{Registers}
 use Rattle.a2_cpu.specs.StepStores.{none_if, stores_at, step_stores}
 use Rattle.a2_cpu.specs.View.{registers_of, state_of, before_step}
 use Rattle.a2_services.specs.declared.Service.{Service}
-use Rattle.a2_services.specs.Services.{service_at}
+use Rattle.a2_services.specs.Services.{service_at, reach, served}
+use Rattle.a2_services.proofs.Effects.{served-kept}
 use Rattle.a2_services.specs.World.{World, world_of}
 use Rattle.a2_stream.specs.Stream.{Taker, Breaks}
 use Rattle.a2_stream.specs.declared.WriteFault.{WriteFault}
 use Rattle.a2_machine.specs.declared.Cause.{Cause}
-use Rattle.a2_machine.specs.State.{Device, world_of_state, cause_of, IsStep}
+use Rattle.a2_machine.specs.Meaning.{Code, found_at_pc, next, next_at}
+use Rattle.a2_machine.specs.State.{Device, world_of_state, code_of, cause_of, IsStep}
 use Rattle.a2_machine.proofs.Outcomes.{stores-world, fetched-world}
 use Rattle.a2_film.specs.Changes.{Store, stored, bytes_at, differing}
-use Rattle.a2_film.specs.Filmed.{Seen, seen_of, fields_between, row_between, FilmsStep}
+use Rattle.a2_film.specs.Filmed.{Seen, seen_of, fields_between, row_between, low_end, from_address, FilmsStep}
 use Rattle.a2_film.specs.Rows.{stores_text, no_address}
 use Rattle.a2_film.proofs.Parts.{differing-alike}
+use Rattle.a2_film.proofs.Reached.{reach-below, reach-above, reach-between, low_end-least, low_end-most}
+use Rattle.a2_film.proofs.Others.{differing-reached, page-seen}
 
 -- where an instruction stores on a board is where it stores in the world
 fetched-stores : (found : Fetched) (registers : Registers) (bus : BusState) (cycles : ℕ) → length bus.bytes ≡ ram_end
@@ -82,19 +88,71 @@ instruction_row old new seen addresses none size is told =
     (ap (bytes_at (ram_byte after.memory)) (told ∙ stores-there (registers_of old.state.regs) old.state.bus old.state.cycles size)
     ∙ sym (stored-by_instruction before after none))
 
--- the row of a service's step, by the bytes of RAM before it
-pub service_row : (old new : Device) (seen : Seen) (ram : List ℕ) → is_some (service_at old.state.regs.pc) ≡ true
-    → seen ≡ seen_of (world_of_state old.state) → ((a : ℕ) → a < ram_end → slice_index ram a ≡ ram_byte (memory_of old.state.bus) a)
+-- the world behind a call
+called : (code : Code) (world : World) (service : Service) → Some service ≡ service_at world.registers.pc → next code world ≡ served service world
+unfolding next next_at
+called code world service there =
+    ap (λ (found : Option Service). elim found as (λ _. World) [
+      | Some service ↦ served service world
+      | None ↦ elim (found_at_pc code world) as (λ _. World) [
+        | Err cause ↦ world
+        | Ok decoded ↦ performed memory_access decoded.row decoded.value world
+      ]
+    ]) (sym there)
+
+-- the row of a service's step, by the bytes of RAM before it that it may change
+pub service_row : (old new : Device) (seen : Seen) (service : Service) (ram page addresses : List ℕ) (end : ℕ) → Some service ≡ service_at old.state.regs.pc
+    → IsStep old new → length old.state.bus.bytes ≡ ram_end → seen ≡ seen_of (world_of_state old.state) → end ≡ low_end service → length ram ≡ ram_end
+    → ((a : ℕ) → 0x24 ≤ a → a < end → slice_index ram a ≡ ram_byte (memory_of old.state.bus) a) → page ≡ slice_range old.state.bus.bytes 0x400 0x800
+    → bytes_at (ram_byte (world_of_state new.state).memory) addresses
+    ≡ differing (from_address 0x24 (slice_range ram 0x24 end)) (ram_byte (world_of_state new.state).memory) 0x24 (end - 0x24)
+    ++ differing (from_address 0x400 page) (ram_byte (world_of_state new.state).memory) 0x400 0x400
     → fields_between seen (seen_of (world_of_state new.state))
-    ++ (stores_text no_address (differing (slice_index ram) (ram_byte (world_of_state new.state).memory) 0 ram_end) ++ codes "\n")
+    ++ (stores_text no_address (bytes_at (ram_byte (world_of_state new.state).memory) addresses) ++ codes "\n")
     ≡ row_between old new
-service_row old new seen ram some is held =
-    let before = world_of_state old.state in
-    let after = world_of_state new.state in
+service_row old new seen service ram page addresses end there step size is end_is long held paged told =
     ap₂ (λ (s : Seen) (l : List Store). fields_between s (seen_of after) ++ (stores_text no_address l ++ codes "\n")) is
-    (differing-alike (slice_index ram) (ram_byte before.memory) (ram_byte after.memory) (ram_byte after.memory) 0 ram_end
-    (λ k low high. held k (omega (arith, high))) (λ k low high. refl)
-    ∙ sym (stored-by_service before after some))
+    (told ∙ ap₂ (λ (l r : List Store). l ++ r) low_part page_part
+    ∙ sym (differing-reached was now end least (omega (arith, most))
+    (λ a low. kept a (reach-below service a low))
+    (λ a high low. kept a (reach-between service a (omega (arith, high, end_is)) low))
+    (λ a high. kept a (reach-above service a high)))
+    ∙ sym (stored-by_service before after (sym (ap is_some there))))
+  where
+    before : World
+    before = world_of_state old.state
+
+    after : World
+    after = world_of_state new.state
+
+    was : ℕ → ℕ
+    was = ram_byte before.memory
+
+    now : ℕ → ℕ
+    now = ram_byte after.memory
+
+    least : 0x24 ≤ end
+    least = omega (arith, end_is, low_end-least service)
+
+    most : end ≤ 0x300
+    most = omega (arith, end_is, low_end-most service)
+
+    kept : (a : ℕ) → reach service a ≡ false → was a ≡ now a
+    kept a out = sym (served-kept service before a out) ∙ ap (λ (w : World). ram_byte w.memory a) (sym (called (code_of old.state) before service there) ∙ sym step.world)
+
+    low_part : differing (from_address 0x24 (slice_range ram 0x24 end)) now 0x24 (end - 0x24) ≡ differing was now 0x24 (end - 0x24)
+    low_part =
+        differing-alike (from_address 0x24 (slice_range ram 0x24 end)) was now now 0x24 (end - 0x24)
+        (λ k high low.
+        range-at ram 0x24 end (k - 0x24) k 0 (omega (arith, most, long)) (omega (arith, high)) (omega (arith, high, low, least))
+        ∙ held k high (omega (arith, high, low, least)))
+        (λ k high low. refl)
+
+    page_part : differing (from_address 0x400 page) now 0x400 0x400 ≡ differing was now 0x400 0x400
+    page_part =
+        differing-alike (from_address 0x400 page) was now now 0x400 0x400
+        (λ k high low. page-seen old.state.bus page k size paged high (omega (arith, low)))
+        (λ k high low. refl)
 
 -- a step's row broke off, and the result says so
 pub films-err : (old new : Device) (a b : Taker) (r : Result (Option Cause) WriteFault) → IsErr r → None ≡ cause_of old.state → IsStep old new

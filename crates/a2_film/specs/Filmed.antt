@@ -1,5 +1,5 @@
 -- What private calls compare and answer. No public clause cites this file.
-use Rattle.std.specs.Prelude.{◌≡◌, ℕ, ◌-◌, List, ◌++◌, length, Option, Some, None, Result, Ok, Err}
+use Rattle.std.specs.Prelude.{◌≡◌, ℕ, ◌-◌, List, ◌++◌, length, if◌then◌else◌, slice_index, Option, Some, None, Result, Ok, Err}
 use Rattle.std.specs.Fmt.{decimal}
 use Rattle.a2_stream.specs.Stream.{Taker, Sends, Breaks}
 use Rattle.a2_stream.specs.declared.WriteFault.{WriteFault}
@@ -8,6 +8,8 @@ use Rattle.a2_page.specs.declared.Switches.{Switches}
 use Rattle.a2_cpu.specs.Registers.{Registers, byte_of_flags}
 use Rattle.a2_cpu.specs.View.{registers_of}
 use Rattle.a2_services.specs.World.{World}
+use Rattle.a2_services.specs.declared.Service.{Service}
+use Rattle.a2_services.specs.Services.{reach}
 use Rattle.a2_machine.specs.declared.Cause.{Cause}
 use Rattle.a2_machine.specs.Meaning.{Code}
 use Rattle.a2_machine.specs.State.{Device, world_of_state, cause_of, IsStep}
@@ -44,6 +46,14 @@ fields_between before after =
     (byte_text 0x78 (changed old.x new.x)) (byte_text 0x79 (changed old.y new.y)) (byte_text 0x73 (changed old.s new.s))
     (byte_text 0x70 (changed (byte_of_flags old.flags) (byte_of_flags new.flags)))
     (switches_text (changed (switch_digit before.switches) (switch_digit after.switches))) (keys_text (before.waiting - after.waiting))
+
+-- where the bytes below page 1 end that a call of a service may change: the line of GETLN, or the mask of characters
+abbrev pub low_end : Service → ℕ
+low_end service = if reach service 0x2FF then 0x300 else 0x33
+
+-- the byte at an address, of bytes that stand from another on
+abbrev pub from_address : ℕ → List ℕ → ℕ → ℕ
+from_address first bytes a = slice_index bytes (a - first)
 
 -- the row of the step between two machines
 abbrev pub row_between : Device → Device → List ℕ

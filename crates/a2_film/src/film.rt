@@ -1,6 +1,6 @@
 //! The film of a run.
 
-ghost use Rattle.std.specs.Prelude.{◌≡◌, ◌<◌, ◌++◌, ℕ, length, true, false, is_some, codes, map, IfOk, slice_index};
+ghost use Rattle.std.specs.Prelude.{◌≡◌, ◌<◌, ◌++◌, ℕ, length, true, false, is_some, codes, map, IfOk, Some, slice_index};
 ghost use Rattle.std.specs.List.{flat_map};
 ghost use Rattle.a2_stream.specs.Stream.{SendsOrBreaks};
 ghost use Rattle.a2_bus.specs.Memory.{ram_byte, ram_end};
@@ -11,14 +11,15 @@ ghost use Rattle.a2_services.specs.Services.{service_at as service_at_of};
 ghost use Rattle.a2_run.specs.Answers.{Answers, OfSource, is_read_fault};
 ghost use Rattle.a2_run.specs.Meaning.{IsRefused};
 ghost use Rattle.a2_film_page.specs.Page as page;
-ghost use Rattle.a2_film.specs.Changes.{bytes_at, differing};
+ghost use Rattle.a2_film.specs.Changes.{bytes_at};
 ghost use Rattle.a2_film.specs.Film.{IsFilmOf};
 ghost use Rattle.a2_film.specs.Filmed.{seen_by, seen_of, fields_between, FilmsStep, Films, FilmsRest};
 ghost use Rattle.a2_film.specs.Rows as spelt;
 
 use crate::chapters::Chapter;
 use crate::head::{put_chapters, put_opening, put_program, put_start};
-use crate::rows::{Moment, put_differing, put_fields, put_listed};
+use crate::kept::{keep_low, low_end, others_behind};
+use crate::rows::{Moment, put_fields, put_listed};
 use a2_asm::Program;
 use a2_bus::Keys;
 use a2_cpu::writes;
@@ -26,7 +27,7 @@ use a2_film_page::{head, tail};
 use a2_hex::RAM_END;
 use a2_machine::{Cause, Machine, write_cause};
 use a2_run::{RunFault, program_of, started};
-use a2_services::service_at;
+use a2_services::{Service, service_at};
 use a2_stream::{Output, WriteFault, put};
 use a2_text::cut;
 use std::alloc::{AllocError, Allocator};
@@ -40,37 +41,9 @@ pub struct Window {
     pub steps: u32,
 }
 
-// Copies RAM.
-fn copy_ram<A: Allocator>(machine: &Machine<A>, ram: &mut [u8])
-    requires { length ram.old ≡ ram_end }
-    ensures { (a : ℕ) → a < ram_end → slice_index ram.new a ≡ ram_byte (memory_of machine.now.state.bus) a }
-{
-    for address in 0..RAM_END {
-        ram[usize::from(address)] = machine.peek(address).unwrap_or(0);
-    }
-}
-
-// Writes the row of a service's step, before which RAM held these bytes.
+// Writes the row of a step, behind which these addresses have what it stored.
 #[tactic(auto, using(a2_stream::proofs::Joined::broke_off, a2_stream::proofs::Joined::went_on))]
-fn put_service_row<A: Allocator, W: Output>(
-    before: &Moment,
-    ram: &[u8],
-    machine: &Machine<A>,
-    writer: &mut W,
-) -> Result<(), WriteFault>
-    requires { length ram.now ≡ ram_end }
-    ensures { let world = world_of_state machine.now.state in
-        SendsOrBreaks (W.taker writer.old) (W.taker writer.new) result (fields_between (seen_by before.now) (seen_of world)
-        ++ (spelt.stores_text spelt.no_address (differing (slice_index ram.now) (ram_byte world.memory) 0 ram_end) ++ codes "\n")) }
-{
-    put_fields(before, &Moment::of(machine), writer)?;
-    put_differing(ram, machine, writer)?;
-    put(b"\n", writer)
-}
-
-// Writes the row of an instruction's step, which stored at these addresses.
-#[tactic(auto, using(a2_stream::proofs::Joined::broke_off, a2_stream::proofs::Joined::went_on))]
-fn put_instruction_row<A: Allocator, W: Output>(
+fn put_row<A: Allocator, W: Output>(
     before: &Moment,
     addresses: &[u16],
     machine: &Machine<A>,
@@ -87,20 +60,26 @@ fn put_instruction_row<A: Allocator, W: Output>(
 
 // Makes the call of a service and writes its row; or answers the cause that forbids it.
 fn film_call<A: Allocator, W: Output>(
+    service: Service,
     machine: &mut Machine<A>,
     ram: &mut [u8],
     writer: &mut W,
 ) -> Result<Option<Cause>, WriteFault>
     requires size { length ram.old ≡ ram_end }
-    requires service { is_some (service_at_of machine.old.state.regs.pc) ≡ true }
+    requires service { Some service ≡ service_at_of machine.old.state.regs.pc }
     ensures { FilmsStep machine.old machine.new (W.taker writer.old) (W.taker writer.new) result }
 {
     let before = Moment::of(machine);
-    copy_ram(machine, ram);
+    // For the prover alone: all of RAM is there.
+    let _ = machine.peek(0);
+    let end = low_end(service);
+    keep_low(end, machine, ram);
+    let page1 = *machine.view().page1;
     if let Some(cause) = machine.step() {
         return Ok(Some(cause));
     }
-    put_service_row(&before, ram, machine, writer)?;
+    let others = others_behind(end, ram, &page1, machine);
+    put_row(&before, others.as_slice(), machine, writer)?;
     Ok(None)
 }
 
@@ -119,7 +98,7 @@ fn film_instruction<A: Allocator, W: Output>(
     if let Some(cause) = machine.step() {
         return Ok(Some(cause));
     }
-    put_instruction_row(&before, addresses.as_slice(), machine, writer)?;
+    put_row(&before, addresses.as_slice(), machine, writer)?;
     Ok(None)
 }
 
@@ -132,10 +111,9 @@ fn film_step<A: Allocator, W: Output>(
     requires { length ram.old ≡ ram_end }
     ensures { FilmsStep machine.old machine.new (W.taker writer.old) (W.taker writer.new) result }
 {
-    if service_at(machine.regs().pc).is_some() {
-        film_call(machine, ram, writer)
-    } else {
-        film_instruction(machine, writer)
+    match service_at(machine.regs().pc) {
+        Some(service) => film_call(service, machine, ram, writer),
+        None => film_instruction(machine, writer),
     }
 }
 

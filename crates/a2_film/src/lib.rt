@@ -9,6 +9,7 @@ ghost use Rattle.a2_film.specs.Laws.{FramesShowTheRun, DataHaveNoTag};
 mod chapters;
 mod film;
 mod head;
+mod kept;
 mod rows;
 mod texts;
 

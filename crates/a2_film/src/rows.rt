@@ -1,23 +1,23 @@
 //! The rows of a film: what a step changed.
 
-ghost use Rattle.std.specs.Prelude.{◌≡◌, ◌==◌, [], ◌∷◌, if◌then◌else◌, length, slice_index};
-ghost use Rattle.a2_text.specs.Digits.{hex_word as word_of};
+ghost use Rattle.std.specs.Prelude.{◌≡◌, ◌≤◌, ◌+◌, ◌++◌, length, slice_index};
+ghost use Rattle.arrayvec.specs.ArrayVec.{array_vec_len};
 ghost use Rattle.a2_stream.specs.Stream.{SendsOrBreaks};
 ghost use Rattle.a2_bus.specs.Memory.{ram_byte, ram_end};
 ghost use Rattle.a2_bus.specs.View.{memory_of};
 ghost use Rattle.a2_machine.specs.State.{world_of_state};
-ghost use Rattle.a2_film.specs.Changes.{bytes_at, differing};
+ghost use Rattle.a2_film.specs.Changes.{changed, bytes_at, differing};
 ghost use Rattle.a2_film.specs.Filmed.{seen_by, seen_of, fields_between};
 ghost use Rattle.a2_film.specs.Rows as spelt;
 ghost use Rattle.a2_film.specs.Rows.{no_address};
 
-use crate::texts::{byte_text, keys_text, switches_text};
+use crate::texts::{hex_digit, keys_text, switches_text};
 use a2_cpu::Regs;
 use a2_hex::RAM_END;
 use a2_machine::Machine;
 use a2_page::Switches;
-use a2_stream::{Output, WriteFault, put, put_all};
-use a2_text::{decimal, hex_pair, hex_word};
+use a2_stream::{Output, WriteFault, put};
+use a2_text::{decimal, hex_word};
 use arrayvec::ArrayVec;
 use std::alloc::Allocator;
 
@@ -47,8 +47,58 @@ impl Moment {
     }
 }
 
-// Writes a row up to its stores.
+// A row up to its stores, which has at most 62 bytes.
+type Fields = ArrayVec<u8, 64>;
+
+// Appends bytes that fit.
+fn append(row: &mut Fields, bytes: &[u8])
+    requires { array_vec_len row.old + length bytes.now ≤ 64 }
+    ensures items { row.new.items ≡ row.old.items ++ bytes.now }
+    ensures length { array_vec_len row.new ≡ array_vec_len row.old + length bytes.now }
+{
+    row.try_extend_from_slice(bytes).unwrap();
+}
+
+// Appends a letter and the digits of a byte, where it is another than it was.
+fn append_byte(row: &mut Fields, letter: u8, old: u8, new: u8)
+    requires { array_vec_len row.old + 3 ≤ 64 }
+    ensures items { row.new.items ≡ row.old.items ++ spelt.byte_text letter (changed old new) }
+    ensures length { array_vec_len row.new ≤ array_vec_len row.old + 3 }
+{
+    if old != new {
+        row.push(letter);
+        row.push(hex_digit(new / 16));
+        row.push(hex_digit(new % 16));
+    }
+}
+
+// A row up to its stores.
 #[tactic(auto, unfolding(crate::specs::Rows::fields_of_parts))]
+fn fields_text(before: &Moment, after: &Moment) -> Fields
+    ensures { result.items ≡ fields_between (seen_by before.now) (seen_by after.now) }
+{
+    let (old, new) = (&before.regs, &after.regs);
+    let mut row = Fields::new();
+    append(&mut row, &hex_word(new.pc));
+    let cycles = decimal(after.cycles.saturating_sub(before.cycles));
+    append(&mut row, cycles.as_slice());
+    append_byte(&mut row, b'a', old.a, new.a);
+    append_byte(&mut row, b'x', old.x, new.x);
+    append_byte(&mut row, b'y', old.y, new.y);
+    append_byte(&mut row, b's', old.s, new.s);
+    append_byte(&mut row, b'p', old.p.pushed(), new.p.pushed());
+    append(
+        &mut row,
+        switches_text(before.switches, after.switches).as_slice(),
+    );
+    append(
+        &mut row,
+        keys_text(before.waiting.saturating_sub(after.waiting)).as_slice(),
+    );
+    row
+}
+
+// Writes a row up to its stores.
 pub fn put_fields<W: Output>(
     before: &Moment,
     after: &Moment,
@@ -56,36 +106,24 @@ pub fn put_fields<W: Output>(
 ) -> Result<(), WriteFault>
     ensures { SendsOrBreaks (W.taker writer.old) (W.taker writer.new) result (fields_between (seen_by before.now) (seen_by after.now)) }
 {
-    let (old, new) = (&before.regs, &after.regs);
-    put_all(
-        &[
-            &hex_word(new.pc),
-            decimal(after.cycles.saturating_sub(before.cycles)).as_slice(),
-            byte_text(b'a', old.a, new.a).as_slice(),
-            byte_text(b'x', old.x, new.x).as_slice(),
-            byte_text(b'y', old.y, new.y).as_slice(),
-            byte_text(b's', old.s, new.s).as_slice(),
-            byte_text(b'p', old.p.pushed(), new.p.pushed()).as_slice(),
-            switches_text(before.switches, after.switches).as_slice(),
-            keys_text(before.waiting.saturating_sub(after.waiting)).as_slice(),
-        ],
-        writer,
-    )
+    put(fields_text(before, after).as_slice(), writer)
 }
 
-// m and an address, where it is not the next one.
-fn address_text(next: u32, address: u16) -> ArrayVec<u8, 5>
-    ensures { result.items ≡ (if address == next then [] else 0x6D ∷ word_of address) }
+// A byte's digits, and before them m and its address where it is not the next one.
+fn store_text(next: u32, address: u16, byte: u8) -> ArrayVec<u8, 7>
+    ensures { result.items ≡ spelt.store_text next (address, byte) }
 {
     let mut text = ArrayVec::new();
     if u32::from(address) != next {
-        let [a, b, c, d] = hex_word(address);
+        let (high, low) = ((address / 256) as u8, (address % 256) as u8);
         text.push(b'm');
-        text.push(a);
-        text.push(b);
-        text.push(c);
-        text.push(d);
+        text.push(hex_digit(high / 16));
+        text.push(hex_digit(high % 16));
+        text.push(hex_digit(low / 16));
+        text.push(hex_digit(low % 16));
     }
+    text.push(hex_digit(byte / 16));
+    text.push(hex_digit(byte % 16));
     text
 }
 
@@ -93,10 +131,7 @@ fn address_text(next: u32, address: u16) -> ArrayVec<u8, 5>
 fn put_store<W: Output>(next: u32, address: u16, byte: u8, writer: &mut W) -> Result<(), WriteFault>
     ensures { SendsOrBreaks (W.taker writer.old) (W.taker writer.new) result (spelt.store_text next (address, byte)) }
 {
-    put_all(
-        &[address_text(next, address).as_slice(), &hex_pair(byte)],
-        writer,
-    )
+    put(store_text(next, address, byte).as_slice(), writer)
 }
 
 // Writes the bytes of RAM at these addresses.

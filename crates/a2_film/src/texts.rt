@@ -12,20 +12,6 @@ use a2_stream::{Output, WriteFault, put};
 use a2_text::{decimal, hex_pair};
 use arrayvec::ArrayVec;
 
-// A letter and the digits of a byte, where it is another than it was.
-pub fn byte_text(letter: u8, old: u8, new: u8) -> ArrayVec<u8, 3>
-    ensures { result.items ≡ spelt.byte_text letter (changed old new) }
-{
-    let mut text = ArrayVec::new();
-    if old != new {
-        let [high, low] = hex_pair(new);
-        text.push(letter);
-        text.push(high);
-        text.push(low);
-    }
-    text
-}
-
 // The switches as a digit: 1 for text, 2 for mixed, 4 for page 2, 8 for high resolution.
 pub fn switch_digit(switches: Switches) -> u8
     ensures value { result ≡ change.switch_digit switches }
@@ -42,8 +28,11 @@ pub fn hex_digit(number: u8) -> u8
     requires { number < 16 }
     ensures { result ≡ digit_of number }
 {
-    let [_, low] = hex_pair(number);
-    low
+    if number < 10 {
+        b'0' + number
+    } else {
+        b'A' + (number - 10)
+    }
 }
 
 // w and the switches' digit, where it is another than it was.

@@ -1,0 +1,187 @@
+-- The bytes that are others behind a step, listed by their addresses.
+use Rattle.std.specs.Prelude.{◌≡◌, ℕ, zero, suc, ◌+◌, ◌-◌, ◌*◌, ◌<◌, ◌≤◌, nat_lt, ◌==◌, Bool, true, false, List, [], ◌∷◌, ◌++◌, length, if◌then◌else◌, slice_range, refl}
+use Rattle.std.proofs.Common.{sym, ap, ap₂, ◌∙◌, arith, append_assoc}
+use Rattle.std.proofs.lemmas.Bool.Decides.{nat_tests}
+use Rattle.std.proofs.lemmas.List.{append-nil}
+use Rattle.a2_page.proofs.Parts.{range-at, range_long}
+use Rattle.a2_bus.specs.BusState.{BusState}
+use Rattle.a2_bus.specs.Memory.{Memory, ram_byte, ram_end}
+use Rattle.a2_bus.specs.View.{memory_of}
+use Rattle.a2_bus.proofs.Viewing.{byte_seen}
+use Rattle.a2_film.specs.Changes.{Store, bytes_at, differing}
+use Rattle.a2_film.specs.Filmed.{from_address}
+use Rattle.a2_film.proofs.Parts.{differing-alike}
+
+-- the bytes at addresses and at others behind them
+bytes_at-joined : (m : ℕ → ℕ) (front back : List ℕ) → bytes_at m (front ++ back) ≡ bytes_at m front ++ bytes_at m back
+bytes_at-joined m [] back = refl
+bytes_at-joined m (a ∷ front) back = go (nat_lt a ram_end) (bytes_at-joined m front back)
+  where
+    go : (v : Bool) → bytes_at m (front ++ back) ≡ bytes_at m front ++ bytes_at m back
+        → (if v then (a, m a) ∷ bytes_at m (front ++ back) else bytes_at m (front ++ back))
+        ≡ (if v then (a, m a) ∷ bytes_at m front else bytes_at m front) ++ bytes_at m back
+    go true rest = ap (λ (l : List Store). (a, m a) ∷ l) rest
+    go false rest = rest
+
+differing-step : (old new : ℕ → ℕ) (a n : ℕ) → 0 < n
+    → differing old new a n ≡ (if old a == new a then differing old new (a + 1) (n - 1) else (a, new a) ∷ differing old new (a + 1) (n - 1))
+unfolding differing
+differing-step old new a zero some = absurd (omega (arith, some))
+differing-step old new a (suc n) some =
+    let one : n ≡ suc n - 1 = omega arith in
+    ap (λ (k : ℕ). if old a == new a then differing old new (a + 1) k else (a, new a) ∷ differing old new (a + 1) k) one
+
+-- of more addresses
+pub differing-cut : (old new : ℕ → ℕ) (a m n : ℕ) → differing old new a (m + n) ≡ differing old new a m ++ differing old new (a + m) n
+unfolding differing
+differing-cut old new a zero n =
+    let all : zero + n ≡ n = omega arith in
+    let here : a ≡ a + zero = omega arith in
+    ap (differing old new a) all ∙ ap (λ (k : ℕ). differing old new k n) here
+differing-cut old new a (suc m) n =
+    let all : suc m + n ≡ suc (m + n) = omega arith in
+    let there : a + 1 + m ≡ a + suc m = omega arith in
+    ap (differing old new a) all
+    ∙ go (old a == new a) (differing-cut old new (a + 1) m n ∙ ap (λ (k : ℕ). differing old new (a + 1) m ++ differing old new k n) there)
+  where
+    go : (v : Bool) → differing old new (a + 1) (m + n) ≡ differing old new (a + 1) m ++ differing old new (a + suc m) n
+        → (if v then differing old new (a + 1) (m + n) else (a, new a) ∷ differing old new (a + 1) (m + n))
+        ≡ (if v then differing old new (a + 1) m else (a, new a) ∷ differing old new (a + 1) m) ++ differing old new (a + suc m) n
+    go true rest = rest
+    go false rest = ap (λ (l : List Store). (a, new a) ∷ l) rest
+
+-- none differ
+pub differing-none : (old new : ℕ → ℕ) (a n : ℕ) → ((k : ℕ) → a ≤ k → k < a + n → old k ≡ new k) → differing old new a n ≡ []
+unfolding differing
+differing-none old new a zero same = refl
+differing-none old new a (suc n) same =
+    let here : old a ≡ new a = same a (omega arith) (omega arith) in
+    let eq : (old a == new a) ≡ true = grind (arith, nat_tests, here) in
+    ap (λ (v : Bool). if v then differing old new (a + 1) n else (a, new a) ∷ differing old new (a + 1) n) eq
+    ∙ differing-none old new (a + 1) n (λ k high low. same k (omega (arith, high)) (omega (arith, low)))
+
+-- the bytes differ only up to an end from $24 on, and on page 1
+pub differing-reached : (old new : ℕ → ℕ) (end : ℕ) → 0x24 ≤ end → end ≤ 0x400 → ((a : ℕ) → a < 0x24 → old a ≡ new a)
+    → ((a : ℕ) → end ≤ a → a < 0x400 → old a ≡ new a) → ((a : ℕ) → 0x800 ≤ a → old a ≡ new a)
+    → differing old new 0 ram_end ≡ differing old new 0x24 (end - 0x24) ++ differing old new 0x400 0x400
+differing-reached old new end least most below between above =
+    ap (differing old new 0) all
+    ∙ differing-cut old new 0 0x24 (low + (gap + (0x400 + 0xB800)))
+    ∙ ap (λ (l : List Store). l ++ differing old new (0 + 0x24) (low + (gap + (0x400 + 0xB800)))) none_below
+    ∙ differing-cut old new 0x24 low (gap + (0x400 + 0xB800))
+    ∙ ap (λ (l : List Store). differing old new 0x24 low ++ l) rest
+  where
+    low : ℕ
+    low = end - 0x24
+
+    gap : ℕ
+    gap = 0x400 - end
+
+    all : ram_end ≡ 0x24 + (low + (gap + (0x400 + 0xB800)))
+    all = omega (arith, least, most)
+
+    at_end : 0x24 + low ≡ end
+    at_end = omega (arith, least)
+
+    at_page : end + gap ≡ 0x400
+    at_page = omega (arith, most)
+
+    none_below : differing old new 0 0x24 ≡ []
+    none_below = differing-none old new 0 0x24 (λ k high under. below k (omega (arith, under)))
+
+    none_between : differing old new end gap ≡ []
+    none_between = differing-none old new end gap (λ k high under. between k high (omega (arith, under, most)))
+
+    none_above : differing old new (0x400 + 0x400) 0xB800 ≡ []
+    none_above = differing-none old new (0x400 + 0x400) 0xB800 (λ k high under. above k (omega (arith, high)))
+
+    page : differing old new 0x400 (0x400 + 0xB800) ≡ differing old new 0x400 0x400
+    page =
+        differing-cut old new 0x400 0x400 0xB800
+        ∙ ap (λ (l : List Store). differing old new 0x400 0x400 ++ l) none_above
+        ∙ append-nil (differing old new 0x400 0x400)
+
+    rest : differing old new (0x24 + low) (gap + (0x400 + 0xB800)) ≡ differing old new 0x400 0x400
+    rest =
+        ap (λ (k : ℕ). differing old new k (gap + (0x400 + 0xB800))) at_end
+        ∙ differing-cut old new end gap (0x400 + 0xB800)
+        ∙ ap (λ (l : List Store). l ++ differing old new (end + gap) (0x400 + 0xB800)) none_between
+        ∙ ap (λ (k : ℕ). differing old new k (0x400 + 0xB800)) at_page
+        ∙ page
+
+-- one address more is looked at, and noted where its byte is another
+pub other-noted : (new old : ℕ → ℕ) (items more : List ℕ) (whole : List Store) (a n was byte : ℕ) → a < ram_end → 0 < n → was ≡ old a → byte ≡ new a
+    → more ≡ items ++ (if was == byte then [] else a ∷ []) → bytes_at new items ++ differing old new a n ≡ whole
+    → bytes_at new more ++ differing old new (a + 1) (n - 1) ≡ whole
+other-noted new old items more whole a n was byte low some was_is byte_is noted left =
+    ap (λ (l : List ℕ). bytes_at new l ++ rest) (noted ∙ ap₂ (λ (o b : ℕ). items ++ (if o == b then [] else a ∷ [])) was_is byte_is)
+    ∙ go (old a == new a)
+    ∙ ap (λ (l : List Store). bytes_at new items ++ l) (sym (differing-step old new a n some))
+    ∙ left
+  where
+    rest : List Store
+    rest = differing old new (a + 1) (n - 1)
+
+    lt : nat_lt a ram_end ≡ true
+    lt = grind (arith, nat_tests, low)
+
+    go : (v : Bool) → bytes_at new (items ++ (if v then [] else a ∷ [])) ++ rest ≡ bytes_at new items ++ (if v then rest else (a, new a) ∷ rest)
+    go true = ap (λ (l : List ℕ). bytes_at new l ++ rest) (append-nil items)
+    go false =
+        ap (λ (l : List Store). l ++ rest) (bytes_at-joined new items (a ∷ [])
+        ∙ ap (λ (v : Bool). bytes_at new items ++ (if v then (a, new a) ∷ [] else [])) lt)
+        ∙ append_assoc (bytes_at new items) ((a, new a) ∷ []) rest
+
+-- all are looked at
+pub others-done : (new old : ℕ → ℕ) (items : List ℕ) (whole : List Store) (a n : ℕ) → n ≡ 0 → bytes_at new items ++ differing old new a n ≡ whole
+    → bytes_at new items ≡ whole
+unfolding differing
+others-done new old items whole a n none left =
+    sym (append-nil (bytes_at new items)) ∙ ap (λ (k : ℕ). bytes_at new items ++ differing old new a k) (sym none) ∙ left
+
+-- where the bytes are the same, no other is added
+pub none_others : (memory : Memory) (items old now : List ℕ) (first end : ℕ) → old ≡ now
+    → ((a : ℕ) → first ≤ a → a < end → from_address first now a ≡ ram_byte memory a)
+    → bytes_at (ram_byte memory) items ≡ bytes_at (ram_byte memory) items ++ differing (from_address first old) (ram_byte memory) first (end - first)
+none_others memory items old now first end same held =
+    let none : differing (from_address first old) (ram_byte memory) first (end - first) ≡ [] =
+    differing-none (from_address first old) (ram_byte memory) first (end - first)
+    (λ k high low. ap (λ (l : List ℕ). from_address first l k) same ∙ held k high (omega (arith, high, low))) in
+    sym (append-nil (bytes_at (ram_byte memory) items)) ∙ ap (λ (l : List Store). bytes_at (ram_byte memory) items ++ l) (sym none)
+
+-- a piece more is looked at
+pub piece-added : (new old was : ℕ → ℕ) (items more : List ℕ) (whole : List Store) (a n m : ℕ) → m ≤ n → ((k : ℕ) → a ≤ k → k < a + m → was k ≡ old k)
+    → bytes_at new more ≡ bytes_at new items ++ differing was new a m → bytes_at new items ++ differing old new a n ≡ whole
+    → bytes_at new more ++ differing old new (a + m) (n - m) ≡ whole
+piece-added new old was items more whole a n m fits same added left =
+    let all : m + (n - m) ≡ n = omega (arith, fits) in
+    ap (λ (l : List Store). l ++ differing old new (a + m) (n - m)) (added ∙ ap (λ (l : List Store). bytes_at new items ++ l) (alike was old a m same))
+    ∙ append_assoc (bytes_at new items) (differing old new a m) (differing old new (a + m) (n - m))
+    ∙ ap (λ (l : List Store). bytes_at new items ++ l) (sym (differing-cut old new a m (n - m)) ∙ ap (differing old new a) all)
+    ∙ left
+  where
+    alike : (was old : ℕ → ℕ) (a m : ℕ) → ((k : ℕ) → a ≤ k → k < a + m → was k ≡ old k) → differing was new a m ≡ differing old new a m
+    alike was old a m same = differing-alike was old new new a m same (λ k high low. refl)
+
+-- Pieces of page 1, of 64 bytes
+
+-- a byte of a piece is the page's
+pub piece-of : (page : List ℕ) (piece a : ℕ) → piece < 16 → length page ≡ 1024 → 0x400 + piece * 64 ≤ a → a < 0x400 + piece * 64 + 64
+    → from_address (0x400 + piece * 64) (slice_range page (piece * 64) (piece * 64 + 64)) a ≡ from_address 0x400 page a
+piece-of page piece a low size high under =
+    range-at page (piece * 64) (piece * 64 + 64) (a - (0x400 + piece * 64)) (a - 0x400) 0 (omega (arith, low, size)) (omega (arith, high)) (omega (arith, high, under))
+
+-- and the page's byte is RAM's
+pub page-seen : (bus : BusState) (page : List ℕ) (a : ℕ) → length bus.bytes ≡ ram_end → page ≡ slice_range bus.bytes 0x400 0x800 → 0x400 ≤ a → a < 0x800
+    → from_address 0x400 page a ≡ ram_byte (memory_of bus) a
+page-seen bus page a size is high low =
+    ap (λ (l : List ℕ). from_address 0x400 l a) is
+    ∙ range-at bus.bytes 0x400 0x800 (a - 0x400) a 0 (omega (arith, size)) (omega (arith, high)) low
+    ∙ byte_seen bus a size (omega (arith, low))
+
+pub page-byte : (bus : BusState) (page : List ℕ) (piece a : ℕ) → piece < 16 → length bus.bytes ≡ ram_end → page ≡ slice_range bus.bytes 0x400 0x800
+    → 0x400 + piece * 64 ≤ a → a < 0x400 + (piece * 64 + 64)
+    → from_address (0x400 + piece * 64) (slice_range page (piece * 64) (piece * 64 + 64)) a ≡ ram_byte (memory_of bus) a
+page-byte bus page piece a low size is high under =
+    piece-of page piece a low (ap length is ∙ range_long bus.bytes 0x400 0x400 (omega (arith, size))) high (omega (arith, under))
+    ∙ page-seen bus page a size is (omega (arith, high)) (omega (arith, low, under))
