@@ -1,13 +1,19 @@
 """What the scripts of the gate take from the toolchain's own: its commands as modules."""
+import contextlib
 import importlib.machinery
 import importlib.util
 import os
 import shutil
 import sys
+import tempfile
 import threading
 from pathlib import Path
 
 KIT = Path(os.path.realpath(shutil.which("rt") or "rt")).parent.parent
+# What this machine keeps for its user from run to run.
+CACHE = Path(os.environ.get("XDG_CACHE_HOME") or Path.home() / ".cache")
+# The verdict on each program that `rt ci` last proved, over which it can be compiled again: a folder for each, of its name.
+CHECKED = CACHE / "a2-checked"
 
 
 def module_of(file):
@@ -38,6 +44,28 @@ def sum_each_once(crate):
             del known.sums
 
     crate.stamp = stamp
+
+
+def keep_checked(crate, folder):
+    """Keeps the verdict on a program, which stands in the folder, in place of the one before. Where there is no room, none is kept."""
+    with contextlib.suppress(OSError, shutil.Error):
+        CHECKED.mkdir(0o700, parents=True, exist_ok=True)
+        room = Path(tempfile.mkdtemp(dir=CHECKED))
+        shutil.copytree(folder, room / "checked")
+        shutil.rmtree(CHECKED / crate.name, ignore_errors=True)
+        (room / "checked").rename(CHECKED / crate.name)
+        room.rmdir()
+
+
+def keep_what_is_checked(made):
+    """Has the kit's rt keep the verdict on each program that it proves, and not drop it once the program is compiled."""
+    whole = made.Crate.compile_by
+
+    def compile_by(self, backend, words, to):
+        keep_checked(self, words[words.index("--crate-checked") + 1])
+        return whole(self, backend, words, to)
+
+    made.Crate.compile_by = compile_by
 
 
 def rt_of_kit():

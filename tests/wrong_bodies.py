@@ -1,0 +1,409 @@
+"""What a wrong body is, and how the prover's answer to it is judged: a file crates/NAME/faults/*.edit, as `tests/faults` tries it.
+
+An edit has the form of rt's must-fail edits. A check names each function that is not proved, and above it the goals of its own
+that failed: a caller's goals rest on the contracts of what it calls alone, so they say nothing of a callee that is not proved. So
+the faults of a crate are tried in rounds: the first fault of a function stands in its place, each further one in a copy of the
+function beside it, with a copy of its proof. A fault is refused where its own function, or copy, has a failed goal. A round checks
+these alone: each other function of the crate, which `rt ci` proves beside that, has a hole for its proof there, which stands for
+its contract; so nothing is said of a function that no fault edits. A trait's methods, which no copy can stand beside, have a round
+for each further fault. An edit of a constant, or of what no function has, names by a line `refused: PATH` the function that is not
+proved with it; nothing stands beside one of a definition that may rest on it. What is not refused so is tried alone, as rt does,
+and is refused where that check is.
+"""
+import contextlib
+import hashlib
+import os
+import re
+import shutil
+import subprocess
+import tempfile
+import time
+from pathlib import Path
+
+from kit import CACHE, module_of, rt_of_kit
+
+# What a check says as it ends with a function.
+ENDED = re.compile(r"checked (\S+), \d+ of \d+$")
+
+
+class Toolchain:
+    """All that is taken from the toolchain: how rt calls a check, reads an edit, and finds the functions of a source."""
+
+    def __init__(self, version):
+        self.version = version
+        self.rt = rt_of_kit()
+        self.lib = self.rt.rtlib
+        self.bodies = module_of("rt-plant-bodies")
+
+    def crates(self):
+        return self.lib.crates_below(os.getcwd())
+
+    def functions(self, crate):
+        """The functions of a crate, each with the check's name of it: its path, where a method stands below its type, or below type,
+        trait and the types that the trait is of as one word."""
+        source = self.bodies.Source(crate.folder)
+        source.read("src/main.rt" if crate.is_program else "src/lib.rt")
+        named = lambda words: self.bodies.named(words)[0]
+        for it in source.functions:
+            it.path = [*it.module, it.name]
+            if it.block:
+                owner = named(it.block.ty)
+                module = it.module if it.block.trait or not source.declared[owner] else source.declared[owner][0][0]
+                # (of a path its last word counts)
+                words = [a for a, b in zip(it.block.trait, [*it.block.trait[1:], ""]) if a.isidentifier() and b != ":" and a not in it.block.generics]
+                it.path = [*module, "".join([owner, *words]), it.name]
+            # (one that calls itself is in a circle too, and needs no attribute that says so)
+            it.in_cycle = it.in_cycle or Path(crate.folder, "proofs", *it.path[:-1], f"+{it.name}").is_dir()
+        return source.functions
+
+    def check(self, crate, faults, functions, kept):
+        """Checks the functions that these faults edit, and their copies, in a copy of the crate with all of the edits in it and a hole
+        for the proof of each other function. What it checked it leaves in the folder `kept`, where there is one. Returns the status,
+        what was said, and how many seconds each function took."""
+        edited = [function for it in faults for function in it.functions]
+        paths = [path for it in faults for path in it.paths()]
+        with tempfile.TemporaryDirectory(prefix="faults-") as room:
+            for part in self.lib.PARTS:
+                if os.path.isdir(f"{crate.folder}/{part}"):
+                    shutil.copytree(f"{crate.folder}/{part}", f"{room}/{part}")
+            for path, text in together(crate, faults).items():
+                Path(room, path).write_bytes(text)
+            for it in faults:
+                if it.number:
+                    copy_proof(crate, it.functions[0].path, it.paths()[0], Path(room, "proofs"))
+            for it in functions:
+                # (a circle of calls has one proof)
+                if it not in edited and it.has_body and not it.in_cycle:
+                    leave_open(crate, it.path, Path(room, "proofs"))
+            for it in faults:
+                if not any(function.in_cycle for function in it.functions):
+                    for path in it.paths():
+                        ask_for_no_proof(Path(room, "proofs", *path))
+            more = [word for it in paths for word in ("--only", "::".join(it))]
+            keeping = ["--incremental", kept] if kept else []
+            words = [*crate.words(["--jobs", "1"], keeps=False), *keeping, "--allow-holes", "--progress", *more]
+            whole = [*self.lib.guarded(), self.lib.RATTLE, "check", *words]
+            how = {"stdin": subprocess.DEVNULL, "stdout": subprocess.PIPE, "stderr": subprocess.STDOUT, "errors": "replace"}
+            said, seconds, before = [], {}, time.time()
+            with subprocess.Popen(whole, cwd=room, **how) as ran:
+                for line in ran.stdout:
+                    said.append(line)
+                    if at := ENDED.match(line):
+                        seconds[at[1]], before = time.time() - before, time.time()
+            return ran.returncode, "".join(said), seconds
+
+
+def leave_open(crate, path, proofs):
+    """Puts a hole in the place of a function's proof."""
+    folder = proofs.joinpath(*path)
+    folder.mkdir(parents=True, exist_ok=True)
+    for name in ("Answers", "Invariants"):
+        (folder / f"{name}.antt").unlink(missing_ok=True)
+    proof, name = ".".join(["Rattle", crate.name, "proofs", *path]), f"{path[-1]}_spec"
+    (folder / "Proof.antt").write_text(
+        f"use {proof}.Statement as stated\npub {name} : {{M : Type 1}} → stated.statement M\n{name} = ?\n"
+    )
+
+
+def ask_for_no_proof(folder):
+    """Adds an answer to no goal to a function's proof. Where each answer is to a goal, a check that leaves goals open writes out a proof
+    to begin with, which takes it seconds; the goals that failed it tells all the same."""
+    if not (folder / "Proof.antt").exists():
+        folder.mkdir(parents=True, exist_ok=True)
+        with open(folder / "Answers.antt", "a") as file:
+            file.write("\npub no_goal : no_goal_at_all\nno_goal = no_answer\n")
+
+
+def copy_proof(crate, path, other, proofs):
+    """Gives a function's copy the proof of the function."""
+    at = proofs.joinpath(*path)
+    if at.is_dir():
+        names = re.compile(rf"(Rattle\.{crate.name}\.(?:proofs|specs\.contracts)\.){re.escape('.'.join(path))}(?!\w)")
+        proofs.joinpath(*other).mkdir(parents=True)
+        for file in at.glob("*.antt"):
+            text = names.sub(lambda it: it[1] + ".".join(other), file.read_text())
+            proofs.joinpath(*other, file.name).write_text(text)
+
+
+class Fault:
+    """An edit: where it changes which text, and in which functions; in none where some of it stands outside of all, and no line of
+    the edit names one. A number above 0 says that it stands in a copy of its function."""
+
+    def __init__(self, path, crate, functions, rt):
+        self.path, self.name, self.changes, self.number, self.seconds = path, path.stem, [], 0, 0
+        self.texts, self.bad = rt.read_edit(str(path), crate.folder)
+        named = re.findall(r"(?m)^refused: (\S+)$", path.read_text())
+        self.functions = [it for it in functions if "::".join(it.path) in named]
+        if len(self.functions) != len(named):
+            self.bad = self.bad or f"the crate has no function {' or '.join(named)}"
+        inside = set()
+        for file, old, new in [] if self.bad else pairs_of(path.read_text()):
+            text = Path(crate.folder, file).read_bytes()
+            if text.count(old) != 1:
+                # (it stands in what an earlier pair made)
+                inside.add(None)
+                continue
+            before, behind = alike(old, new)
+            at, end = text.find(old) + before, text.find(old) + len(old) - behind
+            self.changes.append((file, at, end, new[before : len(new) - behind]))
+            inside.add(next((it for it in functions if it.file == file and it.opens <= at and end <= it.end), None))
+        if not named and None not in inside:
+            self.functions = [it for it in functions if it in inside]
+        self.definitions = {it[0] for it in self.changes if it[0].startswith("specs/")}
+        self.stands_on = stands_on(crate, self.functions) if self.definitions else None
+        self.can_be_copied = not named and len(self.functions) == 1 and not self.functions[0].in_trait and not self.functions[0].in_cycle
+
+    def paths(self):
+        """The check's names of its functions, or of the copy, below the crate."""
+        ending = f"_again_{self.number}" if self.number else ""
+        return [[*it.path[:-1], it.path[-1] + ending] for it in self.functions]
+
+    def replaced(self, text):
+        """What it puts where in the text of its file: the places that it changes, or the whole copy behind the function."""
+        if not self.number:
+            return self.changes
+        function = self.functions[0]
+        named = (self.changes[0][0], function.named[1], function.named[1], f"_again_{self.number}".encode())
+        copy = text[: function.end]
+        for _, at, end, new in sorted([*self.changes, named], key=lambda it: it[1:3], reverse=True):
+            copy = copy[:at] + new + copy[end:]
+        return [(named[0], function.end, function.end, b"\n\n" + copy[function.first :])]
+
+
+def pairs_of(edit):
+    """The file, the old text and the new one of each pair of an edit."""
+    file = old = ""
+    for line in edit.split("\n"):
+        head, _, rest = line.partition(":")
+        if head == "file":
+            file = rest.strip()
+        elif head == "old":
+            old = rest.removeprefix(" ").encode()
+        elif head == "new":
+            yield file, old, rest.removeprefix(" ").encode()
+
+
+def alike(old, new):
+    """How many bytes two texts have alike at the start, and at the end behind these."""
+    before = len(os.path.commonprefix([old, new]))
+    return before, len(os.path.commonprefix([old[before:][::-1], new[before:][::-1]]))
+
+
+def together(crate, faults):
+    """The texts of the crate with all these faults in them."""
+    texts = {}
+    for file in {it[0] for fault in faults for it in fault.changes}:
+        texts[file] = text = Path(crate.folder, file).read_bytes()
+        changes = [it for fault in faults if fault.changes[0][0] == file or not fault.number for it in fault.replaced(text)]
+        for _, at, end, new in sorted((it for it in changes if it[0] == file), reverse=True):
+            texts[file] = texts[file][:at] + new + texts[file][end:]
+    return texts
+
+
+def are_apart(fault, other):
+    """Whether what a fault's functions are refused for can't be that another fault turns a definition."""
+    return not other.definitions or fault.stands_on is not None and not fault.stands_on & other.definitions
+
+
+def stands_on(crate, functions):
+    """The files of specs and proofs that the clauses and proofs of laws rest on, one through another; None where some of it is not
+    seen, as of a function that has code, and so rests on the clauses of what it calls."""
+    named = re.compile(rf"Rattle\.{crate.name}\.((?:specs|proofs)(?:\.[\w-]+)+)")
+    used = re.compile(rf"ghost use Rattle\.{crate.name}\.([\w.-]+)\.{{([^}}]*)}}")
+    found, texts = set(), []
+    for it in functions:
+        source = Path(crate.folder, it.file).read_bytes()
+        if source[it.opens : it.end].strip(b"{} \n"):
+            return None
+        clauses = source[it.first : it.end].decode()
+        modules = [m for m, names in used.findall(source.decode()) if any(name.strip("◌ ") in clauses for name in names.split(","))]
+        texts += [f"Rattle.{crate.name}.{m}" for m in modules]
+        texts += [file.read_text() for file in Path(crate.folder, "proofs", *it.path).glob("*.antt")]
+    own = {".".join(["proofs", *it.path]) for it in functions}
+    while texts:
+        for module in named.findall(texts.pop()):
+            if any(f"{module}.".startswith(f"{it}.") for it in own):
+                continue
+            words = module.split(".")
+            fronts = ["/".join(words[:n]) + ".antt" for n in range(len(words), 1, -1)]
+            file = next((it for it in fronts if Path(crate.folder, it).is_file()), None)
+            if file is None:
+                return None
+            if file not in found:
+                found.add(file)
+                texts.append(Path(crate.folder, file).read_text())
+    return found
+
+
+def rounds_of(faults):
+    """Parts faults into rounds in which no function has two but by copies, no two are of functions that call one another in a circle,
+    and none is of a definition that another fault's function may rest on."""
+    places = lambda fault: {"a circle" if it.in_cycle else it for it in fault.functions}
+    rounds = []
+    for fault in sorted(faults, key=lambda it: it.can_be_copied):
+        shared = [it for it in rounds if all(are_apart(fault, other) and are_apart(other, fault) for other in it)]
+        free = next((it for it in shared if not any(places(fault) & places(other) for other in it)), None)
+        if fault.can_be_copied and shared:
+            free = shared[0]
+            fault.number = sum(fault.functions[0] in it.functions for it in free)
+        if free is None:
+            rounds.append(free := [])
+        free.append(fault)
+    return rounds
+
+
+# An error that says no more than that a proof names what is gone.
+LOST = re.compile(r"has no field|is not in scope|has no `|was not admitted|is no name|cannot be used")
+IN_PROOF = re.compile(r"(?:\./)?proofs/(\S+?)(?:/(?:Answers|Invariants|Proof))?\.antt:\d+:\d+: error: (?:`[^`]*`: )?(.*)")
+REFUSED = re.compile(r"fn (\S+): (?:not proved|no proof)(.*)")
+# A goal of the function whose line comes next.
+OPEN = re.compile(r"note: \S+:\d+:\d+: (?:it is not proved that|`search` found no proof).*?\(`([^`]+)`\)")
+
+
+def reasons(said):
+    """The functions that are not proved for a reason of their own, each with that reason: a goal, or an error in their proofs or in a
+    lemma that these cite."""
+    errors, own, goals = {}, {}, []
+    for line in said.split("\n"):
+        at = IN_PROOF.match(line)
+        if at and not LOST.search(at[2]):
+            errors.setdefault(at[1].replace("/", "::"), at[2])
+    for line in said.split("\n"):
+        if at := OPEN.match(line):
+            goals.append(at[1])
+        elif at := REFUSED.match(line):
+            name, rest = at.groups()
+            cited = re.findall(r"stands on `Rattle\.\w+\.proofs\.(\S+)\.[^.`]+`", rest)
+            places = [name.partition("::")[2], *[it.replace(".", "::") for it in cited]]
+            why = ", ".join(goals) or next((errors[it] for it in places if it in errors), None)
+            if why:
+                own[name] = why[:110]
+        if line.startswith("fn "):
+            goals = []
+    return own
+
+
+def symbols(crate, fault, names):
+    """The check's names of the functions of a fault, and those of the closures in them."""
+    inside, found = lambda words: "::".join([crate.name, *words]), []
+    for function, path in zip(fault.functions, fault.paths()):
+        count = len(path) - 2 if function.block else len(path) - 1
+        closures = inside([*path[:count], "fn", *path[count:], ""])
+        found += [inside(path), *[it for it in names if it.startswith(closures)]]
+    return found
+
+
+def files_of(crate):
+    found = [it for part in ("src", "specs", "proofs") for it in Path(crate.folder, part).rglob("*") if it.is_file()]
+    return {str(it.relative_to(os.getcwd())): it.stat() for it in found}
+
+
+class Refused:
+    """What earlier runs on this machine saw refused, of one crate as it stands: an empty file each, named by the sum."""
+
+    def __init__(self, crate, version, anew):
+        self.crate, self.version, self.anew = crate, version, anew
+        self.at = CACHE / "a2-faults"
+        self.sum = self.sum_now()
+
+    def sum_now(self):
+        """The sum of the toolchain's name, of this script, and of the sources of the crate and of those below it."""
+        crates = [self.crate, *self.crate.below()]
+        lines = [it for it in Path("crates.txt").read_text().split("\n") if it.partition(":")[0] in {crate.name for crate in crates}]
+        texts = [self.version, Path(__file__).read_text(), *lines]
+        texts += [f"{name} {Path(name).read_text()}" for crate in crates for name in sorted(files_of(crate))]
+        return hashlib.sha256("\0".join(texts).encode()).hexdigest()
+
+    def file(self, fault):
+        return self.at / hashlib.sha256(self.sum.encode() + fault.path.read_bytes()).hexdigest()
+
+    def has(self, fault):
+        return not self.anew and self.file(fault).is_file()
+
+    def keep(self, faults):
+        """Keeps these, unless a source was changed meanwhile, or nothing can be written there."""
+        with contextlib.suppress(OSError):
+            if self.sum_now() == self.sum:
+                self.at.mkdir(0o700, parents=True, exist_ok=True)
+                for it in faults:
+                    self.file(it).touch()
+
+
+class Trial:
+    """The faults of one crate, and what they come to."""
+
+    def __init__(self, toolchain, crate, tell, anew):
+        self.toolchain, self.crate, self.tell = toolchain, crate, tell
+        self.kept = tempfile.mkdtemp(prefix="faults-kept-")
+        self.failures, self.alone, self.refused = [], [], []
+        self.earlier = Refused(crate, toolchain.version, anew)
+        self.functions = toolchain.functions(crate)
+        paths = sorted(Path(crate.folder, "faults").glob("*.edit"))
+        self.faults = [Fault(it, crate, self.functions, toolchain.rt) for it in paths]
+
+    def fail(self, fault, why):
+        shown = " and ".join(it.shown for it in fault.functions)
+        self.failures.append(f"{self.crate.name}/{fault.name}{shown and ' in '}{shown}: {why}")
+
+    def run(self):
+        """Tries each fault."""
+        try:
+            for it in self.faults:
+                if it.bad:
+                    self.fail(it, f"BAD EDIT: {it.bad}")
+                elif self.earlier.has(it):
+                    self.refused.append(it)
+                elif not it.functions:
+                    self.alone.append((it, "it changes what stands in no function"))
+            if self.refused:
+                self.tell(f"{self.crate.name}: {len(self.refused)} of {len(self.faults)} were refused by an earlier run of the same")
+            rounds = rounds_of([it for it in self.faults if it.functions and not it.bad and it not in self.refused])
+            for number, now in enumerate(rounds):
+                # (one check by itself is done sooner where it keeps nothing)
+                self.round(f"round {number + 1} of {len(rounds)}", now, self.kept if len(rounds) > 1 else None)
+            for it, why in self.alone:
+                self.try_alone(it, why)
+            self.earlier.keep(self.refused)
+        finally:
+            shutil.rmtree(self.kept, ignore_errors=True)
+
+    def round(self, title, faults, kept):
+        """Tries these faults in one check."""
+        began = time.time()
+        status, said, seconds = self.toolchain.check(self.crate, faults, self.functions, kept)
+        self.tell(f"{self.crate.name}: {title}: {len(faults)} in one check of {time.time() - began:.0f} s")
+        for it in faults:
+            it.seconds = sum(seconds.get(name, 0) for name in symbols(self.crate, it, [*seconds]))
+        if status == 1 and re.search(r"(?m)^only=\d+ holes=", said):
+            self.judge(faults, said)
+        elif len(faults) > 1:
+            # (one of them keeps the check from an answer)
+            half = len(faults) // 2
+            self.round(f"{title}, first half", faults[:half], kept)
+            self.round(f"{title}, second half", faults[half:], kept)
+        else:
+            self.alone.append((faults[0], f"its check ended with status {status}"))
+
+    def judge(self, faults, said):
+        """Holds each fault to what the check says of its function."""
+        names, own = re.findall(r"(?m)^fn (\S+): ", said), reasons(said)
+        for it in faults:
+            mine = symbols(self.crate, it, names)
+            if any(name in own for name in mine):
+                self.refused.append(it)
+            else:
+                line = next((text for text in said.split("\n") if text.startswith(tuple(f"fn {name}: " for name in mine))), "")
+                self.alone.append((it, line[:160] or f"the check says nothing of {mine[0]}"))
+
+    def try_alone(self, fault, why):
+        """Tries a fault as rt does."""
+        rt = self.toolchain.rt
+        began = time.time()
+        kind, text = rt.must_fail(self.crate, str(fault.path), ["--jobs", "1"], self.kept)
+        fault.seconds = time.time() - began
+        # (rt of an earlier kit answers yes or no)
+        self.tell(f"{self.crate.name}: {fault.name} alone, {fault.seconds:.0f} s, since {why}")
+        if kind == getattr(rt, "REFUSED", True) and "only because a proof file names" not in text:
+            self.refused.append(fault)
+        else:
+            self.fail(fault, re.sub(r"^must-fail \S+: ", "", text))
