@@ -1,9 +1,9 @@
 //! The mistake in a line that is not in the grammar.
 
 use crate::elsewhere::known_elsewhere;
-use crate::line::{Parts, is_among, is_spelt, parts_of};
+use crate::line::{Parts, before, hex_and_rest, is_among, parts_of};
 use crate::mistake::{Finding, Mistake};
-use crate::operand::{is_accumulator, mistake_in, mistake_in_text};
+use crate::operand::{is_accumulator, mistake_in, mistake_in_text, name_len};
 use a2_opcode::{Mnemonic, row_of};
 use a2_syntax::is_name;
 use a2_text::front_len;
@@ -22,12 +22,22 @@ fn found<'a>(mistake: Mistake, at: usize, word: &'a [u8]) -> Option<Finding<'a>>
 
 // What is wrong with the form of a whole text, of which this is the first line.
 fn in_text(source: &[u8]) -> Option<Mistake> {
-    match source {
-        [0xEF, 0xBB, 0xBF, ..] => Some(Mistake::ByteOrderMark),
-        [0xFF, 0xFE, ..] | [0xFE, 0xFF, ..] | [_, 0, ..] | [0, ..] => Some(Mistake::WideCharacters),
-        _ if source.contains(&b'\r') && !source.contains(&b'\n') => Some(Mistake::CarriageReturns),
-        _ => None,
+    if source.starts_with(b"\xEF\xBB\xBF") {
+        Some(Mistake::ByteOrderMark)
+    } else if is_wide(source) {
+        Some(Mistake::WideCharacters)
+    } else if source.contains(&b'\r') && !source.contains(&b'\n') {
+        Some(Mistake::CarriageReturns)
+    } else {
+        None
     }
+}
+
+// Whether a text begins as one in UTF-16 does: by the mark of either order, or by a character with a byte of 0.
+fn is_wide(source: &[u8]) -> bool {
+    source.starts_with(b"\xFF\xFE")
+        || source.starts_with(b"\xFE\xFF")
+        || matches!(source, [0, ..] | [_, 0, ..])
 }
 
 // Whether bytes are a curly quote in UTF-8.
@@ -53,17 +63,13 @@ fn in_bytes<'a>(text: &'a [u8], parts: &Parts<'a>) -> Option<Finding<'a>> {
 
 // Whether a word is a hexadecimal address with a mark behind it.
 fn is_address(word: &[u8]) -> bool {
-    match word {
-        [address @ .., b':' | b'-'] => !address.is_empty()
-            && front_len(address, |c| c.is_ascii_hexdigit()) == address.len(),
-        _ => false,
-    }
+    let (address, rest) = hex_and_rest(word);
+    !address.is_empty() && matches!(rest, [b':' | b'-'])
 }
 
 // A word that begins with a digit, in column 1 or behind blanks.
 fn in_number<'a>(at: usize, word: &'a [u8]) -> Option<Finding<'a>> {
-    let digits = front_len(word, |c| c.is_ascii_hexdigit());
-    let (address, rest) = word.split_at(digits);
+    let (address, rest) = hex_and_rest(word);
     match rest {
         [b':' | b'-'] => found(Mistake::Listing, at, word),
         [b':', ..] => {
@@ -79,14 +85,27 @@ fn is_comment(word: &[u8]) -> bool {
     matches!(word, [b'/', b'/' | b'*', ..] | [b'#', ..])
 }
 
+// What stands right behind a mnemonic at the front of a word; nothing where none stands there.
+fn behind_mnemonic(word: &[u8]) -> &[u8] {
+    let (name, rest) = word.split_at(word.len().min(3));
+    if Mnemonic::named(name).is_some() {
+        rest
+    } else {
+        b""
+    }
+}
+
 // Whether a word is an operation with its operand right behind it.
 fn is_glued(word: &[u8]) -> bool {
-    match word {
-        [a, b, c, b'#' | b'$' | b'(' | b'%' | b'"' | b'\'', ..] => Mnemonic::named(&[
-            *a, *b, *c,
-        ]).is_some(),
-        _ => false,
-    }
+    matches!(
+        behind_mnemonic(word),
+        [b'#' | b'$' | b'(' | b'%' | b'"' | b'\'', ..]
+    )
+}
+
+// Whether a word is a mnemonic with a mark that forces a form.
+fn is_forced(word: &[u8]) -> bool {
+    matches!(behind_mnemonic(word), [b'.', _])
 }
 
 // What is wrong with what stands in column 1.
@@ -122,11 +141,7 @@ fn in_name(word: &[u8]) -> Mistake {
         [b':' | b'@' | b'.' | b']' | b'^', _, ..] => Mistake::LocalLabel,
         [name @ .., b':'] if is_name(name) => Mistake::Colon,
         _ if is_accumulator(word) => Mistake::RegisterName,
-        _
-            if word.len() > 32
-                && front_len(word, |c| c.is_ascii_alphanumeric() || c == b'_') == word.len() => {
-            Mistake::LongName
-        }
+        _ if word.len() > 32 && name_len(word) == word.len() => Mistake::LongName,
         _ => Mistake::BadName,
     }
 }
@@ -146,27 +161,37 @@ fn near_mnemonic(word: &[u8]) -> Option<&'static str> {
 
 // Whether a word is three letters in another order of two of them, or with a letter behind them.
 fn is_near(word: &[u8], name: &[u8]) -> bool {
-    match (word, name) {
-        ([a, b, c], [x, y, z]) => {
-            is_spelt(&[*b, *a, *c], &[*x, *y, *z]) || is_spelt(&[*a, *c, *b], &[*x, *y, *z])
+    match word {
+        [a, b, c] => {
+            name.eq_ignore_ascii_case(&[*b, *a, *c]) || name.eq_ignore_ascii_case(&[*a, *c, *b])
         }
-        ([a, b, c, _], [_, _, _]) => is_spelt(&[*a, *b, *c], name),
-        _ => false,
+        [front @ .., _] => name.eq_ignore_ascii_case(front),
+        [] => false,
+    }
+}
+
+// What is wrong with a word that is like no form of another assembler's operation.
+fn near_or_none(word: &[u8]) -> Mistake {
+    match near_mnemonic(word) {
+        Some(name) => Mistake::NearMnemonic(name),
+        None => Mistake::NoOperation,
     }
 }
 
 // What is wrong with a word that is no operation and begins with no digit.
 fn of_operation(word: &[u8]) -> Mistake {
-    match word {
-        [b'*', b'=', ..] => Mistake::StarOrigin,
-        [a, b, c, b'.', _] if Mnemonic::named(&[*a, *b, *c]).is_some() => Mistake::ForcedForm,
-        _ if is_comment(word) => Mistake::Comment,
-        _ if is_glued(word) => Mistake::Glued,
-        [_, .., b':'] => Mistake::Colon,
-        _ => match near_mnemonic(word) {
-            Some(name) => Mistake::NearMnemonic(name),
-            None => Mistake::NoOperation,
-        },
+    if word.starts_with(b"*=") {
+        Mistake::StarOrigin
+    } else if is_forced(word) {
+        Mistake::ForcedForm
+    } else if is_comment(word) {
+        Mistake::Comment
+    } else if is_glued(word) {
+        Mistake::Glued
+    } else if word.len() > 1 && word.ends_with(b":") {
+        Mistake::Colon
+    } else {
+        near_or_none(word)
     }
 }
 
@@ -185,28 +210,34 @@ fn in_operation<'a>(parts: &Parts<'a>) -> Option<Finding<'a>> {
 // What is wrong with the operand of an operation.
 fn in_operand<'a>(parts: &Parts<'a>) -> Option<Finding<'a>> {
     let (operation, operand) = (parts.operation, parts.operand);
-    if is_spelt(operation, b"EQU") && parts.label.is_empty() {
+    if operation.eq_ignore_ascii_case(b"EQU") && parts.label.is_empty() {
         return found(Mistake::EquWithoutLabel, parts.operation_at, operation);
     }
     if operand.is_empty() {
         return found(Mistake::NoOperand, parts.operation_at, operation);
     }
-    let mistake = if is_spelt(operation, b"ASC") {
+    let mistake = if operation.eq_ignore_ascii_case(b"ASC") {
         mistake_in_text(operand)
     } else {
         mistake_in(operand)
     };
     let (mistake, at, len) = match mistake {
         Some(mistake) => mistake,
-        None if is_among(operation, b"ORG EQU DS") && operand.contains(&b',') => {
-            let at = front_len(operand, |c| c != b',');
-            (Mistake::SecondOperand, at, operand.len().saturating_sub(at))
-        }
-        None => (Mistake::Unclear, 0, operand.len()),
+        None => in_whole(operation, operand),
     };
     let (_, here) = operand.split_at(at.min(operand.len()));
     let (word, _) = here.split_at(len.min(here.len()));
     found(mistake, parts.operand_at.saturating_add(at), word)
+}
+
+// What is wrong with an operand in which each word may stand where it stands: which mistake, where it begins, and how long it is.
+fn in_whole(operation: &[u8], operand: &[u8]) -> (Mistake, usize, usize) {
+    let first = before(operand, b',').len();
+    if first < operand.len() && is_among(operation, b"ORG EQU DS") {
+        (Mistake::SecondOperand, first, operand.len() - first)
+    } else {
+        (Mistake::Unclear, 0, operand.len())
+    }
 }
 
 // The first mistake of a line by its parts.
@@ -215,7 +246,7 @@ fn in_parts<'a>(text: &'a [u8], parts: &Parts<'a>) -> Option<Finding<'a>> {
     if of_bytes.is_some() {
         return of_bytes;
     }
-    if !parts.label.is_empty() && matches!(parts.operation, b"=" | b":=") {
+    if !parts.label.is_empty() && is_among(parts.operation, b"= :=") {
         return found(Mistake::Equals, parts.operation_at, parts.operation);
     }
     let of_label = in_label(parts);

@@ -2,7 +2,7 @@
 
 ghost use Rattle.std.specs.Prelude.{◌≤◌, length};
 
-use a2_text::{behind_blanks, capital, first_word, front_len, is_blank};
+use a2_text::{behind_blanks, first_word, front_len, is_blank};
 
 /// The parts of a line. Places count from 0.
 #[derive(Clone, Copy)]
@@ -66,20 +66,22 @@ pub(crate) fn parts_of(text: &[u8]) -> Parts<'_> {
     }
 }
 
-/// Whether a word is spelt by these capitals, in either case.
-pub(crate) fn is_spelt(word: &[u8], capitals: &[u8]) -> bool {
-    word.len() == capitals.len()
-        && word
-            .iter()
-            .zip(capitals)
-            .all(|(c, other)| capital(*c) == *other)
+/// What stands in a text in front of the first such byte: all of it, where it has none.
+pub(crate) fn before(text: &[u8], byte: u8) -> &[u8] {
+    let (front, _) = text.split_at(front_len(text, |c| c != byte));
+    front
+}
+
+/// The hexadecimal digits at the front of a text, and what stands behind them.
+pub(crate) fn hex_and_rest(text: &[u8]) -> (&[u8], &[u8]) {
+    text.split_at(front_len(text, |c| c.is_ascii_hexdigit()))
 }
 
 /// Whether a word is one of these, in either case; blanks stand between them.
 pub(crate) fn is_among(word: &[u8], words: &[u8]) -> bool {
     let mut rest = words;
     while let Some((first, behind)) = first_word(rest) {
-        if is_spelt(word, first) {
+        if word.eq_ignore_ascii_case(first) {
             return true;
         }
         rest = behind;

@@ -1,8 +1,7 @@
 //! The kinds of mistake that a line which is not in the grammar may show, and what is told of each.
 
 use crate::elsewhere::Elsewhere;
-use crate::line::Parts;
-use a2_text::front_len;
+use crate::line::{Parts, before};
 
 /// A sentence, with marks where words of a line stand in it.
 pub(crate) type Sentence = &'static [u8];
@@ -78,10 +77,9 @@ fn digits_of(word: &[u8]) -> &[u8] {
 
 // A local label's name without its mark.
 fn unmarked(word: &[u8]) -> &[u8] {
+    let word = word.strip_suffix(b":").unwrap_or(word);
     match word {
-        [b':' | b'@' | b'.' | b']' | b'^', name @ .., b':'] => name,
         [b':' | b'@' | b'.' | b']' | b'^', name @ ..] => name,
-        [name @ .., b':'] => name,
         _ => word,
     }
 }
@@ -149,7 +147,7 @@ impl Mistake {
     }
 
     /// The word that stands for `@` in what is wrong.
-    pub(crate) fn shown<'a>(self, parts: &Parts<'a>, word: &'a [u8]) -> &'a [u8] {
+    pub(crate) fn shown<'a>(self, parts: Parts<'a>, word: &'a [u8]) -> &'a [u8] {
         match self {
             Mistake::NoOperand | Mistake::SecondOperand => parts.operation,
             _ => word,
@@ -157,7 +155,7 @@ impl Mistake {
     }
 
     /// The mend, in words; `@` stands for `first`, `~` for `second` and `^` for `here`.
-    pub(crate) fn mend(self, parts: &Parts) -> Sentence {
+    pub(crate) fn mend(self, parts: Parts) -> Sentence {
         match self {
             Mistake::ByteOrderMark => b"save the text without a byte-order mark",
             Mistake::WideCharacters => b"save the text as ASCII or UTF-8",
@@ -206,7 +204,7 @@ impl Mistake {
     }
 
     /// The word that stands for `@` in the mend.
-    pub(crate) fn first<'a>(self, parts: &Parts<'a>, word: &'a [u8]) -> &'a [u8] {
+    pub(crate) fn first<'a>(self, parts: Parts<'a>, word: &'a [u8]) -> &'a [u8] {
         match self {
             Mistake::ObjectLine => unended(word),
             Mistake::Colon | Mistake::LocalLabel => unmarked(word),
@@ -221,14 +219,14 @@ impl Mistake {
     /// What stands for `^` in the mend: what another assembler's word is here, or the mnemonic that is near.
     pub(crate) fn here(self) -> &'static [u8] {
         match self {
-            Mistake::OtherInFirstColumn(other) | Mistake::Other(other) => other.here(),
+            Mistake::OtherInFirstColumn(other) | Mistake::Other(other) => other.here,
             Mistake::NearMnemonic(name) => name.as_bytes(),
             _ => b"",
         }
     }
 
     /// The word that stands for `~` in the mend.
-    pub(crate) fn second<'a>(self, parts: &Parts<'a>) -> &'a [u8] {
+    pub(crate) fn second<'a>(self, parts: Parts<'a>) -> &'a [u8] {
         match self {
             Mistake::OtherInFirstColumn(other) => behind_first(other, parts),
             Mistake::Other(other) => kept(other, parts),
@@ -240,15 +238,13 @@ impl Mistake {
 }
 
 // The operand, where it goes behind what another assembler's word is here; of room its length alone.
-fn kept<'a>(other: Elsewhere, parts: &Parts<'a>) -> &'a [u8] {
-    match other {
-        Elsewhere::Room => {
-            let operand = parts.operand;
-            let (length, _) = operand.split_at(front_len(operand, |c| c != b','));
-            length
-        }
-        _ if other.keeps_operand() => parts.operand,
-        _ => b"",
+fn kept<'a>(other: Elsewhere, parts: Parts<'a>) -> &'a [u8] {
+    if other.is_room() {
+        before(parts.operand, b',')
+    } else if other.keeps_operand() {
+        parts.operand
+    } else {
+        b""
     }
 }
 
@@ -261,7 +257,7 @@ fn unstarred(word: &[u8]) -> &[u8] {
 }
 
 // The same where that word stands in column 1, so that the operand stands where an operation does.
-fn behind_first<'a>(other: Elsewhere, parts: &Parts<'a>) -> &'a [u8] {
+fn behind_first<'a>(other: Elsewhere, parts: Parts<'a>) -> &'a [u8] {
     if other.keeps_operand() {
         parts.operation
     } else {

@@ -1,7 +1,7 @@
 //! The names of a source: where they are defined, where they are used, and which one is near.
 
+use crate::line::hex_and_rest;
 use a2_syntax::{Body, Expr, Line, Operand, Term};
-use a2_text::capital;
 use std::alloc::{AllocError, Allocator};
 use strsim::generic_levenshtein;
 
@@ -61,19 +61,10 @@ pub(crate) fn missing<'a, A: Allocator>(lines: &[Line<A>], body: &'a Body<A>) ->
     }
 }
 
-// Whether two names differ in capitals and small letters alone.
-fn is_alike(name: &[u8], other: &[u8]) -> bool {
-    name.len() == other.len()
-        && name
-            .iter()
-            .zip(other)
-            .all(|(a, b)| capital(*a) == capital(*b))
-}
-
 // How far a name is from another: 0 where capitals and small letters alone differ, and else 1 more than the number of letters
 // that are put in, left out or changed.
 fn distance<A: Allocator + Copy>(alloc: A, name: &[u8], other: &[u8]) -> Result<usize, AllocError> {
-    if is_alike(name, other) {
+    if name.eq_ignore_ascii_case(other) {
         return Ok(0);
     }
     Ok(generic_levenshtein(alloc, name, other)?.saturating_add(1))
@@ -101,5 +92,6 @@ pub(crate) fn nearest<'a, A: Allocator + Copy>(
 
 /// Whether a name could be a hexadecimal number without its mark.
 pub(crate) fn is_hexadecimal(name: &str) -> bool {
-    name.len() <= 4 && name.as_bytes().iter().all(|c| c.is_ascii_hexdigit())
+    let (_, rest) = hex_and_rest(name.as_bytes());
+    name.len() <= 4 && rest.is_empty()
 }

@@ -2,13 +2,20 @@
 
 ghost use Rattle.std.specs.Prelude.{◌<◌, ◌≤◌, length};
 
-use crate::line::is_spelt;
+use crate::line::before;
 use crate::mistake::Mistake;
 use a2_text::{front_len, is_blank, number_in};
 
 // A byte that may stand in a name.
 fn is_name_byte(c: u8) -> bool {
     c.is_ascii_alphanumeric() || c == b'_'
+}
+
+/// How many bytes at the front of a text may stand in a name.
+pub(crate) fn name_len(text: &[u8]) -> usize
+    ensures { result ≤ length text.now }
+{
+    front_len(text, |c| is_name_byte(c))
 }
 
 // How long the quoted text at the front is: with its closing quote, or to the end where there is none.
@@ -18,8 +25,7 @@ fn quoted_len(text: &[u8]) -> usize
     let Some((quote, rest)) = text.split_first() else {
         return 0;
     };
-    let inside = front_len(rest, |c| c != *quote);
-    inside.saturating_add(2).min(text.len())
+    before(rest, *quote).len().saturating_add(2).min(text.len())
 }
 
 // How long the word at the front of a text is: at least 1 where the text is not empty.
@@ -30,10 +36,9 @@ fn word_len(text: &[u8]) -> usize
     match text {
         [] => 0,
         [b'"' | b'\'', ..] => quoted_len(text).max(1),
-        [b'$' | b'%', rest @ ..] => 1 + front_len(rest, is_name_byte),
+        [b'$' | b'%', rest @ ..] => 1 + name_len(rest),
         [b'/', b'/', ..] => 2,
-        [first, rest @ ..] if is_name_byte(*first) => 1 + front_len(rest, is_name_byte),
-        _ => 1,
+        _ => name_len(text).max(1),
     }
 }
 
@@ -45,16 +50,40 @@ fn is_closed(word: &[u8]) -> bool {
 // What is wrong with a term.
 fn in_term(word: &[u8]) -> Option<Mistake> {
     match word {
-        [b'"' | b'\'', _, b'"' | b'\''] => None,
-        [b'"' | b'\'', ..] if is_closed(word) => Some(Mistake::TextAmongBytes),
-        [b'"' | b'\'', ..] => Some(Mistake::OpenQuote),
-        [b'0', b'x' | b'X', ..] => Some(Mistake::HexPrefix),
-        [b'$', digits @ ..] if number_in(16, 4, digits).is_none() => Some(Mistake::BadNumber),
-        [b'%', digits @ ..] if number_in(2, 16, digits).is_none() => Some(Mistake::BadNumber),
-        [b'0'..=b'9', .., b'h' | b'H'] => Some(Mistake::HexSuffix),
-        [b'0'..=b'9', ..] if number_in(10, 5, word).is_none() => Some(Mistake::BadNumber),
+        [b'"' | b'\'', ..] => in_character(word),
+        [b'0'..=b'9', ..] => in_decimal(word),
+        [b'$', digits @ ..] => in_number(number_in(16, 4, digits)),
+        [b'%', digits @ ..] => in_number(number_in(2, 16, digits)),
         _ if word.len() > 32 => Some(Mistake::LongName),
         _ => None,
+    }
+}
+
+// What is wrong with a word that is to be a number, and has this value.
+fn in_number(value: Option<u16>) -> Option<Mistake> {
+    match value {
+        Some(_) => None,
+        None => Some(Mistake::BadNumber),
+    }
+}
+
+// What is wrong with a number that begins with a digit.
+fn in_decimal(word: &[u8]) -> Option<Mistake> {
+    match word {
+        [b'0', b'x' | b'X', ..] => Some(Mistake::HexPrefix),
+        [.., b'h' | b'H'] => Some(Mistake::HexSuffix),
+        _ => in_number(number_in(10, 5, word)),
+    }
+}
+
+// What is wrong with a character that begins with a quote.
+fn in_character(word: &[u8]) -> Option<Mistake> {
+    if word.len() == 3 && matches!(word, [.., b'"' | b'\'']) {
+        None
+    } else if is_closed(word) {
+        Some(Mistake::TextAmongBytes)
+    } else {
+        Some(Mistake::OpenQuote)
     }
 }
 
@@ -214,7 +243,7 @@ pub(crate) fn mistake_in_text(operand: &[u8]) -> Option<(Mistake, usize, usize)>
 
 /// Whether a word is a register's letter.
 pub(crate) fn is_accumulator(word: &[u8]) -> bool {
-    is_spelt(word, b"A")
+    word.eq_ignore_ascii_case(b"A")
 }
 
 /// Where a word stands first in an operand, or 0 where it does not.

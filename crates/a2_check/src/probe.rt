@@ -7,37 +7,40 @@ use std::alloc::{AllocError, Allocator};
 // A name that no source is likely to have.
 const HERE: &str = "_HERE_IN_A_SOURCE_THAT_IS_TRIED_";
 
-// The text in which the line at an index is made of these pieces.
-fn changed<A: Allocator + Copy>(
-    alloc: A,
+// Appends pieces, each with this end.
+fn append<A: Allocator>(
+    text: &mut Vec<u8, A>,
+    pieces: &[&[u8]],
+    end: &[u8],
+) -> Result<(), AllocError> {
+    for piece in pieces {
+        text.extend_from_slice(piece)?;
+        text.extend_from_slice(end)?;
+    }
+    Ok(())
+}
+
+// Appends the text in which the line at an index is made of these pieces.
+fn append_changed<A: Allocator>(
+    text: &mut Vec<u8, A>,
     texts: &[&[u8]],
     index: usize,
     pieces: &[&[u8]],
-) -> Result<Vec<u8, A>, AllocError> {
-    let mut text = Vec::new(alloc);
-    for (i, line) in texts.iter().enumerate() {
-        if i == index {
-            for piece in pieces {
-                text.extend_from_slice(piece)?;
-            }
-        } else {
-            text.extend_from_slice(line)?;
-        }
-        text.push(b'\n')?;
-    }
-    Ok(text)
+) -> Result<(), AllocError> {
+    let (before, rest) = texts.split_at(index.min(texts.len()));
+    append(text, before, b"\n")?;
+    append(text, pieces, b"")?;
+    text.push(b'\n')?;
+    append(text, rest.get(1..).unwrap_or(&[]), b"\n")
 }
 
 // The program of a text, where it is accepted.
 fn accepted<A: Allocator + Copy>(alloc: A, text: &[u8]) -> Result<Option<Program<A>>, AllocError> {
-    let source = match parse(alloc, text) {
-        Ok(source) => source,
-        Err(fault) => {
-            refused(fault)?;
-            return Ok(None);
-        }
+    let assembled = match parse(alloc, text) {
+        Ok(source) => assemble(alloc, &source),
+        Err(fault) => Err(fault),
     };
-    match assemble(alloc, &source) {
+    match assembled {
         Ok(program) => Ok(Some(program)),
         Err(fault) => {
             refused(fault)?;
@@ -54,7 +57,8 @@ fn tried<A: Allocator + Copy>(
     index: usize,
     pieces: &[&[u8]],
 ) -> Result<Option<Program<A>>, AllocError> {
-    let mut text = changed(alloc, texts, index, pieces)?;
+    let mut text = Vec::new(alloc);
+    append_changed(&mut text, texts, index, pieces)?;
     match accepted(alloc, text.as_slice())? {
         Some(program) => Ok(Some(program)),
         None => {
@@ -62,6 +66,16 @@ fn tried<A: Allocator + Copy>(
             accepted(alloc, text.as_slice())
         }
     }
+}
+
+// The address of the first statement of the line at an index, and the word there.
+fn word_of_line<A: Allocator>(program: &Program<A>, index: usize) -> Option<(u16, u16)> {
+    for statement in program.statements() {
+        if usize::from(statement.line) == index.saturating_add(1) {
+            return word_at(program, statement.addr);
+        }
+    }
+    None
 }
 
 /// The address of a line of two bytes and the value of an expression in it, where the rest of the source is accepted.
@@ -72,15 +86,12 @@ pub(crate) fn value<A: Allocator + Copy>(
     label: &[u8],
     expression: &[u8],
 ) -> Result<Option<(u16, u16)>, AllocError> {
-    let Some(program) = tried(alloc, texts, index, &[label, b" DW ", expression])? else {
-        return Ok(None);
-    };
-    for statement in program.statements() {
-        if usize::from(statement.line) == index.saturating_add(1) {
-            return Ok(word_at(&program, statement.addr));
-        }
-    }
-    Ok(None)
+    Ok(
+        match tried(alloc, texts, index, &[label, b" DW ", expression])? {
+            Some(program) => word_of_line(&program, index),
+            None => None,
+        },
+    )
 }
 
 // An address and the word there.
@@ -105,6 +116,14 @@ fn first_over(statements: &[Statement], index: usize, here: u16) -> Option<u16> 
     found
 }
 
+// The same over what a name stands for.
+fn first_over_name<A: Allocator>(program: &Program<A>, index: usize, name: &[u8]) -> Option<u16> {
+    let Ok(name) = str::from_utf8(name) else {
+        return None;
+    };
+    first_over(program.statements(), index, program.name(name)?)
+}
+
 /// The line of the first statement, by its address, that reaches over the address of a line, where the rest of the source is
 /// accepted.
 pub(crate) fn in_the_way<A: Allocator + Copy>(
@@ -118,14 +137,8 @@ pub(crate) fn in_the_way<A: Allocator + Copy>(
     } else {
         label
     };
-    let Some(program) = tried(alloc, texts, index, &[name, b" EQU *"])? else {
-        return Ok(None);
-    };
-    let Ok(name) = str::from_utf8(name) else {
-        return Ok(None);
-    };
-    let Some(here) = program.name(name) else {
-        return Ok(None);
-    };
-    Ok(first_over(program.statements(), index, here))
+    Ok(match tried(alloc, texts, index, &[name, b" EQU *"])? {
+        Some(program) => first_over_name(&program, index, name),
+        None => None,
+    })
 }

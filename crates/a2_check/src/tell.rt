@@ -2,11 +2,13 @@
 
 use crate::finding::finding;
 use crate::layout::Place;
-use crate::told::{Told, shown, tell_at, told_of_finding};
+use crate::line::parts_of;
+use crate::mistake::Sentence;
+use crate::told::{Telling, Told, filled, shown};
 use a2_asm::refused;
 use a2_stream::{Output, WriteFault, put, put_all};
-use a2_syntax::{Fault, parse};
-use a2_text::{cut, decimal};
+use a2_syntax::{Fault, Line, Source, parse};
+use a2_text::{cut, decimal, hex_pair};
 use std::alloc::{AllocError, Allocator};
 use thiserror::Error;
 
@@ -67,93 +69,85 @@ fn code(fault: Fault) -> &'static [u8] {
 }
 
 // What is told of a text that is too large.
-fn too_large<A: Allocator + Copy>(alloc: A, line: u16) -> Result<Told<A>, AllocError> {
-    match line {
-        0 => tell_at(
-            alloc,
-            0,
-            1,
-            &[b"the text has more than 65536 bytes"],
-            &[b"split it"],
+fn too_large<'a>(line: u16) -> Telling<'a> {
+    let (what, mend): (Sentence, Sentence) = match line {
+        0 => (b"the text has more than 65536 bytes", b"split it"),
+        4097 => (b"the text has more than 4096 lines", b"split it"),
+        _ => (
+            b"the line has more than 255 bytes",
+            b"cut it; a comment goes on in the next line behind a ; of its own",
         ),
-        4097 => tell_at(
-            alloc,
-            0,
-            1,
-            &[b"the text has more than 4096 lines"],
-            &[b"split it"],
-        ),
-        _ => tell_at(
-            alloc,
-            0,
-            1,
-            &[b"the line has more than 255 bytes"],
-            &[b"cut it; a comment goes on in the next line behind a ; of its own"],
-        ),
+    };
+    Telling::new(0, 1, what, mend)
+}
+
+// A source whose refusals are told.
+#[derive(Clone, Copy)]
+struct Checked<'a, A: Allocator> {
+    name: &'a str,
+    source: &'a [u8],
+    // Its lines as they were written.
+    texts: &'a [&'a [u8]],
+    // What they say, where all of them are in the grammar; else none.
+    lines: &'a [Line<A>],
+}
+
+impl<'a, A: Allocator + Copy> Checked<'a, A> {
+    // The line of a number, counted from 1; empty where there is none.
+    fn line(self, number: u16) -> &'a [u8] {
+        match usize::from(number) {
+            0 => b"",
+            number => self.texts.get(number - 1).copied().unwrap_or(b""),
+        }
     }
-}
 
-// The line of a number, counted from 1; empty where there is none.
-fn line_of<'a>(texts: &[&'a [u8]], number: u16) -> &'a [u8] {
-    let index = usize::from(number).checked_sub(1);
-    index.and_then(|i| texts.get(i).copied()).unwrap_or(b"")
-}
+    // What is told of a line that is not in the grammar.
+    fn told_of_line(self, number: u16) -> Telling<'a> {
+        let text = self.line(number);
+        let whole = if number == 1 { self.source } else { b"" };
+        Telling::of_finding(finding(text, whole), parts_of(text))
+    }
 
-// What is told of a refusal by the layout.
-fn told_of_layout<A: Allocator + Copy>(
-    alloc: A,
-    source: &[u8],
-    texts: &[&[u8]],
-    fault: Fault,
-) -> Result<Told<A>, AllocError> {
-    let parsed = match parse(alloc, source) {
-        Ok(parsed) => parsed,
-        Err(fault) => {
-            refused(fault)?;
-            return tell_at(
+    // What is told of a refusal by the layout.
+    fn told_of_layout(self, alloc: A, fault: Fault) -> Result<Told<A>, AllocError> {
+        match Place::of(self.texts, self.lines, fault.line()) {
+            Some(place) => place.told(alloc, fault),
+            None => filled(
                 alloc,
+                Telling::new(0, 1, b"the line is refused", b"look at the line"),
+            ),
+        }
+    }
+
+    // What is told of a refusal.
+    fn told(self, alloc: A, fault: Fault) -> Result<Told<A>, AllocError> {
+        let telling = match fault {
+            Fault::TooLarge(line) => too_large(line),
+            Fault::Syntax(line) => self.told_of_line(line),
+            Fault::NoCode | Fault::Memory => Telling::new(
                 0,
                 1,
-                &[b"the line is refused"],
-                &[b"look at the line"],
-            );
-        }
-    };
-    match Place::of(texts, parsed.lines(), fault.line()) {
-        Some(place) => place.told(alloc, fault),
-        None => tell_at(
-            alloc,
-            0,
-            1,
-            &[b"the line is refused"],
-            &[b"look at the line"],
-        ),
+                b"the text has no instruction",
+                b"write one; a line that begins with an operation begins with a blank",
+            ),
+            _ => return self.told_of_layout(alloc, fault),
+        };
+        filled(alloc, telling)
     }
 }
 
-// What is told of a refusal.
-fn told_of<A: Allocator + Copy>(
-    alloc: A,
-    source: &[u8],
-    texts: &[&[u8]],
-    fault: Fault,
-) -> Result<Told<A>, AllocError> {
-    match fault {
-        Fault::TooLarge(line) => too_large(alloc, line),
-        Fault::Syntax(line) => {
-            let text = line_of(texts, line);
-            let whole = if line == 1 { source } else { b"" };
-            told_of_finding(alloc, text, finding(text, whole))
-        }
-        Fault::NoCode | Fault::Memory => tell_at(
-            alloc,
-            0,
-            1,
-            &[b"the text has no instruction"],
-            &[b"write one; a line that begins with an operation begins with a blank"],
-        ),
-        _ => told_of_layout(alloc, source, texts, fault),
-    }
+// A piece of what is written.
+#[derive(Clone, Copy)]
+enum Piece<'a> {
+    // These bytes.
+    Plain(&'a [u8]),
+    // Bytes of a line, as they are shown.
+    Shown(&'a [u8]),
+    // Bytes between the quotes of a string of JSON.
+    Quoted(&'a [u8]),
+    Number(usize),
+    // So many of the same byte.
+    Times(usize, u8),
 }
 
 // Writes so many of the same byte.
@@ -164,13 +158,6 @@ fn put_times<W: Output>(byte: u8, count: usize, writer: &mut W) -> Result<(), Wr
     Ok(())
 }
 
-// Writes a number that ends at the fourth place, or behind it.
-fn put_number<W: Output>(number: u16, writer: &mut W) -> Result<(), WriteFault> {
-    let digits = decimal(u64::from(number));
-    put_times(b' ', 4usize.saturating_sub(digits.len()), writer)?;
-    put(digits.as_slice(), writer)
-}
-
 // Writes a line of the source as it is shown.
 fn put_shown<W: Output>(text: &[u8], writer: &mut W) -> Result<(), WriteFault> {
     for c in text {
@@ -179,164 +166,253 @@ fn put_shown<W: Output>(text: &[u8], writer: &mut W) -> Result<(), WriteFault> {
     Ok(())
 }
 
-// Writes the line that a refusal is of, and the mend under its place.
-fn put_place<A: Allocator, W: Output>(
-    text: &[u8],
-    line: u16,
-    told: &Told<A>,
-    writer: &mut W,
-) -> Result<(), WriteFault> {
-    put_number(line, writer)?;
-    put(b" | ", writer)?;
-    put_shown(text, writer)?;
-    put(b"\n     | ", writer)?;
-    put_times(b' ', told.at, writer)?;
-    put_times(b'^', told.width, writer)?;
-    put_all(&[b" ", told.mend.as_slice(), b"\n"], writer)
-}
-
-// Writes a refusal at length.
-fn put_long<A: Allocator, W: Output>(
-    texts: &[&[u8]],
-    fault: Fault,
-    told: &Told<A>,
-    writer: &mut W,
-) -> Result<(), WriteFault> {
-    let line = fault.line();
-    let text = line_of(texts, line);
-    put_all(&[b"error[", code(fault), b"]: "], writer)?;
-    if line > 0 {
-        let column = decimal(told.at.saturating_add(1) as u64);
-        let number = decimal(u64::from(line));
-        put_all(
-            &[
-                b"line ",
-                number.as_slice(),
-                b", column ",
-                column.as_slice(),
-                b": ",
-            ],
-            writer,
-        )?;
-    }
-    put_all(&[told.what.as_slice(), b"\n"], writer)?;
-    if line > 0 && text.len() <= 255 {
-        put_place(text, line, told, writer)
-    } else {
-        put_all(&[b"     = ", told.mend.as_slice(), b"\n"], writer)
+// Writes a byte of a string of JSON.
+fn put_quoted<W: Output>(c: u8, writer: &mut W) -> Result<(), WriteFault> {
+    let [high, low] = hex_pair(c);
+    match c {
+        b'"' | b'\\' => put(&[b'\\', c], writer),
+        0..=31 => put(&[b'\\', b'u', b'0', b'0', high, low], writer),
+        _ => put(&[c], writer),
     }
 }
 
-// Writes a refusal in a line.
-fn put_short<A: Allocator, W: Output>(
-    name: &str,
-    fault: Fault,
-    told: &Told<A>,
-    writer: &mut W,
-) -> Result<(), WriteFault> {
-    put(name.as_bytes(), writer)?;
-    if fault.line() > 0 {
-        let line = decimal(u64::from(fault.line()));
-        let column = decimal(told.at.saturating_add(1) as u64);
-        put_all(&[b":", line.as_slice(), b":", column.as_slice()], writer)?;
+// Writes bytes of a string of JSON.
+fn put_string<W: Output>(text: &[u8], writer: &mut W) -> Result<(), WriteFault> {
+    for c in text {
+        put_quoted(*c, writer)?;
     }
-    put_all(&[b": error: ", code(fault), b": "], writer)?;
+    Ok(())
+}
+
+// Writes a piece.
+fn put_piece<W: Output>(piece: Piece<'_>, writer: &mut W) -> Result<(), WriteFault> {
+    match piece {
+        Piece::Plain(text) => put(text, writer),
+        Piece::Shown(text) => put_shown(text, writer),
+        Piece::Quoted(text) => put_string(text, writer),
+        Piece::Number(number) => put(decimal(number as u64).as_slice(), writer),
+        Piece::Times(count, byte) => put_times(byte, count, writer),
+    }
+}
+
+// Writes pieces, one behind another.
+fn put_pieces<W: Output>(pieces: &[Piece<'_>], writer: &mut W) -> Result<(), WriteFault> {
+    for piece in pieces {
+        put_piece(*piece, writer)?;
+    }
+    Ok(())
+}
+
+// A refusal as it is told: its number, its line, where it stands there, counted from 1, how wide, what is wrong and the mend.
+#[derive(Clone, Copy)]
+struct Report<'a> {
+    code: &'a [u8],
+    line: usize,
+    column: usize,
+    width: usize,
+    what: &'a [u8],
+    mend: &'a [u8],
+}
+
+// Writes a refusal of no line at length.
+fn put_whole<W: Output>(report: Report<'_>, writer: &mut W) -> Result<(), WriteFault> {
     put_all(
-        &[told.what.as_slice(), b"; ", told.mend.as_slice(), b"\n"],
+        &[
+            b"error[",
+            report.code,
+            b"]: ",
+            report.what,
+            b"\n     = ",
+            report.mend,
+            b"\n",
+        ],
         writer,
     )
 }
 
-// Writes a text as a string of JSON.
-fn put_string<W: Output>(text: &[u8], writer: &mut W) -> Result<(), WriteFault> {
-    put(b"\"", writer)?;
-    for c in text {
-        match *c {
-            b'"' => put(b"\\\"", writer)?,
-            b'\\' => put(b"\\\\", writer)?,
-            0..=31 => {
-                let [high, low] = a2_text::hex_pair(*c);
-                put(&[b'\\', b'u', b'0', b'0', high, low], writer)?;
-            }
-            c => put(&[c], writer)?,
-        }
-    }
-    put(b"\"", writer)
-}
-
-// Writes a refusal as an object of JSON.
-fn put_object<A: Allocator, W: Output>(
-    name: &str,
-    fault: Fault,
-    told: &Told<A>,
+// Writes the line that a refusal is of, and the mend under its place; of a line that is too long the mend alone.
+fn put_place<'a, W: Output>(
+    text: &'a [u8],
+    report: Report<'a>,
     writer: &mut W,
 ) -> Result<(), WriteFault> {
-    let line = decimal(u64::from(fault.line()));
-    let column = decimal(if fault.line() > 0 {
-        told.at.saturating_add(1) as u64
-    } else {
-        0
-    });
-    let width = decimal(told.width as u64);
-    put(b"{\"file\":", writer)?;
-    put_string(name.as_bytes(), writer)?;
-    put_all(
+    if text.len() > 255 {
+        return put_all(&[b"     = ", report.mend, b"\n"], writer);
+    }
+    let digits = decimal(report.line as u64).len();
+    put_pieces(
         &[
-            b",\"line\":",
-            line.as_slice(),
-            b",\"column\":",
-            column.as_slice(),
-            b",\"width\":",
-            width.as_slice(),
+            Piece::Times(4usize.saturating_sub(digits), b' '),
+            Piece::Number(report.line),
+            Piece::Plain(b" | "),
+            Piece::Shown(text),
+            Piece::Plain(b"\n     | "),
+            Piece::Times(report.column.saturating_sub(1), b' '),
+            Piece::Times(report.width, b'^'),
+            Piece::Plain(b" "),
+            Piece::Plain(report.mend),
+            Piece::Plain(b"\n"),
+        ],
+        writer,
+    )
+}
+
+// Writes a refusal of a line at length.
+fn put_long<W: Output>(text: &[u8], report: Report<'_>, writer: &mut W) -> Result<(), WriteFault> {
+    put_pieces(
+        &[
+            Piece::Plain(b"error["),
+            Piece::Plain(report.code),
+            Piece::Plain(b"]: line "),
+            Piece::Number(report.line),
+            Piece::Plain(b", column "),
+            Piece::Number(report.column),
+            Piece::Plain(b": "),
+            Piece::Plain(report.what),
+            Piece::Plain(b"\n"),
         ],
         writer,
     )?;
-    put_all(&[b",\"code\":\"", code(fault), b"\",\"text\":"], writer)?;
-    put_string(told.what.as_slice(), writer)?;
-    put(b",\"mend\":", writer)?;
-    put_string(told.mend.as_slice(), writer)?;
-    put(b"}", writer)
+    put_place(text, report, writer)
+}
+
+// Writes the place of a refusal in a line, where it is of one.
+fn put_where<W: Output>(report: Report<'_>, writer: &mut W) -> Result<(), WriteFault> {
+    if report.line == 0 {
+        return Ok(());
+    }
+    put_pieces(
+        &[
+            Piece::Plain(b":"),
+            Piece::Number(report.line),
+            Piece::Plain(b":"),
+            Piece::Number(report.column),
+        ],
+        writer,
+    )
+}
+
+// Writes a refusal in a line.
+fn put_short<W: Output>(name: &str, report: Report<'_>, writer: &mut W) -> Result<(), WriteFault> {
+    put(name.as_bytes(), writer)?;
+    put_where(report, writer)?;
+    put_all(
+        &[
+            b": error: ",
+            report.code,
+            b": ",
+            report.what,
+            b"; ",
+            report.mend,
+            b"\n",
+        ],
+        writer,
+    )
+}
+
+// Writes a refusal as an object of JSON, behind what stands before it.
+fn put_object<'a, W: Output>(
+    front: &'a [u8],
+    name: &'a str,
+    report: Report<'a>,
+    writer: &mut W,
+) -> Result<(), WriteFault> {
+    put_pieces(
+        &[
+            Piece::Plain(front),
+            Piece::Plain(b"{\"file\":\""),
+            Piece::Quoted(name.as_bytes()),
+            Piece::Plain(b"\",\"line\":"),
+            Piece::Number(report.line),
+            Piece::Plain(b",\"column\":"),
+            Piece::Number(if report.line > 0 { report.column } else { 0 }),
+            Piece::Plain(b",\"width\":"),
+            Piece::Number(report.width),
+            Piece::Plain(b",\"code\":\""),
+            Piece::Plain(report.code),
+            Piece::Plain(b"\",\"text\":\""),
+            Piece::Quoted(report.what),
+            Piece::Plain(b"\",\"mend\":\""),
+            Piece::Quoted(report.mend),
+            Piece::Plain(b"\"}"),
+        ],
+        writer,
+    )
 }
 
 // Writes how many refusals there are, and before that how many of them were not told.
 fn put_count<W: Output>(count: usize, writer: &mut W) -> Result<(), WriteFault> {
     let more = count.saturating_sub(MOST_AT_LENGTH);
     if more > 0 {
-        put_all(
-            &[b"and ", decimal(more as u64).as_slice(), b" more\n"],
+        put_pieces(
+            &[
+                Piece::Plain(b"and "),
+                Piece::Number(more),
+                Piece::Plain(b" more\n"),
+            ],
             writer,
         )?;
     }
-    put(decimal(count as u64).as_slice(), writer)?;
-    put(
-        if count == 1 {
-            b" refusal\n"
-        } else {
-            b" refusals\n"
-        },
+    put_pieces(
+        &[
+            Piece::Number(count),
+            Piece::Plain(if count == 1 {
+                b" refusal\n"
+            } else {
+                b" refusals\n"
+            }),
+        ],
         writer,
     )
 }
 
-// Writes what is told of a refusal that stands at an index among those of a source, whose lines are these texts.
+// Writes a refusal that stands at an index among those that are told; `text` is its line.
+fn put_report<W: Output>(
+    name: &str,
+    text: &[u8],
+    index: usize,
+    report: Report<'_>,
+    format: Format,
+    writer: &mut W,
+) -> Result<(), WriteFault> {
+    match format {
+        Format::Long if report.line == 0 => put_whole(report, writer),
+        Format::Long => put_long(text, report, writer),
+        Format::Short => put_short(name, report, writer),
+        Format::Json => put_object(
+            if index == 0 { b"[" } else { b",\n " },
+            name,
+            report,
+            writer,
+        ),
+    }
+}
+
+// Writes what is told of a refusal that stands at an index among those of a source.
 fn put_refusal<A: Allocator + Copy, W: Output>(
     alloc: A,
-    name: &str,
-    source: &[u8],
-    texts: &[&[u8]],
+    checked: Checked<'_, A>,
     (index, fault): (usize, Fault),
     format: Format,
     writer: &mut W,
 ) -> Result<(), TellFault> {
-    let told = told_of(alloc, source, texts, fault)?;
-    match format {
-        Format::Long => put_long(texts, fault, &told, writer)?,
-        Format::Short => put_short(name, fault, &told, writer)?,
-        Format::Json => {
-            put(if index == 0 { b"[" } else { b",\n " }, writer)?;
-            put_object(name, fault, &told, writer)?;
-        }
-    }
+    let told = checked.told(alloc, fault)?;
+    let report = Report {
+        code: code(fault),
+        line: usize::from(fault.line()),
+        column: told.at.saturating_add(1),
+        width: told.width,
+        what: told.what.as_slice(),
+        mend: told.mend.as_slice(),
+    };
+    put_report(
+        checked.name,
+        checked.line(fault.line()),
+        index,
+        report,
+        format,
+        writer,
+    )?;
     Ok(())
 }
 
@@ -349,8 +425,47 @@ fn put_end<W: Output>(format: Format, count: usize, writer: &mut W) -> Result<()
     }
 }
 
+// Writes what is told of each of these refusals of a source.
+fn put_each<A: Allocator + Copy, W: Output>(
+    alloc: A,
+    checked: Checked<'_, A>,
+    refusals: &[Fault],
+    format: Format,
+    writer: &mut W,
+) -> Result<(), TellFault> {
+    let most = if format == Format::Long {
+        MOST_AT_LENGTH
+    } else {
+        refusals.len()
+    };
+    for (index, fault) in refusals.iter().take(most).enumerate() {
+        put_refusal(alloc, checked, (index, *fault), format, writer)?;
+    }
+    put_end(format, refusals.len(), writer)?;
+    Ok(())
+}
+
+// What the lines of a source say, where all of them are in the grammar.
+fn parsed<A: Allocator + Copy>(alloc: A, source: &[u8]) -> Result<Option<Source<A>>, AllocError> {
+    match parse(alloc, source) {
+        Ok(parsed) => Ok(Some(parsed)),
+        Err(fault) => {
+            refused(fault)?;
+            Ok(None)
+        }
+    }
+}
+
+// These lines; none where there are none.
+fn lines_in<A: Allocator>(parsed: &Option<Source<A>>) -> &[Line<A>] {
+    match parsed {
+        Some(parsed) => parsed.lines(),
+        None => &[],
+    }
+}
+
 /// Writes what is told of each refusal of `source`, which is called `name`: its place, what is wrong and the mend, in this
-/// format. Refused where a write fails, and for want of memory. This project's profile.
+/// format. Checked where a write fails, and for want of memory. This project's profile.
 pub fn put_refusals<A: Allocator + Copy, W: Output>(
     alloc: A,
     name: &str,
@@ -360,15 +475,12 @@ pub fn put_refusals<A: Allocator + Copy, W: Output>(
     writer: &mut W,
 ) -> Result<(), TellFault> {
     let texts = cut(alloc, source)?;
-    let texts = texts.as_slice();
-    let most = if format == Format::Long {
-        MOST_AT_LENGTH
-    } else {
-        refusals.len()
+    let parsed = parsed(alloc, source)?;
+    let checked = Checked {
+        name,
+        source,
+        texts: texts.as_slice(),
+        lines: lines_in(&parsed),
     };
-    for (index, fault) in refusals.iter().take(most).enumerate() {
-        put_refusal(alloc, name, source, texts, (index, *fault), format, writer)?;
-    }
-    put_end(format, refusals.len(), writer)?;
-    Ok(())
+    put_each(alloc, checked, refusals, format, writer)
 }

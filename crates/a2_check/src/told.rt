@@ -1,10 +1,75 @@
 //! What is told of a refusal.
 
-use crate::line::parts_of;
+use crate::line::Parts;
 use crate::mistake::{Finding, Sentence};
+use a2_text::decimal;
 use std::alloc::{AllocError, Allocator};
 
-/// What is told of a refusal: where it stands in its line, what is wrong and the mend. The texts are of characters that print.
+/// What is told of a refusal: where it stands in its line, what is wrong and the mend, with the words that stand for the marks of
+/// these two sentences.
+#[derive(Clone, Copy)]
+pub(crate) struct Telling<'a> {
+    /// Where the place begins, counted from 0.
+    pub at: usize,
+    /// How many characters it has; where it has none, one is meant.
+    pub width: usize,
+    pub what: Sentence,
+    pub mend: Sentence,
+    /// What stands for `@` in what is wrong.
+    pub shown: &'a [u8],
+    /// What stands for `@` in the mend.
+    pub first: &'a [u8],
+    /// What stands for `~`.
+    pub second: &'a [u8],
+    /// What stands for `^`.
+    pub here: &'a [u8],
+    /// What stands for `#`.
+    pub number: u16,
+}
+
+impl<'a> Telling<'a> {
+    /// These sentences at a place, without words.
+    pub(crate) fn new(at: usize, width: usize, what: Sentence, mend: Sentence) -> Telling<'a> {
+        Telling {
+            at,
+            width,
+            what,
+            mend,
+            shown: b"",
+            first: b"",
+            second: b"",
+            here: b"",
+            number: 0,
+        }
+    }
+
+    /// The same with this word for `@`.
+    pub(crate) fn with_word(self, word: &'a [u8]) -> Telling<'a> {
+        Telling {
+            shown: word,
+            first: word,
+            ..self
+        }
+    }
+
+    /// What is told of a mistake that a line of these parts shows.
+    pub(crate) fn of_finding(finding: Finding<'a>, parts: Parts<'a>) -> Telling<'a> {
+        let Finding { mistake, at, word } = finding;
+        Telling {
+            at,
+            width: word.len(),
+            what: mistake.what(),
+            mend: mistake.mend(parts),
+            shown: mistake.shown(parts, word),
+            first: mistake.first(parts, word),
+            second: mistake.second(parts),
+            here: mistake.here(),
+            number: 0,
+        }
+    }
+}
+
+/// What is told of a refusal, in characters that print.
 #[derive(Drop)]
 pub(crate) struct Told<A: Allocator> {
     /// Where the place begins, counted from 0.
@@ -24,33 +89,6 @@ pub(crate) fn shown(c: u8) -> u8 {
     }
 }
 
-/// The pieces, one behind another, as they are shown.
-pub(crate) fn joined<A: Allocator>(alloc: A, pieces: &[&[u8]]) -> Result<Vec<u8, A>, AllocError> {
-    let mut text = Vec::new(alloc);
-    for piece in pieces {
-        for c in *piece {
-            text.push(shown(*c))?;
-        }
-    }
-    Ok(text)
-}
-
-/// What is told at a place of a line.
-pub(crate) fn tell_at<A: Allocator + Copy>(
-    alloc: A,
-    at: usize,
-    width: usize,
-    what: &[&[u8]],
-    mend: &[&[u8]],
-) -> Result<Told<A>, AllocError> {
-    Ok(Told {
-        at,
-        width: width.max(1),
-        what: joined(alloc, what)?,
-        mend: joined(alloc, mend)?,
-    })
-}
-
 // Appends a text as it is shown.
 fn show<A: Allocator>(text: &mut Vec<u8, A>, word: &[u8]) -> Result<(), AllocError> {
     for c in word {
@@ -59,53 +97,63 @@ fn show<A: Allocator>(text: &mut Vec<u8, A>, word: &[u8]) -> Result<(), AllocErr
     Ok(())
 }
 
-// The words that stand for the marks of a sentence.
+// What stands for the marks of a sentence.
 #[derive(Clone, Copy)]
 struct Words<'a> {
     first: &'a [u8],
     second: &'a [u8],
     here: &'a [u8],
+    number: &'a [u8],
 }
 
-// A sentence as it is shown: `@` stands for its first word, `~` for its second, and `^` for what is written here.
-fn filled<A: Allocator>(
-    alloc: A,
-    sentence: Sentence,
-    words: &Words,
-) -> Result<Vec<u8, A>, AllocError> {
-    let mut text = Vec::new(alloc);
-    for c in sentence {
-        match *c {
-            b'@' => show(&mut text, words.first)?,
-            b'~' => show(&mut text, words.second)?,
-            b'^' => show(&mut text, words.here)?,
-            c => text.push(c)?,
+impl<'a> Words<'a> {
+    // What stands for a byte of a sentence.
+    fn of(self, byte: &'a u8) -> &'a [u8] {
+        match *byte {
+            b'@' => self.first,
+            b'~' => self.second,
+            b'^' => self.here,
+            b'#' => self.number,
+            _ => std::slice::from_ref(byte),
         }
     }
-    Ok(text)
 }
 
-/// What is told of a mistake that a line shows.
-pub(crate) fn told_of_finding<A: Allocator + Copy>(
+// Appends a sentence with the words for its marks.
+fn fill<'a, A: Allocator>(
+    text: &mut Vec<u8, A>,
+    sentence: &'a [u8],
+    words: Words<'a>,
+) -> Result<(), AllocError> {
+    for c in sentence {
+        show(text, words.of(c))?;
+    }
+    Ok(())
+}
+
+/// What is told, its words in their places.
+pub(crate) fn filled<A: Allocator + Copy>(
     alloc: A,
-    text: &[u8],
-    finding: Finding<'_>,
+    telling: Telling<'_>,
 ) -> Result<Told<A>, AllocError> {
-    let Finding { mistake, at, word } = finding;
-    let parts = parts_of(text);
+    let mut told = Told {
+        at: telling.at,
+        width: telling.width.max(1),
+        what: Vec::new(alloc),
+        mend: Vec::new(alloc),
+    };
+    let number = decimal(u64::from(telling.number));
     let words = Words {
-        first: mistake.first(&parts, word),
-        second: mistake.second(&parts),
-        here: mistake.here(),
+        first: telling.first,
+        second: telling.second,
+        here: telling.here,
+        number: number.as_slice(),
     };
     let shown = Words {
-        first: mistake.shown(&parts, word),
+        first: telling.shown,
         ..words
     };
-    Ok(Told {
-        at,
-        width: word.len().max(1),
-        what: filled(alloc, mistake.what(), &shown)?,
-        mend: filled(alloc, mistake.mend(&parts), &words)?,
-    })
+    fill(&mut told.what, telling.what, shown)?;
+    fill(&mut told.mend, telling.mend, words)?;
+    Ok(told)
 }
