@@ -11,7 +11,7 @@ use a2_syntax::{Body, Fault, Line, Operand};
 use std::alloc::{AllocError, Allocator};
 
 /// A line of a source, with the whole source.
-#[derive(Clone, Copy)]
+#[derive(Drop)]
 pub(crate) struct Place<'a, A: Allocator> {
     /// The lines as they were written.
     pub texts: &'a [&'a [u8]],
@@ -102,7 +102,7 @@ impl<'a, A: Allocator + Copy> Place<'a, A> {
     }
 
     // A label of an earlier line.
-    fn duplicate(self) -> Telling<'a> {
+    fn duplicate(&self) -> Telling<'a> {
         let first = match str::from_utf8(self.parts.label) {
             Ok(name) => definition(self.lines, name).unwrap_or(0),
             Err(_) => 0,
@@ -117,7 +117,7 @@ impl<'a, A: Allocator + Copy> Place<'a, A> {
     }
 
     // A name that no line defines.
-    fn unknown(self, alloc: A) -> Result<Telling<'a>, AllocError> {
+    fn unknown(&self, alloc: A) -> Result<Telling<'a>, AllocError> {
         let Some(name) = missing(self.lines, self.body) else {
             return Ok(
                 self.parts.at_operand(b"a name is defined nowhere", b"define it by a label or EQU"),
@@ -138,7 +138,7 @@ impl<'a, A: Allocator + Copy> Place<'a, A> {
     }
 
     // A name that a later line defines.
-    fn forward(self) -> Telling<'a> {
+    fn forward(&self) -> Telling<'a> {
         let (earlier, _) = self.lines.split_at(self.index.min(self.lines.len()));
         let name = missing(earlier, self.body).unwrap_or("");
         let line = definition(self.lines, name).unwrap_or(self.index);
@@ -153,7 +153,7 @@ impl<'a, A: Allocator + Copy> Place<'a, A> {
     }
 
     // A value out of range.
-    fn range(self, alloc: A) -> Result<Telling<'a>, AllocError> {
+    fn range(&self, alloc: A) -> Result<Telling<'a>, AllocError> {
         let (most, mend) = limits(self.body);
         let found = match self.body {
             Body::Instr(_, _) => value(
@@ -181,7 +181,7 @@ impl<'a, A: Allocator + Copy> Place<'a, A> {
     }
 
     // A branch that goes too far.
-    fn branch(self, alloc: A) -> Result<Telling<'a>, AllocError> {
+    fn branch(&self, alloc: A) -> Result<Telling<'a>, AllocError> {
         let found = value(
             alloc,
             self.texts,
@@ -202,7 +202,7 @@ impl<'a, A: Allocator + Copy> Place<'a, A> {
     }
 
     // A byte where an earlier statement has one.
-    fn overlap(self, alloc: A) -> Result<Telling<'a>, AllocError> {
+    fn overlap(&self, alloc: A) -> Result<Telling<'a>, AllocError> {
         let line = in_the_way(alloc, self.texts, self.index, self.parts.label)?;
         let what: Sentence = if line.is_some() {
             b"line # has a byte at an address of this line"
@@ -218,7 +218,7 @@ impl<'a, A: Allocator + Copy> Place<'a, A> {
     }
 
     // What is told of a refusal of this line, without an instruction's forms.
-    fn telling(self, alloc: A, fault: Fault) -> Result<Telling<'a>, AllocError> {
+    fn telling(&self, alloc: A, fault: Fault) -> Result<Telling<'a>, AllocError> {
         match fault {
             Fault::TooManyNames(_) => Ok(
                 self.parts.at_label(
@@ -248,7 +248,7 @@ impl<'a, A: Allocator + Copy> Place<'a, A> {
     }
 
     // An instruction without this form.
-    fn no_mode(self, alloc: A, mnemonic: Mnemonic) -> Result<Told<A>, AllocError> {
+    fn no_mode(&self, alloc: A, mnemonic: Mnemonic) -> Result<Told<A>, AllocError> {
         let forms = forms_of(alloc, mnemonic)?;
         filled(
             alloc,
@@ -261,7 +261,7 @@ impl<'a, A: Allocator + Copy> Place<'a, A> {
     }
 
     /// What is told of a refusal of this line by the layout.
-    pub(crate) fn told(self, alloc: A, fault: Fault) -> Result<Told<A>, AllocError> {
+    pub(crate) fn told(&self, alloc: A, fault: Fault) -> Result<Told<A>, AllocError> {
         match (fault, self.body) {
             (Fault::NoMode(_), Body::Instr(mnemonic, _)) => self.no_mode(alloc, *mnemonic),
             _ => filled(alloc, self.telling(alloc, fault)?),

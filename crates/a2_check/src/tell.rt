@@ -82,7 +82,7 @@ fn too_large<'a>(line: u16) -> Telling<'a> {
 }
 
 // A source whose refusals are told.
-#[derive(Clone, Copy)]
+#[derive(Drop)]
 struct Checked<'a, A: Allocator> {
     name: &'a str,
     source: &'a [u8],
@@ -94,7 +94,7 @@ struct Checked<'a, A: Allocator> {
 
 impl<'a, A: Allocator + Copy> Checked<'a, A> {
     // The line of a number, counted from 1; empty where there is none.
-    fn line(self, number: u16) -> &'a [u8] {
+    fn line(&self, number: u16) -> &'a [u8] {
         match usize::from(number) {
             0 => b"",
             number => self.texts.get(number - 1).copied().unwrap_or(b""),
@@ -102,14 +102,14 @@ impl<'a, A: Allocator + Copy> Checked<'a, A> {
     }
 
     // What is told of a line that is not in the grammar.
-    fn told_of_line(self, number: u16) -> Telling<'a> {
+    fn told_of_line(&self, number: u16) -> Telling<'a> {
         let text = self.line(number);
         let whole = if number == 1 { self.source } else { b"" };
         Telling::of_finding(finding(text, whole), parts_of(text))
     }
 
     // What is told of a refusal by the layout.
-    fn told_of_layout(self, alloc: A, fault: Fault) -> Result<Told<A>, AllocError> {
+    fn told_of_layout(&self, alloc: A, fault: Fault) -> Result<Told<A>, AllocError> {
         match Place::of(self.texts, self.lines, fault.line()) {
             Some(place) => place.told(alloc, fault),
             None => filled(
@@ -120,19 +120,21 @@ impl<'a, A: Allocator + Copy> Checked<'a, A> {
     }
 
     // What is told of a refusal.
-    fn told(self, alloc: A, fault: Fault) -> Result<Told<A>, AllocError> {
-        let telling = match fault {
-            Fault::TooLarge(line) => too_large(line),
-            Fault::Syntax(line) => self.told_of_line(line),
-            Fault::NoCode | Fault::Memory => Telling::new(
-                0,
-                1,
-                b"the text has no instruction",
-                b"write one; a line that begins with an operation begins with a blank",
+    fn told(&self, alloc: A, fault: Fault) -> Result<Told<A>, AllocError> {
+        match fault {
+            Fault::TooLarge(line) => filled(alloc, too_large(line)),
+            Fault::Syntax(line) => filled(alloc, self.told_of_line(line)),
+            Fault::NoCode | Fault::Memory => filled(
+                alloc,
+                Telling::new(
+                    0,
+                    1,
+                    b"the text has no instruction",
+                    b"write one; a line that begins with an operation begins with a blank",
+                ),
             ),
-            _ => return self.told_of_layout(alloc, fault),
-        };
-        filled(alloc, telling)
+            _ => self.told_of_layout(alloc, fault),
+        }
     }
 }
 
@@ -366,11 +368,11 @@ fn put_count<W: Output>(count: usize, writer: &mut W) -> Result<(), WriteFault> 
     )
 }
 
-// Writes a refusal that stands at an index among those that are told; `text` is its line.
+// Writes a refusal; `text` is its line, and `front` stands before it in an array.
 fn put_report<W: Output>(
     name: &str,
     text: &[u8],
-    index: usize,
+    front: &[u8],
     report: Report<'_>,
     format: Format,
     writer: &mut W,
@@ -379,20 +381,16 @@ fn put_report<W: Output>(
         Format::Long if report.line == 0 => put_whole(report, writer),
         Format::Long => put_long(text, report, writer),
         Format::Short => put_short(name, report, writer),
-        Format::Json => put_object(
-            if index == 0 { b"[" } else { b",\n " },
-            name,
-            report,
-            writer,
-        ),
+        Format::Json => put_object(front, name, report, writer),
     }
 }
 
-// Writes what is told of a refusal that stands at an index among those of a source.
+// Writes what is told of a refusal of a source; `front` stands before it in an array.
 fn put_refusal<A: Allocator + Copy, W: Output>(
     alloc: A,
-    checked: Checked<'_, A>,
-    (index, fault): (usize, Fault),
+    checked: &Checked<'_, A>,
+    fault: Fault,
+    front: &[u8],
     format: Format,
     writer: &mut W,
 ) -> Result<(), TellFault> {
@@ -408,7 +406,7 @@ fn put_refusal<A: Allocator + Copy, W: Output>(
     put_report(
         checked.name,
         checked.line(fault.line()),
-        index,
+        front,
         report,
         format,
         writer,
@@ -428,18 +426,19 @@ fn put_end<W: Output>(format: Format, count: usize, writer: &mut W) -> Result<()
 // Writes what is told of each of these refusals of a source.
 fn put_each<A: Allocator + Copy, W: Output>(
     alloc: A,
-    checked: Checked<'_, A>,
+    checked: &Checked<'_, A>,
     refusals: &[Fault],
     format: Format,
     writer: &mut W,
 ) -> Result<(), TellFault> {
-    let most = if format == Format::Long {
-        MOST_AT_LENGTH
-    } else {
-        refusals.len()
+    let most = match format {
+        Format::Long => MOST_AT_LENGTH.min(refusals.len()),
+        Format::Short | Format::Json => refusals.len(),
     };
-    for (index, fault) in refusals.iter().take(most).enumerate() {
-        put_refusal(alloc, checked, (index, *fault), format, writer)?;
+    let mut front = b"[".as_slice();
+    for fault in &refusals[..most] {
+        put_refusal(alloc, checked, *fault, front, format, writer)?;
+        front = b",\n ";
     }
     put_end(format, refusals.len(), writer)?;
     Ok(())
@@ -482,5 +481,5 @@ pub fn put_refusals<A: Allocator + Copy, W: Output>(
         texts: texts.as_slice(),
         lines: lines_in(&parsed),
     };
-    put_each(alloc, checked, refusals, format, writer)
+    put_each(alloc, &checked, refusals, format, writer)
 }
