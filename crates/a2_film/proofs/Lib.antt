@@ -5,6 +5,7 @@ pub mod Stepping
 pub mod Filming
 pub mod Following
 pub mod FrameLaws
+pub mod ChapterLaws
 pub mod Windows
 pub mod TextRuns
 pub mod Tagless

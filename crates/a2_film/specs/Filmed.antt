@@ -1,5 +1,6 @@
 -- What private calls compare and answer. No public clause cites this file.
-use Rattle.std.specs.Prelude.{◌≡◌, ℕ, ◌-◌, List, ◌++◌, length, if◌then◌else◌, slice_index, Option, Some, None, Result, Ok, Err}
+use Rattle.std.specs.Prelude.{◌≡◌, ◌≢◌, ℕ, ◌-◌, List, ◌∷◌, ◌++◌, All, length, if◌then◌else◌, slice_index, Option, Some, None}
+use Rattle.std.specs.Prelude.{Result, Ok, Err}
 use Rattle.std.specs.Fmt.{decimal}
 use Rattle.a2_stream.specs.Stream.{Taker, Sends, Breaks}
 use Rattle.a2_stream.specs.declared.WriteFault.{WriteFault}
@@ -46,6 +47,10 @@ fields_between before after =
     (byte_text 0x78 (changed old.x new.x)) (byte_text 0x79 (changed old.y new.y)) (byte_text 0x73 (changed old.s new.s))
     (byte_text 0x70 (changed (byte_of_flags old.flags) (byte_of_flags new.flags)))
     (switches_text (changed (switch_digit before.switches) (switch_digit after.switches))) (keys_text (before.waiting - after.waiting))
+
+-- a text is cut at its first blank
+abbrev pub IsCut : List ℕ → List ℕ → List ℕ → Type 0
+IsCut text front behind = (text ≡ front ++ 0x20 ∷ behind) × All (λ c. c ≢ 0x20) front
 
 -- where the bytes below page 1 end that a call of a service may change: the line of GETLN, or the mask of characters
 abbrev pub low_end : Service → ℕ

@@ -1,5 +1,12 @@
 //! The chapters of a lesson, and the script that tells them.
 
+ghost use Rattle.std.specs.Prelude.{◌≡◌, ◌≢◌, ℕ, List, map, IfSome, IfNone, IfOk, IfErr};
+ghost use Rattle.a2_text.specs.Lines.{lines};
+ghost use Rattle.a2_film.specs.Chapters.{IsNumbered, Tells, AreChapters, FirstOther, IsScriptRefusal};
+ghost use Rattle.a2_film.specs.Filmed.{IsCut};
+ghost use Rattle.a2_film.specs.declared.chapters.Place.{Place as DeclaredPlace};
+ghost use Rattle.a2_film.specs.declared.chapters.ScriptFault.{ScriptFault};
+
 use a2_run::step_limit;
 use a2_text::{behind_blanks, cut, front_len};
 use std::alloc::{AllocError, Allocator};
@@ -41,50 +48,89 @@ impl From<AllocError> for ScriptFault {
     }
 }
 
-// A number up to 100,000,000, and what stands behind the blank that ends it.
-fn numbered(line: &[u8]) -> Option<(u32, &[u8])> {
+// What stands before the first blank of a line, and behind it.
+fn split_blank(line: &[u8]) -> Option<(&[u8], &[u8])>
+    ensures some { IfSome result (λ (front, behind). IsCut line.now front.now behind.now) }
+    ensures none { IfNone result ((front behind : List ℕ) → IsCut line.now front behind → ⊥) }
+{
     let end = front_len(line, |c| c != b' ');
-    let (digits, [_, text @ ..]) = line.split_at(end) else {
+    if end == line.len() {
+        return None;
+    }
+    Some((&line[..end], &line[end + 1..]))
+}
+
+// A number up to 100,000,000, and what stands behind the blank that ends it.
+fn numbered(line: &[u8]) -> Option<(u32, &[u8])>
+    ensures some { IfSome result (λ (number, text). IsNumbered line.now number text.now) }
+    ensures none { IfNone result ((number : ℕ) (text : List ℕ) → IsNumbered line.now number text → ⊥) }
+{
+    let (digits, text) = split_blank(line)?;
+    let Ok(word) = str::from_utf8(digits) else {
         return None;
     };
-    let number = step_limit(str::from_utf8(digits).ok()?)?;
-    Some((number, text))
+    Some((step_limit(word)?, text))
 }
 
 // The chapter that a line of a script tells: a step and a text, or `line`, the number of a line and a text.
-fn chapter_in(line: &[u8]) -> Option<Chapter<'_>> {
-    let (place, text) = match line {
-        [b'l', b'i', b'n', b'e', b' ', rest @ ..] => {
+fn chapter_in(line: &[u8]) -> Option<Chapter<'_>>
+    ensures some { IfSome result (λ chapter. Tells line.now chapter.place chapter.text.now) }
+    ensures none { IfNone result ((place : DeclaredPlace) (text : List ℕ) → Tells line.now place text → ⊥) }
+{
+    match line.strip_prefix(b"line ") {
+        Some(rest) => {
             let (number, text) = numbered(rest)?;
-            (Place::Line(number), text)
+            Some(Chapter {
+                place: Place::Line(number),
+                text,
+            })
         }
-        _ => {
+        None => {
             let (number, text) = numbered(line)?;
-            (Place::Step(number), text)
+            Some(Chapter {
+                place: Place::Step(number),
+                text,
+            })
         }
-    };
-    Some(Chapter { place, text })
+    }
 }
 
-/// The chapters that a script tells, a line each: `120 TEXT` for step 120, or `line 12 TEXT` for line 12 of the source, with a
-/// number up to 100,000,000 and one blank before the text, which is any bytes. A blank line is none. Refused at the first other
-/// line, and for want of memory. This project's profile.
-pub fn chapters_of<A: Allocator + Copy>(
+// The chapters that the lines of a script tell.
+fn chapters_in<'a, A: Allocator>(
     alloc: A,
-    script: &[u8],
-) -> Result<Vec<Chapter<'_>, A>, ScriptFault> {
-    let lines = cut(alloc, script)?;
+    lines: &[&'a [u8]],
+) -> Result<Vec<Chapter<'a>, A>, ScriptFault>
+    ensures told { IfOk result (λ chapters. AreChapters (map (λ x. x.now) lines.now) chapters.items) }
+    ensures refused { IfErr result (λ fault. fault ≢ ScriptFault.Memory
+        → (n : ℕ) × (fault ≡ ScriptFault.Line n) × FirstOther (map (λ x. x.now) lines.now) n) }
+{
     let mut chapters = Vec::new(alloc);
-    for (index, line) in lines.as_slice().iter().enumerate() {
-        if behind_blanks(line).is_empty() {
+    let mut number = 0;
+    for line in lines {
+        number += 1;
+        if behind_blanks(*line).is_empty() {
             continue;
         }
-        let Some(chapter) = chapter_in(line) else {
-            return Err(ScriptFault::Line(index.saturating_add(1)));
+        let Some(chapter) = chapter_in(*line) else {
+            return Err(ScriptFault::Line(number));
         };
         if chapters.push(chapter).is_err() {
             return Err(ScriptFault::Memory);
         }
     }
     Ok(chapters)
+}
+
+/// The chapters that a script tells, a line each: `120 TEXT` for step 120, or `line 12 TEXT` for line 12 of the source, with a
+/// number up to 100,000,000 in 1 to 9 decimal digits and one blank before the text, which is any bytes. A line of blanks alone is
+/// none. Refused at the first other line, by its number, and for want of memory. This project's profile.
+pub fn chapters_of<A: Allocator + Copy>(
+    alloc: A,
+    script: &[u8],
+) -> Result<Vec<Chapter<'_>, A>, ScriptFault>
+    ensures told { IfOk result (λ chapters. AreChapters (lines script.now) chapters.items) }
+    ensures refused { IfErr result (λ fault. fault ≢ ScriptFault.Memory → IsScriptRefusal script.now fault) }
+{
+    let lines = cut(alloc, script)?;
+    chapters_in(alloc, lines.as_slice())
 }
