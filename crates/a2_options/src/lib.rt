@@ -1,0 +1,6 @@
+//! The options of a word, taken out of its words by a table of them.
+#![tactic(auto)]
+
+mod options;
+
+pub use options::{Found, Kind, OptionFault, Parted, Row, take_options};

@@ -1,0 +1,6 @@
+//! The addresses that words of a command line say, by the names of a program.
+#![tactic(auto)]
+
+mod places;
+
+pub use places::{Span, place_of, span_of};
