@@ -1,11 +1,11 @@
 -- How going forwards ended.
-use Rattle.std.proofs.Common.{◌≡◌, ◌⊎◌, inl, inr, ℕ, ◌+◌, ◌-◌, ◌<◌, ◌≤◌, Bool, true, false, Option, Some, None, List, [], length, refl, sym, ap, subst, ◌∙◌, arith}
+use Rattle.std.proofs.Common.{◌≡◌, ◌⊎◌, inl, inr, ℕ, ◌+◌, ◌-◌, ◌<◌, ◌≤◌, Bool, false, Some, None, [], length, sym, ap, subst, ◌∙◌, arith}
 use Rattle.a2_bus.specs.View.{memory_of}
 use Rattle.a2_services.specs.World.{World}
 use Rattle.a2_machine.specs.declared.Cause.{Cause}
 use Rattle.a2_machine.specs.declared.Cause.TheVariants.{Limit}
 use Rattle.a2_machine.specs.ByteRun.{bytes}
-use Rattle.a2_machine.specs.Meaning.{Code, stuck, world_at}
+use Rattle.a2_machine.specs.Meaning.{Code, stuck}
 use Rattle.a2_machine.specs.State.{MachineState, Device, world_of_state, code_of, steps_left}
 use Rattle.a2_machine.specs.State as machine
 use Rattle.a2_history.specs.declared.Halt.{Halt}

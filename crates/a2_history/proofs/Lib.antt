@@ -1,3 +1,4 @@
 mod Logs
 mod Ways
 mod Histories
+mod Routes

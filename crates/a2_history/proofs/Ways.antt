@@ -1,15 +1,14 @@
 -- Steps along a run.
 use Rattle.std.specs.Prelude.{IfSome, IfNone, is_some, is_ok, All, Result, Ok, Err, if◌then◌else◌, filter}
 use Rattle.std.proofs.lemmas.List.Elements.{All-push, All-filter}
-use Rattle.std.proofs.Common.{◌≡◌, ◌⊎◌, inl, inr, ℕ, zero, suc, ◌+◌, ◌<◌, ◌≤◌, Bool, true, false, true≢false, List, [], ◌∷◌, ◌++◌, length, Option, Some, None, refl, sym, ap, subst, ◌∙◌, arith, cond}
+use Rattle.std.proofs.Common.{◌≡◌, ◌⊎◌, inl, inr, ℕ, zero, suc, ◌+◌, ◌<◌, ◌≤◌, Bool, true, false, true≢false, List, [], ◌∷◌, ◌++◌, Option, Some, None, refl, sym, ap, subst, ◌∙◌, arith, cond}
 use Rattle.a2_services.specs.World.{World}
 use Rattle.a2_machine.specs.declared.Cause.{Cause}
 use Rattle.a2_machine.specs.ByteRun.{bytes}
 use Rattle.a2_machine.specs.Meaning.{Code, stuck, next}
 use Rattle.a2_machine.specs.State.{MachineState, Device, world_of_state, code_of, cause_of, most_steps, IsStep}
 use Rattle.a2_machine.proofs.Making.{cause_told, cause_none}
-use Rattle.a2_history.specs.declared.Typed.{Typed}
-use Rattle.a2_history.specs.Courses.{Course, typed, with_keys, with_logged, arrived, world_on, NoneStuck}
+use Rattle.a2_history.specs.Courses.{Course, with_keys, with_logged, arrived, world_on, NoneStuck}
 use Rattle.a2_history.specs.Going.{IsNewest, IsOn, AreOn, up_to, with_typed}
 use Rattle.a2_history.specs.Typing.{IsTyped, IsTypedBy}
 use Rattle.a2_history.proofs.Logs.{logged-append, logged-up_to, logged-here, logged-not_yet}

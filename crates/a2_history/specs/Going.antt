@@ -1,14 +1,13 @@
 -- The ways through a run.
-use Rattle.std.specs.Prelude.{◌≡◌, ◌⊎◌, ℕ, ◌+◌, ◌<◌, ◌≤◌, min, Bool, true, false, nat_lt, nat_le, List, [], ◌∷◌, ◌++◌, filter, All, Option, Some, None}
+use Rattle.std.specs.Prelude.{◌≡◌, ◌⊎◌, ℕ, ◌<◌, ◌≤◌, Bool, true, false, nat_le, List, [], ◌∷◌, ◌++◌, filter, All, Option, Some, None}
 use Rattle.a2_services.specs.World.{World}
-use Rattle.a2_machine.specs.declared.Cause.{Cause}
 use Rattle.a2_machine.specs.declared.Cause.TheVariants.{Limit}
 use Rattle.a2_machine.specs.Meaning.{stuck}
 use Rattle.a2_machine.specs.State.{MachineState, Device, world_of_state, code_of}
 use Rattle.a2_history.specs.declared.Halt.{Halt}
 use Rattle.a2_history.specs.declared.Halt.TheVariants.{Seen, Stopped}
 use Rattle.a2_history.specs.declared.Typed.{Typed}
-use Rattle.a2_history.specs.Courses.{Course, arrived, world_on, NoneStuck}
+use Rattle.a2_history.specs.Courses.{Course, world_on, NoneStuck}
 
 -- a run, and a position in it
 pub record Track : Type 0 where

@@ -2,3 +2,4 @@ pub mod Courses
 pub mod Typing
 pub mod Going
 pub mod Gone
+pub mod Routines

@@ -5,10 +5,12 @@ ghost use Rattle.a2_machine.specs.State.{world_of_state};
 ghost use Rattle.a2_history.specs.Courses.{NoneStuck, with_keys};
 ghost use Rattle.a2_history.specs.Going.{here, Advances, IsNewest, IsOn, AreOn, with_typed};
 ghost use Rattle.a2_history.specs.Gone.{IsGone, IsCauseAt};
+ghost use Rattle.a2_history.specs.Routines.{entered as entered_on, IsNewestOutside};
 ghost use Rattle.a2_history.specs.declared.fault.TypingFault.TheVariants.{Full};
 
 use crate::checkpoints::Checkpoints;
 use crate::course::Course;
+use crate::routines::{Entry, way_to};
 use crate::{Halt, Sight, TypingFault};
 use a2_bus::Keys;
 use a2_machine::{Cause, Machine};
@@ -237,5 +239,31 @@ impl<A: Allocator> History<A> {
         self.course.type_keys(&mut self.machine, keys)?;
         self.checkpoints.forget_from(position);
         Ok(())
+    }
+}
+
+impl<A: Allocator + Copy> History<A> {
+    /// The routines that were entered on the way to its position and not left, the outermost first: a JSR enters one, and the first step
+    /// behind which the stack pointer is not below that before the JSR leaves it. It stands where it stood. Refused only for want of memory.
+    pub fn entered(&mut self) -> Result<Vec<Entry, A>, AllocError>
+        ensures entered { IfOk result (λ entries. entries.items ≡ entered_on self.old.course self.old.position) }
+        ensures kept { self.new ≡ self.old }
+    {
+        let end = self.machine.steps();
+        let way = way_to(self.alloc, &self.course, &mut self.scout, end, 0)?;
+        Ok(way.entries)
+    }
+
+    /// The newest position before its own at which no more routines were entered than at its own; none at the start. It stands where
+    /// it stood. Refused only for want of memory.
+    pub fn newest_outside(&mut self) -> Result<Option<u64>, AllocError>
+        ensures newest { IfOk result (λ found.
+            IsNewestOutside self.old.course (length (entered_on self.old.course self.old.position)) self.old.position found) }
+        ensures kept { self.new ≡ self.old }
+    {
+        let most = self.entered()?.len();
+        let end = self.machine.steps();
+        let way = way_to(self.alloc, &self.course, &mut self.scout, end, most)?;
+        Ok(way.outside)
     }
 }

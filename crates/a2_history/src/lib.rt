@@ -5,12 +5,14 @@ mod checkpoints;
 mod course;
 mod fault;
 mod history;
+mod routines;
 mod sight;
 
 use a2_bus::Keys;
 use a2_machine::Cause;
 pub use fault::TypingFault;
 pub use history::History;
+pub use routines::{Entry, is_call};
 pub use sight::{Nothing, Sight};
 
 /// Keys that were typed at a position.

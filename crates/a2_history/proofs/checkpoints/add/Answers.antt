@@ -1,4 +1,4 @@
-use Rattle.std.proofs.Common.{ap, refl}
+use Rattle.std.proofs.Common.{ap}
 use Rattle.a2_machine.specs.State.{Device, world_of_state}
 use Rattle.a2_history.proofs.Ways.{on-pushed}
 use Rattle.a2_history.proofs.checkpoints.add.Goals as goal

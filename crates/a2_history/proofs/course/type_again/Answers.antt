@@ -1,4 +1,4 @@
-use Rattle.std.proofs.Common.{◌≡◌, sym, ◌∙◌}
+use Rattle.std.proofs.Common.{sym, ◌∙◌}
 use Rattle.a2_history.proofs.Logs.{typed-here, typed-elsewhere}
 use Rattle.a2_history.proofs.course.type_again.Goals as goal
 

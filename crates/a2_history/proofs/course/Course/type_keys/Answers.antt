@@ -1,5 +1,4 @@
-use Rattle.std.proofs.Common.{◌≡◌, ◌≤◌, List, ap, sym, ◌∙◌, subst, refl, leb, rules}
-use Rattle.std.specs.Prelude.{filter}
+use Rattle.std.proofs.Common.{List, ap, sym, ◌∙◌, subst, refl, leb, rules}
 use Rattle.std.proofs.lemmas.Fn.{filter_same}
 use Rattle.a2_history.specs.declared.Typed.{Typed}
 use Rattle.a2_history.specs.Courses.{Course}

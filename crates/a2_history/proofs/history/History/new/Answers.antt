@@ -1,4 +1,4 @@
-use Rattle.std.proofs.Common.{◌≡◌, List, arith, ap, sym, ◌∙◌, subst}
+use Rattle.std.proofs.Common.{List, arith, ap, sym, ◌∙◌, subst}
 use Rattle.std.proofs.lemmas.List.Elements.{All-nil}
 use Rattle.a2_machine.specs.State.{Device}
 use Rattle.a2_history.specs.Courses.{Course}

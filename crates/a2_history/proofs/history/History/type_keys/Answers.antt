@@ -1,8 +1,7 @@
-use Rattle.std.proofs.Common.{◌≡◌, ◌<◌, List, All, arith, ap, sym, ◌∙◌, subst}
+use Rattle.std.proofs.Common.{◌<◌, All, arith, ap, sym, ◌∙◌, subst}
 use Rattle.std.proofs.lemmas.Result.{err_from_is_err_and}
-use Rattle.a2_machine.specs.State.{Device}
 use Rattle.a2_history.specs.Courses.{Course}
-use Rattle.a2_history.specs.Going.{Track, here, AreOn, with_typed}
+use Rattle.a2_history.specs.Going.{Track, here, AreOn}
 use Rattle.a2_history.proofs.Ways.{on-typed}
 use Rattle.a2_history.proofs.Histories.{waiting-keys}
 use Rattle.a2_history.proofs.history.History.type_keys.Goals as goal
