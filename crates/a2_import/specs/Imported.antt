@@ -1,0 +1,29 @@
+-- What an old text becomes. This project's profile.
+use Rattle.std.specs.Prelude.{◌≡◌, ◌<◌, ℕ, List, Option, Ok, Err}
+use Rattle.a2_hex.specs.Images.{held}
+use Rattle.a2_syntax.specs.Bare.{BareLine}
+use Rattle.a2_syntax.specs.Sources.{IsSource}
+use Rattle.a2_asm.specs.Assembled.{Assembled}
+use Rattle.a2_asm.specs.Programs.{IsProgram}
+use Rattle.a2_import.specs.declared.fault.ListingFault.{ListingFault}
+use Rattle.a2_import.specs.declared.fault.ListingFault.TheVariants as faults
+use Rattle.a2_import.specs.Listing.{listed}
+
+-- a text is a source that assembles to these bytes, and to no others
+abbrev pub AssemblesTo : (ℕ → Option ℕ) → List ℕ → Type 0
+AssemblesTo bytes text =
+    (source : List BareLine) × (program : Assembled) × IsSource text source × IsProgram source program
+    × ((a : ℕ) → a < 49152 → held program.image a ≡ bytes a)
+
+-- a text is a source that assembles to the bytes of a listing
+abbrev pub SaysListing : List ℕ → List ℕ → Type 0
+SaysListing listing text = (bytes : ℕ → Option ℕ) × (listed listing ≡ Ok bytes) × AssemblesTo bytes text
+
+-- why a listing is refused: for a line that has no bytes; or nothing is said
+abbrev pub IsListingFault : List ℕ → ListingFault → Type 0
+IsListingFault listing (faults.Row fault) = listed listing ≡ Err fault
+IsListingFault listing fault = Unit {0}
+
+-- a text is a source: it is within the limits, and each of its lines is in the grammar
+abbrev pub IsSomeSource : List ℕ → Type 0
+IsSomeSource text = (source : List BareLine) × IsSource text source

@@ -1,0 +1,25 @@
+//! Old texts as sources of this language.
+#![tactic(auto)]
+
+mod data;
+mod dialect;
+mod fault;
+mod kind;
+mod import;
+mod listing;
+mod locals;
+mod object;
+mod operand;
+mod parts;
+mod print;
+mod row;
+mod rules;
+mod same;
+mod statement;
+mod token;
+
+pub use dialect::{Dialect, Old};
+pub use fault::{ImportFault, ListingFault};
+pub use kind::guess;
+pub use import::{Imported, Note, NoteKind, import_source};
+pub use listing::import_listing;

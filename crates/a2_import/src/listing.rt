@@ -1,0 +1,116 @@
+//! A listing of the Monitor, as a source.
+
+ghost use Rattle.std.specs.Prelude.{◌≡◌, true, IfOk, IfErr};
+ghost use Rattle.a2_hex.specs.Images.{held};
+ghost use Rattle.a2_import.specs.Imported.{AssemblesTo, SaysListing, IsListingFault};
+
+use crate::fault::ListingFault;
+use crate::object::object_lines;
+use crate::row::Draft;
+use crate::same::are_same;
+use a2_asm::assemble;
+use a2_hex::{HexFault, Image, StoreLine, first_byte, load_lines, store_line};
+use a2_syntax::{Fault, parse};
+use a2_text::cut;
+use std::alloc::{AllocError, Allocator};
+
+// The bytes that a text spells.
+fn bytes_of<A: Allocator>(alloc: A, text: &[u8]) -> Result<Vec<u8, A>, AllocError> {
+    let mut bytes = Vec::new(alloc);
+    let mut rest = text;
+    while let Some((byte, behind)) = first_byte(rest) {
+        bytes.push(byte)?;
+        rest = behind;
+    }
+    Ok(bytes)
+}
+
+// The address behind so many bytes.
+fn address_behind(address: u16, count: usize) -> Option<u16> {
+    let count = u16::try_from(count).ok()?;
+    address.checked_add(count)
+}
+
+// Appends the lines of a line that stores bytes, and gives the next address. `next` is the one that lines lie at as they are.
+fn put_store<A: Allocator + Copy>(
+    alloc: A,
+    draft: &mut Draft<A>,
+    next: Option<u16>,
+    number: usize,
+    store: &StoreLine<'_>,
+) -> Result<Option<u16>, AllocError> {
+    let bytes = bytes_of(alloc, store.bytes)?;
+    let Some(address) = store.address.or(next) else {
+        return Ok(None);
+    };
+    if next != Some(address) && !bytes.is_empty() {
+        draft.put_origin(number, address)?;
+    }
+    draft.put_row(number, bytes.as_slice(), address)?;
+    Ok(address_behind(address, bytes.len()))
+}
+
+// The lines of a source that has the bytes of object lines.
+fn draft_of<A: Allocator + Copy>(alloc: A, object: &[u8]) -> Result<Draft<A>, AllocError> {
+    let lines = cut(alloc, object)?;
+    let mut draft = Draft::new(alloc);
+    let mut next = None;
+    for (i, line) in lines.iter().enumerate() {
+        if let Some(store) = store_line(line) {
+            next = put_store(alloc, &mut draft, next, i.saturating_add(1), &store)?;
+        }
+    }
+    draft.put_names(lines.len())?;
+    Ok(draft)
+}
+
+// Whether a text is a source that assembles to the bytes of an image; or why it is none.
+fn says<A: Allocator + Copy>(alloc: A, text: &[u8], image: &Image<A>) -> Result<bool, Fault>
+    ensures { IfOk result (λ is. is ≡ true → AssemblesTo (held image.now) text.now) }
+{
+    let source = parse(alloc, text)?;
+    let program = assemble(alloc, &source)?;
+    Ok(are_same(program.image(), image))
+}
+
+// The line of a listing that a line of its source is of; 0 where that is none.
+fn origin(origins: &[usize], line: u16) -> usize {
+    let index = usize::from(line).checked_sub(1);
+    index.and_then(|i| origins.get(i).copied()).unwrap_or(0)
+}
+
+/// A source that assembles to the bytes of a listing, and to no others, for a listing as the Monitor writes it: a line has an
+/// address of 1 to 4 hexadecimal digits, `-`, bytes of 1 or 2 digits, and an operation of three characters with its operand,
+/// which is not looked at. An object line, `ADDRESS:BYTES`, is such a line too, and a blank line says nothing. Apple II
+/// Reference Manual (1979), chapter 3.
+///
+/// Bytes that are one whole instruction are written so, and others as data. An instruction of three bytes whose address is
+/// below $0100, for which there is one of two, has a name for it that a line at the end defines.
+///
+/// Refused by `Row` with the first line that has no bytes, or one at or above $C000; by `Refused` with the line whose bytes
+/// cannot be said by a source, as they lie where an earlier line has some, or with line 0 where there is no instruction, or
+/// the source would be too large; by `Unlike` where the source would have other bytes; and for want of memory.
+pub fn import_listing<A: Allocator + Copy>(
+    alloc: A,
+    text: &[u8],
+) -> Result<Vec<u8, A>, ListingFault>
+    ensures same { IfOk result (λ source. SaysListing text.now source.items) }
+    ensures refused { IfErr result (λ fault. IsListingFault text.now fault) }
+{
+    let object = object_lines(alloc, text)?;
+    let image = match load_lines(alloc, object.as_slice()) {
+        Ok(image) => image,
+        Err(HexFault::Memory) => return Err(ListingFault::Memory),
+        Err(fault) => return Err(ListingFault::Row(fault)),
+    };
+    let (source, origins) = draft_of(alloc, object.as_slice())?.into_parts();
+    match says(alloc, source.as_slice(), &image) {
+        Ok(true) => Ok(source),
+        Ok(false) => Err(ListingFault::Unlike),
+        Err(Fault::Memory) => Err(ListingFault::Memory),
+        Err(fault) => Err(ListingFault::Refused(
+            origin(origins.as_slice(), fault.line()),
+            fault,
+        )),
+    }
+}

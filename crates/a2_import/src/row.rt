@@ -1,0 +1,157 @@
+//! A row of a listing, as lines of a source.
+
+ghost use Rattle.std.specs.Prelude.{◌<◌, length, IfSome};
+
+use a2_opcode::{Instr, Mode, decode, list_line, row_for};
+use a2_text::{hex_pair, hex_word};
+use std::alloc::{AllocError, Allocator};
+
+// What stands before an operation.
+const BLANKS: &[u8] = b"        ";
+
+// Where the operand begins in a line of a listing.
+const OPERAND: usize = 25;
+
+// So many bytes of data stand in a line.
+const BYTES: usize = 8;
+
+/// The lines of a source so far.
+#[derive(Drop)]
+pub(crate) struct Draft<A: Allocator> {
+    text: Vec<u8, A>,
+    // The line of the listing that each of them is of.
+    origins: Vec<usize, A>,
+    // The addresses below $0100 that are named.
+    named: Vec<u8, A>,
+}
+
+// The instruction that these bytes are, and no more of them.
+fn whole(bytes: &[u8], address: u16) -> Option<Instr>
+    ensures { IfSome result (λ _. 0 < length bytes.now) }
+{
+    let instr = decode(bytes, address)?;
+    if usize::from(instr.mode.length()) == bytes.len() {
+        Some(instr)
+    } else {
+        None
+    }
+}
+
+// Whether an instruction has three bytes where its operand's value alone would give it two.
+fn is_long(instr: Instr) -> bool {
+    let short = match instr.mode {
+        Mode::Absolute => Mode::ZeroPage,
+        Mode::AbsoluteX => Mode::ZeroPageX,
+        Mode::AbsoluteY => Mode::ZeroPageY,
+        _ => return false,
+    };
+    instr.value < 256 && row_for(instr.mnemonic, short).is_some()
+}
+
+impl<A: Allocator + Copy> Draft<A> {
+    /// No lines.
+    pub(crate) fn new(alloc: A) -> Draft<A> {
+        Draft {
+            text: Vec::new(alloc),
+            origins: Vec::new(alloc),
+            named: Vec::new(alloc),
+        }
+    }
+
+    // Ends a line that is of this line of the listing.
+    fn end_line(&mut self, number: usize) -> Result<(), AllocError> {
+        self.text.push(b'\n')?;
+        self.origins.push(number)?;
+        Ok(())
+    }
+
+    // A line of these pieces.
+    fn put_line(&mut self, number: usize, pieces: &[&[u8]]) -> Result<(), AllocError> {
+        for piece in pieces {
+            self.text.extend_from_slice(piece)?;
+        }
+        self.end_line(number)
+    }
+
+    /// The line that says where those behind it lie.
+    pub(crate) fn put_origin(&mut self, number: usize, address: u16) -> Result<(), AllocError> {
+        self.put_line(number, &[BLANKS, b"ORG $", &hex_word(address)])
+    }
+
+    // The line of an instruction, as the Monitor lists it.
+    fn put_instruction(
+        &mut self,
+        number: usize,
+        instr: Instr,
+        bytes: &[u8],
+        address: u16,
+    ) -> Result<(), AllocError>
+        requires { 0 < length bytes.now }
+    {
+        let listed = list_line(bytes, address);
+        let line = listed.text.as_str().as_bytes();
+        let (_, operand) = line.split_at(OPERAND.min(line.len()));
+        let gap: &[u8] = if operand.is_empty() { b"" } else { b" " };
+        if is_long(instr) {
+            let word = hex_word(instr.value);
+            let (_, index) = operand.split_at(word.len().saturating_add(1).min(operand.len()));
+            self.named.push((instr.value % 256) as u8)?;
+            return self.put_line(
+                number,
+                &[BLANKS, instr.mnemonic.name().as_bytes(), b" W", &word, index],
+            );
+        }
+        self.put_line(
+            number,
+            &[BLANKS, instr.mnemonic.name().as_bytes(), gap, operand],
+        )
+    }
+
+    // The line of some bytes that are data.
+    fn put_data(&mut self, number: usize, bytes: &[u8]) -> Result<(), AllocError> {
+        self.text.extend_from_slice(BLANKS)?;
+        self.text.extend_from_slice(b"DFB ")?;
+        for (i, byte) in bytes.iter().enumerate() {
+            self.text.extend_from_slice(if i == 0 { b"$" } else { b",$" })?;
+            self.text.extend_from_slice(&hex_pair(*byte))?;
+        }
+        self.end_line(number)
+    }
+
+    /// The lines of a row: of an instruction where its bytes are one, and else of data.
+    pub(crate) fn put_row(
+        &mut self,
+        number: usize,
+        bytes: &[u8],
+        address: u16,
+    ) -> Result<(), AllocError> {
+        if let Some(instr) = whole(bytes, address) {
+            return self.put_instruction(number, instr, bytes, address);
+        }
+        for piece in bytes.chunks(BYTES) {
+            self.put_data(number, piece)?;
+        }
+        Ok(())
+    }
+
+    /// The lines that define what is named: a name whose definition stands below its use has always two bytes.
+    pub(crate) fn put_names(&mut self, number: usize) -> Result<(), AllocError> {
+        for low in 0..=255u8 {
+            if self.named.as_slice().contains(&low) {
+                let word = hex_word(u16::from(low));
+                self.put_line(number, &[b"W", &word, b"   EQU $", &word])?;
+            }
+        }
+        Ok(())
+    }
+
+    /// The text of the lines, and the line of the listing that each is of.
+    pub(crate) fn into_parts(self) -> (Vec<u8, A>, Vec<usize, A>) {
+        let Draft {
+            text,
+            origins,
+            named: _,
+        } = self;
+        (text, origins)
+    }
+}
