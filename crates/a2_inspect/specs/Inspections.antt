@@ -1,26 +1,31 @@
 -- What the lines of a debugger leave. This project's profile.
-use Rattle.std.specs.Prelude.{◌≡◌, ◌⊎◌, ℕ, ◌+◌, ◌-◌, min, not, nat_lt, List, [], ◌∷◌, ◌++◌, ◌==◌, length, map, take, Bool, false, Option, Some, None, if◌then◌else◌}
-use Rattle.a2_text.specs.Bytes.{is_among, capital}
+use Rattle.std.specs.Prelude.{◌≡◌, ◌⊎◌, ℕ, ◌+◌, ◌-◌, min, not, nat_lt, nat_le, List, [], ◌∷◌, ◌++◌, ◌==◌, ◌||◌, ◌&&◌, length, map, take, filter, slice_get, Bool, true, false, Option, Some, None, if◌then◌else◌}
+use Rattle.a2_text.specs.Bytes.{capital}
 use Rattle.a2_text.specs.Words.{words}
-use Rattle.a2_bus.specs.Memory.{peek}
 use Rattle.a2_services.specs.World.{World}
 use Rattle.a2_asm.specs.Assembled.{Assembled}
 use Rattle.a2_run.specs.Started.{IsStarted}
 use Rattle.a2_debug.specs.Lines.{first_word, behind_word}
 use Rattle.a2_history.specs.declared.Halt.{Halt}
+use Rattle.a2_history.specs.declared.routines.Entry.{Entry}
 use Rattle.a2_history.specs.Going.{Track, here, Advances, IsNewest, with_typed}
+use Rattle.a2_history.specs.Routines.{is_call, entered, IsNewestOutside}
 use Rattle.a2_inspect.specs.Words.{IsVerb}
 use Rattle.a2_inspect.specs.Sayings.{Says, SaysNone}
+use Rattle.a2_inspect.specs.Stops.{is_stop, is_changed_in}
 use Rattle.a2_inspect.specs.declared.order.Order.{Order}
-use Rattle.a2_inspect.specs.declared.order.Order.TheVariants.{Step, Back, Go, Until, GoBack, Watch, Who, Break, Clear, TypeKeys}
+use Rattle.a2_inspect.specs.declared.order.Order.TheVariants.{Step, Next, Out, Back, GoBackOver, Go, Until, GoBack, Watch, Who, Break, Clear, TypeKeys}
+use Rattle.a2_inspect.specs.declared.stops.Break.{Break as Breakpoint}
+use Rattle.a2_inspect.specs.declared.stops.Span.{Span}
 use Rattle.a2_inspect.specs.declared.verbs.Verb.{Verb}
 
 pub record Inspection : Type 0 where
   pub program : Assembled
   -- the run, and where it stands
   pub track : Track
-  -- the breakpoints, in the order in which they were set
-  pub breaks : List ℕ
+  -- the breakpoints, and what is watched, in the order in which they were set
+  pub breaks : List Breakpoint
+  pub watches : List Span
   -- the line that an empty one repeats
   pub last : List ℕ
   -- the most steps that one line makes which looks for a place
@@ -30,17 +35,9 @@ pub record Inspection : Type 0 where
 abbrev pub is_at : ℕ → World → Bool
 is_at address world = world.registers.pc == address
 
-abbrev pub is_at_one_of : List ℕ → World → Bool
-is_at_one_of places world = is_among places world.registers.pc
-
--- two bytes, which may be none, differ
-abbrev pub is_other : Option ℕ → Option ℕ → Bool
-is_other (Some one) (Some other) = not (one == other)
-is_other one other = false
-
--- the byte at an address is another than in this world
-abbrev pub is_changed : ℕ → World → World → Bool
-is_changed address now world = is_other (peek world.memory address) (peek now.memory address)
+-- a world in which the stack pointer is no longer below this, or that is a stop
+abbrev pub is_left : ℕ → (World → Bool) → World → Bool
+is_left s stop world = nat_le s world.registers.s || stop world
 
 -- steps were made to the first world that is seen, or that is stuck, or as many as this
 pub record GoesOn (seen : World → Bool) (most : ℕ) (old new : Track) : Type 0 where
@@ -63,36 +60,72 @@ pub record GoesBack (seen : World → Bool) (old new : Track) : Type 0 where
 abbrev pub Types : List ℕ → Track → Track → Type 0
 Types keys old new = (new ≡ record old { course = with_typed old.position keys old.course }) ⊎ (new ≡ old)
 
--- one more, but each once, and no more than 64
-abbrev pub marked : List ℕ → ℕ → List ℕ
-marked breaks address =
-    if is_among breaks address then breaks
-    else if nat_lt (length breaks) 64 then breaks ++ address ∷ []
-    else breaks
+-- where a JSR is next steps were made until its routine is left, or to a stop; else one
+abbrev pub GoesOver : Bool → ℕ → (World → Bool) → ℕ → Track → Track → Type 0
+GoesOver true s stop most old new = GoesOn (is_left s stop) most old new
+GoesOver false s stop most old new = GoesOn (λ world. false) 1 old new
 
--- what an order leaves of the run, with these breakpoints
-abbrev pub Moves : Order → List ℕ → ℕ → Track → Track → Type 0
-Moves (Step n) breaks most old new = GoesOn (λ world. false) n old new
-Moves (Back n) breaks most old new = new ≡ record old { position = old.position - n }
-Moves Go breaks most old new = GoesOn (is_at_one_of breaks) most old new
-Moves (Until address) breaks most old new = GoesOn (is_at address) most old new
-Moves (Watch address) breaks most old new = GoesOn (is_changed address (here old)) most old new
-Moves (Who address) breaks most old new = GoesBack (is_changed address (here old)) old new
-Moves GoBack breaks most old new = GoesBack (is_at_one_of breaks) old new
-Moves (TypeKeys keys) breaks most old new = Types keys old new
-Moves order breaks most old new = new ≡ old
+-- until this routine is left, or to a stop; where there is none it stands where it stood
+abbrev pub GoesOut : Option Entry → (World → Bool) → ℕ → Track → Track → Type 0
+GoesOut None stop most old new = new ≡ old
+GoesOut (Some entry) stop most old new = GoesOn (is_left entry.s stop) most old new
 
--- what it leaves of the breakpoints
-abbrev pub breaks_by : Order → List ℕ → List ℕ
-breaks_by (Break address) breaks = marked breaks address
+-- it stands at the newest earlier place at which no more routines are entered; where there is none, where it stood
+abbrev pub GoesBackOver : Track → Track → Type 0
+GoesBackOver old new = (found : Option ℕ)
+    × IsNewestOutside old.course (length (entered old.course old.position)) old.position found × (new ≡ turned_to found old)
+
+-- the routine that was entered last
+abbrev pub innermost : List Entry → Option Entry
+innermost entries = slice_get entries (length entries - 1)
+
+-- all but the breakpoint at an address
+abbrev pub others : ℕ → List Breakpoint → List Breakpoint
+others address breaks = filter (λ b. not (b.address == address)) breaks
+
+-- this one takes the place of that at its address, or is one more; no more than 64
+abbrev pub with_break : Breakpoint → List Breakpoint → List Breakpoint
+with_break b breaks = if nat_lt (length (others b.address breaks)) 64 then others b.address breaks ++ b ∷ [] else others b.address breaks
+
+-- one more, but each once, and no more than 8
+abbrev pub unlike : Span → List Span → List Span
+unlike span watches = filter (λ w. not ((w.first == span.first) && (w.last == span.last))) watches
+
+abbrev pub with_watch : Span → List Span → List Span
+with_watch span watches = if nat_lt (length (unlike span watches)) 8 then unlike span watches ++ span ∷ [] else unlike span watches
+
+-- what an order leaves of the run, with these stops
+abbrev pub Moves : Order → (World → Bool) → ℕ → Track → Track → Type 0
+Moves (Step n) stop most old new = GoesOn (λ world. false) n old new
+Moves Next stop most old new = GoesOver (is_call (here old)) (here old).registers.s stop most old new
+-- where memory is wanted it stands where it stood
+Moves Out stop most old new = GoesOut (innermost (entered old.course old.position)) stop most old new ⊎ (new ≡ old)
+Moves (Back n) stop most old new = new ≡ record old { position = old.position - n }
+Moves GoBackOver stop most old new = GoesBackOver old new ⊎ (new ≡ old)
+Moves Go stop most old new = GoesOn stop most old new
+Moves (Until address) stop most old new = GoesOn (is_at address) most old new
+Moves GoBack stop most old new = GoesBack stop old new
+Moves (Who span) stop most old new = GoesBack (λ world. is_changed_in (here old) world span) old new
+Moves (TypeKeys keys) stop most old new = Types keys old new
+Moves order stop most old new = new ≡ old
+
+-- what it leaves of the breakpoints, and of what is watched
+abbrev pub breaks_by : Order → List Breakpoint → List Breakpoint
+breaks_by (Break b) breaks = with_break b breaks
 breaks_by Clear breaks = []
 breaks_by order breaks = breaks
+
+abbrev pub watches_by : Order → List Span → List Span
+watches_by (Watch span) watches = with_watch span watches
+watches_by Clear watches = []
+watches_by order watches = watches
 
 -- an order was done
 pub record IsDone (order : Order) (old new : Inspection) : Type 0 where
   pub program : new.program ≡ old.program
-  pub moves : Moves order old.breaks old.most old.track new.track
+  pub moves : Moves order (is_stop old.breaks old.watches (here old.track)) old.most old.track new.track
   pub breaks : new.breaks ≡ breaks_by order old.breaks
+  pub watches : new.watches ≡ watches_by order old.watches
   pub last : new.last ≡ old.last
   pub most : new.most ≡ old.most
 
@@ -124,5 +157,6 @@ pub record IsBegun (free : Bool) (keys : List ℕ) (limit : ℕ) (assembled : As
   pub started : IsStarted free assembled keys new.track.course.origin
   pub log : new.track.course.log ≡ []
   pub breaks : new.breaks ≡ []
+  pub watches : new.watches ≡ []
   pub last : new.last ≡ []
   pub most : new.most ≡ limit

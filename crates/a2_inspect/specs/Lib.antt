@@ -1,4 +1,6 @@
 pub mod Words
 pub mod Places
+pub mod Stops
+pub mod Conditions
 pub mod Sayings
 pub mod Inspections

@@ -1,12 +1,15 @@
 -- The words that lines begin with.
 use Rattle.std.specs.Prelude.{◌≡◌, ◌⊎◌, ℕ, ◌<◌, List, [], length, codes}
 use Rattle.a2_inspect.specs.declared.verbs.Verb.{Verb}
-use Rattle.a2_inspect.specs.declared.verbs.Verb.TheVariants.{Step, Back, Go, Until, Rback, Watch, Who, Break, Clear, Keys, Where, Regs, Mem, Screen, List as Lines, Info, Help}
+use Rattle.a2_inspect.specs.declared.verbs.Verb.TheVariants.{Step, Next, Out, Back, Rnext, Go, Until, Rback, Watch, Who, Break, Clear, Keys, Where, Regs, Print, Mem, Screen, List as Lines, Info, Help}
 
 -- the letters of a verb, in capitals
 abbrev pub letters : Verb → List ℕ
 letters Step = codes "STEP"
+letters Next = codes "NEXT"
+letters Out = codes "OUT"
 letters Back = codes "BACK"
+letters Rnext = codes "RNEXT"
 letters Go = codes "GO"
 letters Until = codes "UNTIL"
 letters Rback = codes "RBACK"
@@ -17,6 +20,7 @@ letters Clear = codes "CLEAR"
 letters Keys = codes "KEYS"
 letters Where = codes "WHERE"
 letters Regs = codes "REGS"
+letters Print = codes "PRINT"
 letters Mem = codes "MEM"
 letters Screen = codes "SCREEN"
 letters Lines = codes "LIST"
@@ -26,11 +30,14 @@ letters Help = codes "HELP"
 -- the letter that stands for it alone, where there is one
 abbrev pub letter : Verb → List ℕ
 letter Step = codes "S"
+letter Next = codes "N"
+letter Out = codes "O"
 letter Back = codes "B"
 letter Go = codes "G"
 letter Until = codes "U"
 letter Rback = codes "R"
 letter Where = codes "W"
+letter Print = codes "P"
 letter Mem = codes "X"
 letter Lines = codes "L"
 letter Info = codes "I"

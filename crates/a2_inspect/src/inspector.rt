@@ -1,24 +1,44 @@
 //! A source's run, and the lines of a debugger.
 
-ghost use Rattle.std.specs.Prelude.{◌≡◌, ◌-◌, false, IfOk, IfErr};
-ghost use Rattle.a2_text.specs.Bytes.{is_among};
-ghost use Rattle.a2_bus.specs.Memory.{peek as peek_of};
+ghost use Rattle.std.specs.Prelude.{◌≡◌, ◌==◌, ◌&&◌, ◌⊎◌, ◌-◌, false, IfOk, IfErr};
+ghost use Rattle.a2_machine.specs.State.{world_of_state};
 ghost use Rattle.a2_history.specs.Going.{here};
+ghost use Rattle.a2_history.specs.Routines.{is_call as is_call_of, entered};
 ghost use Rattle.a2_asm.specs.Assembled.{Assembled};
 ghost use Rattle.a2_run.specs.Meaning.{IsProgramOf};
 ghost use Rattle.a2_run.specs.Started.{RefusesText};
-ghost use Rattle.a2_inspect.specs.Inspections.{IsDone, IsObeyed, IsBegun, GoesOn, GoesBack, Types, is_changed, front, marked, meant};
+ghost use Rattle.a2_inspect.specs.Stops.{is_stop, is_changed_in};
+ghost use Rattle.a2_inspect.specs.Inspections.{
+  IsDone,
+  IsObeyed,
+  IsBegun,
+  GoesOn,
+  GoesOver,
+  GoesOut,
+  GoesBack,
+  GoesBackOver,
+  Types,
+  is_left,
+  innermost,
+  others,
+  unlike,
+  with_break,
+  with_watch,
+  front,
+  meant,
+};
 
-use crate::order::{Order, Outcome, Refusal};
+use crate::order::{Order, Outcome, Refusal, Show};
 use crate::reading::{order_of, split_word};
 use crate::sheet::{Stand, tell};
-use crate::sights::{At, AtOneOf, Changed};
+use crate::sights::{At, Changed, Left, Stops};
+use crate::stops::{Break, Span};
 use crate::verbs::verb_of;
 use a2_asm::Program;
 use a2_bus::Keys;
 use a2_explain::Scene;
-use a2_history::{Halt, History, Nothing, Sight, TypingFault};
-use a2_machine::Cause;
+use a2_history::{Entry, Halt, History, Nothing, Sight, TypingFault, is_call};
+use a2_machine::{Cause, Machine};
 use a2_run::{RunFault, program_of, started};
 use a2_stream::{Output, WriteFault};
 use a2_talk::Partner;
@@ -30,23 +50,34 @@ use std::marker::Model;
 // The most copies of the machine that are kept on the way, each of some 124,000 bytes.
 const MOST_KEPT: usize = 500;
 
+// The most bytes of a line.
+const MOST_BYTES: usize = 255;
+
 // A line.
-type Line = ArrayVec<u8, 255>;
+type Line = ArrayVec<u8, MOST_BYTES>;
 
-// The most breakpoints.
-const MOST_BREAKS: usize = 64;
+/// The most breakpoints, and the most spans of bytes that are watched.
+pub const MOST_BREAKS: usize = 64;
 
-// Breakpoints.
-type Breaks = ArrayVec<u16, MOST_BREAKS>;
+pub const MOST_WATCHES: usize = 8;
 
-/// A source's run, gone along in both directions by the lines of a debugger, breakpoints, and the line that an empty one repeats.
+// Breakpoints, and what is watched.
+type Breaks = ArrayVec<Break, MOST_BREAKS>;
+
+type Watches = ArrayVec<Span, MOST_WATCHES>;
+
+/// A source's run, gone along in both directions by the lines of a debugger, breakpoints, bytes that are watched, and the line that
+/// an empty one repeats.
 #[derive(Drop)]
 pub struct Inspector<'a, A: Allocator = Global> {
     alloc: A,
     program: Program<A>,
     lines: Vec<&'a [u8], A>,
     history: History<A>,
+    // The machine before the order that was done last.
+    before: Machine<A>,
     breaks: Breaks,
+    watches: Watches,
     last: Line,
     // The most steps that one line makes which looks for a place.
     most: u32,
@@ -57,7 +88,14 @@ impl<'a, A: Allocator> Model for Inspector<'a, A> {
 
     ghost Value = { Inspection };
 
-    ghost view = { λ i. record { program = i.program; track = i.history; breaks = i.breaks.items; last = i.last.items; most = i.most } };
+    ghost view = { λ i. record {
+      program = i.program;
+      track = i.history;
+      breaks = i.breaks.items;
+      watches = i.watches.items;
+      last = i.last.items;
+      most = i.most;
+    } };
 }
 
 // What came of going on.
@@ -107,32 +145,105 @@ fn go_back<A: Allocator + Copy, S: Sight>(history: &mut History<A>, sight: &S) -
     }
 }
 
-// Worlds where the byte at an address is another than now.
-fn change_at<A: Allocator>(history: &History<A>, address: u16) -> Changed
-    ensures address { result.address ≡ address }
-    ensures byte { result.byte ≡ peek_of (here history.now).memory address }
+// Notes the machine before an order.
+fn note<A: Allocator>(before: &mut Machine<A>, history: &History<A>)
+    ensures { world_of_state before.new.state ≡ here history.now }
 {
-    Changed {
-        address,
-        byte: history.machine().peek(address),
+    before.copy_from(history.machine());
+}
+
+// Makes steps, at most so many, up to a stop.
+fn go<A: Allocator + Copy>(history: &mut History<A>, most: u32, stops: Stops<A>) -> Outcome
+    requires { world_of_state stops.before.now.state ≡ here history.old }
+    ensures { GoesOn (is_stop stops.entry.breaks.now stops.entry.watches.now (here history.old)) most history.old history.new }
+{
+    go_on(history, most, &stops)
+}
+
+// Makes steps, at most so many, until a routine is left, by the stack pointer before its JSR, or to a stop.
+fn leave<A: Allocator + Copy>(
+    history: &mut History<A>,
+    most: u32,
+    s: u8,
+    stops: Stops<A>,
+) -> Outcome
+    requires { world_of_state stops.before.now.state ≡ here history.old }
+    ensures { GoesOn (is_left s (is_stop stops.entry.breaks.now stops.entry.watches.now (here history.old))) most history.old history.new }
+{
+    go_on(history, most, &Left { s, stops })
+}
+
+// Makes a step, or those of the routine that a JSR enters.
+fn next<A: Allocator + Copy>(history: &mut History<A>, most: u32, stops: Stops<A>) -> Outcome
+    requires { world_of_state stops.before.now.state ≡ here history.old }
+    ensures { GoesOver (is_call_of (here history.old)) (here history.old).registers.s
+        (is_stop stops.entry.breaks.now stops.entry.watches.now (here history.old)) most history.old history.new }
+{
+    if is_call(history.machine()) {
+        let s = history.machine().regs().s;
+        leave(history, most, s, stops)
+    } else {
+        step(history, 1)
     }
 }
 
-// Makes steps, at most so many, up to the first behind which the byte at an address is another than now.
-fn watch<A: Allocator + Copy>(history: &mut History<A>, most: u32, address: u16) -> Outcome
-    ensures { GoesOn (is_changed address (here history.old)) most history.old history.new }
+// Makes steps until the routine that was entered last is left.
+fn out<A: Allocator + Copy>(history: &mut History<A>, most: u32, stops: Stops<A>) -> Outcome
+    requires { world_of_state stops.before.now.state ≡ here history.old }
+    ensures { GoesOut (innermost (entered history.old.course history.old.position))
+        (is_stop stops.entry.breaks.now stops.entry.watches.now (here history.old)) most history.old history.new
+        ⊎ (history.new ≡ history.old) }
 {
-    let sight = change_at(history, address);
-    go_on(history, most, &sight)
+    let Ok(entries) = history.entered() else {
+        return Outcome::Memory;
+    };
+    match entries.as_slice().last() {
+        Some(entry) => leave(history, most, entry.s, stops),
+        None => Outcome::NoRoutine,
+    }
 }
 
-// Goes back to the newest step that changed the byte at an address, before it.
-fn who<A: Allocator + Copy>(history: &mut History<A>, address: u16) -> Outcome
-    ensures { GoesBack (is_changed address (here history.old)) history.old history.new }
+// Goes back to the newest earlier stop.
+fn go_back_to_stop<A: Allocator + Copy>(history: &mut History<A>, stops: Stops<A>) -> Outcome
+    requires { world_of_state stops.before.now.state ≡ here history.old }
+    ensures { GoesBack (is_stop stops.entry.breaks.now stops.entry.watches.now (here history.old)) history.old history.new }
 {
-    let sight = change_at(history, address);
-    match go_back(history, &sight) {
-        Outcome::NoneEarlier => Outcome::NeverChanged(address),
+    go_back(history, &stops)
+}
+
+// Goes back a step, or those of a whole routine.
+fn go_back_over<A: Allocator + Copy>(history: &mut History<A>) -> Outcome
+    ensures { GoesBackOver history.old history.new ⊎ (history.new ≡ history.old) }
+{
+    match history.newest_outside() {
+        Ok(Some(position)) => {
+            history.go_back(position);
+            Outcome::Moved
+        }
+        Ok(None) => Outcome::Moved,
+        Err(_) => Outcome::Memory,
+    }
+}
+
+// Goes back to the newest step that changed one of some bytes, before it.
+fn go_back_to_change<A: Allocator + Copy>(
+    history: &mut History<A>,
+    span: Span,
+    before: &Machine<A>,
+) -> Outcome
+    requires { world_of_state before.now.state ≡ here history.old }
+    ensures { GoesBack (λ world. is_changed_in (here history.old) world span) history.old history.new }
+{
+    go_back(history, &Changed { span, before })
+}
+
+// The same, where it is told if there is none.
+fn who<A: Allocator + Copy>(history: &mut History<A>, span: Span, before: &Machine<A>) -> Outcome
+    requires { world_of_state before.now.state ≡ here history.old }
+    ensures { GoesBack (λ world. is_changed_in (here history.old) world span) history.old history.new }
+{
+    match go_back_to_change(history, span, before) {
+        Outcome::NoneEarlier => Outcome::NeverChanged(span),
         outcome => outcome,
     }
 }
@@ -148,25 +259,49 @@ fn type_keys<A: Allocator + Copy>(history: &mut History<A>, keys: Keys) -> Outco
     }
 }
 
-// Whether there is a breakpoint at an address.
-fn is_set(breaks: &Breaks, address: u16) -> bool
-    ensures { result ≡ is_among breaks.now.items address }
+// Takes the breakpoint at an address away.
+fn clear_at(breaks: &mut Breaks, address: u16)
+    ensures { breaks.new.items ≡ others address breaks.old.items }
 {
-    breaks.iter().any(|place| *place == address)
+    breaks.retain(|place| place.address != address);
 }
 
-// Sets a breakpoint.
-fn set(breaks: &mut Breaks, address: u16) -> Outcome
-    ensures { breaks.new.items ≡ marked breaks.old.items address }
+// Sets a breakpoint, which takes the place of that at its address.
+fn set(breaks: &mut Breaks, place: Break) -> Outcome
+    ensures { breaks.new.items ≡ with_break place breaks.old.items }
 {
-    if is_set(breaks, address) {
-        return Outcome::Set(address);
-    }
+    clear_at(breaks, place.address);
     if breaks.len() < MOST_BREAKS {
-        breaks.push(address);
-        return Outcome::Set(address);
+        breaks.push(place);
+        return Outcome::Set(place);
     }
     Outcome::Full
+}
+
+// Whether both are the same addresses.
+fn are_alike(one: &Span, other: Span) -> bool
+    ensures { result ≡ ((one.now.first == other.first) && (one.now.last == other.last)) }
+{
+    one.first == other.first && one.last == other.last
+}
+
+// Watches these addresses no longer.
+fn forget(watches: &mut Watches, span: Span)
+    ensures { watches.new.items ≡ unlike span watches.old.items }
+{
+    watches.retain(|watched| !are_alike(watched, span));
+}
+
+// Watches bytes.
+fn watch(watches: &mut Watches, span: Span) -> Outcome
+    ensures { watches.new.items ≡ with_watch span watches.old.items }
+{
+    forget(watches, span);
+    if watches.len() < MOST_WATCHES {
+        watches.push(span);
+        return Outcome::Watched(span);
+    }
+    Outcome::FullWatches
 }
 
 // A line of these bytes, as far as there is room.
@@ -174,7 +309,7 @@ fn line_of(bytes: &[u8]) -> Line
     ensures { result.items ≡ front bytes.now }
 {
     let mut line = Line::new();
-    line.try_extend_from_slice(&bytes[..255usize.min(bytes.len())])
+    line.try_extend_from_slice(&bytes[..MOST_BYTES.min(bytes.len())])
         .unwrap();
     line
 }
@@ -206,13 +341,16 @@ impl<'a, A: Allocator + Copy> Inspector<'a, A> {
         let program = program_of(alloc, source)?;
         let lines = cut(alloc, source)?;
         let machine = started(alloc, &program, keys, free)?;
+        let before = Machine::new(alloc)?;
         let history = History::new(alloc, machine, MOST_KEPT)?;
         Ok(Inspector {
             alloc,
             program,
             lines,
             history,
+            before,
             breaks: Breaks::new(),
+            watches: Watches::new(),
             last: Line::new(),
             most,
         })
@@ -222,27 +360,27 @@ impl<'a, A: Allocator + Copy> Inspector<'a, A> {
     fn perform(&mut self, order: Order) -> Outcome
         ensures { IsDone order self.old self.new }
     {
+        note(&mut self.before, &self.history);
+        let stops = Stops {
+            breaks: self.breaks.as_slice(),
+            watches: self.watches.as_slice(),
+            before: &self.before,
+        };
         match order {
             Order::Step(steps) => step(&mut self.history, steps),
+            Order::Next => next(&mut self.history, self.most, stops),
+            Order::Out => out(&mut self.history, self.most, stops),
             Order::Back(steps) => back(&mut self.history, steps),
-            Order::Go => {
-                let sight = AtOneOf {
-                    places: self.breaks.as_slice(),
-                };
-                go_on(&mut self.history, self.most, &sight)
-            }
+            Order::GoBackOver => go_back_over(&mut self.history),
+            Order::Go => go(&mut self.history, self.most, stops),
             Order::Until(address) => go_on(&mut self.history, self.most, &At { address }),
-            Order::GoBack => {
-                let sight = AtOneOf {
-                    places: self.breaks.as_slice(),
-                };
-                go_back(&mut self.history, &sight)
-            }
-            Order::Watch(address) => watch(&mut self.history, self.most, address),
-            Order::Who(address) => who(&mut self.history, address),
-            Order::Break(address) => set(&mut self.breaks, address),
+            Order::GoBack => go_back_to_stop(&mut self.history, stops),
+            Order::Who(span) => who(&mut self.history, span, &self.before),
+            Order::Watch(span) => watch(&mut self.watches, span),
+            Order::Break(place) => set(&mut self.breaks, place),
             Order::Clear => {
                 self.breaks.clear();
+                self.watches.clear();
                 Outcome::Cleared
             }
             Order::TypeKeys(keys) => type_keys(&mut self.history, keys),
@@ -268,6 +406,23 @@ impl<'a, A: Allocator + Copy> Inspector<'a, A> {
     }
 }
 
+// The routines that were entered, where they are to be shown; or that memory is wanted for them.
+fn with_entries<A: Allocator + Copy>(
+    alloc: A,
+    history: &mut History<A>,
+    outcome: Outcome,
+) -> (Outcome, Vec<Entry, A>)
+    ensures { history.new ≡ history.old }
+{
+    if outcome != Outcome::Shown(Show::Place) {
+        return (outcome, Vec::new(alloc));
+    }
+    match history.entered() {
+        Ok(entries) => (outcome, entries),
+        Err(_) => (Outcome::Memory, Vec::new(alloc)),
+    }
+}
+
 impl<A: Allocator + Copy> Partner for Inspector<'_, A> {
     ghost use Rattle.a2_inspect.specs.Inspections.{IsAnswered};
 
@@ -275,18 +430,21 @@ impl<A: Allocator + Copy> Partner for Inspector<'_, A> {
 
     fn answer<W: Output>(&mut self, line: &[u8], writer: &mut W) -> Result<(), WriteFault> {
         let line = meant_by(line, &self.last);
-        let before = self.history.machine().regs();
         let outcome = self.obey(line.as_slice());
         self.last = line;
+        let (outcome, entries) = with_entries(self.alloc, &mut self.history, outcome);
         let stand = Stand {
             scene: Scene {
                 program: &self.program,
                 lines: self.lines.as_slice(),
             },
             history: &self.history,
+            before: &self.before,
             breaks: self.breaks.as_slice(),
+            watches: self.watches.as_slice(),
+            entries: entries.as_slice(),
             most: self.most,
         };
-        tell(self.alloc, &stand, before, outcome, writer)
+        tell(self.alloc, &stand, outcome, writer)
     }
 }

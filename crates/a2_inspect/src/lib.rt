@@ -1,12 +1,14 @@
 //! A source's run at a terminal, gone along in both directions: the lines of a debugger, answered one after another.
 #![tactic(auto)]
 
+mod conditions;
 mod inspector;
 mod order;
 mod places;
 mod reading;
 mod sheet;
 mod sights;
+mod stops;
 mod verbs;
 
 pub use inspector::Inspector;

@@ -1,22 +1,29 @@
 //! What a line asks for.
 
+use crate::stops::{Break, Register, Span};
 use a2_bus::Keys;
 
 /// What is shown. Nothing changes by it.
 #[derive(Clone, Copy, Debug, PartialEq, Eq)]
 pub enum Show {
-    /// Where the run stands.
+    /// Where the run stands, and the routines that it entered.
     Place,
     /// The registers.
     Registers,
+    /// What a register of a byte holds.
+    Register(Register),
+    /// What PC holds.
+    Counter,
+    /// An address, and the byte there.
+    Address(u16),
     /// The bytes from one address to another.
-    Memory(u16, u16),
+    Memory(Span),
     /// The picture on the screen.
     Screen,
     /// The lines of the source around the place.
     Lines,
-    /// The breakpoints.
-    Breaks,
+    /// The breakpoints, and what is watched.
+    Stops,
     /// The lines that there are.
     Help,
 }
@@ -26,21 +33,27 @@ pub enum Show {
 pub enum Order {
     /// To make so many steps.
     Step(u16),
+    /// To make a step, or those of a whole routine.
+    Next,
+    /// To go on until the routine is left.
+    Out,
     /// To go back so many steps.
     Back(u16),
-    /// To go on to a breakpoint.
+    /// To go back a step, or those of a whole routine.
+    GoBackOver,
+    /// To go on to a breakpoint, or behind a step that changed a watched byte.
     Go,
     /// To go on to an address.
     Until(u16),
-    /// To go back to the newest earlier place at a breakpoint.
+    /// To go back to the newest earlier place at a breakpoint, or before a step that changed a watched byte.
     GoBack,
-    /// To go on until the byte at an address changes.
-    Watch(u16),
-    /// To go back to the newest step that changed the byte at an address, before it.
-    Who(u16),
+    /// To watch bytes.
+    Watch(Span),
+    /// To go back to the newest step that changed one of these bytes, before it.
+    Who(Span),
     /// To set a breakpoint.
-    Break(u16),
-    /// To clear all breakpoints.
+    Break(Break),
+    /// To clear all breakpoints, and to watch nothing.
     Clear,
     /// To type keys.
     TypeKeys(Keys),
@@ -59,8 +72,14 @@ pub enum Refusal {
     Count,
     /// No place stands behind it.
     Place,
+    /// No breakpoint stands behind it.
+    Break,
     /// No addresses stand behind it.
     Range,
+    /// No addresses stand behind it, or too many to be watched.
+    Watch,
+    /// Nothing that has a value stands behind it.
+    Value,
     /// No keys stand behind it.
     Keys,
 }
@@ -76,21 +95,27 @@ pub enum Outcome {
     Reached,
     /// Steps were made, and the machine is stuck, or they were as many as one line makes.
     Stopped(a2_machine::Cause),
-    /// No earlier step begins at a breakpoint.
+    /// No earlier step begins at a breakpoint, or changed a watched byte.
     NoneEarlier,
-    /// No earlier step changed the byte at this address.
-    NeverChanged(u16),
+    /// No earlier step changed one of these bytes.
+    NeverChanged(Span),
+    /// No routine is entered.
+    NoRoutine,
     /// There is a breakpoint.
-    Set(u16),
+    Set(Break),
     /// There are as many breakpoints as there may be.
     Full,
-    /// There is no breakpoint.
+    /// Bytes are watched.
+    Watched(Span),
+    /// As much is watched as may be.
+    FullWatches,
+    /// There is no breakpoint, and nothing is watched.
     Cleared,
     /// Keys were typed.
     Typed,
     /// They were not: too many would wait.
     KeysFull,
-    /// They were not, for want of memory.
+    /// Nothing was done, for want of memory.
     Memory,
     /// This is to be shown.
     Shown(Show),

@@ -3,14 +3,16 @@
 ghost use Rattle.std.specs.Prelude.{◌≡◌, ◌≢◌, None, Some, MatchOption, IfOk, IfErr, IfSome, IfNone, []};
 ghost use Rattle.a2_text.specs.Words.{words};
 ghost use Rattle.a2_debug.specs.Lines as said;
-ghost use Rattle.a2_inspect.specs.Sayings.{Says, SaysNone, count_in as count_of, place_in as place_of_words, SpellsBehind, SpellsNoneBehind};
+ghost use Rattle.a2_inspect.specs.Sayings.{Says, SaysNone, count_in as count_of, place_in as place_of_words, span_in as span_of_words, SpellsBehind, SpellsNoneBehind};
 
+use crate::conditions::{break_in, register_of};
 use crate::order::{Order, Refusal, Show};
-use crate::places::place_of;
+use crate::places::{place_of, span_of, watchable};
+use crate::stops::Span;
 use crate::verbs::Verb;
 use a2_asm::Program;
 use a2_bus::Keys;
-use a2_text::{behind_blanks, first_word, front_len, is_blank, number_in};
+use a2_text::{behind_blanks, capital, first_word, front_len, is_blank, number_in};
 use std::alloc::Allocator;
 
 /// The first word of a text and what stands behind it.
@@ -54,6 +56,13 @@ fn place_in<A: Allocator>(program: &Program<A>, text: &[u8]) -> Option<u16>
     place_of(program, only_word(text)?)
 }
 
+// The addresses to watch that the one word of a text says.
+fn span_in<A: Allocator>(program: &Program<A>, text: &[u8]) -> Option<Span>
+    ensures { result ≡ span_of_words program.now (words text.now) }
+{
+    watchable(span_of(program, only_word(text)?))
+}
+
 // The keys that stand behind the one blank.
 fn keys_in(rest: &[u8]) -> Option<Keys>
     ensures some { IfSome result (λ keys. SpellsBehind rest.now keys) }
@@ -66,45 +75,36 @@ fn keys_in(rest: &[u8]) -> Option<Keys>
     Keys::parse(text)
 }
 
-// What stands before the first `..` of a word, and behind it.
-fn parts_of(word: &[u8]) -> Option<(&[u8], &[u8])> {
-    for index in 0..word.len() {
-        let (front, behind) = word.split_at(index);
-        if let [b'.', b'.', last @ ..] = behind {
-            return Some((front, last));
-        }
-    }
-    None
-}
-
-// The addresses from one to another that a word says: a place, or two with `..` between.
-fn range_of<A: Allocator>(program: &Program<A>, word: &[u8]) -> Option<(u16, u16)> {
-    let Some((front, behind)) = parts_of(word) else {
-        let address = place_of(program, word)?;
-        return Some((address, address));
-    };
-    let first = place_of(program, front)?;
-    let last = place_of(program, behind)?;
-    if first <= last {
-        Some((first, last))
-    } else {
-        None
+// Whether a word is PC in either case.
+fn is_counter(word: &[u8]) -> bool {
+    match word {
+        [p, c] => capital(*p) == b'P' && capital(*c) == b'C',
+        _ => false,
     }
 }
 
-// What is to be shown by a verb, where that is all that it does.
-fn show_of<A: Allocator>(program: &Program<A>, show: Show, rest: &[u8]) -> Result<Show, Refusal> {
-    match show {
-        Show::Memory(..) => {
-            let word = only_word(rest).ok_or(Refusal::Range)?;
-            let (first, last) = range_of(program, word).ok_or(Refusal::Range)?;
-            Ok(Show::Memory(first, last))
-        }
-        _ => {
-            alone(rest)?;
-            Ok(show)
-        }
+// What is to be shown of a word: a register's value, or else a place's.
+fn value_shown<A: Allocator>(program: &Program<A>, word: &[u8]) -> Option<Show> {
+    if is_counter(word) {
+        return Some(Show::Counter);
     }
+    match register_of(word) {
+        Some(register) => Some(Show::Register(register)),
+        None => Some(Show::Address(place_of(program, word)?)),
+    }
+}
+
+// The value that is to be shown.
+fn value_in<A: Allocator>(program: &Program<A>, rest: &[u8]) -> Result<Show, Refusal> {
+    let word = only_word(rest).ok_or(Refusal::Value)?;
+    value_shown(program, word).ok_or(Refusal::Value)
+}
+
+// The bytes that are to be shown.
+fn bytes_in<A: Allocator>(program: &Program<A>, rest: &[u8]) -> Result<Show, Refusal> {
+    let word = only_word(rest).ok_or(Refusal::Range)?;
+    let span = span_of(program, word).ok_or(Refusal::Range)?;
+    Ok(Show::Memory(span))
 }
 
 // Nothing stands behind a word.
@@ -116,6 +116,21 @@ fn alone(rest: &[u8]) -> Result<(), Refusal>
         Some(_) => Err(Refusal::More),
         None => Ok(()),
     }
+}
+
+// What a word asks for that stands alone.
+fn ordered(order: Order, rest: &[u8]) -> Result<Order, Refusal>
+    ensures ok { IfOk result (λ said. (said ≡ order) × (words rest.now ≡ [])) }
+    ensures err { IfErr result (λ _. words rest.now ≢ []) }
+{
+    alone(rest)?;
+    Ok(order)
+}
+
+// What is to be shown by a word that stands alone.
+fn shown(show: Show, rest: &[u8]) -> Result<Show, Refusal> {
+    alone(rest)?;
+    Ok(show)
 }
 
 /// What a verb and what stands behind it ask for.
@@ -131,28 +146,23 @@ pub fn order_of<A: Allocator>(
         Verb::Step => Ok(Order::Step(count_in(rest).ok_or(Refusal::Count)?)),
         Verb::Back => Ok(Order::Back(count_in(rest).ok_or(Refusal::Count)?)),
         Verb::Until => Ok(Order::Until(place_in(program, rest).ok_or(Refusal::Place)?)),
-        Verb::Watch => Ok(Order::Watch(place_in(program, rest).ok_or(Refusal::Place)?)),
-        Verb::Who => Ok(Order::Who(place_in(program, rest).ok_or(Refusal::Place)?)),
-        Verb::Break => Ok(Order::Break(place_in(program, rest).ok_or(Refusal::Place)?)),
+        Verb::Watch => Ok(Order::Watch(span_in(program, rest).ok_or(Refusal::Watch)?)),
+        Verb::Who => Ok(Order::Who(span_in(program, rest).ok_or(Refusal::Watch)?)),
+        Verb::Break => Ok(Order::Break(break_in(program, rest).ok_or(Refusal::Break)?)),
         Verb::Keys => Ok(Order::TypeKeys(keys_in(rest).ok_or(Refusal::Keys)?)),
-        Verb::Go => {
-            alone(rest)?;
-            Ok(Order::Go)
-        }
-        Verb::Rback => {
-            alone(rest)?;
-            Ok(Order::GoBack)
-        }
-        Verb::Clear => {
-            alone(rest)?;
-            Ok(Order::Clear)
-        }
-        Verb::Where => Ok(Order::Show(show_of(program, Show::Place, rest)?)),
-        Verb::Regs => Ok(Order::Show(show_of(program, Show::Registers, rest)?)),
-        Verb::Mem => Ok(Order::Show(show_of(program, Show::Memory(0, 0), rest)?)),
-        Verb::Screen => Ok(Order::Show(show_of(program, Show::Screen, rest)?)),
-        Verb::List => Ok(Order::Show(show_of(program, Show::Lines, rest)?)),
-        Verb::Info => Ok(Order::Show(show_of(program, Show::Breaks, rest)?)),
-        Verb::Help => Ok(Order::Show(show_of(program, Show::Help, rest)?)),
+        Verb::Next => ordered(Order::Next, rest),
+        Verb::Out => ordered(Order::Out, rest),
+        Verb::Rnext => ordered(Order::GoBackOver, rest),
+        Verb::Go => ordered(Order::Go, rest),
+        Verb::Rback => ordered(Order::GoBack, rest),
+        Verb::Clear => ordered(Order::Clear, rest),
+        Verb::Print => Ok(Order::Show(value_in(program, rest)?)),
+        Verb::Mem => Ok(Order::Show(bytes_in(program, rest)?)),
+        Verb::Where => Ok(Order::Show(shown(Show::Place, rest)?)),
+        Verb::Regs => Ok(Order::Show(shown(Show::Registers, rest)?)),
+        Verb::Screen => Ok(Order::Show(shown(Show::Screen, rest)?)),
+        Verb::List => Ok(Order::Show(shown(Show::Lines, rest)?)),
+        Verb::Info => Ok(Order::Show(shown(Show::Stops, rest)?)),
+        Verb::Help => Ok(Order::Show(shown(Show::Help, rest)?)),
     }
 }

@@ -3,10 +3,12 @@
 ghost use Rattle.std.specs.Prelude.{List, ℕ};
 ghost use Rattle.a2_stream.specs.Stream.{SendsOrBreaks};
 
+use crate::inspector::{MOST_BREAKS, MOST_WATCHES};
 use crate::order::{Outcome, Refusal, Show};
+use crate::stops::{Break, Condition, Register, Relation, Span, Subject, in_register};
 use a2_cpu::Regs;
 use a2_explain::{Scene, meaning, put_address, put_number, put_place, statement_at};
-use a2_history::History;
+use a2_history::{Entry, History};
 use a2_machine::{Cause, Machine, write_registers};
 use a2_opcode::list_line;
 use a2_page::print;
@@ -16,22 +18,28 @@ use std::alloc::Allocator;
 
 // The forms of lines, in words.
 const HELP: &[u8] = b"step [N]     makes a step, or N: at most 65535           s
-back [N]     goes back as many                           b
-go           goes on to a breakpoint                     g
+next         makes one, or those of a whole routine      n
+out          goes on until the routine is left           o
+back [N]     goes back a step, or N                      b
+rnext        goes back one, or those of a whole routine
+go           goes on to a stop                           g
 until P      goes on to P                                u
-rback        goes back to the newest place at one        r
-watch P      goes on until the byte at P changes
-who P        goes back to the newest step that changed it
-break P      sets a breakpoint; clear takes all away
+rback        goes back to the newest stop                r
+who P[..P]   goes back to the newest step that changed it
+break P      sets a breakpoint, or one with a condition:
+             break P if A = $40: A X Y S P or a place, = <> < >
+watch P[..P] stops where a byte there changes
+clear        takes breakpoints and watches away
 keys TEXT    types keys: \\r \\b \\f \\x \\\\ as in --keys
-where        shows where the run stands                  w
+where        shows the place and the routines entered    w
 regs         shows the registers
+print W      shows a register, PC, or a place            p
 mem P[..P]   shows bytes                                 x
 screen       shows the screen
 list         shows the lines around                      l
-info         shows the breakpoints                       i
+info         shows breakpoints and watches               i
 help, quit   this; ends
-P is a name, a line's number, or an address as $300. An empty line does the last again.
+P is a name, a line's number, or an address as $300, also with + and a number behind it. An empty line does the last again.
 ";
 
 // How many lines are shown before the place, and behind it.
@@ -42,7 +50,12 @@ const LINES_AROUND: u16 = 4;
 pub struct Stand<'a, A: Allocator> {
     pub scene: Scene<'a, A>,
     pub history: &'a History<A>,
-    pub breaks: &'a [u16],
+    /// The machine before the order that was done last.
+    pub before: &'a Machine<A>,
+    pub breaks: &'a [Break],
+    pub watches: &'a [Span],
+    /// The routines that were entered, where they are to be shown, the outermost first.
+    pub entries: &'a [Entry],
     /// The most steps that one line makes which looks for a place.
     pub most: u32,
 }
@@ -119,19 +132,49 @@ fn is_changed(before: Regs, now: Regs) -> bool {
         || before.s != now.s
 }
 
-// Writes a stop: where the run stands, and what changed.
-fn put_stop<A: Allocator, W: Output>(
+// Writes a watched byte that has another value than before.
+fn put_byte_change<A: Allocator, W: Output>(
     stand: &Stand<A>,
-    before: Regs,
+    address: u16,
     writer: &mut W,
 ) -> Result<(), WriteFault> {
-    put_stand(stand, writer)?;
-    let now = stand.history.machine().regs();
-    if is_changed(before, now) {
-        put_changes(before, now, writer)
-    } else {
-        Ok(())
+    match (
+        stand.before.peek(address),
+        stand.history.machine().peek(address),
+    ) {
+        (Some(before), Some(now)) if before != now => {
+            put(b"changed: ", writer)?;
+            put_address(address, writer)?;
+            put_all(
+                &[b"=", &hex_pair(before), b"->", &hex_pair(now), b"\n"],
+                writer,
+            )
+        }
+        _ => Ok(()),
     }
+}
+
+// Writes the watched bytes that have other values than before.
+fn put_byte_changes<A: Allocator, W: Output>(
+    stand: &Stand<A>,
+    writer: &mut W,
+) -> Result<(), WriteFault> {
+    for span in stand.watches {
+        for address in span.first..=span.last {
+            put_byte_change(stand, address, writer)?;
+        }
+    }
+    Ok(())
+}
+
+// Writes a stop: where the run stands, and what changed.
+fn put_stop<A: Allocator, W: Output>(stand: &Stand<A>, writer: &mut W) -> Result<(), WriteFault> {
+    put_stand(stand, writer)?;
+    let (before, now) = (stand.before.regs(), stand.history.machine().regs());
+    if is_changed(before, now) {
+        put_changes(before, now, writer)?;
+    }
+    put_byte_changes(stand, writer)
 }
 
 // Writes why there is no further step, in words.
@@ -209,19 +252,159 @@ fn put_lines<A: Allocator, W: Output>(stand: &Stand<A>, writer: &mut W) -> Resul
     Ok(())
 }
 
-// Writes the breakpoints.
-fn put_breaks<A: Allocator, W: Output>(stand: &Stand<A>, writer: &mut W) -> Result<(), WriteFault> {
-    if stand.breaks.is_empty() {
-        return put(b"no breakpoints\n", writer);
+// The letter of a register.
+fn letter_of(register: Register) -> &'static [u8] {
+    match register {
+        Register::A => b"A",
+        Register::X => b"X",
+        Register::Y => b"Y",
+        Register::S => b"S",
+        Register::P => b"P",
     }
-    for address in stand.breaks {
-        put(b"breakpoint at ", writer)?;
-        put_address(*address, writer)?;
+}
+
+// How a condition compares, before a hexadecimal number.
+fn sign_of(relation: Relation) -> &'static [u8] {
+    match relation {
+        Relation::Equal => b" = $",
+        Relation::Other => b" <> $",
+        Relation::Less => b" < $",
+        Relation::More => b" > $",
+    }
+}
+
+// Writes a condition as it is written in a line.
+fn put_condition<W: Output>(condition: Condition, writer: &mut W) -> Result<(), WriteFault> {
+    put(b" if ", writer)?;
+    match condition.subject {
+        Subject::InRegister(register) => put(letter_of(register), writer)?,
+        Subject::InByte(address) => put_address(address, writer)?,
+    }
+    put_all(
+        &[sign_of(condition.relation), &hex_word(condition.value)],
+        writer,
+    )
+}
+
+// Writes a breakpoint.
+fn put_break<W: Output>(place: Break, writer: &mut W) -> Result<(), WriteFault> {
+    put(b"breakpoint at ", writer)?;
+    put_address(place.address, writer)?;
+    match place.condition {
+        Some(condition) => put_condition(condition, writer),
+        None => Ok(()),
+    }
+}
+
+// Writes addresses from one to another.
+fn put_span<W: Output>(span: Span, writer: &mut W) -> Result<(), WriteFault> {
+    put_address(span.first, writer)?;
+    if span.first == span.last {
+        return Ok(());
+    }
+    put(b"..", writer)?;
+    put_address(span.last, writer)
+}
+
+// Writes breakpoints and what is watched.
+fn put_stops<A: Allocator, W: Output>(stand: &Stand<A>, writer: &mut W) -> Result<(), WriteFault> {
+    if stand.breaks.is_empty() && stand.watches.is_empty() {
+        return put(b"no breakpoints, and nothing is watched\n", writer);
+    }
+    for place in stand.breaks {
+        put_break(*place, writer)?;
         put(b", ", writer)?;
-        put_place(&stand.scene, *address, writer)?;
+        put_place(&stand.scene, place.address, writer)?;
+        put(b"\n", writer)?;
+    }
+    for span in stand.watches {
+        put(b"watched: ", writer)?;
+        put_span(*span, writer)?;
         put(b"\n", writer)?;
     }
     Ok(())
+}
+
+// Writes where the run stands, and which routines it entered, the innermost first.
+fn put_where<A: Allocator, W: Output>(stand: &Stand<A>, writer: &mut W) -> Result<(), WriteFault> {
+    put_stand(stand, writer)?;
+    for entry in stand.entries.iter().rev() {
+        put(b"called by ", writer)?;
+        put_place(&stand.scene, entry.call, writer)?;
+        put(b", step ", writer)?;
+        put_number(entry.position, writer)?;
+        put(b"\n", writer)?;
+    }
+    Ok(())
+}
+
+// Writes a byte in three bases.
+fn put_byte<W: Output>(byte: u8, writer: &mut W) -> Result<(), WriteFault> {
+    put_all(
+        &[
+            b"$",
+            &hex_pair(byte),
+            b" ",
+            decimal(u64::from(byte)).as_slice(),
+            b" %",
+        ],
+        writer,
+    )?;
+    for place in 0..8u8 {
+        let digit: &[u8] = if byte & (0x80 >> place) == 0 {
+            b"0"
+        } else {
+            b"1"
+        };
+        put(digit, writer)?;
+    }
+    put(b"\n", writer)
+}
+
+// Writes an address, and the byte there.
+fn put_value_at<A: Allocator, W: Output>(
+    machine: &Machine<A>,
+    address: u16,
+    writer: &mut W,
+) -> Result<(), WriteFault> {
+    put_address(address, writer)?;
+    put(b" ", writer)?;
+    put_number(u64::from(address), writer)?;
+    match machine.peek(address) {
+        Some(byte) => {
+            put(b" has ", writer)?;
+            put_byte(byte, writer)
+        }
+        None => put(b" is no RAM\n", writer),
+    }
+}
+
+// Writes a register of a byte.
+fn put_register<A: Allocator, W: Output>(
+    machine: &Machine<A>,
+    register: Register,
+    writer: &mut W,
+) -> Result<(), WriteFault> {
+    put_all(&[letter_of(register), b" has "], writer)?;
+    put_byte(in_register(register, machine), writer)
+}
+
+// Writes PC.
+fn put_counter<A: Allocator, W: Output>(
+    machine: &Machine<A>,
+    writer: &mut W,
+) -> Result<(), WriteFault> {
+    let pc = machine.regs().pc;
+    put_all(
+        &[
+            b"PC has $",
+            &hex_word(pc),
+            b" ",
+            decimal(u64::from(pc)).as_slice(),
+            b"\n",
+        ],
+        writer,
+    )
 }
 
 // Writes what is asked for.
@@ -230,13 +413,17 @@ fn put_shown<A: Allocator, W: Output>(
     show: Show,
     writer: &mut W,
 ) -> Result<(), WriteFault> {
+    let machine = stand.history.machine();
     match show {
-        Show::Place => put_stand(stand, writer),
-        Show::Registers => write_registers(stand.history.machine(), writer),
-        Show::Memory(first, last) => put_memory(stand.history.machine(), first, last, writer),
-        Show::Screen => print(&stand.history.machine().view(), writer),
+        Show::Place => put_where(stand, writer),
+        Show::Registers => write_registers(machine, writer),
+        Show::Register(register) => put_register(machine, register, writer),
+        Show::Counter => put_counter(machine, writer),
+        Show::Address(address) => put_value_at(machine, address, writer),
+        Show::Memory(span) => put_memory(machine, span.first, span.last, writer),
+        Show::Screen => print(&machine.view(), writer),
         Show::Lines => put_lines(stand, writer),
-        Show::Breaks => put_breaks(stand, writer),
+        Show::Stops => put_stops(stand, writer),
         Show::Help => put(HELP, writer),
     }
 }
@@ -244,50 +431,66 @@ fn put_shown<A: Allocator, W: Output>(
 // Why a line is refused, in words.
 fn reason(refusal: Refusal) -> &'static [u8] {
     match refusal {
-        Refusal::Word =>
-            b"no such word: step back go until rback watch who break clear keys where regs mem screen list info help quit\n",
+        Refusal::Word => b"no such word: help names all\n",
         Refusal::More => b"nothing stands behind this word (help)\n",
         Refusal::Count => b"a number of steps stands behind it: 0 to 65535\n",
         Refusal::Place =>
             b"a place stands behind it: a name of the source, the number of a line with an instruction, or an address as $300\n",
+        Refusal::Break =>
+            b"a place stands behind it, alone or with a condition: break P if A = $40 (A X Y S P or a place; = <> < >; a number)\n",
         Refusal::Range => b"one place stands behind it, or two as $300..$30F, the lower first\n",
+        Refusal::Watch =>
+            b"one place stands behind it, or two as $300..$30F, the lower first, 256 bytes at most\n",
+        Refusal::Value => b"a register, A X Y S P PC, or a place stands behind it\n",
         Refusal::Keys => b"keys stand behind it: blank to ~, and \\r \\b \\f \\x \\\\\n",
     }
+}
+
+// Writes that a number of these is the most.
+fn put_most<W: Output>(most: usize, what: &[u8], writer: &mut W) -> Result<(), WriteFault> {
+    put_number(most as u64, writer)?;
+    put_all(&[what, b" are the most: clear takes all away\n"], writer)
+}
+
+// Writes a line of what is watched, or was not changed.
+fn put_span_line<W: Output>(what: &[u8], span: Span, writer: &mut W) -> Result<(), WriteFault> {
+    put(what, writer)?;
+    put_span(span, writer)?;
+    put(b"\n", writer)
 }
 
 // Writes the answer.
 fn put_answer<A: Allocator, W: Output>(
     stand: &Stand<A>,
-    before: Regs,
     outcome: Outcome,
     writer: &mut W,
 ) -> Result<(), WriteFault> {
     match outcome {
         Outcome::Nothing => Ok(()),
-        Outcome::Moved | Outcome::Reached => put_stop(stand, before, writer),
+        Outcome::Moved | Outcome::Reached => put_stop(stand, writer),
         Outcome::Stopped(cause) => {
-            put_stop(stand, before, writer)?;
+            put_stop(stand, writer)?;
             put_cause(cause, stand.most, writer)
         }
-        Outcome::NoneEarlier => put(b"no earlier step begins at a breakpoint\n", writer),
-        Outcome::NeverChanged(address) => {
-            put(b"no earlier step changed the byte at ", writer)?;
-            put_address(address, writer)?;
-            put(b"\n", writer)
-        }
-        Outcome::Set(address) => {
-            put(b"breakpoint at ", writer)?;
-            put_address(address, writer)?;
-            put(b"\n", writer)
-        }
-        Outcome::Full => put(
-            b"64 breakpoints are the most: clear takes all away\n",
+        Outcome::NoneEarlier => put(
+            b"no earlier step begins at a breakpoint, or changed a watched byte\n",
             writer,
         ),
-        Outcome::Cleared => put(b"no breakpoints\n", writer),
+        Outcome::NeverChanged(span) => {
+            put_span_line(b"no earlier step changed the byte at ", span, writer)
+        }
+        Outcome::NoRoutine => put(b"no routine is entered\n", writer),
+        Outcome::Set(place) => {
+            put_break(place, writer)?;
+            put(b"\n", writer)
+        }
+        Outcome::Full => put_most(MOST_BREAKS, b" breakpoints", writer),
+        Outcome::Watched(span) => put_span_line(b"watched: ", span, writer),
+        Outcome::FullWatches => put_most(MOST_WATCHES, b" watches", writer),
+        Outcome::Cleared => put(b"no breakpoints, and nothing is watched\n", writer),
         Outcome::Typed => put(b"typed\n", writer),
         Outcome::KeysFull => put(b"not typed: more than 4096 keys would wait\n", writer),
-        Outcome::Memory => put(b"not typed: no memory\n", writer),
+        Outcome::Memory => put(b"not done: no memory\n", writer),
         Outcome::Shown(show) => put_shown(stand, show, writer),
         Outcome::Refused(refusal) => put(reason(refusal), writer),
     }
@@ -297,25 +500,23 @@ fn put_answer<A: Allocator, W: Output>(
 fn sheet_of<A: Allocator + Copy>(
     alloc: A,
     stand: &Stand<A>,
-    before: Regs,
     outcome: Outcome,
 ) -> Result<Vec<u8, A>, WriteFault> {
     let mut sheet = Vec::new(alloc);
-    put_answer(stand, before, outcome, &mut ToWrite::new(&mut sheet))?;
+    put_answer(stand, outcome, &mut ToWrite::new(&mut sheet))?;
     Ok(sheet)
 }
 
-/// Writes the answer to a line, where the registers had these values before.
+/// Writes the answer to a line.
 pub fn tell<A: Allocator + Copy, W: Output>(
     alloc: A,
     stand: &Stand<A>,
-    before: Regs,
     outcome: Outcome,
     writer: &mut W,
 ) -> Result<(), WriteFault>
     ensures { (text : List ℕ) × SendsOrBreaks (W.taker writer.old) (W.taker writer.new) result text }
 {
-    match sheet_of(alloc, stand, before, outcome) {
+    match sheet_of(alloc, stand, outcome) {
         Ok(sheet) => put(sheet.as_slice(), writer),
         Err(_) => put(b"no memory for the answer\n", writer),
     }

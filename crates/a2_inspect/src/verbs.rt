@@ -11,7 +11,10 @@ use a2_text::capital;
 #[derive(Clone, Copy, Debug, PartialEq, Eq)]
 pub enum Verb {
     Step,
+    Next,
+    Out,
     Back,
+    Rnext,
     Go,
     Until,
     Rback,
@@ -22,6 +25,7 @@ pub enum Verb {
     Keys,
     Where,
     Regs,
+    Print,
     Mem,
     Screen,
     List,
@@ -36,7 +40,10 @@ fn spelled(word: &[u8]) -> Option<Verb>
 {
     match word {
         b"STEP" => Some(Verb::Step),
+        b"NEXT" => Some(Verb::Next),
+        b"OUT" => Some(Verb::Out),
         b"BACK" => Some(Verb::Back),
+        b"RNEXT" => Some(Verb::Rnext),
         b"GO" => Some(Verb::Go),
         b"UNTIL" => Some(Verb::Until),
         b"RBACK" => Some(Verb::Rback),
@@ -47,6 +54,7 @@ fn spelled(word: &[u8]) -> Option<Verb>
         b"KEYS" => Some(Verb::Keys),
         b"WHERE" => Some(Verb::Where),
         b"REGS" => Some(Verb::Regs),
+        b"PRINT" => Some(Verb::Print),
         b"MEM" => Some(Verb::Mem),
         b"SCREEN" => Some(Verb::Screen),
         b"LIST" => Some(Verb::List),
@@ -63,11 +71,14 @@ fn short_for(c: u8) -> Option<Verb>
 {
     match c {
         b'S' => Some(Verb::Step),
+        b'N' => Some(Verb::Next),
+        b'O' => Some(Verb::Out),
         b'B' => Some(Verb::Back),
         b'G' => Some(Verb::Go),
         b'U' => Some(Verb::Until),
         b'R' => Some(Verb::Rback),
         b'W' => Some(Verb::Where),
+        b'P' => Some(Verb::Print),
         b'X' => Some(Verb::Mem),
         b'L' => Some(Verb::List),
         b'I' => Some(Verb::Info),

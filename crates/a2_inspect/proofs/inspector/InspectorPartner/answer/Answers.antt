@@ -1,10 +1,13 @@
 use Rattle.std.proofs.Common.{◌≡◌, ℕ, List, ap, ◌∙◌, subst}
+use Rattle.a2_history.specs.Going.{Track}
 use Rattle.a2_inspect.specs.Inspections.{Inspection, IsObeyed, meant}
 use Rattle.a2_inspect.proofs.inspector.InspectorPartner.answer.Goals as goal
 
-noted : (seen obeyed : Inspection) (line said : List ℕ) → seen ≡ obeyed → line ≡ said → record seen { last = line } ≡ record obeyed { last = said }
-noted seen obeyed line said same lines =
-    ap (λ (i : Inspection). record i { last = line }) same ∙ ap (λ (l : List ℕ). record obeyed { last = l }) lines
+noted : (seen obeyed : Inspection) (track : Track) (line said : List ℕ) → seen ≡ obeyed → track ≡ seen.track → line ≡ said
+    → record seen { track = track; last = line } ≡ record obeyed { last = said }
+noted seen obeyed track line said same tracks lines =
+    ap (λ (t : Track). record seen { track = t; last = line }) tracks ∙ ap (λ (i : Inspection). record i { last = line }) same
+    ∙ ap (λ (l : List ℕ). record obeyed { last = l }) lines
 
 pub returns : goal.returns
 returns g c =
@@ -16,7 +19,7 @@ returns g c =
       (
         obeyed,
         subst (λ (l : List ℕ). IsObeyed l c.args.self.now obeyed) (c.as_slice.ensures.value ∙ said) c.obey-outcome.ensures,
-        noted _ _ _ _ c.self-2.view_is said,
+        noted _ _ _ _ _ c.self-2.view_is c.with_entries-outcome.ensures said,
       ),
       sends,
     )

@@ -1,0 +1,4 @@
+use Rattle.a2_inspect.proofs.inspector.leave.Goals as goal
+
+pub returns : goal.returns
+returns g c = rw (← c.requires) c.go_on.ensures
