@@ -19,7 +19,7 @@ use a2_text::{first_word, number_in};
 use std::alloc::Allocator;
 
 /// A run's end: the program of the source, the machine where its run ended, by which cause, and the rows of its screen.
-#[derive(Clone, Copy)]
+#[derive(Drop)]
 pub(crate) struct Ending<'a, A: Allocator> {
     pub program: &'a Program<A>,
     pub machine: &'a Machine<A>,

@@ -53,17 +53,19 @@ fn front<'a, 'b>(lines: &'b [Asked<'a>]) -> &'b [Asked<'a>] {
     &lines[..front_of(lines)]
 }
 
-// The case of this name with these lines behind those of the head.
-fn case_of<'a, A: Allocator>(
+// Adds the case of this name with these lines behind those of the head.
+fn push_case<'a, A: Allocator>(
+    cases: &mut Vec<Case<'a, A>, A>,
     alloc: A,
     name: &'a [u8],
     head: &[Asked<'a>],
     body: &[Asked<'a>],
-) -> Result<Case<'a, A>, AllocError> {
+) -> Result<(), AllocError> {
     let mut lines = Vec::new(alloc);
     lines.extend_from_slice(head)?;
     lines.extend_from_slice(body)?;
-    Ok(Case { name, lines })
+    cases.push(Case { name, lines })?;
+    Ok(())
 }
 
 /// The cases of lines: each begins with a line `case NAME` and ends before the next. What stands before the first is asked in
@@ -75,12 +77,12 @@ pub fn cases_of<'a, A: Allocator + Copy>(
     let (head, rest) = lines.split_at(front_of(lines));
     let mut cases = Vec::new(alloc);
     if rest.is_empty() {
-        cases.push(case_of(alloc, b"", head, &[])?)?;
+        push_case(&mut cases, alloc, b"", head, &[])?;
     }
     for (index, asked) in rest.iter().enumerate() {
         if let Some(name) = case_in(asked.line) {
             let body = front(&rest[index + 1..]);
-            cases.push(case_of(alloc, name, head, body)?)?;
+            push_case(&mut cases, alloc, name, head, body)?;
         }
     }
     Ok(cases)

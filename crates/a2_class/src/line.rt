@@ -72,7 +72,7 @@ pub(crate) fn behind<'a, 'b>(lines: &'b [Asked<'a>], count: usize) -> &'b [Asked
 }
 
 /// The word that a line begins with.
-#[derive(Clone, Copy, Debug, PartialEq, Eq)]
+#[derive(Clone, Copy)]
 pub(crate) enum Verb {
     Case,
     Keys,
@@ -168,6 +168,12 @@ fn only_word(text: &[u8]) -> Option<&[u8]>
     }
 }
 
+// What stands behind the first word of a text, where that is this one.
+fn after<'a>(word: &[u8], text: &'a [u8]) -> Option<&'a [u8]> {
+    let (first, behind) = first_word(text)?;
+    if first == word { Some(behind) } else { None }
+}
+
 // The line of a verb that has one number behind it.
 fn limit_in(rest: &[u8]) -> Option<u32> {
     number_of(only_word(rest)?)
@@ -175,10 +181,7 @@ fn limit_in(rest: &[u8]) -> Option<u32> {
 
 // The number that stands behind `<=`.
 fn most_in(rest: &[u8]) -> Option<u32> {
-    match first_word(rest)? {
-        (b"<=", behind) => number_of(only_word(behind)?),
-        _ => None,
-    }
+    limit_in(after(b"<=", rest)?)
 }
 
 // The keys that stand behind the one blank.
@@ -192,7 +195,7 @@ fn keys_in(rest: &[u8]) -> Option<&str> {
 }
 
 // What the words of a text have to be.
-#[derive(Clone, Copy, PartialEq, Eq)]
+#[derive(Clone, Copy)]
 enum Kind {
     Byte,
     Setting,
@@ -211,7 +214,7 @@ fn is_setting(word: &[u8]) -> bool {
 
 // Whether a word is a register with a byte, such as `A=E9`.
 fn is_register(word: &[u8]) -> bool {
-    matches!(name_in(word), b"A" | b"X" | b"Y" | b"P" | b"S") && is_byte(digits_in(word))
+    matches!(name_in(word), [b'A' | b'X' | b'Y' | b'P' | b'S']) && is_byte(digits_in(word))
 }
 
 // Whether a word is of a kind.
@@ -293,23 +296,20 @@ fn mnemonic_in(rest: &[u8]) -> Option<Mnemonic> {
 
 // What stands behind `must`.
 fn must<'a>(rest: &'a [u8]) -> Option<Line<'a>> {
-    match first_word(rest)? {
-        (b"use", behind) => Some(Line::Uses(mnemonic_in(behind)?)),
-        (b"not", behind) => match first_word(behind)? {
-            (b"use", name) => Some(Line::Avoids(mnemonic_in(name)?)),
-            _ => None,
-        },
-        _ => None,
+    if let Some(name) = after(b"use", rest) {
+        return Some(Line::Uses(mnemonic_in(name)?));
     }
+    let name = after(b"use", after(b"not", rest)?)?;
+    Some(Line::Avoids(mnemonic_in(name)?))
 }
 
 // What stands behind `screen`.
 fn screen<'a>(rest: &'a [u8]) -> Option<Line<'a>> {
-    let Some((word, behind)) = first_word(rest) else {
+    if first_word(rest).is_none() {
         return Some(Line::Screen);
-    };
-    match (word, behind_blanks(behind)) {
-        (b"holds", [b'"', text @ .., b'"']) => Some(Line::Holds(text)),
+    }
+    match behind_blanks(after(b"holds", rest)?) {
+        [b'"', text @ .., b'"'] => Some(Line::Holds(text)),
         _ => None,
     }
 }
@@ -320,11 +320,11 @@ fn mem<'a>(rest: &'a [u8]) -> Option<Line<'a>> {
     let Ok(place) = std::str::from_utf8(place) else {
         return None;
     };
-    match first_word(behind)? {
-        (b"=", bytes) if first_word(bytes).is_some() && are_all(Kind::Byte, bytes) => {
-            Some(Line::Mem(place, bytes))
-        }
-        _ => None,
+    let bytes = after(b"=", behind)?;
+    if first_word(bytes).is_some() && are_all(Kind::Byte, bytes) {
+        Some(Line::Mem(place, bytes))
+    } else {
+        None
     }
 }
 

@@ -17,7 +17,7 @@ pub enum Format {
 }
 
 /// What is found of a solution.
-#[derive(Clone, Copy)]
+#[derive(Drop)]
 pub enum Found<'a, A: Allocator> {
     /// It was judged: a verdict for each case.
     Judged(&'a [Verdict<A>]),
@@ -69,142 +69,193 @@ fn passed_of<A: Allocator>(verdicts: &[Verdict<A>]) -> usize {
     count
 }
 
-// The characters that a byte is written as in a string of JSON, in XML, or in a field of CSV; nothing where it is written as it is.
-fn escaped(format: Format, c: u8) -> Option<&'static [u8]> {
-    match (format, c) {
-        (Format::Csv, b'"') => Some(b"\"\""),
-        (Format::Json, b'"') => Some(b"\\\""),
-        (Format::Json, b'\\') => Some(b"\\\\"),
-        (Format::Junit, b'"') => Some(b"&quot;"),
-        (Format::Junit, b'&') => Some(b"&amp;"),
-        (Format::Junit, b'<') => Some(b"&lt;"),
-        (Format::Junit, b'>') => Some(b"&gt;"),
-        (_, 0..=31 | 127) => Some(b"?"),
-        _ => None,
+// The characters of a byte in a string of JSON, in XML, or in a field of CSV; itself where it is written as it is.
+fn spelt<'a>(format: Format, c: &'a u8) -> &'a [u8] {
+    match (format, *c) {
+        (Format::Csv, b'"') => b"\"\"",
+        (Format::Json, b'"') => b"\\\"",
+        (Format::Json, b'\\') => b"\\\\",
+        (Format::Junit, b'"') => b"&quot;",
+        (Format::Junit, b'&') => b"&amp;",
+        (Format::Junit, b'<') => b"&lt;",
+        (Format::Junit, b'>') => b"&gt;",
+        (_, 0..=31 | 127) => b"?",
+        _ => std::slice::from_ref(c),
     }
 }
 
 // Writes a text, each byte as the format has it.
 fn put_text<W: Output>(format: Format, text: &[u8], writer: &mut W) -> Result<(), WriteFault> {
     for c in text {
-        match escaped(format, *c) {
-            Some(other) => put(other, writer)?,
-            None => put(&[*c], writer)?,
-        }
+        put(spelt(format, c), writer)?;
     }
     Ok(())
 }
 
-// Writes a text between quotes.
-fn put_quoted<W: Output>(format: Format, text: &[u8], writer: &mut W) -> Result<(), WriteFault> {
-    put(b"\"", writer)?;
-    put_text(format, text, writer)?;
-    put(b"\"", writer)
+// A piece of what is written.
+#[derive(Clone, Copy)]
+enum Piece<'a> {
+    // These bytes.
+    Plain(&'a [u8]),
+    // A text, each byte as the format has it.
+    Text(&'a [u8]),
+    Number(usize),
 }
 
-// Writes a number.
-fn put_number<W: Output>(number: u64, writer: &mut W) -> Result<(), WriteFault> {
-    put(decimal(number).as_slice(), writer)
-}
-
-// Writes what is told of a verdict, in the format's characters.
-fn put_told<A: Allocator, W: Output>(
+// Writes a piece.
+fn put_piece<W: Output>(
     format: Format,
-    verdict: &Verdict<A>,
+    piece: Piece<'_>,
     writer: &mut W,
 ) -> Result<(), WriteFault> {
+    match piece {
+        Piece::Plain(bytes) => put(bytes, writer),
+        Piece::Text(text) => put_text(format, text, writer),
+        Piece::Number(number) => put(decimal(number as u64).as_slice(), writer),
+    }
+}
+
+// Writes pieces, one behind another.
+fn put_pieces<W: Output>(
+    format: Format,
+    pieces: &[Piece<'_>],
+    writer: &mut W,
+) -> Result<(), WriteFault> {
+    for piece in pieces {
+        put_piece(format, *piece, writer)?;
+    }
+    Ok(())
+}
+
+// A case of a solution: its name, whether it passed, and else in which line of the WANT it did not, or 0, and what is told.
+#[derive(Clone, Copy)]
+struct Outcome<'a> {
+    name: &'a [u8],
+    passed: bool,
+    line: usize,
+    told: &'a [u8],
+}
+
+impl<'a> Outcome<'a> {
+    // What is found of a case.
+    fn of<A: Allocator>(name: &'a [u8], verdict: &'a Verdict<A>) -> Outcome<'a> {
+        Outcome {
+            name,
+            passed: matches!(verdict, Verdict::Passed),
+            line: line_of(verdict),
+            told: told_of(verdict),
+        }
+    }
+}
+
+// The line of the WANT that a verdict is of, or 0.
+fn line_of<A: Allocator>(verdict: &Verdict<A>) -> usize {
     match verdict {
-        Verdict::Passed => Ok(()),
-        Verdict::Missed(_, told) => put_text(format, told.as_slice(), writer),
-        Verdict::NotCalled => put_text(format, b"its routine can't be called here", writer),
+        Verdict::Missed(line, _) => *line,
+        Verdict::Passed | Verdict::NotCalled => 0,
     }
 }
 
-// Writes where in the WANT a verdict's demand stands.
-fn put_where<A: Allocator, W: Output>(
-    format: Format,
-    case: &Case<A>,
-    verdict: &Verdict<A>,
-    writer: &mut W,
-) -> Result<(), WriteFault> {
-    if !case.name.is_empty() {
-        put_text(format, case.name, writer)?;
+// What is told of a verdict.
+fn told_of<A: Allocator>(verdict: &Verdict<A>) -> &[u8] {
+    match verdict {
+        Verdict::Passed => b"",
+        Verdict::Missed(_, told) => told.as_slice(),
+        Verdict::NotCalled => b"its routine can't be called here",
     }
-    if let Verdict::Missed(number, _) = verdict {
-        if !case.name.is_empty() {
-            put(b", ", writer)?;
+}
+
+// The name of the case at an index; empty where there is none.
+fn name_at<'a, A: Allocator>(cases: &[Case<'a, A>], index: usize) -> &'a [u8] {
+    match cases.get(index) {
+        Some(case) => case.name,
+        None => b"",
+    }
+}
+
+// Why a solution did not pass all its cases.
+#[derive(Clone, Copy)]
+enum Reason<'a> {
+    // It passed them.
+    Nothing,
+    // The first that it did not pass.
+    Failed(Outcome<'a>),
+    Refused(&'a [u8]),
+}
+
+// The first case that did not pass.
+fn first_failed<'a, 'b, A: Allocator>(
+    cases: &'b [Case<'a, A>],
+    verdicts: &'b [Verdict<A>],
+) -> Reason<'b> {
+    for index in 0..verdicts.len() {
+        let outcome = Outcome::of(name_at(cases, index), &verdicts[index]);
+        if !outcome.passed {
+            return Reason::Failed(outcome);
         }
-        put(b"line ", writer)?;
-        put_number(*number as u64, writer)?;
     }
-    put(b": ", writer)
+    Reason::Nothing
 }
 
-// Writes the first case that did not pass.
-fn put_first<A: Allocator, W: Output>(
-    format: Format,
-    cases: &[Case<A>],
-    verdicts: &[Verdict<A>],
-    writer: &mut W,
-) -> Result<(), WriteFault> {
-    for (case, verdict) in cases.iter().zip(verdicts) {
-        if !matches!(verdict, Verdict::Passed) {
-            put_where(format, case, verdict, writer)?;
-            return put_told(format, verdict, writer);
-        }
-    }
-    Ok(())
-}
-
-// Writes how many cases passed, and of how many.
-fn put_share<W: Output>(passed: usize, all: usize, writer: &mut W) -> Result<(), WriteFault> {
-    let passed = decimal(passed as u64);
-    let all = decimal(all as u64);
-    put_all(&[passed.as_slice(), b"/", all.as_slice()], writer)
-}
-
-// Writes how a solution that was judged did, and the first case that did not pass.
-fn put_judged<A: Allocator, W: Output>(
-    cases: &[Case<A>],
-    verdicts: &[Verdict<A>],
-    writer: &mut W,
-) -> Result<(), WriteFault> {
-    let passed = passed_of(verdicts);
-    put_share(passed, verdicts.len(), writer)?;
-    if passed < verdicts.len() {
-        put(b"  ", writer)?;
-    }
-    put_first(Format::Table, cases, verdicts, writer)
-}
-
-// Writes for what reason a solution is refused.
-fn put_reason<W: Output>(format: Format, why: &[u8], writer: &mut W) -> Result<(), WriteFault> {
-    put(b"refused: ", writer)?;
-    put_text(format, why, writer)
-}
-
-// The blanks behind a name.
-const BLANKS: &[u8] = b"                        ";
-
-// Writes the line of a solution.
-fn put_row<A: Allocator, W: Output>(
-    name: &[u8],
-    cases: &[Case<A>],
-    found: &Found<A>,
-    writer: &mut W,
-) -> Result<(), WriteFault> {
-    put_text(Format::Table, name, writer)?;
-    let blanks = &BLANKS[..BLANKS.len().saturating_sub(name.len())];
-    put_all(&[blanks, b" "], writer)?;
+// Why a solution did not pass all its cases.
+fn reason_of<'a, 'b, A: Allocator>(
+    cases: &'b [Case<'a, A>],
+    found: &'b Found<'a, A>,
+) -> Reason<'b> {
     match found {
-        Found::Judged(verdicts) => put_judged(cases, *verdicts, writer)?,
-        Found::Refused(why) => {
-            put_share(0, cases.len(), writer)?;
-            put(b"  ", writer)?;
-            put_reason(Format::Table, why, writer)?;
-        }
+        Found::Judged(verdicts) => first_failed(cases, *verdicts),
+        Found::Refused(why) => Reason::Refused(*why),
     }
-    put(b"\n", writer)
+}
+
+// Writes why a solution did not pass all its cases, behind these bytes; nothing where it did.
+fn put_reason<'a, W: Output>(
+    format: Format,
+    front: &'a [u8],
+    reason: Reason<'a>,
+    writer: &mut W,
+) -> Result<(), WriteFault> {
+    match reason {
+        Reason::Nothing => Ok(()),
+        Reason::Refused(why) => put_pieces(
+            format,
+            &[
+                Piece::Plain(front),
+                Piece::Plain(b"refused: "),
+                Piece::Text(why),
+            ],
+            writer,
+        ),
+        Reason::Failed(outcome) => put_failed(format, front, outcome, writer),
+    }
+}
+
+// Writes which case did not pass, and what is told of it, behind these bytes.
+fn put_failed<'a, W: Output>(
+    format: Format,
+    front: &'a [u8],
+    outcome: Outcome<'a>,
+    writer: &mut W,
+) -> Result<(), WriteFault> {
+    let name = outcome.name;
+    put_pieces(format, &[Piece::Plain(front), Piece::Text(name)], writer)?;
+    if outcome.line > 0 {
+        let comma: &[u8] = if name.is_empty() { b"" } else { b", " };
+        put_pieces(
+            format,
+            &[
+                Piece::Plain(comma),
+                Piece::Plain(b"line "),
+                Piece::Number(outcome.line),
+            ],
+            writer,
+        )?;
+    }
+    put_pieces(
+        format,
+        &[Piece::Plain(b": "), Piece::Text(outcome.told)],
+        writer,
+    )
 }
 
 // How many cases a solution passed.
@@ -215,53 +266,102 @@ fn passed_in<A: Allocator>(found: &Found<A>) -> usize {
     }
 }
 
-// Writes the record of a solution: file, passed cases, cases, first difference.
-fn put_record<A: Allocator, W: Output>(
-    name: &[u8],
-    cases: &[Case<A>],
-    found: &Found<A>,
+// The blanks behind a name.
+const BLANKS: &[u8] = b"                        ";
+
+// Those that bring a name to their number.
+fn blanks_behind(name: &[u8]) -> &[u8] {
+    let (_, blanks) = BLANKS.split_at(name.len().min(BLANKS.len()));
+    blanks
+}
+
+// Writes the line of a solution, which passed so many of all cases.
+fn put_row<'a, W: Output>(
+    name: &'a [u8],
+    (passed, all): (usize, usize),
+    reason: Reason<'a>,
     writer: &mut W,
 ) -> Result<(), WriteFault> {
-    let passed = decimal(passed_in(found) as u64);
-    let all = decimal(cases.len() as u64);
-    put_quoted(Format::Csv, name, writer)?;
-    put_all(
-        &[b",", passed.as_slice(), b",", all.as_slice(), b",\""],
+    put_pieces(
+        Format::Table,
+        &[
+            Piece::Text(name),
+            Piece::Plain(blanks_behind(name)),
+            Piece::Plain(b" "),
+            Piece::Number(passed),
+            Piece::Plain(b"/"),
+            Piece::Number(all),
+        ],
         writer,
     )?;
-    match found {
-        Found::Judged(verdicts) => put_first(Format::Csv, cases, *verdicts, writer)?,
-        Found::Refused(why) => put_reason(Format::Csv, why, writer)?,
-    }
+    put_reason(Format::Table, b"  ", reason, writer)?;
+    put(b"\n", writer)
+}
+
+// Writes the record of a solution: file, passed cases, cases, first difference.
+fn put_record<'a, W: Output>(
+    name: &'a [u8],
+    (passed, all): (usize, usize),
+    reason: Reason<'a>,
+    writer: &mut W,
+) -> Result<(), WriteFault> {
+    put_pieces(
+        Format::Csv,
+        &[
+            Piece::Plain(b"\""),
+            Piece::Text(name),
+            Piece::Plain(b"\","),
+            Piece::Number(passed),
+            Piece::Plain(b","),
+            Piece::Number(all),
+            Piece::Plain(b",\""),
+        ],
+        writer,
+    )?;
+    put_reason(Format::Csv, b"", reason, writer)?;
     put(b"\"\n", writer)
 }
 
 // Writes what the object of a case that did not pass has behind its name.
-fn put_difference<A: Allocator, W: Output>(
-    verdict: &Verdict<A>,
-    writer: &mut W,
-) -> Result<(), WriteFault> {
-    put(b",\"passed\":false", writer)?;
-    if let Verdict::Missed(number, _) = verdict {
-        put(b",\"line\":", writer)?;
-        put_number(*number as u64, writer)?;
+fn put_difference<W: Output>(outcome: Outcome<'_>, writer: &mut W) -> Result<(), WriteFault> {
+    put(b"\",\"passed\":false", writer)?;
+    if outcome.line > 0 {
+        put_pieces(
+            Format::Json,
+            &[Piece::Plain(b",\"line\":"), Piece::Number(outcome.line)],
+            writer,
+        )?;
     }
-    put(b",\"difference\":\"", writer)?;
-    put_told(Format::Json, verdict, writer)?;
-    put(b"\"}", writer)
+    put_pieces(
+        Format::Json,
+        &[
+            Piece::Plain(b",\"difference\":\""),
+            Piece::Text(outcome.told),
+            Piece::Plain(b"\"}"),
+        ],
+        writer,
+    )
 }
 
-// Writes the object of a case.
-fn put_object<A: Allocator, W: Output>(
-    case: &Case<A>,
-    verdict: &Verdict<A>,
+// Writes the object of a case, behind these bytes.
+fn put_object<'a, W: Output>(
+    front: &'a [u8],
+    outcome: Outcome<'a>,
     writer: &mut W,
 ) -> Result<(), WriteFault> {
-    put(b"{\"case\":", writer)?;
-    put_quoted(Format::Json, case.name, writer)?;
-    match verdict {
-        Verdict::Passed => put(b",\"passed\":true}", writer),
-        _ => put_difference(verdict, writer),
+    put_pieces(
+        Format::Json,
+        &[
+            Piece::Plain(front),
+            Piece::Plain(b"{\"case\":\""),
+            Piece::Text(outcome.name),
+        ],
+        writer,
+    )?;
+    if outcome.passed {
+        put(b"\",\"passed\":true}", writer)
+    } else {
+        put_difference(outcome, writer)
     }
 }
 
@@ -271,69 +371,87 @@ fn put_objects<A: Allocator, W: Output>(
     verdicts: &[Verdict<A>],
     writer: &mut W,
 ) -> Result<(), WriteFault> {
-    for (index, (case, verdict)) in cases.iter().zip(verdicts).enumerate() {
-        if index > 0 {
-            put(b",", writer)?;
-        }
-        put_object(case, verdict, writer)?;
+    let mut front = b"".as_slice();
+    for index in 0..verdicts.len() {
+        let outcome = Outcome::of(name_at(cases, index), &verdicts[index]);
+        put_object(front, outcome, writer)?;
+        front = b",";
     }
     Ok(())
 }
 
-// Writes the object of a solution.
-fn put_json<A: Allocator, W: Output>(
-    name: &[u8],
+// Writes the object of a solution, behind these bytes.
+fn put_json<'a, A: Allocator, W: Output>(
+    front: &'a [u8],
+    name: &'a [u8],
     cases: &[Case<A>],
-    found: &Found<A>,
+    found: &Found<'a, A>,
     writer: &mut W,
 ) -> Result<(), WriteFault> {
-    put(b"{\"file\":", writer)?;
-    put_quoted(Format::Json, name, writer)?;
+    put_pieces(
+        Format::Json,
+        &[
+            Piece::Plain(front),
+            Piece::Plain(b"{\"file\":\""),
+            Piece::Text(name),
+        ],
+        writer,
+    )?;
     match found {
         Found::Judged(verdicts) => {
-            put(b",\"cases\":[", writer)?;
+            put(b"\",\"cases\":[", writer)?;
             put_objects(cases, *verdicts, writer)?;
             put(b"]}", writer)
         }
-        Found::Refused(why) => {
-            put(b",\"refused\":", writer)?;
-            put_quoted(Format::Json, why, writer)?;
-            put(b"}", writer)
-        }
+        Found::Refused(why) => put_pieces(
+            Format::Json,
+            &[
+                Piece::Plain(b"\",\"refused\":\""),
+                Piece::Text(*why),
+                Piece::Plain(b"\"}"),
+            ],
+            writer,
+        ),
     }
 }
 
-// Writes what a test case of JUnit has in it.
-fn put_failure<W: Output>(kind: &[u8], text: &[u8], writer: &mut W) -> Result<(), WriteFault> {
-    put_all(&[b"><", kind, b" message="], writer)?;
-    put_quoted(Format::Junit, text, writer)?;
-    put(b"/></testcase>\n", writer)
-}
-
-// Writes where the test case of a case begins.
-fn put_test_name<W: Output>(name: &[u8], writer: &mut W) -> Result<(), WriteFault> {
-    put(b"    <testcase name=", writer)?;
-    put_quoted(Format::Junit, name, writer)
+// Writes a test case of JUnit that did not pass: of this kind, and for this reason.
+fn put_failure<'a, W: Output>(
+    name: &'a [u8],
+    kind: &'a [u8],
+    why: &'a [u8],
+    writer: &mut W,
+) -> Result<(), WriteFault> {
+    put_pieces(
+        Format::Junit,
+        &[
+            Piece::Plain(b"    <testcase name=\""),
+            Piece::Text(name),
+            Piece::Plain(b"\"><"),
+            Piece::Plain(kind),
+            Piece::Plain(b" message=\""),
+            Piece::Text(why),
+            Piece::Plain(b"\"/></testcase>\n"),
+        ],
+        writer,
+    )
 }
 
 // Writes the test case of a case that was judged.
-fn put_test<A: Allocator, W: Output>(
-    name: &[u8],
-    verdict: &Verdict<A>,
-    writer: &mut W,
-) -> Result<(), WriteFault> {
-    put_test_name(name, writer)?;
-    match verdict {
-        Verdict::Passed => put(b"/>\n", writer),
-        Verdict::Missed(_, told) => put_failure(b"failure", told.as_slice(), writer),
-        Verdict::NotCalled => put_failure(b"failure", b"its routine can't be called here", writer),
+fn put_test<W: Output>(outcome: Outcome<'_>, writer: &mut W) -> Result<(), WriteFault> {
+    if outcome.passed {
+        put_pieces(
+            Format::Junit,
+            &[
+                Piece::Plain(b"    <testcase name=\""),
+                Piece::Text(outcome.name),
+                Piece::Plain(b"\"/>\n"),
+            ],
+            writer,
+        )
+    } else {
+        put_failure(outcome.name, b"failure", outcome.told, writer)
     }
-}
-
-// Writes the test case of a case that was not judged, for this reason.
-fn put_error<W: Output>(name: &[u8], why: &[u8], writer: &mut W) -> Result<(), WriteFault> {
-    put_test_name(name, writer)?;
-    put_failure(b"error", why, writer)
 }
 
 // Writes the test cases of a solution that was judged.
@@ -342,8 +460,8 @@ fn put_tests<A: Allocator, W: Output>(
     verdicts: &[Verdict<A>],
     writer: &mut W,
 ) -> Result<(), WriteFault> {
-    for (case, verdict) in cases.iter().zip(verdicts) {
-        put_test(case.name, verdict, writer)?;
+    for index in 0..verdicts.len() {
+        put_test(Outcome::of(name_at(cases, index), &verdicts[index]), writer)?;
     }
     Ok(())
 }
@@ -355,7 +473,7 @@ fn put_errors<A: Allocator, W: Output>(
     writer: &mut W,
 ) -> Result<(), WriteFault> {
     for case in cases {
-        put_error(case.name, why, writer)?;
+        put_failure(case.name, b"error", why, writer)?;
     }
     Ok(())
 }
@@ -367,10 +485,17 @@ fn put_suite<A: Allocator, W: Output>(
     found: &Found<A>,
     writer: &mut W,
 ) -> Result<(), WriteFault> {
-    put(b"  <testsuite name=", writer)?;
-    put_quoted(Format::Junit, name, writer)?;
-    let count = decimal(cases.len() as u64);
-    put_all(&[b" tests=\"", count.as_slice(), b"\">\n"], writer)?;
+    put_pieces(
+        Format::Junit,
+        &[
+            Piece::Plain(b"  <testsuite name=\""),
+            Piece::Text(name),
+            Piece::Plain(b"\" tests=\""),
+            Piece::Number(cases.len()),
+            Piece::Plain(b"\">\n"),
+        ],
+        writer,
+    )?;
     match found {
         Found::Judged(verdicts) => put_tests(cases, *verdicts, writer)?,
         Found::Refused(why) => put_errors(cases, *why, writer)?,
@@ -380,15 +505,15 @@ fn put_suite<A: Allocator, W: Output>(
 
 /// Writes what stands before the solutions.
 pub fn put_head<W: Output>(format: Format, writer: &mut W) -> Result<(), WriteFault> {
-    match format {
-        Format::Table => Ok(()),
-        Format::Csv => put(b"file,passed,cases,first difference\n", writer),
-        Format::Json => put(b"[", writer),
-        Format::Junit => put(
-            b"<?xml version=\"1.0\" encoding=\"UTF-8\"?>\n<testsuites>\n",
-            writer,
-        ),
-    }
+    put(
+        match format {
+            Format::Table => b"",
+            Format::Csv => b"file,passed,cases,first difference\n",
+            Format::Json => b"[",
+            Format::Junit => b"<?xml version=\"1.0\" encoding=\"UTF-8\"?>\n<testsuites>\n",
+        },
+        writer,
+    )
 }
 
 /// Writes what is found of a solution, which is called `name`. `is_first` says whether it is the first one.
@@ -400,13 +525,23 @@ pub fn put_solution<A: Allocator, W: Output>(
     is_first: bool,
     writer: &mut W,
 ) -> Result<(), WriteFault> {
+    let passed = passed_in(found);
     match format {
-        Format::Table => put_row(name, cases, found, writer),
-        Format::Csv => put_record(name, cases, found, writer),
-        Format::Json => {
-            put(if is_first { b"\n" } else { b",\n" }, writer)?;
-            put_json(name, cases, found, writer)
+        Format::Table => {
+            let all = match found {
+                Found::Judged(verdicts) => verdicts.len(),
+                Found::Refused(_) => cases.len(),
+            };
+            put_row(name, (passed, all), reason_of(cases, found), writer)
         }
+        Format::Csv => put_record(name, (passed, cases.len()), reason_of(cases, found), writer),
+        Format::Json => put_json(
+            if is_first { b"\n" } else { b",\n" },
+            name,
+            cases,
+            found,
+            writer,
+        ),
         Format::Junit => put_suite(name, cases, found, writer),
     }
 }

@@ -30,34 +30,45 @@ fn trimmed(row: &[u8]) -> &[u8] {
     rest
 }
 
+// The first row of the screen that is not as it is wanted: its number, from 0, what is wanted, and what is there.
+fn first_unlike<'a, 'b>(
+    lines: &[Asked<'a>],
+    shown: &[&'b [u8]],
+) -> Option<(usize, &'a [u8], &'b [u8])> {
+    let mut used: usize = 0;
+    for (number, row) in shown.iter().enumerate() {
+        let here = behind(lines, used.min(lines.len()));
+        let wanted = first_row(here);
+        if !row_fits(wanted, *row) {
+            return Some((number, wanted, *row));
+        }
+        used = used.saturating_add(row_count(here));
+    }
+    None
+}
+
 // Tells the first row of the screen that is not as it is wanted.
 fn tell_rows<A: Allocator>(
     text: &mut Vec<u8, A>,
     lines: &[Asked],
     shown: &[&[u8]],
 ) -> Result<(), AllocError> {
-    let mut used: usize = 0;
-    for (number, row) in shown.iter().enumerate() {
-        let here = behind(lines, used.min(lines.len()));
-        let wanted = first_row(here);
-        if !row_fits(wanted, row) {
-            let number = decimal(number as u64);
-            return tell(
-                text,
-                &[
-                    b"screen row ",
-                    number.as_slice(),
-                    b": want \"",
-                    trimmed(wanted),
-                    b"\", got \"",
-                    trimmed(row),
-                    b"\"",
-                ],
-            );
-        }
-        used = used.saturating_add(row_count(here));
-    }
-    tell(text, &[b"the screen has fewer rows"])
+    let Some((number, wanted, row)) = first_unlike(lines, shown) else {
+        return tell(text, &[b"the screen has fewer rows"]);
+    };
+    let number = decimal(number as u64);
+    tell(
+        text,
+        &[
+            b"screen row ",
+            number.as_slice(),
+            b": want \"",
+            trimmed(wanted),
+            b"\", got \"",
+            trimmed(row),
+            b"\"",
+        ],
+    )
 }
 
 // Appends two hexadecimal digits, or `no byte`.
