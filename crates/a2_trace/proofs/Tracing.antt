@@ -1,9 +1,10 @@
 -- The steps of a run that is traced, one after another.
-use Rattle.std.specs.Prelude.{◌≡◌, ◌⊎◌, ℕ, zero, suc, ◌+◌, ◌-◌, ◌<◌, ◌≤◌, List, [], ◌++◌, Option, Some, None, is_some, IsErr, IfOk, Bool, Result, Ok, Err, refl}
+use mir.Val.{bool_byte}
+use Rattle.std.specs.Prelude.{◌≡◌, ◌⊎◌, ℕ, zero, suc, ◌+◌, ◌-◌, ◌<◌, ◌≤◌, nat_le, true, false, ◌&&◌, List, [], ◌++◌, Option, Some, None, is_some, IsErr, IfOk, Bool, Result, Ok, Err, refl, if◌then◌else◌}
 use Rattle.std.proofs.Common.{sym, ap, ap₂, ◌∙◌, subst, arith, inl, inr, true≢false, append_assoc}
 use Rattle.std.proofs.lemmas.List.{append-nil}
 use Rattle.a2_stream.specs.Stream.{Taker, Sends, Breaks, SendsOrBreaks}
-use Rattle.a2_stream.proofs.Joined.{Sends-nil, Sends-then, Breaks-then, Breaks-more}
+use Rattle.a2_stream.proofs.Joined.{Sends-then, Breaks-then, Breaks-more}
 use Rattle.a2_stream.specs.declared.WriteFault.{WriteFault}
 use Rattle.a2_cpu.specs.View.{registers_of}
 use Rattle.a2_services.specs.World.{World}
@@ -16,13 +17,16 @@ use Rattle.a2_machine.specs.State.{Device, MachineState, world_of_state, code_of
 use Rattle.a2_machine.specs.State as machine
 use Rattle.a2_machine.proofs.Making.{cause_told, cause_none}
 use Rattle.a2_machine.proofs.RunFrom.{run_from}
-use Rattle.a2_machine.proofs.Runs.{run-is_end}
+use Rattle.a2_machine.proofs.Runs.{run-is_end, end-unique}
 use Rattle.a2_asm.specs.Assembled.{Assembled}
+use Rattle.a2_asm.specs.Programs.{IsSound}
 use Rattle.a2_run.specs.Meaning.{IsProgramOf, code_of_run, start_of_run}
 use Rattle.a2_run.specs.Started.{IsStarted, guard_of_run}
 use Rattle.a2_run.proofs.Runs.{meant, sound-of}
-use Rattle.a2_trace.specs.Trace.{at_pc, padded, step_line, step_lines, trace, IsTrace, IsTraceOf}
-use Rattle.a2_trace.specs.Traced.{Traces}
+use Rattle.a2_trace.specs.declared.choice.Choice.{Choice}
+use Rattle.a2_trace.specs.Choices.{is_near, is_chosen, stores_where}
+use Rattle.a2_trace.specs.Trace.{at_pc, padded, step_line, count_chosen, shown_line, step_lines, left_out, IsTraceOf}
+use Rattle.a2_trace.specs.Traced.{AreLines, IsCountOf, IsLeftOut, Traces}
 
 none-some : {X : Type 0} (x : X) → None ≡ Some x → ⊥
 none-some x e = true≢false (sym (ap is_some e))
@@ -35,17 +39,30 @@ cause-stuck d low = go (stuck (code_of d.state) (world_of_state d.state)) refl
     go None e = sym (cause_none d e low) ∙ sym e
     go (Some cause) e = sym (cause_told d cause e) ∙ sym e
 
--- so many steps are made, and their lines went out
-pub record IsTraced (code : Code) (start : World) (a b : Taker) (d : Device) (n : ℕ) : Type 0 where
+abbrev pub one_if : Bool → ℕ
+one_if chosen = if chosen then 1 else 0
+
+-- a truth value as a byte
+pub byte-is : (b : Bool) → bool_byte b ≡ one_if b
+byte-is true = refl
+byte-is false = refl
+
+-- the step behind the first n is chosen
+abbrev chosen_at : Choice → Code → World → ℕ → Bool
+chosen_at choice code start n = is_chosen choice (n + 1) (world_at code start n) (world_at code start (suc n))
+
+-- so many steps are made, and so many of them chosen
+pub record IsMade (choice : Choice) (code : Code) (start : World) (d : Device) (n count : ℕ) : Type 0 where
   pub steps : d.state.steps ≡ n
   pub world : world_of_state d.state ≡ world_at code start n
   pub code_is : code_of d.state ≡ code
   pub going : (k : ℕ) → k < n → stuck code (world_at code start k) ≡ None
-  pub sent : Sends a b (step_lines code start n)
+  pub count_is : count ≡ count_chosen choice code start n
+  pub few : count ≤ n
 
-pub traced-none : (d : Device) (a : Taker) → d.state.steps ≡ 0 → IsTraced (code_of d.state) (world_of_state d.state) a a d 0
-unfolding world_at
-traced-none d a e = record { steps = e; world = refl; code_is = refl; going = λ k lt. absurd (omega (arith, lt)); sent = Sends-nil a }
+pub made-none : (choice : Choice) (d : Device) → d.state.steps ≡ 0 → IsMade choice (code_of d.state) (world_of_state d.state) d 0 0
+unfolding world_at count_chosen
+made-none choice d e = record { steps = e; world = refl; code_is = refl; going = λ k lt. absurd (omega (arith, lt)); count_is = refl; few = omega arith }
 
 below_next : (n : ℕ) (P : ℕ → Type 0) → P n → ((k : ℕ) → k < n → P k) → (k : ℕ) → k < suc n → P k
 below_next n P here before k lt = go (split k lt)
@@ -58,59 +75,98 @@ below_next n P here before k lt = go (split k lt)
     go (inr l) = before k l
 
 -- a machine that steps is not stuck
-steps-on : (code : Code) (start : World) (a b : Taker) (d : Device) (n : ℕ) → IsTraced code start a b d n → n < most_steps → None ≡ cause_of d.state
+steps-on : (choice : Choice) (code : Code) (start : World) (d : Device) (n count : ℕ) → IsMade choice code start d n count → n < most_steps → None ≡ cause_of d.state
     → stuck code (world_at code start n) ≡ None
-steps-on code start a b d n h low none =
+steps-on choice code start d n count h low none =
     sym (subst (λ k. stuck k (world_of_state d.state) ≡ stuck code (world_at code start n)) (sym h.code_is) (ap (stuck code) h.world))
     ∙ sym (cause-stuck d (omega (arith, h.steps, low))) ∙ sym none
 
--- the line of the next step, behind those before it
-next-lines : (code : Code) (start : World) (a b : Taker) (old new : Device) (n : ℕ) (front : List ℕ) → IsTraced code start a b old n → IsStep old new
-    → front ≡ padded (at_pc (world_of_state old.state))
-    → step_lines code start n ++ (front ++ register_line (registers_of new.state.regs) new.state.steps new.state.cycles) ≡ step_lines code start (n + 1)
-unfolding world_at
-next-lines code start a b old new n front h step is =
-    let one : suc n ≡ n + 1 = omega arith in
-    let count : new.state.steps ≡ suc n = omega (arith, h.steps, step.steps) in
-    let after : world_of_state new.state ≡ world_at code start (suc n) = after_step code start a b old new n h step in
-    ap (λ (f : List ℕ). step_lines code start n ++ (f ++ register_line (world_of_state new.state).registers new.state.steps (world_of_state new.state).cycles)) (is ∙ ap (λ (w : World). padded (at_pc w)) h.world)
-    ∙ ap (λ (k : ℕ). step_lines code start n ++ (padded (at_pc (world_at code start n)) ++ register_line (world_of_state new.state).registers k (world_of_state new.state).cycles)) count
-    ∙ ap (λ (w : World). step_lines code start n ++ (padded (at_pc (world_at code start n)) ++ register_line w.registers (suc n) w.cycles)) after
-    ∙ ap (step_lines code start) one
-  where
-    after_step : (code : Code) (start : World) (a b : Taker) (old new : Device) (n : ℕ) → IsTraced code start a b old n → IsStep old new
-        → world_of_state new.state ≡ next code (world_at code start n)
-    after_step code start a b old new n h step = step.world ∙ ap (λ (k : Code). next k (world_of_state old.state)) h.code_is ∙ ap (next code) h.world
+-- A step more
 
-pub traced-next : (code : Code) (start : World) (a b e : Taker) (old new : Device) (n : ℕ) (front : List ℕ) → IsTraced code start a b old n → n < most_steps
-    → None ≡ cause_of old.state → IsStep old new → front ≡ padded (at_pc (world_of_state old.state))
-    → Sends b e (front ++ register_line (registers_of new.state.regs) new.state.steps new.state.cycles) → IsTraced code start a e new (n + 1)
-unfolding world_at
-traced-next code start a b e old new n front h low none step is line =
-    let one : suc n ≡ n + 1 = omega arith in record {
-      steps = omega (arith, h.steps, step.steps);
-      world = step.world ∙ ap (λ (k : Code). next k (world_of_state old.state)) h.code_is ∙ ap (next code) h.world ∙ ap (world_at code start) one;
-      code_is = ap bytes step.guard ∙ h.code_is;
-      going = subst (λ (m : ℕ). (k : ℕ) → k < m → stuck code (world_at code start k) ≡ None) one
-          (below_next n (λ k. stuck code (world_at code start k) ≡ None) (steps-on code start a b old n h low none) h.going);
-      sent = subst (Sends a e) (next-lines code start a b old new n front h step is) (Sends-then a b e _ _ h.sent line);
-    }
+module _ (choice : Choice) (code : Code) (start : World) (old new : Device) (n count : ℕ) (h : IsMade choice code start old n count) (step : IsStep old new)
+    (near chosen : Bool) (near_is : near ≡ is_near choice (old.state.steps + 1) (world_of_state old.state))
+    (chosen_is : chosen ≡ (near && stores_where choice.stores (world_of_state old.state) (world_of_state new.state))) where
+  after : world_of_state new.state ≡ world_at code start (suc n)
+  unfolding world_at
+  after = step.world ∙ ap (λ (k : Code). next k (world_of_state old.state)) h.code_is ∙ ap (next code) h.world
+
+  one : suc n ≡ n + 1
+  one = omega arith
+
+  near-at : near ≡ is_near choice (n + 1) (world_at code start n)
+  near-at = near_is ∙ ap₂ (λ (k : ℕ) (w : World). is_near choice (k + 1) w) h.steps h.world
+
+  chosen-at : chosen ≡ chosen_at choice code start n
+  chosen-at =
+      chosen_is ∙ ap₂ (λ (v w : World). near && stores_where choice.stores v w) h.world after
+      ∙ ap (λ (b : Bool). b && stores_where choice.stores (world_at code start n) (world_at code start (suc n))) near-at
+
+  one-at-most : (b : Bool) → one_if b ≤ 1
+  one-at-most true = omega arith
+  one-at-most false = omega arith
+
+  pub made-next : n < most_steps → None ≡ cause_of old.state → IsMade choice code start new (n + 1) (count + one_if chosen)
+  unfolding count_chosen
+  made-next low none = record {
+    steps = omega (arith, h.steps, step.steps);
+    world = after ∙ ap (world_at code start) one;
+    code_is = ap bytes step.guard ∙ h.code_is;
+    going = subst (λ (m : ℕ). (k : ℕ) → k < m → stuck code (world_at code start k) ≡ None) one
+        (below_next n (λ k. stuck code (world_at code start k) ≡ None) (steps-on choice code start old n count h low none) h.going);
+    count_is = ap₂ (λ (m : ℕ) (b : Bool). m + one_if b) h.count_is chosen-at ∙ ap (count_chosen choice code start) one;
+    few = omega (arith, h.few, one-at-most chosen);
+  }
+
+  -- the line of the step, where it is shown
+  pub line-next : (skip : ℕ) (late : Bool) (front piece : List ℕ) → late ≡ nat_le skip count
+      → (near ≡ true → late ≡ true → front ≡ padded (at_pc (world_of_state old.state)))
+      → piece ≡ (if chosen && late then front ++ register_line (registers_of new.state.regs) new.state.steps new.state.cycles else [])
+      → step_lines choice skip code start n ++ piece ≡ step_lines choice skip code start (n + 1)
+  line-next skip late front piece late_is front_is piece_is =
+      ap (λ (l : List ℕ). step_lines choice skip code start n ++ l)
+      (piece_is ∙ same chosen late near (stores_where choice.stores (world_of_state old.state) (world_of_state new.state)) chosen_is front_is
+      ∙ ap₂ (λ (b : Bool) (l : List ℕ). if b && late then l else []) chosen-at line
+      ∙ ap (λ (b : Bool). if chosen_at choice code start n && b then step_line (world_at code start n) (world_at code start (suc n)) (suc n) else [])
+      (late_is ∙ ap (nat_le skip) h.count_is))
+      ∙ ap (step_lines choice skip code start) one
+    where
+      told : List ℕ
+      told = padded (at_pc (world_of_state old.state)) ++ register_line (registers_of new.state.regs) new.state.steps new.state.cycles
+
+      given : List ℕ
+      given = front ++ register_line (registers_of new.state.regs) new.state.steps new.state.cycles
+
+      same : (chosen late near stores : Bool) → chosen ≡ (near && stores) → (near ≡ true → late ≡ true → front ≡ padded (at_pc (world_of_state old.state)))
+          → (if chosen && late then given else []) ≡ (if chosen && late then told else [])
+      same true true true stores e f = ap (λ (l : List ℕ). l ++ register_line (registers_of new.state.regs) new.state.steps new.state.cycles) (f refl refl)
+      same true true false stores e f = absurd (true≢false e)
+      same true false near stores e f = refl
+      same false late near stores e f = refl
+
+      count-up : new.state.steps ≡ suc n
+      count-up = omega (arith, h.steps, step.steps)
+
+      line : told ≡ step_line (world_at code start n) (world_at code start (suc n)) (suc n)
+      line =
+          ap (λ (w : World). padded (at_pc w) ++ register_line (world_of_state new.state).registers new.state.steps (world_of_state new.state).cycles) h.world
+          ∙ ap (λ (k : ℕ). padded (at_pc (world_at code start n)) ++ register_line (world_of_state new.state).registers k (world_of_state new.state).cycles) count-up
+          ∙ ap (λ (w : World). padded (at_pc (world_at code start n)) ++ register_line w.registers (suc n) w.cycles) after
 
 -- The end of the run
 
-pub end-stuck : (code : Code) (start : World) (a b : Taker) (d : Device) (n limit : ℕ) (cause : Cause) → IsTraced code start a b d n → n ≤ limit → n < most_steps
+pub end-stuck : (choice : Choice) (code : Code) (start : World) (d : Device) (n limit count : ℕ) (cause : Cause) → IsMade choice code start d n count → n ≤ limit → n < most_steps
     → Some cause ≡ cause_of d.state → IsEnd code start limit (record { world = world_of_state d.state; steps = n; cause = cause })
-end-stuck code start a b d n limit cause h within low e = record {
+end-stuck choice code start d n limit count cause h within low e = record {
   within = within;
   reached = h.world;
   first = h.going;
   cause = inl (subst (λ k. stuck k (world_of_state d.state) ≡ Some cause) h.code_is (sym (cause-stuck d (omega (arith, h.steps, low))) ∙ sym e));
 }
 
-pub end-limit : (code : Code) (start : World) (a b : Taker) (old new : Device) (limit : ℕ) (cause : Cause) → IsTraced code start a b old limit
+pub end-limit : (choice : Choice) (code : Code) (start : World) (old new : Device) (limit count : ℕ) (cause : Cause) → IsMade choice code start old limit count
     → machine.IsMachineRun 0 old new cause → IsEnd code start limit (record { world = world_of_state old.state; steps = limit; cause = cause })
 unfolding world_at
-end-limit code start a b old new limit cause h run =
+end-limit choice code start old new limit count cause h run =
     let none : new.state.steps - old.state.steps ≡ 0 = omega (arith, run.end.within) in
     let reached : world_of_state new.state ≡ world_of_state old.state = run.end.reached ∙ ap (world_at (code_of old.state) (world_of_state old.state)) none in
     record {
@@ -130,28 +186,44 @@ end-limit code start a b old new limit cause h run =
     why (inl is) = inl is
     why (inr is) = inr (is.0, refl, is.2)
 
+-- the chosen steps are counted
+pub count-end : (choice : Choice) (code : Code) (start : World) (d : Device) (n limit count : ℕ) (cause : Cause) → IsMade choice code start d n count
+    → IsEnd code start limit (record { world = world_of_state d.state; steps = n; cause = cause }) → IsCountOf choice code start limit count
+count-end choice code start d n limit count cause h is = record {
+  end = record { world = world_of_state d.state; steps = n; cause = cause };
+  is_end = is;
+  count_is = h.count_is;
+}
+
+-- so many steps are made, and their lines went out
+pub record IsTraced (choice : Choice) (skip : ℕ) (code : Code) (start : World) (a b : Taker) (d : Device) (n count : ℕ) : Type 0 where
+  pub made : IsMade choice code start d n count
+  pub sent : Sends a b (step_lines choice skip code start n)
+
 -- the cause line goes out behind the lines, or breaks off
-pub traces-end : (code : Code) (start : World) (a b c : Taker) (d : Device) (n limit : ℕ) (cause : Cause) (r : Result Cause WriteFault) → IsTraced code start a b d n
+pub traces-end : (choice : Choice) (skip : ℕ) (code : Code) (start : World) (a b c : Taker) (d : Device) (n limit count : ℕ) (cause : Cause) (r : Result Cause WriteFault)
+    → IsTraced choice skip code start a b d n count
     → IsEnd code start limit (record { world = world_of_state d.state; steps = n; cause = cause }) → SendsOrBreaks b c r (cause_line cause) → IfOk r (λ told. told ≡ cause)
-    → Traces code start limit a c r
-traces-end code start a b c d n limit cause (Ok told) h is sent same =
+    → Traces choice skip code start limit a c r
+traces-end choice skip code start a b c d n limit count cause (Ok told) h is sent same =
     let end : End = record { world = world_of_state d.state; steps = n; cause = cause } in
-    (trace code start end, record { end = end; is_end = is; cause_is = same; output_is = refl }, Sends-then a b c _ _ h.sent sent)
-traces-end code start a b c d n limit cause (Err _) h is broke same =
+    (step_lines choice skip code start n ++ cause_line cause, record { end = end; is_end = is; cause_is = same; output_is = refl }, Sends-then a b c _ _ h.sent sent)
+traces-end choice skip code start a b c d n limit count cause (Err _) h is broke same =
     let end : End = record { world = world_of_state d.state; steps = n; cause = cause } in
-    (cause, trace code start end, record { end = end; is_end = is; cause_is = refl; output_is = refl }, Breaks-then a b c _ _ h.sent broke)
+    (cause, step_lines choice skip code start n ++ cause_line cause, record { end = end; is_end = is; cause_is = refl; output_is = refl }, Breaks-then a b c _ _ h.sent broke)
 
 -- The lines of more steps begin with those of fewer
 
-lines-more : (code : Code) (start : World) (n more : ℕ) → (rest : List ℕ) × (step_lines code start (n + more) ≡ step_lines code start n ++ rest)
-lines-more code start n zero =
+lines-more : (choice : Choice) (skip : ℕ) (code : Code) (start : World) (n more : ℕ)
+    → (rest : List ℕ) × (step_lines choice skip code start (n + more) ≡ step_lines choice skip code start n ++ rest)
+lines-more choice skip code start n zero =
     let e : n + zero ≡ n = omega arith in
-    ([], ap (step_lines code start) e ∙ sym (append-nil (step_lines code start n)))
-lines-more code start n (suc more) =
+    ([], ap (step_lines choice skip code start) e ∙ sym (append-nil (step_lines choice skip code start n)))
+lines-more choice skip code start n (suc more) =
     let e : n + suc more ≡ suc (n + more) = omega arith in
-    let (rest, is) = lines-more code start n more in
-    let line = step_line (world_at code start (n + more)) (world_at code start (suc (n + more))) (suc (n + more)) in
-    (rest ++ line, ap (step_lines code start) e ∙ ap (λ (l : List ℕ). l ++ line) is ∙ append_assoc (step_lines code start n) rest line)
+    let (rest, is) = lines-more choice skip code start n more in
+    let line = shown_line choice skip code start (n + more) in
+    (rest ++ line, ap (step_lines choice skip code start) e ∙ ap (λ (l : List ℕ). l ++ line) is ∙ append_assoc (step_lines choice skip code start n) rest line)
 
 -- a run that has made so many steps makes so many at least
 end-late : (code : Code) (start : World) (limit n : ℕ) (end : End) → IsEnd code start limit end → ((k : ℕ) → k < n → stuck code (world_at code start k) ≡ None) → n ≤ limit → n ≤ end.steps
@@ -169,34 +241,31 @@ end-late code start limit n end is going within = go (split end.steps n)
     go (inr lt) = short lt is.cause
 
 -- a line broke off
-lines-broken : (code : Code) (start : World) (a c : Taker) (n limit : ℕ) → ((k : ℕ) → k < n → stuck code (world_at code start k) ≡ None) → n ≤ limit
-    → Breaks a c (step_lines code start n) → (cause : Cause) × (output : List ℕ) × IsTrace code start limit cause output × Breaks a c output
-lines-broken code start a c n limit going within broke =
+lines-broken : (choice : Choice) (skip : ℕ) (code : Code) (start : World) (a c : Taker) (n limit : ℕ) → ((k : ℕ) → k < n → stuck code (world_at code start k) ≡ None) → n ≤ limit
+    → Breaks a c (step_lines choice skip code start n) → (cause : Cause) × (output : List ℕ) × AreLines choice skip code start limit cause output × Breaks a c output
+lines-broken choice skip code start a c n limit going within broke =
     let end = run_from code start 0 limit in
     let is = run-is_end code start limit in
     let late : n ≤ end.steps = end-late code start limit n end is going within in
-    let (rest, same) = lines-more code start n (end.steps - n) in
+    let (rest, same) = lines-more choice skip code start n (end.steps - n) in
     let all : n + (end.steps - n) ≡ end.steps = omega (arith, late) in
-    let lines : step_lines code start n ++ rest ≡ step_lines code start end.steps = sym same ∙ ap (step_lines code start) all in
-    let cut : Breaks a c ((step_lines code start n ++ rest) ++ cause_line end.cause) =
-    Breaks-more a c (step_lines code start n ++ rest) (cause_line end.cause) (Breaks-more a c (step_lines code start n) rest broke) in (
+    let lines : step_lines choice skip code start n ++ rest ≡ step_lines choice skip code start end.steps = sym same ∙ ap (step_lines choice skip code start) all in
+    let cut : Breaks a c ((step_lines choice skip code start n ++ rest) ++ cause_line end.cause) =
+    Breaks-more a c (step_lines choice skip code start n ++ rest) (cause_line end.cause) (Breaks-more a c (step_lines choice skip code start n) rest broke) in (
       end.cause,
-      trace code start end,
+      step_lines choice skip code start end.steps ++ cause_line end.cause,
       record { end = end; is_end = is; cause_is = refl; output_is = refl },
       subst (λ (l : List ℕ). Breaks a c (l ++ cause_line end.cause)) lines cut,
     )
 
-pub traces-broken : (code : Code) (start : World) (a b e : Taker) (old new : Device) (n limit : ℕ) (front : List ℕ) (r : Result Cause WriteFault) → IsErr r
-    → IsTraced code start a b old n → n < limit → n < most_steps → None ≡ cause_of old.state → IsStep old new → front ≡ padded (at_pc (world_of_state old.state))
-    → Breaks b e (front ++ register_line (registers_of new.state.regs) new.state.steps new.state.cycles) → Traces code start limit a e r
-traces-broken code start a b e old new n limit front (Ok _) failed h within low none step is broke = cc
-traces-broken code start a b e old new n limit front (Err _) failed h within low none step is broke =
-    let one : suc n ≡ n + 1 = omega arith in
-    let le : n + 1 ≤ limit = omega (arith, within) in
-    lines-broken code start a e (n + 1) limit
-    (subst (λ (m : ℕ). (k : ℕ) → k < m → stuck code (world_at code start k) ≡ None) one
-    (below_next n (λ k. stuck code (world_at code start k) ≡ None) (steps-on code start a b old n h low none) h.going))
-    le (subst (Breaks a e) (next-lines code start a b old new n front h step is) (Breaks-then a b e _ _ h.sent broke))
+pub traces-broken : (choice : Choice) (skip : ℕ) (code : Code) (start : World) (a b e : Taker) (old new : Device) (n limit count more : ℕ) (piece : List ℕ) (r : Result Cause WriteFault) → IsErr r
+    → IsTraced choice skip code start a b old n count → IsMade choice code start new (n + 1) more → n < limit
+    → step_lines choice skip code start n ++ piece ≡ step_lines choice skip code start (n + 1)
+    → Breaks b e piece → Traces choice skip code start limit a e r
+traces-broken choice skip code start a b e old new n limit count more piece (Ok _) failed h made within lines broke = cc
+traces-broken choice skip code start a b e old new n limit count more piece (Err _) failed h made within lines broke =
+    lines-broken choice skip code start a e (n + 1) limit made.going (omega (arith, within))
+    (subst (Breaks a e) lines (Breaks-then a b e _ _ h.sent broke))
 
 -- The trace of the text's run
 
@@ -214,31 +283,75 @@ same-world code other start n alike going =
     let all : end.steps ≡ n = omega (arith, is.within, late) in
     subst (λ (k : ℕ). world_at code start k ≡ world_at other start k) all (sym is.reached ∙ (alike n end is).reached)
 
-same-lines : (code other : Code) (start : World) (n : ℕ) → EndAlike code other start → ((k : ℕ) → k < n → stuck code (world_at code start k) ≡ None)
-    → step_lines code start n ≡ step_lines other start n
-same-lines code other start zero alike going = refl
-same-lines code other start (suc n) alike going =
+same-count : (choice : Choice) (code other : Code) (start : World) (n : ℕ) → EndAlike code other start → ((k : ℕ) → k < n → stuck code (world_at code start k) ≡ None)
+    → count_chosen choice code start n ≡ count_chosen choice other start n
+unfolding count_chosen
+same-count choice code other start zero alike going = refl
+same-count choice code other start (suc n) alike going =
     let before : (k : ℕ) → k < n → stuck code (world_at code start k) ≡ None = λ k lt. going k (omega (arith, lt)) in
-    ap (λ (l : List ℕ). l ++ step_line (world_at code start n) (world_at code start (suc n)) (suc n)) (same-lines code other start n alike before)
-    ∙ ap₂ (λ (v w : World). step_lines other start n ++ step_line v w (suc n)) (same-world code other start n alike before) (same-world code other start (suc n) alike going)
+    ap (λ (m : ℕ). m + one_if (chosen_at choice code start n)) (same-count choice code other start n alike before)
+    ∙ ap₂ (λ (v w : World). count_chosen choice other start n + one_if (is_chosen choice (n + 1) v w))
+    (same-world code other start n alike before) (same-world code other start (suc n) alike going)
 
-same-trace : (code other : Code) (start : World) (limit : ℕ) (cause : Cause) (output : List ℕ) → EndAlike code other start
-    → IsTrace code start limit cause output → IsTrace other start limit cause output
-same-trace code other start limit cause output alike is = record {
-  end = is.end;
-  is_end = alike limit is.end is.is_end;
-  cause_is = is.cause_is;
-  output_is = is.output_is ∙ ap (λ (l : List ℕ). l ++ cause_line is.end.cause) (same-lines code other start is.end.steps alike is.is_end.first);
+same-lines : (choice : Choice) (skip : ℕ) (code other : Code) (start : World) (n : ℕ) → EndAlike code other start → ((k : ℕ) → k < n → stuck code (world_at code start k) ≡ None)
+    → step_lines choice skip code start n ≡ step_lines choice skip other start n
+same-lines choice skip code other start zero alike going = refl
+same-lines choice skip code other start (suc n) alike going =
+    let before : (k : ℕ) → k < n → stuck code (world_at code start k) ≡ None = λ k lt. going k (omega (arith, lt)) in
+    ap (λ (l : List ℕ). l ++ shown_line choice skip code start n) (same-lines choice skip code other start n alike before)
+    ∙ ap (λ (m : ℕ). step_lines choice skip other start n ++ (if chosen_at choice code start n && nat_le skip m then step_line (world_at code start n) (world_at code start (suc n)) (suc n) else []))
+    (same-count choice code other start n alike before)
+    ∙ ap₂ (λ (v w : World). step_lines choice skip other start n ++ (if is_chosen choice (n + 1) v w && nat_le skip (count_chosen choice other start n) then step_line v w (suc n) else []))
+    (same-world code other start n alike before) (same-world code other start (suc n) alike going)
+
+-- the run of a machine at the start of a program's run is that of the program
+alike-of : (free : Bool) (program : Assembled) (keys : List ℕ) → IsSound program
+    → EndAlike (bytes (guard_of_run free program)) (code_of_run free program) (start_of_run program keys)
+alike-of free program keys sound = λ most end ends. meant free program keys most end sound ends
+
+pub counted-of : (choice : Choice) (keys : List ℕ) (limit : ℕ) (free : Bool) (program : Assembled) (state : MachineState) (last count : ℕ) → IsSound program
+    → IsStarted free program keys state → choice.last ≡ Some last → IsCountOf choice (code_of state) (world_of_state state) limit count
+    → IsLeftOut program keys limit free choice (count - last)
+counted-of choice keys limit free program state last count sound started asked counted =
+    let told = subst (λ (k : Code). IsCountOf choice k (start_of_run program keys) limit count) (ap bytes started.guard)
+    (subst (λ (w : World). IsCountOf choice (code_of state) w limit count) started.world counted) in
+    let alike = alike-of free program keys sound in
+    record {
+      end = told.end;
+      is_end = alike limit told.end told.is_end;
+      skip_is = ap (λ (m : ℕ). m - last) (told.count_is ∙ same-count choice (bytes (guard_of_run free program)) (code_of_run free program) (start_of_run program keys) told.end.steps alike told.is_end.first)
+          ∙ ap (λ (o : Option ℕ). left_out o (count_chosen choice (code_of_run free program) (start_of_run program keys) told.end.steps)) (sym asked);
+    }
+
+pub none-left_out : (choice : Choice) (keys : List ℕ) (limit : ℕ) (free : Bool) (program : Assembled) → choice.last ≡ None
+    → IsLeftOut program keys limit free choice 0
+none-left_out choice keys limit free program asked = record {
+  end = run_from (code_of_run free program) (start_of_run program keys) 0 limit;
+  is_end = run-is_end (code_of_run free program) (start_of_run program keys) limit;
+  skip_is = ap (λ (o : Option ℕ). left_out o (count_chosen choice (code_of_run free program) (start_of_run program keys)
+      (run_from (code_of_run free program) (start_of_run program keys) 0 limit).steps)) (sym asked);
 }
 
 -- the trace of a machine at the start of a program's run is that of the text
-pub trace-of : (text keys : List ℕ) (limit : ℕ) (free : Bool) (program : Assembled) (state : MachineState) → IsProgramOf text program → IsStarted free program keys state
-    → (cause : Cause) (output : List ℕ) → IsTrace (code_of state) (world_of_state state) limit cause output → IsTraceOf text keys limit free cause output
-trace-of text keys limit free program state made started cause output is = record {
-  program = program;
-  is_program = made;
-  is_trace = same-trace (bytes (guard_of_run free program)) (code_of_run free program) (start_of_run program keys) limit cause output
-      (λ most end ends. meant free program keys most end (sound-of text program made) ends)
-      (subst (λ (k : Code). IsTrace k (start_of_run program keys) limit cause output) (ap bytes started.guard)
-      (subst (λ (w : World). IsTrace (code_of state) w limit cause output) started.world is));
-}
+pub trace-of : (choice : Choice) (skip : ℕ) (text keys : List ℕ) (limit : ℕ) (free : Bool) (program : Assembled) (state : MachineState) → IsProgramOf text program
+    → IsStarted free program keys state → IsLeftOut program keys limit free choice skip
+    → (cause : Cause) (output : List ℕ) → AreLines choice skip (code_of state) (world_of_state state) limit cause output → IsTraceOf choice text keys limit free cause output
+trace-of choice skip text keys limit free program state made started left cause output are =
+    let told = subst (λ (k : Code). AreLines choice skip k (start_of_run program keys) limit cause output) (ap bytes started.guard)
+    (subst (λ (w : World). AreLines choice skip (code_of state) w limit cause output) started.world are) in
+    let alike = alike-of free program keys (sound-of text program made) in
+    let is = alike limit told.end told.is_end in
+    let one = end-unique (code_of_run free program) (start_of_run program keys) limit left.end told.end left.is_end is in
+    record {
+      program = program;
+      is_program = made;
+      is_trace = record {
+        end = told.end;
+        is_end = is;
+        cause_is = told.cause_is;
+        output_is = told.output_is
+            ∙ ap (λ (l : List ℕ). l ++ cause_line told.end.cause) (same-lines choice skip (bytes (guard_of_run free program)) (code_of_run free program) (start_of_run program keys) told.end.steps alike told.is_end.first)
+            ∙ ap (λ (m : ℕ). step_lines choice m (code_of_run free program) (start_of_run program keys) told.end.steps ++ cause_line told.end.cause)
+            (left.skip_is ∙ ap (λ (e : End). left_out choice.last (count_chosen choice (code_of_run free program) (start_of_run program keys) e.steps)) one);
+      };
+    }

@@ -1,2 +1,4 @@
+pub mod Bytes
+pub mod Choices
 pub mod Trace
 pub mod Traced

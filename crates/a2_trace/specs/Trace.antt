@@ -1,9 +1,9 @@
--- What a trace shows: each step of a run, with what stands at PC before it and the registers behind it. This project's
--- profile.
-use Rattle.std.specs.Prelude.{◌≡◌, ℕ, zero, suc, ◌+◌, ◌-◌, ◌%◌, Bool, List, [], ◌∷◌, ◌++◌, length, take, codes, Some, None, unwrap_or}
+-- What a trace shows: the chosen steps of a run, with what stands at PC before each and the registers behind it. This
+-- project's profile.
+use Rattle.std.specs.Prelude.{◌≡◌, ℕ, zero, suc, ◌+◌, ◌-◌, nat_le, Bool, ◌&&◌, List, [], ◌∷◌, ◌++◌, length, take, codes, Option, Some, None, if◌then◌else◌}
 use Rattle.a2_text.specs.Digits.{hex_word}
 use Rattle.a2_opcode.specs.Listing.{listing}
-use Rattle.a2_bus.specs.Memory.{Memory, peek}
+use Rattle.a2_bus.specs.Memory.{Memory}
 use Rattle.a2_asm.specs.Assembled.{Assembled}
 use Rattle.a2_services.specs.declared.Service.{Service}
 use Rattle.a2_services.specs.declared.Service.TheVariants.{Cout, Cout1, Crout, Home, Prbyte, Prhex, Setinv, Setnorm, Vtab, Clreol, Clreop, Rdkey, Keyin, Getln, Wait, Setcol, Plot, Hline, Vline, Scrn, Clrscr}
@@ -13,10 +13,9 @@ use Rattle.a2_machine.specs.declared.Cause.{Cause}
 use Rattle.a2_machine.specs.Meaning.{Code, End, IsEnd, world_at}
 use Rattle.a2_machine.specs.Output.{register_line, cause_line}
 use Rattle.a2_run.specs.Meaning.{IsProgramOf, code_of_run, start_of_run}
-
--- the byte of RAM at an address modulo 65,536; 0 where there is none
-abbrev pub byte_at : Memory → ℕ → ℕ
-byte_at memory a = unwrap_or (peek memory (a % 65536)) 0
+use Rattle.a2_trace.specs.declared.choice.Choice.{Choice}
+use Rattle.a2_trace.specs.Bytes.{byte_at}
+use Rattle.a2_trace.specs.Choices.{is_chosen}
 
 -- the name of a service in the Monitor
 abbrev pub service_name : Service → List ℕ
@@ -66,24 +65,43 @@ padded text = text ++ take (34 - length text) (codes "                          
 abbrev pub step_line : World → World → ℕ → List ℕ
 step_line before after count = padded (at_pc before) ++ register_line after.registers count after.cycles
 
--- the lines of so many steps
-abbrev pub step_lines : Code → World → ℕ → List ℕ
-step_lines code start zero = []
-step_lines code start (suc n) = step_lines code start n ++ step_line (world_at code start n) (world_at code start (suc n)) (suc n)
+-- of so many first steps, how many are chosen
+unfoldable pub count_chosen : Choice → Code → World → ℕ → ℕ
+count_chosen choice code start zero = 0
+count_chosen choice code start (suc n) =
+    count_chosen choice code start n
+    + (if is_chosen choice (n + 1) (world_at code start n) (world_at code start (suc n)) then 1 else 0)
 
--- the lines of a run's steps, and its cause line
-abbrev pub trace : Code → World → End → List ℕ
-trace code start end = step_lines code start end.steps ++ cause_line end.cause
+-- the line of a step, where it is chosen and as many chosen ones stand before it as are left out
+abbrev pub shown_line : Choice → ℕ → Code → World → ℕ → List ℕ
+shown_line choice skip code start n =
+    if is_chosen choice (n + 1) (world_at code start n) (world_at code start (suc n)) && nat_le skip (count_chosen choice code start n)
+    then step_line (world_at code start n) (world_at code start (suc n)) (suc n) else []
+
+-- these lines of so many first steps
+abbrev pub step_lines : Choice → ℕ → Code → World → ℕ → List ℕ
+step_lines choice skip code start zero = []
+step_lines choice skip code start (suc n) = step_lines choice skip code start n ++ shown_line choice skip code start n
+
+-- how many chosen steps are left out, where only so many of the last are asked for
+abbrev pub left_out : Option ℕ → ℕ → ℕ
+left_out None count = 0
+left_out (Some last) count = count - last
+
+-- the lines of a run's chosen steps, and its cause line
+abbrev pub trace : Choice → Code → World → End → List ℕ
+trace choice code start end =
+    step_lines choice (left_out choice.last (count_chosen choice code start end.steps)) code start end.steps ++ cause_line end.cause
 
 -- a run with a limit ends by this cause, and this is its trace
-pub record IsTrace (code : Code) (start : World) (limit : ℕ) (cause : Cause) (output : List ℕ) : Type 0 where
+pub record IsTrace (choice : Choice) (code : Code) (start : World) (limit : ℕ) (cause : Cause) (output : List ℕ) : Type 0 where
   pub end : End
   pub is_end : IsEnd code start limit end
   pub cause_is : cause ≡ end.cause
-  pub output_is : output ≡ trace code start end
+  pub output_is : output ≡ trace choice code start end
 
 -- the trace of a text's run with these keys waiting: of the run that `IsRun` speaks of, by the same code and start
-pub record IsTraceOf (text keys : List ℕ) (limit : ℕ) (free : Bool) (cause : Cause) (output : List ℕ) : Type 0 where
+pub record IsTraceOf (choice : Choice) (text keys : List ℕ) (limit : ℕ) (free : Bool) (cause : Cause) (output : List ℕ) : Type 0 where
   pub program : Assembled
   pub is_program : IsProgramOf text program
-  pub is_trace : IsTrace (code_of_run free program) (start_of_run program keys) limit cause output
+  pub is_trace : IsTrace choice (code_of_run free program) (start_of_run program keys) limit cause output

@@ -19,13 +19,29 @@ F is a source; without it the standard input is taken. Options of a run, before 
               and 100,000 of a film
   --free      without the guard: code may begin anywhere, and be stored to
 
-A film has more, which a2x help film tells. N of --format is short, for
-editors, or json; of test csv, json or junit. Alone stands:
+trace and film have more, which a2x help trace tells, and so on. N of
+--format is short, for editors, or json; of test csv, json or junit. Alone
+stands:
 
   --version   the version, and the commit that the program was packaged from
 
 Status: 0 well, 1 source refused, 2 words or keys refused, 3 another stop,
 4 a read or write failed, 5 no memory, 6 tests or checks that failed.
+";
+
+// The options that `trace` alone has.
+const TRACE_OPTIONS: &[u8] = b"
+Options of a run, and of trace alone, before or behind F. Lines of those steps
+are left for which all of them hold:
+
+  --from N       the step has the number N or a greater one
+  --only P..P    PC is there, before it
+  --stores P..P  it stores there: an instruction by a store or a push, and a
+                 service where it leaves another byte
+  --last N       of these the last N
+
+P is $300, a name of F, or either with a number behind it, as NAME+2; P..P
+may be one place alone.
 ";
 
 // The options that a film alone has.
@@ -81,6 +97,7 @@ pub fn put_page<W: Output>(writer: &mut W) -> Result<(), WriteFault> {
 fn own_options(tool: Tool) -> &'static [u8] {
     match tool {
         Tool::Film => FILM_OPTIONS,
+        Tool::Trace => TRACE_OPTIONS,
         Tool::Fmt => FMT_OPTIONS,
         _ => b"",
     }

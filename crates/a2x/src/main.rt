@@ -1,6 +1,7 @@
 //! Tools beside the program `a2`: one program, a word for each.
 #![tactic(auto)]
 
+mod asked;
 mod clock;
 mod debugging;
 mod film;
@@ -14,6 +15,7 @@ mod table;
 mod terminal;
 mod tests;
 mod tools;
+mod tracing;
 mod words;
 
 use a2_desk::HostDesk;

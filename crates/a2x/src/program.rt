@@ -12,7 +12,8 @@ use crate::release::put_version;
 use crate::table::{Tool, Word, nearest, word_named};
 use crate::terminal::mon;
 use crate::tests::{exam_in, tell_words, test};
-use crate::tools::{check, film, list, profile, run, told, trace, written};
+use crate::tools::{check, film, list, profile, run, told, written};
+use crate::tracing::trace_of;
 use crate::words::{Misfit, Order, WordsFault, misfit_in, order_of};
 use a2_desk::Desk;
 use a2_film::{ScriptFault, chapters_of};
@@ -116,7 +117,7 @@ pub(crate) fn tell_value<E: Output>(name: &[u8], option: &[u8], complaints: &mut
 }
 
 // Tells that the value of an option is no number up to the most.
-fn tell_number<E: Output>(
+pub(crate) fn tell_number<E: Output>(
     name: &[u8],
     option: &[u8],
     number: &[u8],
@@ -157,7 +158,12 @@ fn tell_misfit<E: Output>(name: &[u8], misfit: Misfit, complaints: &mut E) {
 }
 
 // Tells why the words behind a word are refused; the status.
-fn refused<E: Output>(word: &Word, words: &[String], fault: WordsFault, complaints: &mut E) -> u8
+pub(crate) fn refused<E: Output>(
+    word: &Word,
+    words: &[String],
+    fault: WordsFault,
+    complaints: &mut E,
+) -> u8
     ensures { result ≤ 5 }
 {
     let name = word.name.as_bytes();
@@ -239,24 +245,6 @@ fn help<W: Output, E: Output>(
             Some(word) => written(put_use(&word, output), complaints),
             None => explain_name(alloc, name.as_str().as_bytes(), output, complaints),
         },
-    }
-}
-
-// Does what a word says with the run of a source.
-fn follow<W: Output, E: Output>(
-    tool: Tool,
-    alloc: Global,
-    source: &[u8],
-    order: &Order,
-    output: &mut W,
-    complaints: &mut E,
-) -> u8
-    ensures { result ≤ 5 }
-{
-    match tool {
-        Tool::Trace => trace(alloc, source, order, output, complaints),
-        Tool::Profile => profile(alloc, source, order, output, complaints),
-        _ => run(alloc, source, order, output, complaints),
     }
 }
 
@@ -582,17 +570,18 @@ fn act<S: Shelf, D: Desk, C: Clock, R: Input, W: Output, E: Output>(
             Err(fault) => Err(refused(word, behind(words), fault, complaints)),
         },
         Tool::Film => film_of(alloc, word, words, shelf, desk, input, output, complaints),
-        Tool::Profile | Tool::Run | Tool::Trace => match order_of(words) {
+        Tool::Run => match order_of(words) {
             Ok(order) => {
                 let text = text_of(alloc, order.file, shelf, input, complaints)?;
-                Ok(follow(
-                    word.tool,
-                    alloc,
-                    text.as_slice(),
-                    &order,
-                    output,
-                    complaints,
-                ))
+                Ok(run(alloc, text.as_slice(), &order, output, complaints))
+            }
+            Err(fault) => Err(refused(word, behind(words), fault, complaints)),
+        },
+        Tool::Trace => trace_of(alloc, word, words, shelf, input, output, complaints),
+        Tool::Profile => match order_of(words) {
+            Ok(order) => {
+                let text = text_of(alloc, order.file, shelf, input, complaints)?;
+                Ok(profile(alloc, text.as_slice(), &order, output, complaints))
             }
             Err(fault) => Err(refused(word, behind(words), fault, complaints)),
         },
@@ -600,7 +589,7 @@ fn act<S: Shelf, D: Desk, C: Clock, R: Input, W: Output, E: Output>(
 }
 
 // The words behind the first.
-fn behind(words: &[String]) -> &[String] {
+pub(crate) fn behind(words: &[String]) -> &[String] {
     match words {
         [] => words,
         [_, rest @ ..] => rest,

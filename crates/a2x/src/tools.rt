@@ -13,7 +13,7 @@ use a2_list::list_told;
 use a2_profile::profile_source;
 use a2_run::{Options, RunFault, fault_status, run_text, status};
 use a2_stream::{FromRead, Output, WriteFault};
-use a2_trace::trace_source;
+use a2_trace::{Choice, trace_source};
 use std::alloc::Global;
 
 /// Tells why a text has no answer; the status.
@@ -88,17 +88,19 @@ pub fn run<W: Output, E: Output>(
     status(&answer)
 }
 
-/// Traces the run of a source.
+/// Traces the chosen steps of the run of a source.
 pub fn trace<W: Output, E: Output>(
     alloc: Global,
     source: &[u8],
     order: &Order,
+    choice: &Choice,
     output: &mut W,
     complaints: &mut E,
 ) -> u8
     ensures { result ≤ 5 }
 {
-    let answer = trace_source(alloc, source, &order.keys, order.limit, order.free, output);
+    let (keys, limit, free) = (&order.keys, order.limit, order.free);
+    let answer = trace_source(alloc, source, keys, limit, free, choice, output);
     if let Err(fault) = answer {
         complain(fault, complaints);
     }

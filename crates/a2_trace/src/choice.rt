@@ -1,0 +1,175 @@
+//! Which steps of a run are shown.
+
+ghost use Rattle.std.specs.Prelude.{◌≡◌, ◌+◌, ◌-◌, true, false, Some, None, is_some};
+ghost use Rattle.std.specs.List.{list_any};
+ghost use Rattle.a2_bus.specs.View.{memory_of};
+ghost use Rattle.a2_machine.specs.State.{world_of_state};
+ghost use Rattle.a2_services.specs.Services.{service_at as service_at_of};
+ghost use Rattle.a2_trace.specs.Bytes as bytes;
+ghost use Rattle.a2_trace.specs.Choices as choices;
+ghost use Rattle.a2_trace.specs.Traced.{MakesStep};
+
+use a2_cpu::writes;
+use a2_machine::{Cause, Machine};
+use a2_places::Span;
+use a2_services::service_at;
+use std::alloc::Allocator;
+
+/// Which steps of a run are shown: those of which all holds.
+#[derive(Clone, Copy, Debug)]
+pub struct Choice {
+    /// The number of the first, which counts as STEPS does: from 0 and from 1 on it is each.
+    pub from: u32,
+    /// Of those that are chosen by all else only so many of the last.
+    pub last: Option<u32>,
+    /// PC stands in it before the step.
+    pub only: Option<Span>,
+    /// The step stores in it. An instruction does by each store and push, also of the byte that is there; of a service
+    /// those bytes count that are others behind it.
+    pub stores: Option<Span>,
+}
+
+impl Choice {
+    /// All steps.
+    pub fn all() -> Choice
+        ensures { result ≡ choices.all_steps }
+    {
+        Choice {
+            from: 0,
+            last: None,
+            only: None,
+            stores: None,
+        }
+    }
+}
+
+// Whether an address lies in a span.
+fn is_in(span: Span, address: u16) -> bool
+    ensures { result ≡ choices.is_in span address }
+{
+    span.first <= address && address <= span.last
+}
+
+// Whether the next step is not before the first, and has PC where it is asked for.
+pub(crate) fn is_near<A: Allocator>(choice: &Choice, machine: &Machine<A>) -> bool
+    ensures { result ≡ choices.is_near choice.now (machine.now.state.steps + 1) (world_of_state machine.now.state) }
+{
+    if u64::from(choice.from).saturating_sub(1) > machine.steps() {
+        return false;
+    }
+    match choice.only {
+        Some(span) => is_in(span, machine.regs().pc),
+        None => true,
+    }
+}
+
+/// The byte of RAM at an address, or 0.
+pub(crate) fn byte_at<A: Allocator>(machine: &Machine<A>, address: u16) -> u8
+    ensures { result ≡ bytes.byte_at (memory_of machine.now.state.bus) address }
+{
+    machine.peek(address).unwrap_or(0)
+}
+
+// Whether two machines have different bytes at an address.
+fn is_other_at<A: Allocator, B: Allocator>(old: &Machine<A>, new: &Machine<B>, address: u16) -> bool
+    ensures { result ≡ choices.is_other_at (memory_of old.now.state.bus) (memory_of new.now.state.bus) address }
+{
+    byte_at(old, address) != byte_at(new, address)
+}
+
+// Whether two machines have different bytes at an address of a span.
+#[tactic(auto, using(crate::proofs::Storing::differ_next, crate::proofs::Storing::differ_none))]
+fn differ<A: Allocator, B: Allocator>(old: &Machine<A>, new: &Machine<B>, span: Span) -> bool
+    ensures { result ≡ choices.differ_from (memory_of old.now.state.bus) (memory_of new.now.state.bus) span.first (span.last + 1 - span.first) }
+{
+    for address in u32::from(span.first)..u32::from(span.last) + 1 {
+        if is_other_at(old, new, address as u16) {
+            return true;
+        }
+    }
+    false
+}
+
+// Makes the call of a service, before which `was` is put where the machine stands, and says whether it stores in a span.
+fn make_call<A: Allocator>(
+    machine: &mut Machine<A>,
+    was: &mut Machine<A>,
+    span: Span,
+) -> Result<bool, Cause>
+    requires { is_some (service_at_of machine.old.state.regs.pc) ≡ true }
+    ensures { MakesStep true (Some span) machine.old machine.new result }
+{
+    was.restore(machine);
+    match machine.step() {
+        Some(cause) => Err(cause),
+        None => Ok(differ(was, machine, span)),
+    }
+}
+
+// Whether one of some addresses lies in a span.
+fn is_any_in(span: Span, addresses: &[u16]) -> bool
+    ensures { result ≡ list_any (choices.is_in span) addresses.now }
+{
+    for address in addresses {
+        if is_in(span, *address) {
+            return true;
+        }
+    }
+    false
+}
+
+// Does an instruction, and says whether it stores in a span.
+fn make_instruction<A: Allocator>(machine: &mut Machine<A>, span: Span) -> Result<bool, Cause>
+    requires { is_some (service_at_of machine.old.state.regs.pc) ≡ false }
+    ensures { MakesStep true (Some span) machine.old machine.new result }
+{
+    // For the prover alone: all of RAM is there.
+    let _ = machine.peek(0);
+    let addresses = writes(&machine.regs(), machine.space());
+    match machine.step() {
+        Some(cause) => Err(cause),
+        None => Ok(is_any_in(span, addresses.as_slice())),
+    }
+}
+
+// Makes a step, and says whether it stores in a span.
+fn make_storing<A: Allocator>(
+    machine: &mut Machine<A>,
+    was: &mut Machine<A>,
+    span: Span,
+) -> Result<bool, Cause>
+    ensures { MakesStep true (Some span) machine.old machine.new result }
+{
+    match service_at(machine.regs().pc) {
+        Some(_) => make_call(machine, was, span),
+        None => make_instruction(machine, span),
+    }
+}
+
+// Makes a step of which nothing is asked for but what this says, which is answered.
+fn make_any<A: Allocator>(machine: &mut Machine<A>, near: bool) -> Result<bool, Cause>
+    ensures { MakesStep near None machine.old machine.new result }
+{
+    match machine.step() {
+        Some(cause) => Err(cause),
+        None => Ok(near),
+    }
+}
+
+// Makes a step, and says whether it is near and stores where it is asked for; or the cause that forbids it.
+pub(crate) fn make_step<A: Allocator>(
+    machine: &mut Machine<A>,
+    was: &mut Machine<A>,
+    near: bool,
+    stores: Option<Span>,
+) -> Result<bool, Cause>
+    ensures { MakesStep near stores machine.old machine.new result }
+{
+    if !near {
+        return make_any(machine, false);
+    }
+    match stores {
+        Some(span) => make_storing(machine, was, span),
+        None => make_any(machine, true),
+    }
+}

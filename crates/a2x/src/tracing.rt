@@ -1,0 +1,95 @@
+//! The word `trace`: which steps its words ask for.
+
+ghost use Rattle.std.specs.Prelude.{◌≤◌, IfOk, IfErr};
+
+use crate::asked::{held_in, order_in, program_in, span_in, steps_in};
+use crate::program::text_of;
+use crate::table::Word;
+use crate::tools::trace;
+use a2_host::Shelf;
+use a2_options::{Found, Kind, Row};
+use a2_stream::{Input, Output};
+use a2_trace::Choice;
+use std::alloc::Global;
+
+// The options of `trace`, of which those of each run are left.
+static TRACE_OPTIONS: [Row; 6] = [
+    Row {
+        name: "--from",
+        kind: Kind::Value,
+    },
+    Row {
+        name: "--last",
+        kind: Kind::Value,
+    },
+    Row {
+        name: "--only",
+        kind: Kind::Value,
+    },
+    Row {
+        name: "--stores",
+        kind: Kind::Value,
+    },
+    Row {
+        name: "--keys",
+        kind: Kind::Left,
+    },
+    Row {
+        name: "--limit",
+        kind: Kind::Left,
+    },
+];
+
+// Which steps a trace shows, by its options; or the status, where a fault is told.
+fn choice_of<E: Output>(
+    alloc: Global,
+    source: &[u8],
+    found: &[Found<'_>],
+    complaints: &mut E,
+) -> Result<Choice, u8>
+    ensures { IfErr result (λ status. status ≤ 5) }
+{
+    let mut choice = Choice::all();
+    if found.is_empty() {
+        return Ok(choice);
+    }
+    let program = program_in(alloc, source, complaints)?;
+    for option in found {
+        match option.name {
+            "--from" => choice.from = steps_in(b"trace", option, complaints)?,
+            "--last" => choice.last = Some(steps_in(b"trace", option, complaints)?),
+            "--only" => choice.only = Some(span_in(b"trace", &program, option, complaints)?),
+            _ => choice.stores = Some(span_in(b"trace", &program, option, complaints)?),
+        }
+    }
+    Ok(choice)
+}
+
+/// Traces the run that the words ask for. The status is 1 where the source is refused, 2 where the words are, 3 where the run
+/// stopped but by RETURNED or BRK, 4 where the file does not open or a read or a write fails, and 5 for want of memory, each
+/// told on `complaints`.
+pub fn trace_of<S: Shelf, R: Input, W: Output, E: Output>(
+    alloc: Global,
+    word: &Word,
+    words: &[String],
+    shelf: &mut S,
+    input: &mut R,
+    output: &mut W,
+    complaints: &mut E,
+) -> Result<u8, u8>
+    ensures done { IfOk result (λ status. status ≤ 5) }
+    ensures refused { IfErr result (λ status. status ≤ 5) }
+{
+    let held = held_in(alloc, word, &TRACE_OPTIONS, words, complaints)?;
+    let order = order_in(word, held.others.as_slice(), complaints)?;
+    let source = text_of(alloc, order.file, shelf, input, complaints)?;
+    let choice = choice_of(alloc, source.as_slice(), held.found.as_slice(), complaints)?;
+    Ok(trace(
+        alloc,
+        source.as_slice(),
+        &order,
+        &choice,
+        output,
+        complaints,
+    ))
+}
