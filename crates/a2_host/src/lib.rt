@@ -1,14 +1,13 @@
 //! What a program takes from its host: its words, its files, and where it tells a fault.
 #![tactic(auto)]
 
-ghost use Rattle.std.specs.Prelude.{◌≡◌, ◌++◌, List, ℕ, IfSome, None, codes};
-ghost use Rattle.a2_host.specs.Complaints.{IsToldAs, TellsLine};
+ghost use Rattle.std.specs.Prelude.{◌≡◌, ◌++◌, IfSome, None, codes};
+ghost use Rattle.a2_host.specs.Complaints.{TellsLine};
 ghost use Rattle.a2_host.specs.Shelves.{Opens, Shelved};
 
 use a2_stream::{FromRead, Input, Output, ReadFault, put, put_all};
 use arrayvec::ArrayString;
 use std::alloc::AllocError;
-use std::fmt::{Display, Write};
 use std::fs::File;
 use std::{env, fs, io};
 
@@ -112,24 +111,4 @@ pub fn tell<E: Output>(text: &str, complaints: &mut E)
         Some(line) => put(line.as_str().as_bytes(), complaints),
         None => put_all(&[text.as_bytes(), b"\n"], complaints),
     };
-}
-
-// The text of a fault, where that can be written in 63 bytes.
-fn text_of<F: Display + Drop>(fault: F) -> Option<ArrayString<63>>
-    ensures { IfSome result (λ text. IfSome (F.output fault) (λ output. text.bytes ≡ output)) }
-{
-    let mut text = ArrayString::<63>::new();
-    write!(text, "{fault}").ok()?;
-    Some(text)
-}
-
-/// Writes the text of `fault` and LF to `complaints`, by one write where it takes that; `FAULT` for a text that cannot be
-/// written, as one of more than 63 bytes. Where a write fails, a front of the line went out, and nothing tells of it.
-pub fn complain<F: Display + Drop, E: Output>(fault: F, complaints: &mut E)
-    ensures { (text : List ℕ) × IsToldAs (F.output fault) text × TellsLine (E.taker complaints.old) (E.taker complaints.new) text }
-{
-    match text_of(fault) {
-        Some(text) => tell(text.as_str(), complaints),
-        None => tell("FAULT", complaints),
-    }
 }

@@ -19,8 +19,8 @@ mod tracing;
 mod words;
 
 use a2_desk::HostDesk;
-use a2_host::{HostFiles, HostWordsFault, complain, words_of};
-use a2_run::{RunFault, fault_status};
+use a2_host::{HostFiles, HostWordsFault, words_of};
+use a2_run::RunFault;
 use a2_stream::{FromRead, Output, ToWrite};
 use clock::HostClock;
 use play::Seat;
@@ -29,6 +29,7 @@ use std::env;
 use std::io::{BufWriter, ErrorKind, IsTerminal, Write};
 use std::path::PathBuf;
 use std::process::ExitCode;
+use tools::told;
 
 // Where packages have their release file, below the folder above that of the program.
 const RELEASE: &str = "share/a2/VERSION";
@@ -100,19 +101,14 @@ fn act(rt: &HostRuntime, words: &[String]) -> Result<u8, RunFault> {
     }
 }
 
-// Tells why nothing is done; the status.
-fn told(rt: &HostRuntime, fault: RunFault) -> u8 {
-    complain(fault, &mut ToWrite::new(rt.stderr()));
-    fault_status(&fault)
-}
-
 fn main(rt: HostRuntime) -> ExitCode {
+    let mut complaints = ToWrite::new(rt.stderr());
     ExitCode::from(match words_of(&rt) {
         Ok(words) => match act(&rt, words.as_slice()) {
             Ok(status) => status,
-            Err(fault) => told(&rt, fault),
+            Err(fault) => told(fault, &mut complaints),
         },
-        Err(HostWordsFault::Memory) => told(&rt, RunFault::Memory),
+        Err(HostWordsFault::Memory) => told(RunFault::Memory, &mut complaints),
         Err(HostWordsFault::NotText) => {
             let _ = eprintln!(rt; "a2x: a word is no text in UTF-8");
             2

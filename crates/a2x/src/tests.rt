@@ -160,8 +160,8 @@ fn examine<S: Shelf, W: Output>(
         }
         Err(RunFault::Memory) => Err(RunFault::Memory),
         Err(fault) => {
-            let why = format!(in alloc; "{fault}")?;
-            let found = Found::Refused(why.as_bytes());
+            let why = fault.text();
+            let found = Found::Refused(why.as_str().as_bytes());
             report(exam, name, cases, &found, is_first, totals, output)
         }
     }

@@ -1,6 +1,9 @@
 //! What each word does with a source. A word answers the exit status, 0 to 5.
 
-ghost use Rattle.std.specs.Prelude.{◌≤◌};
+ghost use Rattle.std.specs.Prelude.{◌≡◌, ◌≤◌};
+ghost use Rattle.a2_host.specs.Complaints.{TellsLine};
+ghost use Rattle.a2_run.specs.Status.{fault_status as status_of_fault};
+ghost use Rattle.a2_run.specs.Texts.{run_fault_text};
 
 use crate::film::{FilmOrder, film_into};
 use crate::words::Order;
@@ -8,7 +11,7 @@ use a2_check::{Format, TellFault, put_refusals, refusals_of};
 use a2_desk::Desk;
 use a2_explain::explain_stop;
 use a2_film::{Chapter, Window, film_source};
-use a2_host::complain;
+use a2_host::tell;
 use a2_list::list_told;
 use a2_profile::profile_source;
 use a2_run::{Options, RunFault, fault_status, run_text, status};
@@ -16,9 +19,18 @@ use a2_stream::{FromRead, Output, WriteFault};
 use a2_trace::{Choice, trace_source};
 use std::alloc::Global;
 
-/// Tells why a text has no answer; the status.
+// Tells why a text has no answer, by a line of the fault's text.
+fn complain<E: Output>(fault: RunFault, complaints: &mut E)
+    ensures { TellsLine (E.taker complaints.old) (E.taker complaints.new) (run_fault_text fault) }
+{
+    tell(fault.text().as_str(), complaints);
+}
+
+/// Tells why a text has no answer, by a line of the fault's text; the status.
 pub fn told<E: Output>(fault: RunFault, complaints: &mut E) -> u8
-    ensures { result ≤ 5 }
+    ensures line { TellsLine (E.taker complaints.old) (E.taker complaints.new) (run_fault_text fault) }
+    ensures status { result ≡ status_of_fault fault }
+    ensures few { result ≤ 5 }
 {
     complain(fault, complaints);
     fault_status(&fault)
