@@ -1,6 +1,11 @@
 //! Tools beside the program `a2`: one program, a word for each.
 #![tactic(auto)]
 
+ghost use Rattle.std.specs.Prelude.{◌≡◌, ◌≢◌, [], IfOk, IfErr};
+ghost use Rattle.std.specs.Io.Buffered.{writer_buffer, writer_contents};
+ghost use Rattle.std.specs.Io.KnownBytes.{Keeps};
+ghost use Rattle.a2_run.specs.declared.fault.RunFault.TheVariants.{Write as WriteFails};
+
 mod asked;
 mod clock;
 mod debugging;
@@ -76,6 +81,20 @@ fn obeyed<W: Output>(
     )
 }
 
+// Sends what `lines` keeps, and gives the status. By 4, where a write may have failed, nothing more is sent.
+fn ended<W: Write + Drop>(status: u8, lines: &mut BufWriter<W>) -> Result<u8, RunFault>
+    ensures status { IfOk result (λ answer. answer ≡ status) }
+    // By any status but 4 all that was kept went out.
+    ensures sent { IfOk result (λ answer. answer ≢ 4 → writer_buffer lines.new ≡ []) }
+    ensures bytes { Keeps (writer_contents W.contents lines.old) (writer_contents W.contents lines.new) }
+    ensures fault { IfErr result (λ fault. fault ≡ WriteFails) }
+{
+    if status != 4 && lines.flush().is_err() {
+        return Err(RunFault::Write);
+    }
+    Ok(status)
+}
+
 // Does what the words ask for. Many lines go out by one write, but where someone waits for each answer.
 fn act(rt: &HostRuntime, words: &[String]) -> Result<u8, RunFault> {
     let path = release_path(rt)?;
@@ -91,14 +110,10 @@ fn act(rt: &HostRuntime, words: &[String]) -> Result<u8, RunFault> {
         Err(_) => return Err(RunFault::Memory),
     };
     let status = obeyed(rt, words, release, &mut ToWrite::new(&mut lines));
-    let is_broken = status != 4 && lines.flush().is_err();
+    let answer = ended(status, &mut lines);
     // What a failed write left is given up: dropped as they are, `lines` would write it again.
     let _ = lines.into_parts();
-    if is_broken {
-        Err(RunFault::Write)
-    } else {
-        Ok(status)
-    }
+    answer
 }
 
 fn main(rt: HostRuntime) -> ExitCode {
