@@ -6,7 +6,7 @@ use Rattle.a2_import.specs.Listing.{object_row}
 
 pub next-row : (bs : List ℕ) (texts : List (Bor (List ℕ))) (i : ℕ) (d : Bor (List ℕ)) → i < length texts
     → (bs ++ flat_map object_row (take i (map (λ x. x.now) texts))) ++ object_row (get_or texts i d).now
-      ≡ bs ++ flat_map object_row (take (i + 1) (map (λ x. x.now) texts))
+    ≡ bs ++ flat_map object_row (take (i + 1) (map (λ x. x.now) texts))
 next-row bs texts i d low =
     let now : List (List ℕ) = map (λ (x : Bor (List ℕ)). x.now) texts in
     let count = length-map texts (λ (x : Bor (List ℕ)). x.now) in

@@ -73,7 +73,11 @@ fn put_comment<A: Allocator>(out: &mut Vec<u8, A>, comment: &[u8]) -> Result<(),
             out.extend_from_slice(comment)
         }
         _ => {
-            out.extend_from_slice(if out.is_empty() { b"        ; " } else { b" ; " })?;
+            out.extend_from_slice(if out.is_empty() {
+                b"        ; "
+            } else {
+                b" ; "
+            })?;
             out.extend_from_slice(comment)
         }
     }
@@ -178,7 +182,13 @@ impl<A: Allocator + Copy> Writer<A> {
         let parts = parts_of(self.dialect, line);
         let mut label = Vec::new(alloc);
         let equates = is_equate(self.dialect, parts.operation);
-        put_label(&mut label, self.dialect, &mut self.locals, parts.label, equates)?;
+        put_label(
+            &mut label,
+            self.dialect,
+            &mut self.locals,
+            parts.label,
+            equates,
+        )?;
         let label = label.as_slice();
         if self.hears(&parts) {
             return self.keep(alloc, line, label, &parts);

@@ -4,8 +4,8 @@
 mod data;
 mod dialect;
 mod fault;
-mod kind;
 mod import;
+mod kind;
 mod listing;
 mod locals;
 mod object;
@@ -20,6 +20,6 @@ mod token;
 
 pub use dialect::{Dialect, Old};
 pub use fault::{ImportFault, ListingFault};
-pub use kind::guess;
 pub use import::{Imported, Note, NoteKind, import_source};
+pub use kind::guess;
 pub use listing::import_listing;

@@ -108,9 +108,6 @@ pub fn import_listing<A: Allocator + Copy>(
         Ok(true) => Ok(source),
         Ok(false) => Err(ListingFault::Unlike),
         Err(Fault::Memory) => Err(ListingFault::Memory),
-        Err(fault) => Err(ListingFault::Refused(
-            origin(origins.as_slice(), fault.line()),
-            fault,
-        )),
+        Err(fault) => Err(ListingFault::Refused(origin(origins.as_slice(), fault.line()), fault)),
     }
 }

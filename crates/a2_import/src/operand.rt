@@ -16,11 +16,7 @@ pub(crate) fn put_name<A: Allocator>(out: &mut Vec<u8, A>, name: &[u8]) -> Resul
 }
 
 // Appends a character between quotes.
-fn put_character<A: Allocator>(
-    out: &mut Vec<u8, A>,
-    quote: u8,
-    c: u8,
-) -> Result<(), AllocError> {
+fn put_character<A: Allocator>(out: &mut Vec<u8, A>, quote: u8, c: u8) -> Result<(), AllocError> {
     out.push(quote)?;
     out.push(c)?;
     out.push(quote)?;
@@ -108,7 +104,11 @@ pub(crate) fn put_expression<A: Allocator + Copy>(
         _ => (b"", text),
     };
     out.extend_from_slice(mark)?;
-    let inner = if mark.is_empty() { rest } else { unbracketed(dialect, rest) };
+    let inner = if mark.is_empty() {
+        rest
+    } else {
+        unbracketed(dialect, rest)
+    };
     put_tokens(out, dialect, locals, inner)
 }
 

@@ -18,7 +18,9 @@ fn ends(text: &[u8]) -> bool {
 // What stands behind a byte of two hexadecimal digits.
 fn behind_byte(text: &[u8]) -> Option<&[u8]> {
     match text {
-        [a, b, rest @ ..] if a.is_ascii_hexdigit() && b.is_ascii_hexdigit() && ends(rest) => Some(rest),
+        [a, b, rest @ ..] if a.is_ascii_hexdigit() && b.is_ascii_hexdigit() && ends(rest) => Some(
+            rest,
+        ),
         _ => None,
     }
 }

@@ -98,7 +98,13 @@ impl<A: Allocator + Copy> Draft<A> {
             self.named.push((instr.value % 256) as u8)?;
             return self.put_line(
                 number,
-                &[BLANKS, instr.mnemonic.name().as_bytes(), b" W", &word, index],
+                &[
+                    BLANKS,
+                    instr.mnemonic.name().as_bytes(),
+                    b" W",
+                    &word,
+                    index,
+                ],
             );
         }
         self.put_line(
@@ -112,7 +118,8 @@ impl<A: Allocator + Copy> Draft<A> {
         self.text.extend_from_slice(BLANKS)?;
         self.text.extend_from_slice(b"DFB ")?;
         for (i, byte) in bytes.iter().enumerate() {
-            self.text.extend_from_slice(if i == 0 { b"$" } else { b",$" })?;
+            self.text
+                .extend_from_slice(if i == 0 { b"$" } else { b",$" })?;
             self.text.extend_from_slice(&hex_pair(*byte))?;
         }
         self.end_line(number)

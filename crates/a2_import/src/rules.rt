@@ -45,121 +45,418 @@ struct Rule {
 }
 
 static SC: [Rule; 17] = [
-    Rule { word: b".OR", turn: Turn::As(b"ORG") },
-    Rule { word: b".EQ", turn: Turn::As(b"EQU") },
-    Rule { word: b".DA", turn: Turn::List(List::Marked) },
-    Rule { word: b".AS", turn: Turn::Text },
-    Rule { word: b".AT", turn: Turn::LastTurned },
-    Rule { word: b".HS", turn: Turn::Hex },
-    Rule { word: b".BS", turn: Turn::As(b"DS") },
-    Rule { word: b".TF", turn: Turn::Nothing },
-    Rule { word: b".TA", turn: Turn::Nothing },
-    Rule { word: b".EN", turn: Turn::Nothing },
-    Rule { word: b".LI", turn: Turn::Nothing },
-    Rule { word: b".LIST", turn: Turn::Nothing },
-    Rule { word: b".TI", turn: Turn::Nothing },
-    Rule { word: b".TITLE", turn: Turn::Nothing },
-    Rule { word: b".PG", turn: Turn::Nothing },
-    Rule { word: b"BLT", turn: Turn::As(b"BCC") },
-    Rule { word: b"BGE", turn: Turn::As(b"BCS") },
+    Rule {
+        word: b".OR",
+        turn: Turn::As(b"ORG"),
+    },
+    Rule {
+        word: b".EQ",
+        turn: Turn::As(b"EQU"),
+    },
+    Rule {
+        word: b".DA",
+        turn: Turn::List(List::Marked),
+    },
+    Rule {
+        word: b".AS",
+        turn: Turn::Text,
+    },
+    Rule {
+        word: b".AT",
+        turn: Turn::LastTurned,
+    },
+    Rule {
+        word: b".HS",
+        turn: Turn::Hex,
+    },
+    Rule {
+        word: b".BS",
+        turn: Turn::As(b"DS"),
+    },
+    Rule {
+        word: b".TF",
+        turn: Turn::Nothing,
+    },
+    Rule {
+        word: b".TA",
+        turn: Turn::Nothing,
+    },
+    Rule {
+        word: b".EN",
+        turn: Turn::Nothing,
+    },
+    Rule {
+        word: b".LI",
+        turn: Turn::Nothing,
+    },
+    Rule {
+        word: b".LIST",
+        turn: Turn::Nothing,
+    },
+    Rule {
+        word: b".TI",
+        turn: Turn::Nothing,
+    },
+    Rule {
+        word: b".TITLE",
+        turn: Turn::Nothing,
+    },
+    Rule {
+        word: b".PG",
+        turn: Turn::Nothing,
+    },
+    Rule {
+        word: b"BLT",
+        turn: Turn::As(b"BCC"),
+    },
+    Rule {
+        word: b"BGE",
+        turn: Turn::As(b"BCS"),
+    },
 ];
 
 static LISA: [Rule; 23] = [
-    Rule { word: b"EPZ", turn: Turn::As(b"EQU") },
-    Rule { word: b"=", turn: Turn::As(b"EQU") },
-    Rule { word: b"BYT", turn: Turn::List(List::Low) },
-    Rule { word: b"HBY", turn: Turn::List(List::High) },
-    Rule { word: b"ADR", turn: Turn::List(List::Words) },
-    Rule { word: b"DFS", turn: Turn::As(b"DS") },
-    Rule { word: b"HEX", turn: Turn::Hex },
-    Rule { word: b"ASC", turn: Turn::Text },
-    Rule { word: b"DCI", turn: Turn::LastTurned },
-    Rule { word: b"STR", turn: Turn::Counted },
-    Rule { word: b"OBJ", turn: Turn::Nothing },
-    Rule { word: b"END", turn: Turn::Nothing },
-    Rule { word: b"LST", turn: Turn::Nothing },
-    Rule { word: b"NLS", turn: Turn::Nothing },
-    Rule { word: b"TTL", turn: Turn::Nothing },
-    Rule { word: b"PAG", turn: Turn::Nothing },
-    Rule { word: b"PAU", turn: Turn::Nothing },
-    Rule { word: b"DCM", turn: Turn::Nothing },
-    Rule { word: b"BTR", turn: Turn::As(b"BNE") },
-    Rule { word: b"BFL", turn: Turn::As(b"BEQ") },
-    Rule { word: b"XOR", turn: Turn::As(b"EOR") },
-    Rule { word: b"BLT", turn: Turn::As(b"BCC") },
-    Rule { word: b"BGE", turn: Turn::As(b"BCS") },
+    Rule {
+        word: b"EPZ",
+        turn: Turn::As(b"EQU"),
+    },
+    Rule {
+        word: b"=",
+        turn: Turn::As(b"EQU"),
+    },
+    Rule {
+        word: b"BYT",
+        turn: Turn::List(List::Low),
+    },
+    Rule {
+        word: b"HBY",
+        turn: Turn::List(List::High),
+    },
+    Rule {
+        word: b"ADR",
+        turn: Turn::List(List::Words),
+    },
+    Rule {
+        word: b"DFS",
+        turn: Turn::As(b"DS"),
+    },
+    Rule {
+        word: b"HEX",
+        turn: Turn::Hex,
+    },
+    Rule {
+        word: b"ASC",
+        turn: Turn::Text,
+    },
+    Rule {
+        word: b"DCI",
+        turn: Turn::LastTurned,
+    },
+    Rule {
+        word: b"STR",
+        turn: Turn::Counted,
+    },
+    Rule {
+        word: b"OBJ",
+        turn: Turn::Nothing,
+    },
+    Rule {
+        word: b"END",
+        turn: Turn::Nothing,
+    },
+    Rule {
+        word: b"LST",
+        turn: Turn::Nothing,
+    },
+    Rule {
+        word: b"NLS",
+        turn: Turn::Nothing,
+    },
+    Rule {
+        word: b"TTL",
+        turn: Turn::Nothing,
+    },
+    Rule {
+        word: b"PAG",
+        turn: Turn::Nothing,
+    },
+    Rule {
+        word: b"PAU",
+        turn: Turn::Nothing,
+    },
+    Rule {
+        word: b"DCM",
+        turn: Turn::Nothing,
+    },
+    Rule {
+        word: b"BTR",
+        turn: Turn::As(b"BNE"),
+    },
+    Rule {
+        word: b"BFL",
+        turn: Turn::As(b"BEQ"),
+    },
+    Rule {
+        word: b"XOR",
+        turn: Turn::As(b"EOR"),
+    },
+    Rule {
+        word: b"BLT",
+        turn: Turn::As(b"BCC"),
+    },
+    Rule {
+        word: b"BGE",
+        turn: Turn::As(b"BCS"),
+    },
 ];
 
 static MERLIN: [Rule; 25] = [
-    Rule { word: b"=", turn: Turn::As(b"EQU") },
-    Rule { word: b"DFB", turn: Turn::List(List::Bytes) },
-    Rule { word: b"DB", turn: Turn::List(List::Bytes) },
-    Rule { word: b"DA", turn: Turn::List(List::Words) },
-    Rule { word: b"DW", turn: Turn::List(List::Words) },
-    Rule { word: b"HEX", turn: Turn::Hex },
-    Rule { word: b"ASC", turn: Turn::Text },
-    Rule { word: b"DCI", turn: Turn::LastTurned },
-    Rule { word: b"STR", turn: Turn::Counted },
-    Rule { word: b"OBJ", turn: Turn::Nothing },
-    Rule { word: b"END", turn: Turn::Nothing },
-    Rule { word: b"LST", turn: Turn::Nothing },
-    Rule { word: b"LSTDO", turn: Turn::Nothing },
-    Rule { word: b"EXP", turn: Turn::Nothing },
-    Rule { word: b"PAG", turn: Turn::Nothing },
-    Rule { word: b"PAU", turn: Turn::Nothing },
-    Rule { word: b"TTL", turn: Turn::Nothing },
-    Rule { word: b"SKP", turn: Turn::Nothing },
-    Rule { word: b"TR", turn: Turn::Nothing },
-    Rule { word: b"AST", turn: Turn::Nothing },
-    Rule { word: b"SAV", turn: Turn::Nothing },
-    Rule { word: b"DSK", turn: Turn::Nothing },
-    Rule { word: b"TYP", turn: Turn::Nothing },
-    Rule { word: b"BLT", turn: Turn::As(b"BCC") },
-    Rule { word: b"BGE", turn: Turn::As(b"BCS") },
+    Rule {
+        word: b"=",
+        turn: Turn::As(b"EQU"),
+    },
+    Rule {
+        word: b"DFB",
+        turn: Turn::List(List::Bytes),
+    },
+    Rule {
+        word: b"DB",
+        turn: Turn::List(List::Bytes),
+    },
+    Rule {
+        word: b"DA",
+        turn: Turn::List(List::Words),
+    },
+    Rule {
+        word: b"DW",
+        turn: Turn::List(List::Words),
+    },
+    Rule {
+        word: b"HEX",
+        turn: Turn::Hex,
+    },
+    Rule {
+        word: b"ASC",
+        turn: Turn::Text,
+    },
+    Rule {
+        word: b"DCI",
+        turn: Turn::LastTurned,
+    },
+    Rule {
+        word: b"STR",
+        turn: Turn::Counted,
+    },
+    Rule {
+        word: b"OBJ",
+        turn: Turn::Nothing,
+    },
+    Rule {
+        word: b"END",
+        turn: Turn::Nothing,
+    },
+    Rule {
+        word: b"LST",
+        turn: Turn::Nothing,
+    },
+    Rule {
+        word: b"LSTDO",
+        turn: Turn::Nothing,
+    },
+    Rule {
+        word: b"EXP",
+        turn: Turn::Nothing,
+    },
+    Rule {
+        word: b"PAG",
+        turn: Turn::Nothing,
+    },
+    Rule {
+        word: b"PAU",
+        turn: Turn::Nothing,
+    },
+    Rule {
+        word: b"TTL",
+        turn: Turn::Nothing,
+    },
+    Rule {
+        word: b"SKP",
+        turn: Turn::Nothing,
+    },
+    Rule {
+        word: b"TR",
+        turn: Turn::Nothing,
+    },
+    Rule {
+        word: b"AST",
+        turn: Turn::Nothing,
+    },
+    Rule {
+        word: b"SAV",
+        turn: Turn::Nothing,
+    },
+    Rule {
+        word: b"DSK",
+        turn: Turn::Nothing,
+    },
+    Rule {
+        word: b"TYP",
+        turn: Turn::Nothing,
+    },
+    Rule {
+        word: b"BLT",
+        turn: Turn::As(b"BCC"),
+    },
+    Rule {
+        word: b"BGE",
+        turn: Turn::As(b"BCS"),
+    },
 ];
 
 static EDASM: [Rule; 14] = [
-    Rule { word: b"DFB", turn: Turn::List(List::Bytes) },
-    Rule { word: b"DB", turn: Turn::List(List::Bytes) },
-    Rule { word: b"DW", turn: Turn::List(List::Words) },
-    Rule { word: b"ASC", turn: Turn::Text },
-    Rule { word: b"DCI", turn: Turn::LastTurned },
-    Rule { word: b"MSB", turn: Turn::Msb },
-    Rule { word: b"OBJ", turn: Turn::Nothing },
-    Rule { word: b"END", turn: Turn::Nothing },
-    Rule { word: b"LST", turn: Turn::Nothing },
-    Rule { word: b"SBTL", turn: Turn::Nothing },
-    Rule { word: b"PAGE", turn: Turn::Nothing },
-    Rule { word: b"SKP", turn: Turn::Nothing },
-    Rule { word: b"REP", turn: Turn::Nothing },
-    Rule { word: b"CHR", turn: Turn::Nothing },
+    Rule {
+        word: b"DFB",
+        turn: Turn::List(List::Bytes),
+    },
+    Rule {
+        word: b"DB",
+        turn: Turn::List(List::Bytes),
+    },
+    Rule {
+        word: b"DW",
+        turn: Turn::List(List::Words),
+    },
+    Rule {
+        word: b"ASC",
+        turn: Turn::Text,
+    },
+    Rule {
+        word: b"DCI",
+        turn: Turn::LastTurned,
+    },
+    Rule {
+        word: b"MSB",
+        turn: Turn::Msb,
+    },
+    Rule {
+        word: b"OBJ",
+        turn: Turn::Nothing,
+    },
+    Rule {
+        word: b"END",
+        turn: Turn::Nothing,
+    },
+    Rule {
+        word: b"LST",
+        turn: Turn::Nothing,
+    },
+    Rule {
+        word: b"SBTL",
+        turn: Turn::Nothing,
+    },
+    Rule {
+        word: b"PAGE",
+        turn: Turn::Nothing,
+    },
+    Rule {
+        word: b"SKP",
+        turn: Turn::Nothing,
+    },
+    Rule {
+        word: b"REP",
+        turn: Turn::Nothing,
+    },
+    Rule {
+        word: b"CHR",
+        turn: Turn::Nothing,
+    },
 ];
 
 static CA65: [Rule; 17] = [
-    Rule { word: b"=", turn: Turn::As(b"EQU") },
-    Rule { word: b":=", turn: Turn::As(b"EQU") },
-    Rule { word: b".ORG", turn: Turn::As(b"ORG") },
-    Rule { word: b".BYTE", turn: Turn::List(List::Bytes) },
-    Rule { word: b".BYT", turn: Turn::List(List::Bytes) },
-    Rule { word: b".ASCIIZ", turn: Turn::Ended(List::Bytes) },
-    Rule { word: b".WORD", turn: Turn::List(List::Words) },
-    Rule { word: b".ADDR", turn: Turn::List(List::Words) },
-    Rule { word: b".RES", turn: Turn::As(b"DS") },
-    Rule { word: b".SEGMENT", turn: Turn::Nothing },
-    Rule { word: b".CODE", turn: Turn::Nothing },
-    Rule { word: b".DATA", turn: Turn::Nothing },
-    Rule { word: b".RODATA", turn: Turn::Nothing },
-    Rule { word: b".SETCPU", turn: Turn::Nothing },
-    Rule { word: b".P02", turn: Turn::Nothing },
-    Rule { word: b".EXPORT", turn: Turn::Nothing },
-    Rule { word: b".LIST", turn: Turn::Nothing },
+    Rule {
+        word: b"=",
+        turn: Turn::As(b"EQU"),
+    },
+    Rule {
+        word: b":=",
+        turn: Turn::As(b"EQU"),
+    },
+    Rule {
+        word: b".ORG",
+        turn: Turn::As(b"ORG"),
+    },
+    Rule {
+        word: b".BYTE",
+        turn: Turn::List(List::Bytes),
+    },
+    Rule {
+        word: b".BYT",
+        turn: Turn::List(List::Bytes),
+    },
+    Rule {
+        word: b".ASCIIZ",
+        turn: Turn::Ended(List::Bytes),
+    },
+    Rule {
+        word: b".WORD",
+        turn: Turn::List(List::Words),
+    },
+    Rule {
+        word: b".ADDR",
+        turn: Turn::List(List::Words),
+    },
+    Rule {
+        word: b".RES",
+        turn: Turn::As(b"DS"),
+    },
+    Rule {
+        word: b".SEGMENT",
+        turn: Turn::Nothing,
+    },
+    Rule {
+        word: b".CODE",
+        turn: Turn::Nothing,
+    },
+    Rule {
+        word: b".DATA",
+        turn: Turn::Nothing,
+    },
+    Rule {
+        word: b".RODATA",
+        turn: Turn::Nothing,
+    },
+    Rule {
+        word: b".SETCPU",
+        turn: Turn::Nothing,
+    },
+    Rule {
+        word: b".P02",
+        turn: Turn::Nothing,
+    },
+    Rule {
+        word: b".EXPORT",
+        turn: Turn::Nothing,
+    },
+    Rule {
+        word: b".LIST",
+        turn: Turn::Nothing,
+    },
 ];
 
 // What all assemblers have alike.
 static ALIKE: [Rule; 3] = [
-    Rule { word: b"ORG", turn: Turn::As(b"ORG") },
-    Rule { word: b"EQU", turn: Turn::As(b"EQU") },
-    Rule { word: b"DS", turn: Turn::As(b"DS") },
+    Rule {
+        word: b"ORG",
+        turn: Turn::As(b"ORG"),
+    },
+    Rule {
+        word: b"EQU",
+        turn: Turn::As(b"EQU"),
+    },
+    Rule {
+        word: b"DS",
+        turn: Turn::As(b"DS"),
+    },
 ];
 
 // The rule for a word, in either case.
@@ -192,42 +489,150 @@ struct Sign {
 }
 
 static SIGNS: [Sign; 36] = [
-    Sign { word: b".OR", dialect: Dialect::Sc },
-    Sign { word: b".EQ", dialect: Dialect::Sc },
-    Sign { word: b".DA", dialect: Dialect::Sc },
-    Sign { word: b".AS", dialect: Dialect::Sc },
-    Sign { word: b".AT", dialect: Dialect::Sc },
-    Sign { word: b".HS", dialect: Dialect::Sc },
-    Sign { word: b".BS", dialect: Dialect::Sc },
-    Sign { word: b".TF", dialect: Dialect::Sc },
-    Sign { word: b".EN", dialect: Dialect::Sc },
-    Sign { word: b"EPZ", dialect: Dialect::Lisa },
-    Sign { word: b"BYT", dialect: Dialect::Lisa },
-    Sign { word: b"ADR", dialect: Dialect::Lisa },
-    Sign { word: b"HBY", dialect: Dialect::Lisa },
-    Sign { word: b"DFS", dialect: Dialect::Lisa },
-    Sign { word: b"BTR", dialect: Dialect::Lisa },
-    Sign { word: b"BFL", dialect: Dialect::Lisa },
-    Sign { word: b"XOR", dialect: Dialect::Lisa },
-    Sign { word: b"NLS", dialect: Dialect::Lisa },
-    Sign { word: b"DA", dialect: Dialect::Merlin },
-    Sign { word: b"LUP", dialect: Dialect::Merlin },
-    Sign { word: b"DSK", dialect: Dialect::Merlin },
-    Sign { word: b"BLT", dialect: Dialect::Merlin },
-    Sign { word: b"BGE", dialect: Dialect::Merlin },
-    Sign { word: b"MSB", dialect: Dialect::Edasm },
-    Sign { word: b"SBTL", dialect: Dialect::Edasm },
-    Sign { word: b"CHN", dialect: Dialect::Edasm },
-    Sign { word: b".ORG", dialect: Dialect::Ca65 },
-    Sign { word: b".BYTE", dialect: Dialect::Ca65 },
-    Sign { word: b".BYT", dialect: Dialect::Ca65 },
-    Sign { word: b".ASCIIZ", dialect: Dialect::Ca65 },
-    Sign { word: b".WORD", dialect: Dialect::Ca65 },
-    Sign { word: b".ADDR", dialect: Dialect::Ca65 },
-    Sign { word: b".RES", dialect: Dialect::Ca65 },
-    Sign { word: b".SEGMENT", dialect: Dialect::Ca65 },
-    Sign { word: b".PROC", dialect: Dialect::Ca65 },
-    Sign { word: b".SETCPU", dialect: Dialect::Ca65 },
+    Sign {
+        word: b".OR",
+        dialect: Dialect::Sc,
+    },
+    Sign {
+        word: b".EQ",
+        dialect: Dialect::Sc,
+    },
+    Sign {
+        word: b".DA",
+        dialect: Dialect::Sc,
+    },
+    Sign {
+        word: b".AS",
+        dialect: Dialect::Sc,
+    },
+    Sign {
+        word: b".AT",
+        dialect: Dialect::Sc,
+    },
+    Sign {
+        word: b".HS",
+        dialect: Dialect::Sc,
+    },
+    Sign {
+        word: b".BS",
+        dialect: Dialect::Sc,
+    },
+    Sign {
+        word: b".TF",
+        dialect: Dialect::Sc,
+    },
+    Sign {
+        word: b".EN",
+        dialect: Dialect::Sc,
+    },
+    Sign {
+        word: b"EPZ",
+        dialect: Dialect::Lisa,
+    },
+    Sign {
+        word: b"BYT",
+        dialect: Dialect::Lisa,
+    },
+    Sign {
+        word: b"ADR",
+        dialect: Dialect::Lisa,
+    },
+    Sign {
+        word: b"HBY",
+        dialect: Dialect::Lisa,
+    },
+    Sign {
+        word: b"DFS",
+        dialect: Dialect::Lisa,
+    },
+    Sign {
+        word: b"BTR",
+        dialect: Dialect::Lisa,
+    },
+    Sign {
+        word: b"BFL",
+        dialect: Dialect::Lisa,
+    },
+    Sign {
+        word: b"XOR",
+        dialect: Dialect::Lisa,
+    },
+    Sign {
+        word: b"NLS",
+        dialect: Dialect::Lisa,
+    },
+    Sign {
+        word: b"DA",
+        dialect: Dialect::Merlin,
+    },
+    Sign {
+        word: b"LUP",
+        dialect: Dialect::Merlin,
+    },
+    Sign {
+        word: b"DSK",
+        dialect: Dialect::Merlin,
+    },
+    Sign {
+        word: b"BLT",
+        dialect: Dialect::Merlin,
+    },
+    Sign {
+        word: b"BGE",
+        dialect: Dialect::Merlin,
+    },
+    Sign {
+        word: b"MSB",
+        dialect: Dialect::Edasm,
+    },
+    Sign {
+        word: b"SBTL",
+        dialect: Dialect::Edasm,
+    },
+    Sign {
+        word: b"CHN",
+        dialect: Dialect::Edasm,
+    },
+    Sign {
+        word: b".ORG",
+        dialect: Dialect::Ca65,
+    },
+    Sign {
+        word: b".BYTE",
+        dialect: Dialect::Ca65,
+    },
+    Sign {
+        word: b".BYT",
+        dialect: Dialect::Ca65,
+    },
+    Sign {
+        word: b".ASCIIZ",
+        dialect: Dialect::Ca65,
+    },
+    Sign {
+        word: b".WORD",
+        dialect: Dialect::Ca65,
+    },
+    Sign {
+        word: b".ADDR",
+        dialect: Dialect::Ca65,
+    },
+    Sign {
+        word: b".RES",
+        dialect: Dialect::Ca65,
+    },
+    Sign {
+        word: b".SEGMENT",
+        dialect: Dialect::Ca65,
+    },
+    Sign {
+        word: b".PROC",
+        dialect: Dialect::Ca65,
+    },
+    Sign {
+        word: b".SETCPU",
+        dialect: Dialect::Ca65,
+    },
 ];
 
 /// The assembler that a word tells of.

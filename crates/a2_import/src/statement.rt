@@ -44,7 +44,11 @@ pub(crate) fn put_label<A: Allocator + Copy>(
         (_, [mark, name @ ..]) if *mark == local_mark(dialect) => locals.put_local(out, name),
         _ => {
             put_name(out, label)?;
-            if equates { Ok(()) } else { locals.take_label(out.as_slice()) }
+            if equates {
+                Ok(())
+            } else {
+                locals.take_label(out.as_slice())
+            }
         }
     }
 }
@@ -59,7 +63,11 @@ pub(crate) fn is_equate(dialect: Dialect, operation: &[u8]) -> bool {
 
 // How an operand comes over that is said.
 fn same_or_not(dialect: Dialect, operand: &[u8]) -> Outcome {
-    if differs(dialect, operand) { Outcome::Differs } else { Outcome::Same }
+    if differs(dialect, operand) {
+        Outcome::Differs
+    } else {
+        Outcome::Same
+    }
 }
 
 // Appends an operation and its operand.
