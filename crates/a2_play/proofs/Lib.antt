@@ -1,3 +1,4 @@
 pub mod Keys
 pub mod Runs
 pub mod Worlds
+pub mod Written

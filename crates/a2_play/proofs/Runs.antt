@@ -1,16 +1,15 @@
 -- A program that is played, behind a key and behind a run.
-use Rattle.std.proofs.Common.{◌≡◌, ◌⊎◌, inl, inr, ℕ, ◌+◌, ◌-◌, ◌<◌, ◌≤◌, List, [], ◌∷◌, ◌++◌, refl, sym, ap, ap₂, ◌∙◌, subst, arith, Option, Some, None}
+use Rattle.std.proofs.Common.{◌≡◌, ◌⊎◌, inl, inr, ℕ, ◌+◌, ◌-◌, ◌<◌, ◌≤◌, List, [], ◌∷◌, ◌++◌, refl, sym, ap, ap₂, ◌∙◌, subst, arith, Some, None}
 use Rattle.a2_asm.specs.Assembled.{Assembled}
 use Rattle.a2_bus.specs.View.{memory_of}
-use Rattle.a2_services.specs.World.{World}
 use Rattle.a2_machine.specs.declared.Cause.{Cause}
 use Rattle.a2_machine.specs.declared.Cause.TheVariants.{Limit}
-use Rattle.a2_machine.specs.Meaning.{Code, stuck, world_at}
+use Rattle.a2_machine.specs.Meaning.{stuck, world_at}
 use Rattle.a2_machine.specs.ByteRun.{bytes}
 use Rattle.a2_machine.specs.ProgramGuard.{guard_of_program}
 use Rattle.a2_machine.specs.State.{Device, MachineState, world_of_state, code_of, steps_left, IsMachineRun}
 use Rattle.a2_play.specs.declared.player.Typed.{Typed}
-use Rattle.a2_play.specs.Played.{Play, IsPlayed, IsStuckBy, code_of_play, start, typed, with_key, world_before_keys, world_with_keys, NoneAbove}
+use Rattle.a2_play.specs.Played.{IsPlayed, IsStuckBy, code_of_play, start, typed, with_key, world_before_keys, world_with_keys}
 use Rattle.a2_play.proofs.Keys.{NoneAbove-push, NoneAbove-weaker}
 use Rattle.a2_play.proofs.Worlds.{world-more, world-typed, world-earlier, world-start}
 

@@ -1,9 +1,9 @@
 -- The worlds of a program that is played.
-use Rattle.std.proofs.Common.{◌≡◌, ℕ, zero, suc, ◌+◌, ◌<◌, ◌≤◌, List, [], ◌∷◌, ◌++◌, refl, sym, ap, ap₂, ◌∙◌, arith, append_assoc, Option, Some, None}
+use Rattle.std.proofs.Common.{◌≡◌, ℕ, zero, suc, ◌+◌, ◌<◌, ◌≤◌, List, [], ◌∷◌, ◌++◌, refl, sym, ap, ap₂, ◌∙◌, arith, append_assoc}
 use Rattle.std.proofs.lemmas.List.{append-nil}
 use Rattle.a2_asm.specs.Assembled.{Assembled}
 use Rattle.a2_services.specs.World.{World}
-use Rattle.a2_machine.specs.Meaning.{stuck, next, world_at}
+use Rattle.a2_machine.specs.Meaning.{next, world_at}
 use Rattle.a2_play.specs.declared.player.Typed.{Typed}
 use Rattle.a2_play.specs.Played.{code_of_play, typed, keys_at, world_before_keys, world_with_keys, NoneAbove}
 use Rattle.a2_play.proofs.Keys.{keys_at-append, keys_at-past, keys_at-other, keys_at-here, NoneAbove-weaker}

@@ -1,3 +1,5 @@
 pub mod Paces
 pub mod Played
 pub mod Strokes
+pub mod Records
+pub mod Replays

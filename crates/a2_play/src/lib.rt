@@ -1,19 +1,27 @@
 //! A machine that is played at a terminal: keys as they are typed, cycles as time goes, and the cells that changed.
 #![tactic(auto)]
 
+ghost use Rattle.a2_play.specs.Replays.{ReplayIsPlay};
+
 mod clock;
-mod fault;
 mod pace;
 mod panel;
 mod player;
+mod record;
 mod session;
 mod spelling;
 mod strokes;
 
 pub use clock::Clock;
-pub use fault::PlayFault;
 pub use pace::{Pace, due};
 pub use player::{Player, Typed};
+pub use record::{Record, RecordFault, put_record, record_of};
 pub use session::{Session, play};
 pub use spelling::put_keys;
 pub use strokes::{Order, Stroke, first_stroke};
+
+/// Two plays of a program with the same keys, typed behind the same steps, stand at the same world behind as many steps: so a replay
+/// shows what the play did.
+pub fn replay_is_play()
+    ensures { ReplayIsPlay }
+{}

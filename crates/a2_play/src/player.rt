@@ -164,4 +164,50 @@ impl<A: Allocator> Player<A> {
         }
         None
     }
+
+    // Makes steps until so many were made since the start: whether that could be.
+    fn run_until(&mut self, steps: u64) -> bool
+        ensures log { self.new.log ≡ self.old.log }
+        ensures reached { result ≡ true → self.new.machine.state.steps ≡ steps }
+        ensures played { (program : Assembled) → IsPlayed program self.old → IsPlayed program self.new }
+    {
+        for _ in 0..u64::MAX {
+            let made = self.machine.steps();
+            if made >= steps {
+                break;
+            }
+            let ahead = (steps - made).min(MOST_STEPS) as u32;
+            if self.run(ahead).is_some() {
+                break;
+            }
+        }
+        self.machine.steps() == steps
+    }
+
+    // Types a key when so many steps were made as it says: whether that could be.
+    fn type_again(&mut self, typed: Typed) -> Result<bool, AllocError>
+        ensures typed { IfOk result (λ is_typed. is_typed ≡ true → self.new.log ≡ self.old.log ++ typed ∷ []) }
+        ensures played { (program : Assembled) → IsPlayed program self.old → IsPlayed program self.new }
+    {
+        if typed.key < 128 && self.run_until(typed.steps) {
+            self.type_key(typed.key)
+        } else {
+            Ok(false)
+        }
+    }
+
+    /// Types the keys of a log, each when so many steps were made since the start as it says, and makes steps until `end` of them were
+    /// made: whether all of that could be. What could be done before stays done. Refused only for want of memory.
+    pub fn replay(&mut self, log: &[Typed], end: u64) -> Result<bool, AllocError>
+        ensures log { IfOk result (λ is_whole. is_whole ≡ true → self.new.log ≡ self.old.log ++ log.now) }
+        ensures end { IfOk result (λ is_whole. is_whole ≡ true → self.new.machine.state.steps ≡ end) }
+        ensures played { (program : Assembled) → IsPlayed program self.old → IsPlayed program self.new }
+    {
+        for typed in log {
+            if !self.type_again(*typed)? {
+                return Ok(false);
+            }
+        }
+        Ok(self.run_until(end))
+    }
 }

@@ -3,15 +3,16 @@
 ghost use Rattle.std.specs.Prelude.{◌≡◌, ◌<◌};
 ghost use Rattle.a2_play.specs.Played.{IsPlayed};
 
+use crate::Clock;
 use crate::pace::{Pace, due};
 use crate::panel::{Face, State, put_panel};
 use crate::player::Player;
 use crate::strokes::{Order, Stroke, first_stroke};
-use crate::{Clock, PlayFault};
 use a2_ansi::{Colours, Shot, put_changes};
 use a2_asm::Program;
 use a2_explain::tell_stop;
 use a2_machine::Cause;
+use a2_run::RunFault;
 use a2_stream::{Input, Output, ToWrite, put};
 use std::alloc::Global;
 use std::marker::Model;
@@ -155,7 +156,7 @@ impl<'a> Session<'a> {
     }
 
     // Types a key; where the machine stopped RETURN ends the session.
-    fn press(&mut self, key: u8) -> Result<(), PlayFault>
+    fn press(&mut self, key: u8) -> Result<(), RunFault>
         requires { key < 128 }
     {
         match self.state {
@@ -170,7 +171,7 @@ impl<'a> Session<'a> {
     }
 
     // Does what typed bytes say.
-    fn hear(&mut self, bytes: &[u8]) -> Result<(), PlayFault> {
+    fn hear(&mut self, bytes: &[u8]) -> Result<(), RunFault> {
         let mut ahead = bytes;
         while let Some((stroke, rest)) = first_stroke(ahead, self.is_ordered) {
             self.is_ordered = stroke == Stroke::Prefix;
@@ -224,7 +225,7 @@ impl<'a> Session<'a> {
 }
 
 // What a stop means, in a line; nothing where there is none.
-fn stop_text(alloc: Global, session: &Session<'_>, pc: u16) -> Result<Vec<u8>, PlayFault> {
+fn stop_text(alloc: Global, session: &Session<'_>, pc: u16) -> Result<Vec<u8>, RunFault> {
     let mut text = Vec::new(alloc);
     if let Some(cause) = session.cause() {
         match tell_stop(
@@ -237,7 +238,7 @@ fn stop_text(alloc: Global, session: &Session<'_>, pc: u16) -> Result<Vec<u8>, P
         ) {
             Ok(()) => {}
             // A text in memory takes no more only where memory is wanted.
-            Err(_) => return Err(PlayFault::Memory),
+            Err(_) => return Err(RunFault::Memory),
         }
     }
     Ok(text)
@@ -248,7 +249,7 @@ fn put_face<W: Output>(
     alloc: Global,
     session: &mut Session<'_>,
     writer: &mut W,
-) -> Result<(), PlayFault> {
+) -> Result<(), RunFault> {
     let face = session.face();
     if session.face == Some(face) {
         return Ok(());
@@ -266,7 +267,7 @@ fn draw<W: Output>(
     session: &mut Session<'_>,
     now: u64,
     output: &mut W,
-) -> Result<(), PlayFault> {
+) -> Result<(), RunFault> {
     let is_lit = now / BLINK % 2 == 1;
     let shot = Shot::new(&session.player.machine().view(), is_lit);
     let mut frame = Vec::new(alloc);
@@ -289,9 +290,12 @@ fn take_turn<R: Input, W: Output, C: Clock>(
     clock: &mut C,
     input: &mut R,
     output: &mut W,
-) -> Result<(), PlayFault> {
+) -> Result<(), RunFault> {
     let mut typed = [0u8; TYPED];
-    let count = input.read(&mut typed)?;
+    let count = match input.read(&mut typed) {
+        Ok(count) => count,
+        Err(_) => return Err(RunFault::Read),
+    };
     session.hear(&typed[..count])?;
     let mut now = clock.micros();
     session.go_on(now);
@@ -318,7 +322,7 @@ pub fn play<R: Input, W: Output, C: Clock>(
     clock: &mut C,
     input: &mut R,
     output: &mut W,
-) -> Result<(), PlayFault> {
+) -> Result<(), RunFault> {
     let now = clock.micros();
     session.reckoned = now;
     draw(alloc, session, now, output)?;

@@ -2,3 +2,4 @@ pub mod ColumnLaws
 pub mod NamedLaws
 pub mod ReleaseLaws
 pub mod WordLaws
+pub mod PlayLaws

@@ -3,3 +3,4 @@ pub mod Filmed
 pub mod Named
 pub mod Release
 pub mod Words
+pub mod PlayWords

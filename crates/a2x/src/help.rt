@@ -66,6 +66,25 @@ F goes out in columns. Before or behind files, of which there may be several:
               whole or not at all
 ";
 
+// The options that a session alone has.
+const PLAY_OPTIONS: &[u8] = b"
+Before F:
+
+  --pace N    N cycles a second, 1000 to 1000000000, or max; without it as
+              many as an Apple II makes, 1022727
+  --record T  at the end T has each key with its step, whole or not at all:
+              a2x run --replay T F makes the run again
+  --colours C lo-res in full colours, in those of 256, or none
+";
+
+// How a session's run is made again.
+const REPLAY_OPTION: &[u8] = b"
+Alone before F:
+
+  --replay T  the run of a session again, whose keys a2x play --record T
+              wrote
+";
+
 const BLANKS: &[u8] = b"                      ";
 
 // Writes the row of a word.
@@ -99,6 +118,8 @@ fn own_options(tool: Tool) -> &'static [u8] {
         Tool::Film => FILM_OPTIONS,
         Tool::Trace => TRACE_OPTIONS,
         Tool::Fmt => FMT_OPTIONS,
+        Tool::Play => PLAY_OPTIONS,
+        Tool::Run => REPLAY_OPTION,
         _ => b"",
     }
 }

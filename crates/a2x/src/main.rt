@@ -16,6 +16,7 @@ mod named;
 mod play;
 mod program;
 mod release;
+mod replay;
 mod table;
 mod terminal;
 mod tests;

@@ -1,17 +1,23 @@
 //! The word `play`: its words, and a session from its first draw to what is told behind its last.
 
-ghost use Rattle.std.specs.Prelude.{◌<◌, ◌≤◌, length, IfOk, IfErr};
+ghost use Rattle.std.specs.Prelude.{◌≡◌, ◌<◌, ◌≤◌, ◌↔◌, Some, map, length, string_bytes, SomeIff, IfSome, IfNone, IfOk, IfErr};
+ghost use Rattle.std.specs.Str.Parse.{digits_value};
+ghost use Rattle.a2_ansi.specs.declared.colours.Colours.{Colours as DeclaredColours};
+ghost use Rattle.a2_play.specs.declared.pace.Pace.{Pace as DeclaredPace};
+ghost use Rattle.a2x.specs.PlayWords.{IsPaceNumber, IsPace, AreColours, PlayAsked, AsksPlay, play_asked_of, no_play_asked};
 
 use crate::program::{tell, tell_option, tell_value, text_of};
 use crate::tools::{told, written};
 use a2_ansi::Colours;
+use a2_asm::Program;
+use a2_desk::Desk;
 use a2_explain::tell_stop;
 use a2_host::Shelf;
-use a2_machine::{Cause, write_cause, write_registers};
-use a2_play::{Clock, Pace, PlayFault, Player, Session, play, put_keys};
-use a2_run::{RunFault, program_of};
+use a2_machine::{Cause, Machine, write_cause, write_registers};
+use a2_play::{Clock, Pace, Player, Session, play, put_keys, put_record};
+use a2_run::{RunFault, program_of, status};
 use a2_stream::{Input, Output, WriteFault, put};
-use std::alloc::Global;
+use std::alloc::{Allocator, Global};
 
 /// What puts a terminal's other screen up, without a cursor, and what takes it down.
 const ENTER: &[u8] = b"\x1B[?1049h\x1B[?25l\x1B[2J";
@@ -33,6 +39,8 @@ pub struct PlayOrder<'a> {
     pub file: &'a str,
     pub pace: Pace,
     pub colours: Colours,
+    /// The file that takes the keys with their steps.
+    pub record_to: Option<&'a str>,
     /// Whether the terminal gives each key as it is typed.
     pub is_raw: bool,
 }
@@ -52,19 +60,45 @@ pub enum PlayMisfit<'a> {
     Files,
 }
 
+// The cycles a second that a word spells.
+fn pace_number(word: &str) -> Option<u32>
+    ensures { SomeIff result (IsPaceNumber word.now) (digits_value 10 word.now) }
+{
+    if word.len() > 10 {
+        return None;
+    }
+    if word.starts_with('+') {
+        return None;
+    }
+    let cycles: u32 = word.parse().ok()?;
+    if Pace::is_in_bounds(cycles) {
+        Some(cycles)
+    } else {
+        None
+    }
+}
+
 // The pace that a word names.
-fn pace_named(word: &str) -> Option<Pace> {
+fn pace_named(word: &str) -> Option<Pace>
+    ensures some { IfSome result (λ pace. IsPace word.now pace) }
+    ensures only { IfSome result (λ pace. (other : DeclaredPace) → IsPace word.now other → other ≡ pace) }
+    ensures none { IfNone result ((pace : DeclaredPace) → IsPace word.now pace → ⊥) }
+{
     if word == "max" {
         return Some(Pace::Max);
     }
-    match word.parse::<u32>() {
-        Ok(cycles) if Pace::is_in_bounds(cycles) => Some(Pace::Cycles(cycles)),
-        _ => None,
+    match pace_number(word) {
+        Some(cycles) => Some(Pace::Cycles(cycles)),
+        None => None,
     }
 }
 
 // The colours that a word names.
-fn colours_named(word: &str) -> Option<Colours> {
+fn colours_named(word: &str) -> Option<Colours>
+    ensures some { IfSome result (λ colours. AreColours word.now colours) }
+    ensures only { IfSome result (λ colours. (other : DeclaredColours) → AreColours word.now other → other ≡ colours) }
+    ensures none { IfNone result ((colours : DeclaredColours) → AreColours word.now colours → ⊥) }
+{
     match word {
         "full" => Some(Colours::Full),
         "256" => Some(Colours::Palette),
@@ -76,7 +110,9 @@ fn colours_named(word: &str) -> Option<Colours> {
 // Takes an option or the file off words that are not empty; the words behind it.
 fn take<'a>(order: &mut PlayOrder<'a>, words: &'a [String]) -> Result<&'a [String], PlayMisfit<'a>>
     requires { 0 < length words.now }
-    ensures { IfOk result (λ rest. length rest.now < length words.now) }
+    ensures fewer { IfOk result (λ rest. length rest.now < length words.now) }
+    ensures asked { IfOk result (λ rest. (asked : PlayAsked) → AsksPlay (play_asked_of order.old) (map string_bytes words.now) asked
+        ↔ AsksPlay (play_asked_of order.new) (map string_bytes rest.now) asked) }
 {
     match words {
         [word, rest @ ..] if word.as_str() == "--raw" => {
@@ -97,8 +133,13 @@ fn take<'a>(order: &mut PlayOrder<'a>, words: &'a [String]) -> Result<&'a [Strin
             order.colours = colours;
             Ok(rest)
         }
+        [word, value, rest @ ..] if word.as_str() == "--record" => {
+            order.record_to = Some(value.as_str());
+            Ok(rest)
+        }
         [word] if word.as_str() == "--pace" => Err(PlayMisfit::Value("--pace")),
         [word] if word.as_str() == "--colours" => Err(PlayMisfit::Value("--colours")),
+        [word] if word.as_str() == "--record" => Err(PlayMisfit::Value("--record")),
         [word, ..] if word.as_str().starts_with('-') => Err(PlayMisfit::Option(word.as_str())),
         [word] => {
             order.file = word.as_str();
@@ -108,12 +149,17 @@ fn take<'a>(order: &mut PlayOrder<'a>, words: &'a [String]) -> Result<&'a [Strin
     }
 }
 
-/// What the `words` behind `play` ask for: options, and a file.
-pub fn play_order(words: &[String]) -> Result<PlayOrder<'_>, PlayMisfit<'_>> {
+/// What the `words` behind `play` ask for: the options `--pace N`, `--colours C`, `--record T` and `--raw`, of two of one name the later,
+/// and a file. Refused are words that ask for no session: the first that cannot stand is told.
+pub fn play_order(words: &[String]) -> Result<PlayOrder<'_>, PlayMisfit<'_>>
+    ensures asked { IfOk result (λ order. AsksPlay no_play_asked (map string_bytes words.now) (play_asked_of order)) }
+    ensures named { IfOk result (λ order. 0 < length order.file.now) }
+{
     let mut order = PlayOrder {
         file: "",
         pace: Pace::apple(),
         colours: Colours::Palette,
+        record_to: None,
         is_raw: false,
     };
     let mut rest = words;
@@ -126,35 +172,77 @@ pub fn play_order(words: &[String]) -> Result<PlayOrder<'_>, PlayMisfit<'_>> {
     Ok(order)
 }
 
-// The fault of a run that a session's is.
-fn fault_of(fault: PlayFault) -> RunFault {
-    match fault {
-        PlayFault::Read => RunFault::Read,
-        PlayFault::Write => RunFault::Write,
-        PlayFault::Memory => RunFault::Memory,
+/// Writes the registers, and why a machine stopped, where it did.
+pub fn put_stand<A: Allocator, W: Output>(
+    machine: &Machine<A>,
+    cause: Option<Cause>,
+    output: &mut W,
+) -> Result<(), WriteFault> {
+    write_registers(machine, output)?;
+    match cause {
+        Some(cause) => write_cause(cause, output),
+        None => Ok(()),
     }
 }
 
 // Writes what is told behind a session: the registers, why it stopped, and the keys where they are asked for.
 fn put_end<W: Output>(session: &Session<'_>, output: &mut W) -> Result<(), WriteFault> {
     let player = session.player();
-    write_registers(player.machine(), output)?;
-    if let Some(cause) = session.cause() {
-        write_cause(cause, output)?;
-    }
+    put_stand(player.machine(), session.cause(), output)?;
     if session.saves() {
         put_keys(player.log(), output)?;
     }
     Ok(())
 }
 
-// The status of a session that was ended where this cause held, or none.
-fn status_of(cause: Option<Cause>) -> u8
+/// The status where a run stood that was ended, or stopped by this cause.
+pub fn status_where(cause: Option<Cause>) -> u8
     ensures { result ≤ 5 }
 {
     match cause {
-        None | Some(Cause::Returned | Cause::Brk) => 0,
-        Some(_) => 3,
+        None => 0,
+        Some(cause) => status(&Ok(cause)),
+    }
+}
+
+// Writes the keys of a session with their steps into a file, whole or not at all.
+fn record_into<D: Desk>(session: &Session<'_>, file: &str, desk: &mut D) -> Result<(), WriteFault> {
+    let player = session.player();
+    let mut draft = desk.begin(file)?;
+    match put_record(player.log(), player.machine().steps(), &mut draft) {
+        Ok(()) => desk.finish(file, draft),
+        Err(fault) => {
+            desk.give_up(draft);
+            Err(fault)
+        }
+    }
+}
+
+// Writes the keys where a file is to take them; the status.
+fn recorded<D: Desk, E: Output>(
+    session: &Session<'_>,
+    record: Option<&str>,
+    desk: &mut D,
+    complaints: &mut E,
+) -> u8
+    ensures { result ≤ 5 }
+{
+    let Some(file) = record else {
+        return 0;
+    };
+    match record_into(session, file, desk) {
+        Ok(()) => 0,
+        Err(_) => {
+            tell(
+                &[
+                    b"play: the keys cannot be written into ",
+                    file.as_bytes(),
+                    b": it is as it was",
+                ],
+                complaints,
+            );
+            4
+        }
     }
 }
 
@@ -165,20 +253,45 @@ fn played<R: Input, W: Output, C: Clock>(
     clock: &mut C,
     input: &mut R,
     output: &mut W,
-) -> Result<(), PlayFault> {
+) -> Result<(), RunFault> {
     put(ENTER, output)?;
     let answer = play(alloc, session, clock, input, output);
     put(LEAVE, output)?;
     answer
 }
 
-/// Plays a source: its run at a terminal, with the keys that are typed. The status is 1 where the source is refused, 3 where
-/// the machine stopped but by RETURNED or BRK, 4 where a read or a write fails, and 5 for want of memory, each told on
-/// `complaints`.
-pub fn play_source<R: Input, W: Output, E: Output, C: Clock>(
+// Tells behind a session where it stands, and why it stopped; the status.
+fn told_end<W: Output, E: Output>(
+    alloc: Global,
+    source: &[u8],
+    program: &Program,
+    session: &Session<'_>,
+    output: &mut W,
+    complaints: &mut E,
+) -> u8
+    ensures { result ≤ 5 }
+{
+    let status = written(put_end(session, output), complaints);
+    if status != 0 {
+        return status;
+    }
+    let status = status_where(session.cause());
+    if let (Some(cause), 3) = (session.cause(), status) {
+        let pc = session.player().machine().regs().pc;
+        // Where this fails there is no place left to tell it.
+        let _ = tell_stop(alloc, source, program, pc, cause, complaints);
+    }
+    status
+}
+
+/// Plays a source: its run at a terminal, with the keys that are typed, which a file takes where the words name one. The status is 1
+/// where the source is refused, 3 where the machine stopped but by RETURNED or BRK, 4 where a read or a write fails, and 5 for want of
+/// memory, each told on `complaints`.
+pub fn play_source<D: Desk, R: Input, W: Output, E: Output, C: Clock>(
     alloc: Global,
     source: &[u8],
     order: &PlayOrder<'_>,
+    desk: &mut D,
     clock: &mut C,
     input: &mut R,
     output: &mut W,
@@ -195,20 +308,13 @@ pub fn play_source<R: Input, W: Output, E: Output, C: Clock>(
         Err(_) => return told(RunFault::Memory, complaints),
     };
     let mut session = Session::new(source, &program, player, order.pace, order.colours);
-    if let Err(fault) = played(alloc, &mut session, clock, input, output) {
-        return told(fault_of(fault), complaints);
+    let answer = played(alloc, &mut session, clock, input, output);
+    let kept = recorded(&session, order.record_to, desk, complaints);
+    if let Err(fault) = answer {
+        return told(fault, complaints);
     }
-    let status = written(put_end(&session, output), complaints);
-    if status != 0 {
-        return status;
-    }
-    let status = status_of(session.cause());
-    if let (Some(cause), 3) = (session.cause(), status) {
-        let pc = session.player().machine().regs().pc;
-        // Where this fails there is no place left to tell it.
-        let _ = tell_stop(alloc, source, &program, pc, cause, complaints);
-    }
-    status
+    let status = told_end(alloc, source, &program, &session, output, complaints);
+    if kept != 0 { kept } else { status }
 }
 
 // Tells why the words of a session are refused.
@@ -257,13 +363,38 @@ fn tell_seat<E: Output>(seat: Seat, is_raw: bool, complaints: &mut E) -> bool {
     seat.types && seat.sees && is_raw
 }
 
+// Tells that the keys would take the place of the source, where they would.
+fn spares_source<D: Desk, E: Output>(
+    order: &PlayOrder<'_>,
+    desk: &D,
+    complaints: &mut E,
+) -> Result<(), u8>
+    ensures { IfErr result (λ status. status ≤ 5) }
+{
+    match order.record_to {
+        Some(record) if record == order.file || desk.are_one(record, order.file) => {
+            tell(
+                &[
+                    b"play: the keys would take the place of ",
+                    order.file.as_bytes(),
+                    b": give --record another name",
+                ],
+                complaints,
+            );
+            Err(2)
+        }
+        _ => Ok(()),
+    }
+}
+
 /// Plays the file that the words behind `play` name. The status is 2 where they are refused, and where nobody sits there; as of
 /// [`play_source`] else.
-pub fn play_of<S: Shelf, R: Input, W: Output, E: Output, C: Clock>(
+pub fn play_of<S: Shelf, D: Desk, R: Input, W: Output, E: Output, C: Clock>(
     alloc: Global,
     words: &[String],
     seat: Seat,
     shelf: &mut S,
+    desk: &mut D,
     clock: &mut C,
     input: &mut R,
     output: &mut W,
@@ -282,11 +413,13 @@ pub fn play_of<S: Shelf, R: Input, W: Output, E: Output, C: Clock>(
     if !tell_seat(seat, order.is_raw, complaints) {
         return Err(2);
     }
+    spares_source(&order, desk, complaints)?;
     let source = text_of(alloc, Some(order.file), shelf, input, complaints)?;
     Ok(play_source(
         alloc,
         source.as_slice(),
         &order,
+        desk,
         clock,
         input,
         output,

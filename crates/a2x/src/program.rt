@@ -9,6 +9,7 @@ use crate::help::{put_page, put_use};
 use crate::named::{check_order, file_in};
 use crate::play::{Seat, play_of};
 use crate::release::put_version;
+use crate::replay::{asks_replay, replay_of};
 use crate::table::{Tool, Word, nearest, word_named};
 use crate::terminal::mon;
 use crate::tests::{exam_in, tell_words, test};
@@ -48,7 +49,7 @@ fn tell_unopened<E: Output>(name: &str, complaints: &mut E) -> u8
 }
 
 // What a session is to begin with, of the file with this name; or the status, where that is told.
-fn loaded_text<S: Shelf, E: Output>(
+pub(crate) fn loaded_text<S: Shelf, E: Output>(
     alloc: Global,
     name: &str,
     shelf: &mut S,
@@ -559,6 +560,7 @@ fn act<S: Shelf, D: Desk, C: Clock, R: Input, W: Output, E: Output>(
             behind(words),
             seat,
             shelf,
+            desk,
             clock,
             input,
             output,
@@ -570,6 +572,9 @@ fn act<S: Shelf, D: Desk, C: Clock, R: Input, W: Output, E: Output>(
             Err(fault) => Err(refused(word, behind(words), fault, complaints)),
         },
         Tool::Film => film_of(alloc, word, words, shelf, desk, input, output, complaints),
+        Tool::Run if asks_replay(behind(words)) => {
+            replay_of(alloc, behind(words), shelf, input, output, complaints)
+        }
         Tool::Run => match order_of(words) {
             Ok(order) => {
                 let text = text_of(alloc, order.file, shelf, input, complaints)?;

@@ -1,4 +1,4 @@
-use Rattle.std.proofs.Common.{◌≡◌, ◌∙◌, ap₂, ℕ, [], Option}
+use Rattle.std.proofs.Common.{◌≡◌, ◌∙◌, ap₂, []}
 use Rattle.a2_hex.specs.Images.{held}
 use Rattle.a2_machine.specs.Start.{start_world}
 use Rattle.a2_machine.specs.State.{world_of_state}

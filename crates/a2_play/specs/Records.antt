@@ -1,0 +1,21 @@
+-- A session's keys with their steps, as a text. This project's profile.
+use Rattle.std.specs.Prelude.{ℕ, List, [], ◌∷◌, ◌++◌, codes}
+use Rattle.std.specs.Fmt.{decimal}
+use Rattle.a2_text.specs.Digits.{hex_pair}
+use Rattle.a2_play.specs.declared.player.Typed.{Typed}
+
+-- a key: the steps that were made when it was typed, and its code, 00 to 7F
+abbrev pub key_line : Typed → List ℕ
+key_line typed = decimal typed.steps ++ (codes " " ++ (hex_pair typed.key ++ codes "\n"))
+
+-- the steps at the end
+abbrev pub end_line : ℕ → List ℕ
+end_line steps = decimal steps ++ codes " END\n"
+
+-- a line for each key, in the order in which they were typed, and one for the end
+abbrev pub key_lines : List Typed → List ℕ
+key_lines [] = []
+key_lines (typed ∷ more) = key_line typed ++ key_lines more
+
+abbrev pub record_text : List Typed → ℕ → List ℕ
+record_text log steps = key_lines log ++ end_line steps
