@@ -1,5 +1,6 @@
 -- The steps of a run that is filmed, one after another.
-use Rattle.std.specs.Prelude.{◌≡◌, ◌⊎◌, ℕ, zero, suc, ◌+◌, ◌-◌, ◌<◌, ◌≤◌, List, [], ◌++◌, Option, Some, None, is_some, IsErr, IfOk, Result, Ok, Err, refl}
+use Rattle.std.specs.Prelude.{◌≡◌, ◌⊎◌, ℕ, zero, suc, ◌+◌, ◌-◌, ◌<◌, ◌≤◌, List, [], ◌++◌, Option, Some, None, is_some, IsErr}
+use Rattle.std.specs.Prelude.{IfOk, Result, Ok, Err, refl}
 use Rattle.std.proofs.Common.{sym, ap, ap₂, ◌∙◌, subst, arith, inl, inr, true≢false, append_assoc}
 use Rattle.std.proofs.lemmas.List.{append-nil}
 use Rattle.a2_stream.specs.Stream.{Taker, Sends, Breaks, SendsOrBreaks}
@@ -29,7 +30,8 @@ none-some x e = true≢false (sym (ap is_some e))
 cause-stuck : (d : Device) → d.state.steps < most_steps → cause_of d.state ≡ stuck (code_of d.state) (world_of_state d.state)
 cause-stuck d low = go (stuck (code_of d.state) (world_of_state d.state)) refl
   where
-    go : (found : Option Cause) → stuck (code_of d.state) (world_of_state d.state) ≡ found → cause_of d.state ≡ stuck (code_of d.state) (world_of_state d.state)
+    go : (found : Option Cause) → stuck (code_of d.state) (world_of_state d.state) ≡ found
+        → cause_of d.state ≡ stuck (code_of d.state) (world_of_state d.state)
     go None e = sym (cause_none d e low) ∙ sym e
     go (Some cause) e = sym (cause_told d cause e) ∙ sym e
 
@@ -41,9 +43,16 @@ pub record IsFilmed (code : Code) (start : World) (a b : Taker) (d : Device) (n 
   pub going : (k : ℕ) → k < n → stuck code (world_at code start k) ≡ None
   pub sent : Sends a b (rows code start n)
 
-pub filmed-none : (d : Device) (a : Taker) → d.state.steps < 4_294_967_296 → IsFilmed (code_of d.state) (world_of_state d.state) a a d 0
+pub filmed-none : (d : Device) (a : Taker) → d.state.steps < 4_294_967_296 → IsFilmed (code_of d.state) (world_of_state d.state) a
+    a d 0
 unfolding world_at
-filmed-none d a e = record { low = omega (arith, e); world = refl; code_is = refl; going = λ k lt. absurd (omega (arith, lt)); sent = Sends-nil a }
+filmed-none d a e = record {
+  low = omega (arith, e);
+  world = refl;
+  code_is = refl;
+  going = λ k lt. absurd (omega (arith, lt));
+  sent = Sends-nil a;
+}
 
 below_next : (n : ℕ) (P : ℕ → Type 0) → P n → ((k : ℕ) → k < n → P k) → (k : ℕ) → k < suc n → P k
 below_next n P here before k lt = go (split k lt)
@@ -56,29 +65,35 @@ below_next n P here before k lt = go (split k lt)
     go (inr l) = before k l
 
 -- a machine that steps is not stuck
-steps-on : (code : Code) (start : World) (a b : Taker) (d : Device) (n : ℕ) → IsFilmed code start a b d n → n + 4_294_967_296 ≤ most_steps → None ≡ cause_of d.state
+steps-on : (code : Code) (start : World) (a b : Taker) (d : Device) (n : ℕ) → IsFilmed code start a b d n
+    → n + 4_294_967_296 ≤ most_steps → None ≡ cause_of d.state
     → stuck code (world_at code start n) ≡ None
 steps-on code start a b d n h low none =
-    sym (subst (λ k. stuck k (world_of_state d.state) ≡ stuck code (world_at code start n)) (sym h.code_is) (ap (stuck code) h.world))
+    sym (subst (λ k. stuck k (world_of_state d.state) ≡ stuck code (world_at code start n)) (sym h.code_is)
+    (ap (stuck code) h.world))
     ∙ sym (cause-stuck d (omega (arith, h.low, low))) ∙ sym none
 
 -- the row of the next step, behind those before it
-next-rows : (code : Code) (start : World) (a b : Taker) (old new : Device) (n : ℕ) → IsFilmed code start a b old n → IsStep old new
+next-rows : (code : Code) (start : World) (a b : Taker) (old new : Device) (n : ℕ) → IsFilmed code start a b old n
+    → IsStep old new
     → rows code start n ++ row_between old new ≡ rows code start (n + 1)
 unfolding world_at
 next-rows code start a b old new n h step =
     let one : suc n ≡ n + 1 = omega arith in
-    let after : world_of_state new.state ≡ world_at code start (suc n) = step.world ∙ ap (λ (k : Code). next k (world_of_state old.state)) h.code_is ∙ ap (next code) h.world in
+    let after : world_of_state new.state ≡ world_at code start (suc n) =
+    step.world ∙ ap (λ (k : Code). next k (world_of_state old.state)) h.code_is ∙ ap (next code) h.world in
     ap₂ (λ (v w : World). rows code start n ++ row_text (change_of v w)) h.world after ∙ ap (rows code start) one
 
 -- a step was made, and its row went out
-pub filmed-next : (code : Code) (start : World) (a b e : Taker) (old new : Device) (n : ℕ) → IsFilmed code start a b old n → n + 4_294_967_296 ≤ most_steps
+pub filmed-next : (code : Code) (start : World) (a b e : Taker) (old new : Device) (n : ℕ) → IsFilmed code start a b old n
+    → n + 4_294_967_296 ≤ most_steps
     → FilmsStep old new b e (Ok None) → IsFilmed code start a e new (n + 1)
 unfolding world_at
 filmed-next code start a b e old new n h low (none, step, row) =
     let one : suc n ≡ n + 1 = omega arith in record {
       low = omega (arith, h.low, step.steps);
-      world = step.world ∙ ap (λ (k : Code). next k (world_of_state old.state)) h.code_is ∙ ap (next code) h.world ∙ ap (world_at code start) one;
+      world = step.world ∙ ap (λ (k : Code). next k (world_of_state old.state)) h.code_is ∙ ap (next code) h.world
+          ∙ ap (world_at code start) one;
       code_is = ap bytes step.guard ∙ h.code_is;
       going = subst (λ (m : ℕ). (k : ℕ) → k < m → stuck code (world_at code start k) ≡ None) one
           (below_next n (λ k. stuck code (world_at code start k) ≡ None) (steps-on code start a b old n h low none) h.going);
@@ -87,21 +102,26 @@ filmed-next code start a b e old new n h low (none, step, row) =
 
 -- The end of the run
 
-pub end-stuck : (code : Code) (start : World) (a b : Taker) (d : Device) (n limit : ℕ) (cause : Cause) → IsFilmed code start a b d n → n ≤ limit → n + 4_294_967_296 ≤ most_steps
+pub end-stuck : (code : Code) (start : World) (a b : Taker) (d : Device) (n limit : ℕ) (cause : Cause)
+    → IsFilmed code start a b d n → n ≤ limit → n + 4_294_967_296 ≤ most_steps
     → Some cause ≡ cause_of d.state → IsEnd code start limit (record { world = world_of_state d.state; steps = n; cause = cause })
 end-stuck code start a b d n limit cause h within low e = record {
   within = within;
   reached = h.world;
   first = h.going;
-  cause = inl (subst (λ k. stuck k (world_of_state d.state) ≡ Some cause) h.code_is (sym (cause-stuck d (omega (arith, h.low, low))) ∙ sym e));
+  cause = inl (subst (λ k. stuck k (world_of_state d.state) ≡ Some cause) h.code_is
+      (sym (cause-stuck d (omega (arith, h.low, low))) ∙ sym e));
 }
 
-pub end-limit : (code : Code) (start : World) (a b : Taker) (old new : Device) (limit : ℕ) (cause : Cause) → IsFilmed code start a b old limit
-    → machine.IsMachineRun 0 old new cause → IsEnd code start limit (record { world = world_of_state old.state; steps = limit; cause = cause })
+pub end-limit : (code : Code) (start : World) (a b : Taker) (old new : Device) (limit : ℕ) (cause : Cause)
+    → IsFilmed code start a b old limit
+    → machine.IsMachineRun 0 old new cause → IsEnd code start limit
+    (record { world = world_of_state old.state; steps = limit; cause = cause })
 unfolding world_at
 end-limit code start a b old new limit cause h run =
     let none : new.state.steps - old.state.steps ≡ 0 = omega (arith, run.end.within) in
-    let reached : world_of_state new.state ≡ world_of_state old.state = run.end.reached ∙ ap (world_at (code_of old.state) (world_of_state old.state)) none in
+    let reached : world_of_state new.state ≡ world_of_state old.state =
+    run.end.reached ∙ ap (world_at (code_of old.state) (world_of_state old.state)) none in
     record {
       within = omega arith;
       reached = h.world;
@@ -110,29 +130,45 @@ end-limit code start a b old new limit cause h run =
     }
   where
     WhyAt : World → Type 0
-    WhyAt w = (stuck (code_of old.state) w ≡ Some cause) ⊎ ((stuck (code_of old.state) w ≡ None) × (new.state.steps - old.state.steps ≡ steps_left 0 old.state) × (cause ≡ Limit))
+    WhyAt w = (stuck (code_of old.state) w ≡ Some cause)
+        ⊎ ((stuck (code_of old.state) w ≡ None) × (new.state.steps - old.state.steps ≡ steps_left 0 old.state) × (cause ≡ Limit))
 
     Why : Code → Type 0
-    Why k = (stuck k (world_of_state old.state) ≡ Some cause) ⊎ ((stuck k (world_of_state old.state) ≡ None) × (new.state.steps - old.state.steps ≡ steps_left 0 old.state) × (cause ≡ Limit))
+    Why k = (stuck k (world_of_state old.state) ≡ Some cause)
+        ⊎ ((stuck k (world_of_state old.state) ≡ None) × (new.state.steps - old.state.steps ≡ steps_left 0 old.state)
+        × (cause ≡ Limit))
 
-    why : Why code → (stuck code (world_of_state old.state) ≡ Some cause) ⊎ ((stuck code (world_of_state old.state) ≡ None) × (limit ≡ limit) × (cause ≡ Limit))
+    why : Why code → (stuck code (world_of_state old.state) ≡ Some cause)
+        ⊎ ((stuck code (world_of_state old.state) ≡ None) × (limit ≡ limit) × (cause ≡ Limit))
     why (inl is) = inl is
     why (inr is) = inr (is.0, refl, is.2)
 
 -- the cause line goes out behind the rows, or breaks off
-pub films-end : (code : Code) (start : World) (a b c : Taker) (d : Device) (n limit : ℕ) (cause : Cause) (r : Result Cause WriteFault) → IsFilmed code start a b d n
-    → IsEnd code start limit (record { world = world_of_state d.state; steps = n; cause = cause }) → SendsOrBreaks b c r (cause_line cause) → IfOk r (λ told. told ≡ cause)
+pub films-end : (code : Code) (start : World) (a b c : Taker) (d : Device) (n limit : ℕ) (cause : Cause)
+    (r : Result Cause WriteFault) → IsFilmed code start a b d n
+    → IsEnd code start limit (record { world = world_of_state d.state; steps = n; cause = cause })
+    → SendsOrBreaks b c r (cause_line cause) → IfOk r (λ told. told ≡ cause)
     → Films code start limit a c r
 films-end code start a b c d n limit cause (Ok told) h is sent same =
-    let end : End = record { world = world_of_state d.state; steps = n; cause = cause } in
-    (run_lines code start end, record { end = end; is_end = is; cause_is = same; output_is = refl }, Sends-then a b c _ _ h.sent sent)
+    let end : End = record { world = world_of_state d.state; steps = n; cause = cause } in (
+      run_lines code start end,
+      record { end = end; is_end = is; cause_is = same; output_is = refl },
+      Sends-then a b c _ _ h.sent
+          sent,
+    )
 films-end code start a b c d n limit cause (Err _) h is broke same =
-    let end : End = record { world = world_of_state d.state; steps = n; cause = cause } in
-    (cause, run_lines code start end, record { end = end; is_end = is; cause_is = refl; output_is = refl }, Breaks-then a b c _ _ h.sent broke)
+    let end : End = record { world = world_of_state d.state; steps = n; cause = cause } in (
+      cause,
+      run_lines code start end,
+      record { end = end; is_end = is; cause_is = refl; output_is = refl },
+      Breaks-then a b c _ _
+          h.sent broke,
+    )
 
 -- The rows of more steps begin with those of fewer
 
-lines-more : (code : Code) (start : World) (n more : ℕ) → (rest : List ℕ) × (rows code start (n + more) ≡ rows code start n ++ rest)
+lines-more : (code : Code) (start : World) (n more : ℕ) → (rest : List ℕ)
+    × (rows code start (n + more) ≡ rows code start n ++ rest)
 lines-more code start n zero =
     let e : n + zero ≡ n = omega arith in
     ([], ap (rows code start) e ∙ sym (append-nil (rows code start n)))
@@ -143,13 +179,15 @@ lines-more code start n (suc more) =
     (rest ++ line, ap (rows code start) e ∙ ap (λ (l : List ℕ). l ++ line) is ∙ append_assoc (rows code start n) rest line)
 
 -- a run that has made so many steps makes so many at least
-pub end-late : (code : Code) (start : World) (limit n : ℕ) (end : End) → IsEnd code start limit end → ((k : ℕ) → k < n → stuck code (world_at code start k) ≡ None) → n ≤ limit → n ≤ end.steps
+pub end-late : (code : Code) (start : World) (limit n : ℕ) (end : End) → IsEnd code start limit end
+    → ((k : ℕ) → k < n → stuck code (world_at code start k) ≡ None) → n ≤ limit → n ≤ end.steps
 end-late code start limit n end is going within = go (split end.steps n)
   where
     split : (s n : ℕ) → (n ≤ s) ⊎ (s < n)
     split s n = grind arith
 
-    short : end.steps < n → (stuck code end.world ≡ Some end.cause) ⊎ ((stuck code end.world ≡ None) × (end.steps ≡ limit) × (end.cause ≡ Limit)) → n ≤ end.steps
+    short : end.steps < n → (stuck code end.world ≡ Some end.cause)
+        ⊎ ((stuck code end.world ≡ None) × (end.steps ≡ limit) × (end.cause ≡ Limit)) → n ≤ end.steps
     short lt (inl e) = absurd (none-some end.cause (sym (ap (stuck code) is.reached ∙ going end.steps lt) ∙ e))
     short lt (inr e) = omega (arith, lt, e.1, within)
 
@@ -158,8 +196,10 @@ end-late code start limit n end is going within = go (split end.steps n)
     go (inr lt) = short lt is.cause
 
 -- a row broke off
-lines-broken : (code : Code) (start : World) (a c : Taker) (n limit : ℕ) → ((k : ℕ) → k < n → stuck code (world_at code start k) ≡ None) → n ≤ limit
-    → Breaks a c (rows code start n) → (cause : Cause) × (output : List ℕ) × AreRunLines code start limit cause output × Breaks a c output
+lines-broken : (code : Code) (start : World) (a c : Taker) (n limit : ℕ)
+    → ((k : ℕ) → k < n → stuck code (world_at code start k) ≡ None) → n ≤ limit
+    → Breaks a c (rows code start n) → (cause : Cause) × (output : List ℕ) × AreRunLines code start limit cause output
+    × Breaks a c output
 lines-broken code start a c n limit going within broke =
     let end = run_from code start 0 limit in
     let is = run-is_end code start limit in
@@ -175,8 +215,10 @@ lines-broken code start a c n limit going within broke =
       subst (λ (l : List ℕ). Breaks a c (l ++ cause_line end.cause)) lines cut,
     )
 
-pub films-broken : (code : Code) (start : World) (a b e : Taker) (old new : Device) (n limit : ℕ) (r : Result Cause WriteFault) → IsErr r
-    → IsFilmed code start a b old n → n < limit → n + 4_294_967_296 ≤ most_steps → (None ≡ cause_of old.state) × IsStep old new × Breaks b e (row_between old new)
+pub films-broken : (code : Code) (start : World) (a b e : Taker) (old new : Device) (n limit : ℕ) (r : Result Cause WriteFault)
+    → IsErr r
+    → IsFilmed code start a b old n → n < limit → n + 4_294_967_296 ≤ most_steps → (None ≡ cause_of old.state) × IsStep old new
+    × Breaks b e (row_between old new)
     → Films code start limit a e r
 films-broken code start a b e old new n limit (Ok _) failed h within low broke = cc
 films-broken code start a b e old new n limit (Err _) failed h within low (none, step, broke) =
@@ -188,21 +230,26 @@ films-broken code start a b e old new n limit (Err _) failed h within low (none,
     le (subst (Breaks a e) (next-rows code start a b old new n h step) (Breaks-then a b e _ _ h.sent broke))
 
 -- a cause forbids the next step, and its line goes out or breaks off
-pub films-stuck : (code : Code) (start : World) (a b e c : Taker) (old new : Device) (n limit : ℕ) (cause : Cause) (r : Result Cause WriteFault)
+pub films-stuck : (code : Code) (start : World) (a b e c : Taker) (old new : Device) (n limit : ℕ) (cause : Cause)
+    (r : Result Cause WriteFault)
     → IsFilmed code start a b old n → n < limit → n + 4_294_967_296 ≤ most_steps → FilmsStep old new b e (Ok (Some cause))
     → SendsOrBreaks e c r (cause_line cause) → IfOk r (λ told. told ≡ cause) → Films code start limit a c r
 films-stuck code start a b e c old new n limit cause r h within low (why, kept, none) sent same =
-    films-end code start a b c old n limit cause r h (end-stuck code start a b old n limit cause h (omega (arith, within)) low why)
+    films-end code start a b c old n limit cause r h
+    (end-stuck code start a b old n limit cause h (omega (arith, within)) low why)
     (subst (λ (t : Taker). SendsOrBreaks t c r (cause_line cause)) none sent) same
 
 -- The end of the page behind the run
 
 pub rest-cut : (code : Code) (start : World) (limit : ℕ) (a b : Taker) (r : Result Cause WriteFault) → IsErr r
-    → ((cause : Cause) × (output : List ℕ) × AreRunLines code start limit cause output × Breaks a b output) → FilmsRest code start limit a b r
+    → ((cause : Cause) × (output : List ℕ) × AreRunLines code start limit cause output × Breaks a b output)
+    → FilmsRest code start limit a b r
 rest-cut code start limit a b (Ok _) failed h = cc
-rest-cut code start limit a b (Err _) failed (cause, output, are, broke) = (cause, output, are, Breaks-more a b output page.tail broke)
+rest-cut code start limit a b (Err _) failed (cause, output, are, broke) =
+    (cause, output, are, Breaks-more a b output page.tail broke)
 
-pub rest-broken : (code : Code) (start : World) (limit : ℕ) (a b c : Taker) (cause : Cause) (r : Result Cause WriteFault) → IsErr r
+pub rest-broken : (code : Code) (start : World) (limit : ℕ) (a b c : Taker) (cause : Cause) (r : Result Cause WriteFault)
+    → IsErr r
     → Films code start limit a b (Ok cause) → Breaks b c page.tail → FilmsRest code start limit a c r
 rest-broken code start limit a b c cause (Ok _) failed h broke = cc
 rest-broken code start limit a b c cause (Err _) failed (output, are, sent) broke =

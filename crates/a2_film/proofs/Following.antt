@@ -1,5 +1,6 @@
 -- What a step does to the devices: it takes some of the waiting keys, and switches.
-use Rattle.std.specs.Prelude.{◌≡◌, ℕ, suc, ◌+◌, ◌*◌, ◌/◌, ◌%◌, Bool, true, false, ◌==◌, nat_lt, if◌then◌else◌, List, [], ◌∷◌, ◌++◌, length, fold, refl}
+use Rattle.std.specs.Prelude.{◌≡◌, ℕ, suc, ◌+◌, ◌*◌, ◌/◌, ◌%◌, Bool, true, false, ◌==◌, nat_lt, if◌then◌else◌, List, [], ◌∷◌}
+use Rattle.std.specs.Prelude.{◌++◌, length, fold, refl}
 use Rattle.std.proofs.Common.{sym, ap, ◌∙◌, arith, subst, append_assoc, length-append}
 use Rattle.a2_page.specs.declared.Switches.{Switches}
 use Rattle.a2_page.specs.Grid.{cleared, byte_in}
@@ -11,12 +12,15 @@ use Rattle.a2_bus.specs.Memory.{Memory, ram_byte, ram_end, with_ram, memory_acce
 use Rattle.a2_cpu.specs.Instruction.{performed}
 use Rattle.a2_cpu.proofs.Simulation.{performed-alike}
 use Rattle.a2_services.specs.declared.Service.{Service}
-use Rattle.a2_services.specs.declared.Service.TheVariants.{Cout, Cout1, Crout, Home, Prbyte, Prhex, Setinv, Setnorm, Vtab, Clreol, Clreop, Rdkey, Keyin, Getln, Wait, Setcol, Plot, Hline, Vline, Scrn, Clrscr}
+use Rattle.a2_services.specs.declared.Service.TheVariants.{Cout, Cout1, Crout, Home, Prbyte, Prhex, Setinv, Setnorm, Vtab, Clreol}
+use Rattle.a2_services.specs.declared.Service.TheVariants.{Clreop, Rdkey, Keyin, Getln, Wait, Setcol, Plot, Hline, Vline, Scrn}
+use Rattle.a2_services.specs.declared.Service.TheVariants.{Clrscr}
 use Rattle.a2_services.specs.World.{World}
 use Rattle.a2_services.specs.Blocks.{painted, painted_across, painted_down, span_of, black}
 use Rattle.a2_services.specs.Put.{window_of, with_cursor_column, with_cursor_row, prompt_character, with_page1, after_put}
 use Rattle.a2_services.specs.Reading.{reading, kept}
-use Rattle.a2_services.specs.Services.{Reading, byte_of_key, after_byte, line_read, with_key_taken, cleared_to_end, cleared_below, back, output, with_memory, with_a, with_x, digit_byte, effect, served}
+use Rattle.a2_services.specs.Services.{Reading, byte_of_key, after_byte, line_read, with_key_taken, cleared_to_end, cleared_below}
+use Rattle.a2_services.specs.Services.{back, output, with_memory, with_a, with_x, digit_byte, effect, served}
 use Rattle.a2_services.proofs.Lines.{ram_devices, put_devices, after_byte_devices}
 use Rattle.a2_services.proofs.Counting.{cleared_devices, base_devices, returned_devices, output_devices}
 use Rattle.a2_film.specs.Changes.{keys_taken}
@@ -41,12 +45,18 @@ follows-switched d e switches h = record {
 }
 
 -- the first waiting key is taken, whatever the switches are
-taken-switched : (d : Devices) (switches : Switches) → key_taken (record d { switches = switches }) ≡ record (key_taken d) { switches = switches }
+taken-switched : (d : Devices) (switches : Switches) → key_taken (record d { switches = switches }) ≡ record (key_taken d)
+    { switches = switches }
 taken-switched d switches = go d.keys
   where
     go : (keys : List ℕ)
-        → elim keys as (λ _. Devices) [ [] ↦ record d { switches = switches } | key ∷ rest ↦ record d { switches = switches; keys = rest; last_key = key } ]
-        ≡ (let x = elim keys as (λ _. Devices) [ [] ↦ d | key ∷ rest ↦ record d { keys = rest; last_key = key } ] in record x { switches = switches })
+        → elim keys as (λ _. Devices) [
+          | [] ↦ record d { switches = switches }
+          | key ∷ rest ↦ record d
+              { switches = switches; keys = rest; last_key = key }
+        ]
+        ≡ (let x = elim keys as (λ _. Devices) [ [] ↦ d | key ∷ rest ↦ record d { keys = rest; last_key = key } ] in
+        record x { switches = switches })
     go [] = refl
     go (key ∷ rest) = refl
 
@@ -56,7 +66,8 @@ follows-taken d e h = go e.keys refl
     After : List ℕ → Devices
     After keys = elim keys as (λ _. Devices) [ [] ↦ e | key ∷ rest ↦ record e { keys = rest; last_key = key } ]
 
-    go : (keys : List ℕ) → e.keys ≡ keys → Follows d (elim keys as (λ _. Devices) [ [] ↦ e | key ∷ rest ↦ record e { keys = rest; last_key = key } ])
+    go : (keys : List ℕ) → e.keys ≡ keys → Follows d
+        (elim keys as (λ _. Devices) [ [] ↦ e | key ∷ rest ↦ record e { keys = rest; last_key = key } ])
     go [] is = h
     go (key ∷ rest) is =
         let here = keys_taken (length h.front) d in
@@ -67,7 +78,8 @@ follows-taken d e h = go e.keys refl
           taken = ap (λ (n : ℕ). let x : Devices = record (keys_taken n d) { switches = e.switches } in x) one
               ∙ sym (taken-switched here e.switches)
               ∙ ap (λ (x : Devices). key_taken x) h.taken
-              ∙ ap (λ (keys : List ℕ). elim keys as (λ _. Devices) [ [] ↦ e | key ∷ rest ↦ record e { keys = rest; last_key = key } ]) is;
+              ∙ ap (λ (keys : List ℕ). elim keys as (λ _. Devices)
+              [ [] ↦ e | key ∷ rest ↦ record e { keys = rest; last_key = key } ]) is;
         }
 
 follows-access : (d e : Devices) (a : ℕ) → Follows d e → Follows d (after_access e a)
@@ -87,8 +99,14 @@ taking : (start : Memory) → IsSimulation (IsTaking start) memory_access memory
 unfolding memory_access
 taking start = record {
   same_byte = λ m n a h. ap (λ k. memory_access.byte_at k a) h.same;
-  kept_by_read = λ m n a h. record { same = ap (λ k. memory_access.after_read k a) h.same; follows = at_read (nat_lt a ram_end) n a h.follows };
-  kept_by_write = λ m n a v h. record { same = ap (λ k. memory_access.after_write k a v) h.same; follows = at_write (nat_lt a ram_end) n a v h.follows };
+  kept_by_read = λ m n a h. record {
+    same = ap (λ k. memory_access.after_read k a) h.same;
+    follows = at_read (nat_lt a ram_end) n a h.follows;
+  };
+  kept_by_write = λ m n a v h. record {
+    same = ap (λ k. memory_access.after_write k a v) h.same;
+    follows = at_write (nat_lt a ram_end) n a v h.follows;
+  };
 }
   where
     at_read : (low : Bool) (n : Memory) (a : ℕ) → Follows start.devices n.devices
@@ -97,14 +115,20 @@ taking start = record {
     at_read false n a h = follows-access start.devices n.devices a h
 
     at_write : (low : Bool) (n : Memory) (a v : ℕ) → Follows start.devices n.devices
-        → Follows start.devices (let m : Memory = if low then with_ram n a v else record n { devices = after_access n.devices a } in m.devices)
+        → Follows start.devices (let m : Memory =
+        if low then with_ram n a v else record n { devices = after_access n.devices a } in m.devices)
     at_write true n a v h = subst (Follows start.devices) (sym (ram_devices n a v)) h
     at_write false n a v h = follows-access start.devices n.devices a h
 
-pub performed-follows : (row : Row) (value : ℕ) (world : World) → Follows world.memory.devices (performed memory_access row value world).memory.devices
+pub performed-follows : (row : Row) (value : ℕ) (world : World)
+    → Follows world.memory.devices (performed memory_access row value world).memory.devices
 performed-follows row value world =
     (performed-alike (IsTaking world.memory) memory_access memory_access (taking world.memory) row value world world
-    (record { registers = refl; cycles = refl; memory = record { same = refl; follows = follows-refl world.memory.devices } })).memory.follows
+    (record {
+      registers = refl;
+      cycles = refl;
+      memory = record { same = refl; follows = follows-refl world.memory.devices };
+    })).memory.follows
 
 -- A service
 
@@ -115,7 +139,8 @@ kept-follows d m len byte h =
 record LineFollows (d : Devices) (line : Reading) : Type 0 where
   is : Follows d line.memory.devices
 
-line-follows : (d : Devices) (keys : List ℕ) (line : Reading) → Follows d line.memory.devices → LineFollows d (line_read keys line)
+line-follows : (d : Devices) (keys : List ℕ) (line : Reading) → Follows d line.memory.devices
+    → LineFollows d (line_read keys line)
 unfolding line_read
 line-follows d [] line h = record { is = h }
 line-follows d (key ∷ keys) line h = go (byte == 0x8D) (λ next. line-follows d keys next)
@@ -130,17 +155,23 @@ line-follows d (key ∷ keys) line h = go (byte == 0x8D) (λ next. line-follows 
     stored = kept-follows d line.memory line.len byte h
 
     go : (v : Bool) → ((next : Reading) → Follows d next.memory.devices → LineFollows d (line_read keys next))
-        → LineFollows d (if v then reading (after_put 0x8D (cleared_to_end noted)) line.len else line_read keys (after_byte byte (reading noted line.len)))
-    go true rest = record { is = subst (Follows d) (sym (put_devices 0x8D (cleared_to_end noted) ∙ cleared_devices noted)) stored }
+        → LineFollows d (if v then reading (after_put 0x8D (cleared_to_end noted)) line.len else line_read keys
+        (after_byte byte (reading noted line.len)))
+    go true rest = record {
+      is = subst (Follows d) (sym (put_devices 0x8D (cleared_to_end noted) ∙ cleared_devices noted))
+          stored;
+    }
     go false rest =
         rest (after_byte byte (reading noted line.len))
         (subst (Follows d) (sym (after_byte_devices byte (reading noted line.len))) stored)
 
 -- a service that leaves a memory with the same devices and returns
-left-follows : (m : Memory) (w : World) → m.devices ≡ w.memory.devices → Follows w.memory.devices (back (with_memory m w)).memory.devices
+left-follows : (m : Memory) (w : World) → m.devices ≡ w.memory.devices
+    → Follows w.memory.devices (back (with_memory m w)).memory.devices
 left-follows m w same = follows-same _ _ (ap (λ (x : Memory). x.devices) (returned_devices (with_memory m w)) ∙ same)
 
-output-follows : (m : Memory) (w : World) → m.devices ≡ w.memory.devices → Follows w.memory.devices (back (output m w)).memory.devices
+output-follows : (m : Memory) (w : World) → m.devices ≡ w.memory.devices
+    → Follows w.memory.devices (back (output m w)).memory.devices
 output-follows m w same = follows-same _ _ (output_devices m w ∙ same)
 
 painted_devices : (row column : ℕ) (m : Memory) → (painted row column m).devices ≡ m.devices
@@ -177,36 +208,44 @@ effect-follows Rdkey w = follows-refl w.memory.devices
 effect-follows Keyin w = go w.memory.devices.keys
   where
     go : (keys : List ℕ)
-        → Follows w.memory.devices (elim keys as (λ _. World) [ [] ↦ w | k ∷ rest ↦ back (with_a (0x80 + k) (with_memory (with_key_taken w.memory) w)) ]).memory.devices
+        → Follows w.memory.devices (elim keys as (λ _. World)
+        [ [] ↦ w | k ∷ rest ↦ back (with_a (0x80 + k) (with_memory (with_key_taken w.memory) w)) ]).memory.devices
     go [] = follows-refl w.memory.devices
     go (k ∷ rest) =
-        subst (Follows w.memory.devices) (sym (ap (λ (x : Memory). x.devices) (returned_devices (with_a (0x80 + k) (with_memory (with_key_taken w.memory) w)))))
+        subst (Follows w.memory.devices) (sym (ap (λ (x : Memory). x.devices)
+        (returned_devices (with_a (0x80 + k) (with_memory (with_key_taken w.memory) w)))))
         (follows-taken w.memory.devices w.memory.devices (follows-refl w.memory.devices))
 effect-follows Getln w =
     let start = after_put (prompt_character w.memory) w.memory in
     let line = line_read w.memory.devices.keys (reading start 0) in
     let follows : LineFollows w.memory.devices line =
-    line-follows w.memory.devices w.memory.devices.keys (reading start 0) (follows-same _ _ (put_devices (prompt_character w.memory) w.memory)) in
+    line-follows w.memory.devices w.memory.devices.keys (reading start 0)
+    (follows-same _ _ (put_devices (prompt_character w.memory) w.memory)) in
     subst (Follows w.memory.devices)
-    (sym (ap (λ (x : Memory). x.devices) (returned_devices (with_x line.len (output line.memory w))) ∙ base_devices line.memory)) follows.is
+    (sym (ap (λ (x : Memory). x.devices) (returned_devices (with_x line.len (output line.memory w))) ∙ base_devices line.memory))
+    follows.is
 effect-follows Wait w = follows-same _ _ (ap (λ (x : Memory). x.devices) (returned_devices (with_a 0 w)))
 effect-follows Setcol w =
     let colours = 17 * (w.registers.a % 16) in
     left-follows (with_ram w.memory 0x30 colours) w (ram_devices w.memory 0x30 colours)
-effect-follows Plot w = left-follows (painted w.registers.a w.registers.y w.memory) w (painted_devices w.registers.a w.registers.y w.memory)
+effect-follows Plot w = left-follows (painted w.registers.a w.registers.y w.memory) w
+    (painted_devices w.registers.a w.registers.y w.memory)
 effect-follows Hline w =
     let columns = span_of w.registers.y (ram_byte w.memory 0x2C) in
     left-follows (painted_across w.registers.a columns w.memory) w
-    (steps_devices (λ column m. painted w.registers.a column m) (λ column m. painted_devices w.registers.a column m) columns w.memory)
+    (steps_devices (λ column m. painted w.registers.a column m) (λ column m. painted_devices w.registers.a column m) columns
+    w.memory)
 effect-follows Vline w =
     let rows = span_of w.registers.a (ram_byte w.memory 0x2D) in
     left-follows (painted_down rows w.registers.y w.memory) w
     (steps_devices (λ row m. painted row w.registers.y m) (λ row m. painted_devices row w.registers.y m) rows w.memory)
 effect-follows Scrn w =
-    follows-same _ _ (ap (λ (m : Memory). m.devices) (returned_devices (with_a (byte_in (blocks_of w.memory.page1) w.registers.a w.registers.y) w)))
+    follows-same _ _ (ap (λ (m : Memory). m.devices)
+    (returned_devices (with_a (byte_in (blocks_of w.memory.page1) w.registers.a w.registers.y) w)))
 effect-follows Clrscr w =
     let page = with_page1 black w.memory in
-    left-follows (with_ram (with_ram page 0x30 0) 0x2D 47) w (ram_devices (with_ram page 0x30 0) 0x2D 47 ∙ ram_devices page 0x30 0)
+    left-follows (with_ram (with_ram page 0x30 0) 0x2D 47) w
+    (ram_devices (with_ram page 0x30 0) 0x2D 47 ∙ ram_devices page 0x30 0)
 
 pub served-follows : (service : Service) (w : World) → Follows w.memory.devices (served service w).memory.devices
 unfolding served

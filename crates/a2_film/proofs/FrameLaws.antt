@@ -1,5 +1,6 @@
 -- The frames of a film show the worlds of its run.
-use Rattle.std.specs.Prelude.{◌≡◌, ◌≢◌, ◌⊎◌, ℕ, zero, suc, ◌+◌, ◌-◌, ◌<◌, ◌≤◌, ◌==◌, nat_lt, ◌&&◌, Bool, true, false, if◌then◌else◌, List, [], ◌∷◌, length, Option, Some, None, unwrap_or, is_some, Result, Ok, Err, refl}
+use Rattle.std.specs.Prelude.{◌≡◌, ◌≢◌, ◌⊎◌, ℕ, zero, suc, ◌+◌, ◌-◌, ◌<◌, ◌≤◌, ◌==◌, nat_lt, ◌&&◌, Bool, true, false}
+use Rattle.std.specs.Prelude.{if◌then◌else◌, List, [], ◌∷◌, length, Option, Some, None, unwrap_or, is_some, Result, Ok, Err, refl}
 use Rattle.std.proofs.Common.{sym, ap, ap₂, ◌∙◌, subst, arith, inl, inr, true≢false, length-append}
 use Rattle.std.proofs.Math.Bool.{beq}
 use Rattle.std.proofs.lemmas.Bool.{eqb-true, and_parts}
@@ -22,8 +23,10 @@ use Rattle.a2_services.specs.World.{World}
 use Rattle.a2_machine.specs.declared.Cause.{Cause}
 use Rattle.a2_machine.specs.declared.Cause.TheVariants.{Returned, CodeWrite, OffStatement}
 use Rattle.a2_machine.specs.ByteRun.{Guard, bytes, decoded_or_cause}
-use Rattle.a2_machine.specs.Meaning.{Code, Decoded, cause_of_refusal, instruction_cause, service_cause, return_address, stuck_at, next_at, found_at_pc, stuck, next, world_at}
-use Rattle.a2_film.specs.Changes.{Store, changed, switch_digit, switches_of, bytes_at, differing, stored, change_of, Frame, keys_taken, with_stores, applied, frame_at}
+use Rattle.a2_machine.specs.Meaning.{Code, Decoded, cause_of_refusal, instruction_cause, service_cause, return_address, stuck_at}
+use Rattle.a2_machine.specs.Meaning.{next_at, found_at_pc, stuck, next, world_at}
+use Rattle.a2_film.specs.Changes.{Store, changed, switch_digit, switches_of, bytes_at, differing, stored, change_of, Frame}
+use Rattle.a2_film.specs.Changes.{keys_taken, with_stores, applied, frame_at}
 use Rattle.a2_film.specs.Laws.{Shows}
 use Rattle.a2_film.proofs.Following.{Follows, performed-follows, served-follows}
 use Rattle.a2_film.proofs.Stepping.{stored-by_instruction, stored-by_service}
@@ -121,10 +124,12 @@ store-here : (bytes : ℕ → ℕ) (a b byte : ℕ) → a ≡ b → (if a == b t
 store-here bytes a b byte is = let e : (a == b) ≡ true = grind (arith, nat_tests, is) in ap (λ v. if v then byte else bytes a) e
 
 store-elsewhere : (bytes : ℕ → ℕ) (a b byte : ℕ) → a ≢ b → (if a == b then byte else bytes a) ≡ bytes a
-store-elsewhere bytes a b byte other = let e : (a == b) ≡ false = grind (arith, nat_tests, other) in ap (λ v. if v then byte else bytes a) e
+store-elsewhere bytes a b byte other = let e : (a == b) ≡ false = grind (arith, nat_tests, other) in
+    ap (λ v. if v then byte else bytes a) e
 
 -- behind the stores at some addresses all bytes are the new ones, where those at other addresses were
-settled-listed : (new : ℕ → ℕ) (addresses : List ℕ) (bytes : ℕ → ℕ) (a : ℕ) → a < ram_end → (IsNotIn a addresses → bytes a ≡ new a)
+settled-listed : (new : ℕ → ℕ) (addresses : List ℕ) (bytes : ℕ → ℕ) (a : ℕ) → a < ram_end
+    → (IsNotIn a addresses → bytes a ≡ new a)
     → with_stores (bytes_at new addresses) bytes a ≡ new a
 settled-listed new [] bytes a low h = h tt
 settled-listed new (b ∷ others) bytes a low h = go (nat_lt b ram_end) refl (λ now. settled-listed new others now a low)
@@ -136,7 +141,8 @@ settled-listed new (b ∷ others) bytes a low h = go (nat_lt b ram_end) refl (λ
     there (inl is) free = store-here bytes a b (new b) is ∙ ap new (sym is)
     there (inr other) free = store-elsewhere bytes a b (new b) other ∙ h (other, free)
 
-    go : (v : Bool) → nat_lt b ram_end ≡ v → ((now : ℕ → ℕ) → (IsNotIn a others → now a ≡ new a) → with_stores (bytes_at new others) now a ≡ new a)
+    go : (v : Bool) → nat_lt b ram_end ≡ v → ((now : ℕ → ℕ) → (IsNotIn a others → now a ≡ new a)
+        → with_stores (bytes_at new others) now a ≡ new a)
         → with_stores (if v then (b, new b) ∷ bytes_at new others else bytes_at new others) bytes a ≡ new a
     go true in_ram rest = rest (λ k. if k == b then new b else bytes k) (there (split-at a b))
     go false behind rest =
@@ -144,11 +150,13 @@ settled-listed new (b ∷ others) bytes a low h = go (nat_lt b ram_end) refl (λ
         rest bytes (λ free. h (other, free))
 
 -- behind the bytes that differ all are the new ones
-settled-differing : (old new : ℕ → ℕ) (n from : ℕ) (bytes : ℕ → ℕ) (a : ℕ) → a < from + n → (from ≤ a → bytes a ≡ old a) → (a < from → bytes a ≡ new a)
+settled-differing : (old new : ℕ → ℕ) (n from : ℕ) (bytes : ℕ → ℕ) (a : ℕ) → a < from + n → (from ≤ a → bytes a ≡ old a)
+    → (a < from → bytes a ≡ new a)
     → with_stores (differing old new from n) bytes a ≡ new a
 unfolding differing
 settled-differing old new zero from bytes a low above below = below (omega (arith, low))
-settled-differing old new (suc n) from bytes a low above below = go (old from == new from) refl (λ now. settled-differing old new n (from + 1) now a (omega (arith, low)))
+settled-differing old new (suc n) from bytes a low above below =
+    go (old from == new from) refl (λ now. settled-differing old new n (from + 1) now a (omega (arith, low)))
   where
     put : ℕ → ℕ
     put k = if k == from then new from else bytes k
@@ -170,8 +178,10 @@ settled-differing old new (suc n) from bytes a low above below = go (old from ==
         store-elsewhere bytes a from (new from) other ∙ above (omega (arith, h))
 
     go : (v : Bool) → (old from == new from) ≡ v
-        → ((now : ℕ → ℕ) → (from + 1 ≤ a → now a ≡ old a) → (a < from + 1 → now a ≡ new a) → with_stores (differing old new (from + 1) n) now a ≡ new a)
-        → with_stores (if v then differing old new (from + 1) n else (from, new from) ∷ differing old new (from + 1) n) bytes a ≡ new a
+        → ((now : ℕ → ℕ) → (from + 1 ≤ a → now a ≡ old a) → (a < from + 1 → now a ≡ new a)
+        → with_stores (differing old new (from + 1) n) now a ≡ new a)
+        → with_stores (if v then differing old new (from + 1) n else (from, new from) ∷ differing old new (from + 1) n) bytes
+        a ≡ new a
     go true is rest = rest bytes (λ h. above (omega (arith, h))) (kept (eqb-true (old from) (new from) is) (split-at a from))
     go false is rest = rest (λ k. if k == from then new from else bytes k) beyond (written (split-at a from))
 
@@ -201,16 +211,22 @@ step-is code world free = at_return (world.registers.pc == return_address) free
     refusal : (decoded : Decoded) (why : Option Refusal) → refusal_of decoded.row.mnemonic world.registers.flags ≡ why
         → (elim why as (λ _. Option Cause) [
           | Some why ↦ Some (cause_of_refusal why)
-          | None ↦ if Rattle.std.specs.List.list_any (is_among code.protected) (stores_of memory_access decoded.row decoded.value world) then Some CodeWrite else None
+          | None ↦ if Rattle.std.specs.List.list_any (is_among code.protected)
+              (stores_of memory_access decoded.row decoded.value world) then Some CodeWrite else None
         ]) ≡ None
         → refusal_of decoded.row.mnemonic world.registers.flags ≡ None
     refusal decoded None is free = is
     refusal decoded (Some why) is free = absurd (none-some (cause_of_refusal why) free)
 
-    at_service : (service : Option Service) (at : Result Decoded Cause) → service_at world.registers.pc ≡ service → code.instruction_at world.memory world.registers.pc ≡ at
+    at_service : (service : Option Service) (at : Result Decoded Cause) → service_at world.registers.pc ≡ service
+        → code.instruction_at world.memory world.registers.pc ≡ at
         → (elim service as (λ _. Option Cause) [
           | Some service ↦ service_cause code.protected service world
-          | None ↦ elim at as (λ _. Option Cause) [ Err cause ↦ Some cause | Ok decoded ↦ instruction_cause code.protected decoded world ]
+          | None ↦ elim at as (λ _. Option Cause) [
+            | Err cause ↦ Some cause
+            | Ok decoded ↦ instruction_cause code.protected decoded
+                world
+          ]
         ]) ≡ None
         → ServiceStep code world ⊎ InstructionStep code world
     at_service (Some service) at is e free =
@@ -219,7 +235,8 @@ step-is code world free = at_return (world.registers.pc == return_address) free
           there = is;
           is = ap (λ (s : Option Service). elim s as (λ _. World) [
             | Some service ↦ served service world
-            | None ↦ elim (code.instruction_at world.memory world.registers.pc) as (λ _. World) [ Err cause ↦ world | Ok decoded ↦ performed memory_access decoded.row decoded.value world ]
+            | None ↦ elim (code.instruction_at world.memory world.registers.pc) as (λ _. World)
+                [ Err cause ↦ world | Ok decoded ↦ performed memory_access decoded.row decoded.value world ]
           ]) is;
         })
     at_service None (Err cause) is e free = absurd (none-some cause free)
@@ -231,7 +248,11 @@ step-is code world free = at_return (world.registers.pc == return_address) free
           accepted = refusal decoded (refusal_of decoded.row.mnemonic world.registers.flags) refl free;
           is = ap₂ (λ (s : Option Service) (f : Result Decoded Cause). elim s as (λ _. World) [
             | Some service ↦ served service world
-            | None ↦ elim f as (λ _. World) [ Err cause ↦ world | Ok decoded ↦ performed memory_access decoded.row decoded.value world ]
+            | None ↦ elim f as (λ _. World) [
+              | Err cause ↦ world
+              | Ok decoded ↦ performed memory_access decoded.row decoded.value
+                  world
+            ]
           ]) is e;
         })
 
@@ -239,11 +260,13 @@ step-is code world free = at_return (world.registers.pc == return_address) free
         → (if v then Some Returned
         else elim (service_at world.registers.pc) as (λ _. Option Cause) [
           | Some service ↦ service_cause code.protected service world
-          | None ↦ elim (code.instruction_at world.memory world.registers.pc) as (λ _. Option Cause) [ Err cause ↦ Some cause | Ok decoded ↦ instruction_cause code.protected decoded world ]
+          | None ↦ elim (code.instruction_at world.memory world.registers.pc) as (λ _. Option Cause)
+              [ Err cause ↦ Some cause | Ok decoded ↦ instruction_cause code.protected decoded world ]
         ]) ≡ None
         → ServiceStep code world ⊎ InstructionStep code world
     at_return true free = absurd (none-some Returned free)
-    at_return false free = at_service (service_at world.registers.pc) (code.instruction_at world.memory world.registers.pc) refl refl free
+    at_return false free = at_service (service_at world.registers.pc) (code.instruction_at world.memory world.registers.pc) refl
+        refl free
 
 -- an instruction that a run of bytes finds stands in memory
 decoded-is : (f : Fetched) (decoded : Decoded) → decoded_or_cause f ≡ Ok decoded → f ≡ instruction decoded.row decoded.value
@@ -260,7 +283,8 @@ unfolding bytes
 found-fetched None world decoded e = decoded-is (fetched (peek world.memory) world.registers.pc) decoded e
 found-fetched (Some guard) world decoded e = go (is_among guard.starts world.registers.pc) e
   where
-    go : (v : Bool) → (if v then decoded_or_cause (fetched (peek world.memory) world.registers.pc) else Err OffStatement) ≡ Ok decoded
+    go : (v : Bool) → (if v then decoded_or_cause (fetched (peek world.memory) world.registers.pc) else Err OffStatement) ≡ Ok
+        decoded
         → fetched (peek world.memory) world.registers.pc ≡ instruction decoded.row decoded.value
     go true e = decoded-is (fetched (peek world.memory) world.registers.pc) decoded e
     go false e = cc
@@ -272,7 +296,8 @@ record IsStepTo (before after : World) : Type 0 where
   settled : (frame_bytes : ℕ → ℕ) (a : ℕ) → a < ram_end → frame_bytes a ≡ ram_byte before.memory a
       → with_stores (stored before after) frame_bytes a ≡ ram_byte after.memory a
 
-performed-cycles : (decoded : Decoded) (world : World) → world.cycles ≤ (performed memory_access decoded.row decoded.value world).cycles
+performed-cycles : (decoded : Decoded) (world : World)
+    → world.cycles ≤ (performed memory_access decoded.row decoded.value world).cycles
 unfolding performed
 performed-cycles decoded world = omega arith
 
@@ -288,7 +313,8 @@ stores-accepted found decoded world is accepted =
     ap (λ (f : Fetched). stores_at memory_access f world) is
     ∙ ap (λ (why : Option Refusal). none_if why (stores_of memory_access decoded.row decoded.value world)) accepted
 
-instruction-to : (guard : Option Guard) (before : World) → InstructionStep (bytes guard) before → IsStepTo before (next (bytes guard) before)
+instruction-to : (guard : Option Guard) (before : World) → InstructionStep (bytes guard) before
+    → IsStepTo before (next (bytes guard) before)
 instruction-to guard before h =
     let decoded = h.decoded in
     let done = performed memory_access decoded.row decoded.value before in
@@ -300,7 +326,8 @@ instruction-to guard before h =
           ap (λ (l : List Store). with_stores l frame_bytes a)
           (stored-by_instruction before done (ap is_some h.no_service)
           ∙ ap (bytes_at (ram_byte done.memory))
-          (stores-accepted (fetched (peek before.memory) before.registers.pc) decoded before (found-fetched guard before decoded h.found) h.accepted))
+          (stores-accepted (fetched (peek before.memory) before.registers.pc) decoded before
+          (found-fetched guard before decoded h.found) h.accepted))
           ∙ settled-listed (ram_byte done.memory) (stores_of memory_access decoded.row decoded.value before) frame_bytes a low
           (λ free. is ∙ sym (performed-stores memory_access ram_byte changed_by_writes decoded.row decoded.value before a free));
     })
@@ -314,11 +341,13 @@ service-to code before h =
       follows = served-follows h.service before;
       settled = λ frame_bytes a low is.
           ap (λ (l : List Store). with_stores l frame_bytes a) (stored-by_service before done (ap is_some h.there))
-          ∙ settled-differing (ram_byte before.memory) (ram_byte done.memory) ram_end 0 frame_bytes a (omega (arith, low)) (λ _. is)
+          ∙ settled-differing (ram_byte before.memory) (ram_byte done.memory) ram_end 0 frame_bytes a (omega (arith, low))
+          (λ _. is)
           (λ under. absurd (omega (arith, under)));
     })
 
-step-to : (guard : Option Guard) (before : World) → stuck (bytes guard) before ≡ None → IsStepTo before (next (bytes guard) before)
+step-to : (guard : Option Guard) (before : World) → stuck (bytes guard) before ≡ None
+    → IsStepTo before (next (bytes guard) before)
 step-to guard before free = go (step-is (bytes guard) before free)
   where
     go : ServiceStep (bytes guard) before ⊎ InstructionStep (bytes guard) before → IsStepTo before (next (bytes guard) before)
@@ -329,13 +358,16 @@ step-to guard before free = go (step-is (bytes guard) before free)
 
 devices-shown : (was frame is : Devices) → frame ≡ was → Follows was is
     → (let d : Devices = record (keys_taken (length was.keys - length is.keys) frame) {
-      switches = switches_of (unwrap_or (changed (switch_digit was.switches) (switch_digit is.switches)) (switch_digit frame.switches));
+      switches = switches_of (unwrap_or (changed (switch_digit was.switches) (switch_digit is.switches))
+          (switch_digit frame.switches));
     } in d) ≡ is
 devices-shown was frame is e h =
     let count : length was.keys - length is.keys ≡ length h.front =
     omega (arith, ap (λ (l : List ℕ). length l) h.keys, length-append h.front is.keys) in
-    let switched : switches_of (unwrap_or (changed (switch_digit was.switches) (switch_digit is.switches)) (switch_digit frame.switches)) ≡ is.switches =
-    ap switches_of (unwrap-changed (switch_digit was.switches) (switch_digit is.switches) (switch_digit frame.switches) (ap (λ (d : Devices). switch_digit d.switches) e))
+    let switched : switches_of (unwrap_or (changed (switch_digit was.switches) (switch_digit is.switches))
+    (switch_digit frame.switches)) ≡ is.switches =
+    ap switches_of (unwrap-changed (switch_digit was.switches) (switch_digit is.switches) (switch_digit frame.switches)
+    (ap (λ (d : Devices). switch_digit d.switches) e))
     ∙ switches-round is.switches.text is.switches.mixed is.switches.page2 is.switches.hires in
     (λ i. record (keys_taken (count i) (e i)) { switches = switched i })
     ∙ h.taken
@@ -354,11 +386,13 @@ registers-shown was frame is e =
     let x = unwrap-changed was.x is.x frame.x (ap (λ (r : Registers). r.x) e) in
     let y = unwrap-changed was.y is.y frame.y (ap (λ (r : Registers). r.y) e) in
     let s = unwrap-changed was.s is.s frame.s (ap (λ (r : Registers). r.s) e) in
-    let f = ap flags_of_byte (unwrap-changed (byte_of_flags was.flags) (byte_of_flags is.flags) (byte_of_flags frame.flags) (ap (λ (r : Registers). byte_of_flags r.flags) e))
+    let f = ap flags_of_byte (unwrap-changed (byte_of_flags was.flags) (byte_of_flags is.flags) (byte_of_flags frame.flags)
+    (ap (λ (r : Registers). byte_of_flags r.flags) e))
     ∙ flags-round is.flags in
     λ i. record { a = a i; x = x i; y = y i; s = s i; pc = is.pc; flags = f i }
 
-applied-shows : (before after : World) (frame : Frame) → Shows frame before → IsStepTo before after → Shows (applied (change_of before after) frame) after
+applied-shows : (before after : World) (frame : Frame) → Shows frame before → IsStepTo before after
+    → Shows (applied (change_of before after) frame) after
 applied-shows before after frame shown step = record {
   registers = registers-shown before.registers frame.registers after.registers shown.registers;
   bytes = λ a low. step.settled frame.bytes a low (shown.bytes a low);
@@ -368,7 +402,8 @@ applied-shows before after frame shown step = record {
 
 -- The frames of a run
 
-pub frames-show : (guard : Option Guard) (start : World) (n : ℕ) → ((k : ℕ) → k < n → stuck (bytes guard) (world_at (bytes guard) start k) ≡ None)
+pub frames-show : (guard : Option Guard) (start : World) (n : ℕ)
+    → ((k : ℕ) → k < n → stuck (bytes guard) (world_at (bytes guard) start k) ≡ None)
     → Shows (frame_at (bytes guard) start n) (world_at (bytes guard) start n)
 unfolding world_at
 frames-show guard start zero going = record { registers = refl; bytes = λ a low. refl; devices = refl; cycles = refl }

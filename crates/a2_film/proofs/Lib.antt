@@ -1,6 +1,7 @@
 pub mod Parts
 pub mod Reached
 pub mod Others
+pub mod Appending
 pub mod Stepping
 pub mod Filming
 pub mod Following

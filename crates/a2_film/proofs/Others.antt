@@ -1,5 +1,6 @@
 -- The bytes that are others behind a step, listed by their addresses.
-use Rattle.std.specs.Prelude.{◌≡◌, ℕ, zero, suc, ◌+◌, ◌-◌, ◌*◌, ◌<◌, ◌≤◌, nat_lt, ◌==◌, Bool, true, false, List, [], ◌∷◌, ◌++◌, length, if◌then◌else◌, slice_range, refl}
+use Rattle.std.specs.Prelude.{◌≡◌, ℕ, zero, suc, ◌+◌, ◌-◌, ◌*◌, ◌<◌, ◌≤◌, nat_lt, ◌==◌, Bool, true, false, List, [], ◌∷◌, ◌++◌}
+use Rattle.std.specs.Prelude.{length, if◌then◌else◌, slice_range, refl}
 use Rattle.std.proofs.Common.{sym, ap, ap₂, ◌∙◌, arith, append_assoc}
 use Rattle.std.proofs.lemmas.Bool.Decides.{nat_tests}
 use Rattle.std.proofs.lemmas.List.{append-nil}
@@ -13,7 +14,7 @@ use Rattle.a2_film.specs.Filmed.{from_address}
 use Rattle.a2_film.proofs.Parts.{differing-alike}
 
 -- the bytes at addresses and at others behind them
-bytes_at-joined : (m : ℕ → ℕ) (front back : List ℕ) → bytes_at m (front ++ back) ≡ bytes_at m front ++ bytes_at m back
+pub bytes_at-joined : (m : ℕ → ℕ) (front back : List ℕ) → bytes_at m (front ++ back) ≡ bytes_at m front ++ bytes_at m back
 bytes_at-joined m [] back = refl
 bytes_at-joined m (a ∷ front) back = go (nat_lt a ram_end) (bytes_at-joined m front back)
   where
@@ -23,16 +24,9 @@ bytes_at-joined m (a ∷ front) back = go (nat_lt a ram_end) (bytes_at-joined m 
     go true rest = ap (λ (l : List Store). (a, m a) ∷ l) rest
     go false rest = rest
 
-differing-step : (old new : ℕ → ℕ) (a n : ℕ) → 0 < n
-    → differing old new a n ≡ (if old a == new a then differing old new (a + 1) (n - 1) else (a, new a) ∷ differing old new (a + 1) (n - 1))
-unfolding differing
-differing-step old new a zero some = absurd (omega (arith, some))
-differing-step old new a (suc n) some =
-    let one : n ≡ suc n - 1 = omega arith in
-    ap (λ (k : ℕ). if old a == new a then differing old new (a + 1) k else (a, new a) ∷ differing old new (a + 1) k) one
-
 -- of more addresses
-pub differing-cut : (old new : ℕ → ℕ) (a m n : ℕ) → differing old new a (m + n) ≡ differing old new a m ++ differing old new (a + m) n
+pub differing-cut : (old new : ℕ → ℕ) (a m n : ℕ) → differing old new a (m + n) ≡ differing old new a m
+    ++ differing old new (a + m) n
 unfolding differing
 differing-cut old new a zero n =
     let all : zero + n ≡ n = omega arith in
@@ -42,7 +36,8 @@ differing-cut old new a (suc m) n =
     let all : suc m + n ≡ suc (m + n) = omega arith in
     let there : a + 1 + m ≡ a + suc m = omega arith in
     ap (differing old new a) all
-    ∙ go (old a == new a) (differing-cut old new (a + 1) m n ∙ ap (λ (k : ℕ). differing old new (a + 1) m ++ differing old new k n) there)
+    ∙ go (old a == new a) (differing-cut old new (a + 1) m n
+    ∙ ap (λ (k : ℕ). differing old new (a + 1) m ++ differing old new k n) there)
   where
     go : (v : Bool) → differing old new (a + 1) (m + n) ≡ differing old new (a + 1) m ++ differing old new (a + suc m) n
         → (if v then differing old new (a + 1) (m + n) else (a, new a) ∷ differing old new (a + 1) (m + n))
@@ -109,77 +104,27 @@ differing-reached old new end least most below between above =
         ∙ ap (λ (k : ℕ). differing old new k (0x400 + 0xB800)) at_page
         ∙ page
 
--- one address more is looked at, and noted where its byte is another
-pub other-noted : (new old : ℕ → ℕ) (items more : List ℕ) (whole : List Store) (a n was byte : ℕ) → a < ram_end → 0 < n → was ≡ old a → byte ≡ new a
-    → more ≡ items ++ (if was == byte then [] else a ∷ []) → bytes_at new items ++ differing old new a n ≡ whole
-    → bytes_at new more ++ differing old new (a + 1) (n - 1) ≡ whole
-other-noted new old items more whole a n was byte low some was_is byte_is noted left =
-    ap (λ (l : List ℕ). bytes_at new l ++ rest) (noted ∙ ap₂ (λ (o b : ℕ). items ++ (if o == b then [] else a ∷ [])) was_is byte_is)
-    ∙ go (old a == new a)
-    ∙ ap (λ (l : List Store). bytes_at new items ++ l) (sym (differing-step old new a n some))
-    ∙ left
-  where
-    rest : List Store
-    rest = differing old new (a + 1) (n - 1)
-
-    lt : nat_lt a ram_end ≡ true
-    lt = grind (arith, nat_tests, low)
-
-    go : (v : Bool) → bytes_at new (items ++ (if v then [] else a ∷ [])) ++ rest ≡ bytes_at new items ++ (if v then rest else (a, new a) ∷ rest)
-    go true = ap (λ (l : List ℕ). bytes_at new l ++ rest) (append-nil items)
-    go false =
-        ap (λ (l : List Store). l ++ rest) (bytes_at-joined new items (a ∷ [])
-        ∙ ap (λ (v : Bool). bytes_at new items ++ (if v then (a, new a) ∷ [] else [])) lt)
-        ∙ append_assoc (bytes_at new items) ((a, new a) ∷ []) rest
-
--- all are looked at
-pub others-done : (new old : ℕ → ℕ) (items : List ℕ) (whole : List Store) (a n : ℕ) → n ≡ 0 → bytes_at new items ++ differing old new a n ≡ whole
-    → bytes_at new items ≡ whole
-unfolding differing
-others-done new old items whole a n none left =
-    sym (append-nil (bytes_at new items)) ∙ ap (λ (k : ℕ). bytes_at new items ++ differing old new a k) (sym none) ∙ left
-
--- where the bytes are the same, no other is added
-pub none_others : (memory : Memory) (items old now : List ℕ) (first end : ℕ) → old ≡ now
-    → ((a : ℕ) → first ≤ a → a < end → from_address first now a ≡ ram_byte memory a)
-    → bytes_at (ram_byte memory) items ≡ bytes_at (ram_byte memory) items ++ differing (from_address first old) (ram_byte memory) first (end - first)
-none_others memory items old now first end same held =
-    let none : differing (from_address first old) (ram_byte memory) first (end - first) ≡ [] =
-    differing-none (from_address first old) (ram_byte memory) first (end - first)
-    (λ k high low. ap (λ (l : List ℕ). from_address first l k) same ∙ held k high (omega (arith, high, low))) in
-    sym (append-nil (bytes_at (ram_byte memory) items)) ∙ ap (λ (l : List Store). bytes_at (ram_byte memory) items ++ l) (sym none)
-
--- a piece more is looked at
-pub piece-added : (new old was : ℕ → ℕ) (items more : List ℕ) (whole : List Store) (a n m : ℕ) → m ≤ n → ((k : ℕ) → a ≤ k → k < a + m → was k ≡ old k)
-    → bytes_at new more ≡ bytes_at new items ++ differing was new a m → bytes_at new items ++ differing old new a n ≡ whole
-    → bytes_at new more ++ differing old new (a + m) (n - m) ≡ whole
-piece-added new old was items more whole a n m fits same added left =
-    let all : m + (n - m) ≡ n = omega (arith, fits) in
-    ap (λ (l : List Store). l ++ differing old new (a + m) (n - m)) (added ∙ ap (λ (l : List Store). bytes_at new items ++ l) (alike was old a m same))
-    ∙ append_assoc (bytes_at new items) (differing old new a m) (differing old new (a + m) (n - m))
-    ∙ ap (λ (l : List Store). bytes_at new items ++ l) (sym (differing-cut old new a m (n - m)) ∙ ap (differing old new a) all)
-    ∙ left
-  where
-    alike : (was old : ℕ → ℕ) (a m : ℕ) → ((k : ℕ) → a ≤ k → k < a + m → was k ≡ old k) → differing was new a m ≡ differing old new a m
-    alike was old a m same = differing-alike was old new new a m same (λ k high low. refl)
-
 -- Pieces of page 1, of 64 bytes
 
 -- a byte of a piece is the page's
-pub piece-of : (page : List ℕ) (piece a : ℕ) → piece < 16 → length page ≡ 1024 → 0x400 + piece * 64 ≤ a → a < 0x400 + piece * 64 + 64
+pub piece-of : (page : List ℕ) (piece a : ℕ) → piece < 16 → length page ≡ 1024 → 0x400 + piece * 64 ≤ a
+    → a < 0x400 + piece * 64 + 64
     → from_address (0x400 + piece * 64) (slice_range page (piece * 64) (piece * 64 + 64)) a ≡ from_address 0x400 page a
 piece-of page piece a low size high under =
-    range-at page (piece * 64) (piece * 64 + 64) (a - (0x400 + piece * 64)) (a - 0x400) 0 (omega (arith, low, size)) (omega (arith, high)) (omega (arith, high, under))
+    range-at page (piece * 64) (piece * 64 + 64) (a - (0x400 + piece * 64)) (a - 0x400) 0 (omega (arith, low, size))
+    (omega (arith, high)) (omega (arith, high, under))
 
 -- and the page's byte is RAM's
-pub page-seen : (bus : BusState) (page : List ℕ) (a : ℕ) → length bus.bytes ≡ ram_end → page ≡ slice_range bus.bytes 0x400 0x800 → 0x400 ≤ a → a < 0x800
+pub page-seen : (bus : BusState) (page : List ℕ) (a : ℕ) → length bus.bytes ≡ ram_end → page ≡ slice_range bus.bytes 0x400 0x800
+    → 0x400 ≤ a → a < 0x800
     → from_address 0x400 page a ≡ ram_byte (memory_of bus) a
 page-seen bus page a size is high low =
     ap (λ (l : List ℕ). from_address 0x400 l a) is
     ∙ range-at bus.bytes 0x400 0x800 (a - 0x400) a 0 (omega (arith, size)) (omega (arith, high)) low
     ∙ byte_seen bus a size (omega (arith, low))
 
-pub page-byte : (bus : BusState) (page : List ℕ) (piece a : ℕ) → piece < 16 → length bus.bytes ≡ ram_end → page ≡ slice_range bus.bytes 0x400 0x800
+pub page-byte : (bus : BusState) (page : List ℕ) (piece a : ℕ) → piece < 16 → length bus.bytes ≡ ram_end
+    → page ≡ slice_range bus.bytes 0x400 0x800
     → 0x400 + piece * 64 ≤ a → a < 0x400 + (piece * 64 + 64)
     → from_address (0x400 + piece * 64) (slice_range page (piece * 64) (piece * 64 + 64)) a ≡ ram_byte (memory_of bus) a
 page-byte bus page piece a low size is high under =

@@ -1,5 +1,7 @@
 -- What the calls for a step write is the row of the step.
-use Rattle.std.proofs.Common.{◌≡◌, ℕ, ◌-◌, ◌<◌, ◌≤◌, List, ◌++◌, length, codes, slice_index, slice_range, slice_get, Option, Some, None, is_some, true, false, refl, sym, ap, ap₂, ◌∙◌, arith, true≢false, Result, Ok, Err, IsErr}
+use Rattle.std.proofs.Common.{◌≡◌, ℕ, ◌-◌, ◌<◌, ◌≤◌, List, ◌++◌, length, codes, slice_index, slice_range, slice_get, Option, Some}
+use Rattle.std.proofs.Common.{None, is_some, true, false, refl, sym, ap, ap₂, ◌∙◌, arith, append_assoc, true≢false, Result, Ok}
+use Rattle.std.proofs.Common.{Err, IsErr}
 use Rattle.a2_opcode.specs.Encoding.{Fetched, no_byte, undocumented, instruction, fetched}
 use Rattle.a2_bus.specs.BusState.{BusState, board_access}
 use Rattle.a2_bus.specs.Memory.{ram_byte, ram_end, peek, memory_access}
@@ -45,14 +47,16 @@ stores-there registers bus cycles size =
 
 -- what is stored by an instruction, and by a service
 pub stored-by_instruction : (before after : World) → is_some (service_at before.registers.pc) ≡ false
-    → stored before after ≡ bytes_at (ram_byte after.memory) (stores_at memory_access (fetched (peek before.memory) before.registers.pc) before)
+    → stored before after ≡ bytes_at (ram_byte after.memory)
+    (stores_at memory_access (fetched (peek before.memory) before.registers.pc) before)
 unfolding stored
 stored-by_instruction before after none = go (service_at before.registers.pc) none
   where
     Told : Option Service → Type 0
     Told found = (elim found as (λ _. List Store) [
       | Some service ↦ differing (ram_byte before.memory) (ram_byte after.memory) 0 ram_end
-      | None ↦ bytes_at (ram_byte after.memory) (stores_at memory_access (fetched (peek before.memory) before.registers.pc) before)
+      | None ↦ bytes_at (ram_byte after.memory)
+          (stores_at memory_access (fetched (peek before.memory) before.registers.pc) before)
     ]) ≡ bytes_at (ram_byte after.memory) (stores_at memory_access (fetched (peek before.memory) before.registers.pc) before)
 
     go : (found : Option Service) → is_some found ≡ false → Told found
@@ -67,12 +71,20 @@ stored-by_service before after some = go (service_at before.registers.pc) some
     Told : Option Service → Type 0
     Told found = (elim found as (λ _. List Store) [
       | Some service ↦ differing (ram_byte before.memory) (ram_byte after.memory) 0 ram_end
-      | None ↦ bytes_at (ram_byte after.memory) (stores_at memory_access (fetched (peek before.memory) before.registers.pc) before)
+      | None ↦ bytes_at (ram_byte after.memory)
+          (stores_at memory_access (fetched (peek before.memory) before.registers.pc) before)
     ]) ≡ differing (ram_byte before.memory) (ram_byte after.memory) 0 ram_end
 
     go : (found : Option Service) → is_some found ≡ true → Told found
     go None is = absurd (true≢false (sym is))
     go (Some service) is = refl
+
+-- what is built for a step is its row, up to its end
+pub row_of : (row start fields stores whole : List ℕ) → row ≡ start ++ stores → start ≡ fields → fields
+    ++ (stores ++ codes "\n") ≡ whole → row ++ codes "\n" ≡ whole
+row_of row start fields stores whole stored begun is =
+    ap (λ (l : List ℕ). l ++ codes "\n") (stored ∙ ap (λ (l : List ℕ). l ++ stores) begun)
+    ∙ append_assoc fields stores (codes "\n") ∙ is
 
 -- the row of an instruction's step, by the addresses that the processor tells before it
 pub instruction_row : (old new : Device) (seen : Seen) (addresses : List ℕ) → is_some (service_at old.state.regs.pc) ≡ false
@@ -89,7 +101,8 @@ instruction_row old new seen addresses none size is told =
     ∙ sym (stored-by_instruction before after none))
 
 -- the world behind a call
-called : (code : Code) (world : World) (service : Service) → Some service ≡ service_at world.registers.pc → next code world ≡ served service world
+called : (code : Code) (world : World) (service : Service) → Some service ≡ service_at world.registers.pc
+    → next code world ≡ served service world
 unfolding next next_at
 called code world service there =
     ap (λ (found : Option Service). elim found as (λ _. World) [
@@ -101,18 +114,19 @@ called code world service there =
     ]) (sym there)
 
 -- the row of a service's step, by the bytes of RAM before it that it may change
-pub service_row : (old new : Device) (seen : Seen) (service : Service) (ram page addresses : List ℕ) (end : ℕ) → Some service ≡ service_at old.state.regs.pc
-    → IsStep old new → length old.state.bus.bytes ≡ ram_end → seen ≡ seen_of (world_of_state old.state) → end ≡ low_end service → length ram ≡ ram_end
-    → ((a : ℕ) → 0x24 ≤ a → a < end → slice_index ram a ≡ ram_byte (memory_of old.state.bus) a) → page ≡ slice_range old.state.bus.bytes 0x400 0x800
-    → bytes_at (ram_byte (world_of_state new.state).memory) addresses
-    ≡ differing (from_address 0x24 (slice_range ram 0x24 end)) (ram_byte (world_of_state new.state).memory) 0x24 (end - 0x24)
-    ++ differing (from_address 0x400 page) (ram_byte (world_of_state new.state).memory) 0x400 0x400
-    → fields_between seen (seen_of (world_of_state new.state))
-    ++ (stores_text no_address (bytes_at (ram_byte (world_of_state new.state).memory) addresses) ++ codes "\n")
+pub service_row : (old new : Device) (seen : Seen) (service : Service) (ram page : List ℕ) (end : ℕ)
+    → Some service ≡ service_at old.state.regs.pc
+    → IsStep old new → length old.state.bus.bytes ≡ ram_end → seen ≡ seen_of (world_of_state old.state) → end ≡ low_end service
+    → length ram ≡ ram_end
+    → ((a : ℕ) → 0x24 ≤ a → a < end → slice_index ram a ≡ ram_byte (memory_of old.state.bus) a)
+    → page ≡ slice_range old.state.bus.bytes 0x400 0x800
+    → fields_between seen (seen_of (world_of_state new.state)) ++ (stores_text no_address
+    (differing (from_address 0x24 (slice_range ram 0x24 end)) (ram_byte (world_of_state new.state).memory) 0x24 (end - 0x24)
+    ++ differing (from_address 0x400 page) (ram_byte (world_of_state new.state).memory) 0x400 0x400) ++ codes "\n")
     ≡ row_between old new
-service_row old new seen service ram page addresses end there step size is end_is long held paged told =
+service_row old new seen service ram page end there step size is end_is long held paged =
     ap₂ (λ (s : Seen) (l : List Store). fields_between s (seen_of after) ++ (stores_text no_address l ++ codes "\n")) is
-    (told ∙ ap₂ (λ (l r : List Store). l ++ r) low_part page_part
+    (ap₂ (λ (l r : List Store). l ++ r) low_part page_part
     ∙ sym (differing-reached was now end least (omega (arith, most))
     (λ a low. kept a (reach-below service a low))
     (λ a high low. kept a (reach-between service a (omega (arith, high, end_is)) low))
@@ -138,9 +152,11 @@ service_row old new seen service ram page addresses end there step size is end_i
     most = omega (arith, end_is, low_end-most service)
 
     kept : (a : ℕ) → reach service a ≡ false → was a ≡ now a
-    kept a out = sym (served-kept service before a out) ∙ ap (λ (w : World). ram_byte w.memory a) (sym (called (code_of old.state) before service there) ∙ sym step.world)
+    kept a out = sym (served-kept service before a out) ∙ ap (λ (w : World). ram_byte w.memory a)
+        (sym (called (code_of old.state) before service there) ∙ sym step.world)
 
-    low_part : differing (from_address 0x24 (slice_range ram 0x24 end)) now 0x24 (end - 0x24) ≡ differing was now 0x24 (end - 0x24)
+    low_part : differing (from_address 0x24 (slice_range ram 0x24 end)) now 0x24 (end - 0x24) ≡ differing was now 0x24
+        (end - 0x24)
     low_part =
         differing-alike (from_address 0x24 (slice_range ram 0x24 end)) was now now 0x24 (end - 0x24)
         (λ k high low.
@@ -155,7 +171,8 @@ service_row old new seen service ram page addresses end there step size is end_i
         (λ k high low. refl)
 
 -- a step's row broke off, and the result says so
-pub films-err : (old new : Device) (a b : Taker) (r : Result (Option Cause) WriteFault) → IsErr r → None ≡ cause_of old.state → IsStep old new
+pub films-err : (old new : Device) (a b : Taker) (r : Result (Option Cause) WriteFault) → IsErr r → None ≡ cause_of old.state
+    → IsStep old new
     → Breaks a b (row_between old new) → FilmsStep old new a b r
 films-err old new a b (Ok _) failed none step broke = cc
 films-err old new a b (Err _) failed none step broke = (none, step, broke)

@@ -1,5 +1,6 @@
 -- No piece of a film's data holds a <.
-use Rattle.std.specs.Prelude.{◌≡◌, ◌≢◌, ℕ, zero, suc, ◌+◌, ◌/◌, ◌%◌, ◌==◌, ◌<◌, nat_lt, nat_le, not, ◌&&◌, Bool, true, false, if◌then◌else◌, List, [], ◌∷◌, ◌++◌, codes, Option, Some, None, refl}
+use Rattle.std.specs.Prelude.{◌≡◌, ◌≢◌, ℕ, zero, suc, ◌+◌, ◌/◌, ◌%◌, ◌==◌, ◌<◌, nat_lt, nat_le, not, ◌&&◌, Bool, true, false}
+use Rattle.std.specs.Prelude.{if◌then◌else◌, List, [], ◌∷◌, ◌++◌, codes, Option, Some, None, refl}
 use Rattle.std.specs.List.{concat, flat_map, list_all}
 use Rattle.std.specs.Fmt.{decimal, digits, digits_onto, digit_glyph}
 use Rattle.std.proofs.Common.{arith}
@@ -15,14 +16,19 @@ use Rattle.a2_bus.specs.Memory.{ram_byte, ram_end}
 use Rattle.a2_cpu.specs.Registers.{byte_of_flags}
 use Rattle.a2_services.specs.World.{World}
 use Rattle.a2_machine.specs.declared.Cause.{Cause}
-use Rattle.a2_machine.specs.declared.Cause.TheVariants.{Returned, CodeWrite, Window, Keys, OffStatement, Rom, Opcode, Brk, Decimal, Limit}
+use Rattle.a2_machine.specs.declared.Cause.TheVariants.{Returned, CodeWrite, Window, Keys, OffStatement, Rom, Opcode, Brk}
+use Rattle.a2_machine.specs.declared.Cause.TheVariants.{Decimal, Limit}
 use Rattle.a2_machine.specs.Meaning.{Code, world_at}
 use Rattle.a2_machine.specs.Output.{cause_line}
 use Rattle.a2_film.specs.Changes.{Store, Change, switch_digit, differing, change_of}
 use Rattle.a2_film.specs.declared.chapters.Place.{Place}
 use Rattle.a2_film.specs.declared.chapters.Place.TheVariants.{Step, Line}
 use Rattle.a2_film.specs.declared.chapters.Chapter.{Chapter}
-use Rattle.a2_film.specs.Rows.{place_text, chapter_line, line_of_counts, byte_text, switches_text, keys_text, store_text, stores_text, no_address, fields_of_parts, fields_text, row_text, plain_byte, plain_text, digits_of_bytes, title_lines, guard_text, opening, source_line, laid, line_of_statement, statement_line, name_line, program_lines, memory_line, line_of_registers, registers_line, start_lines}
+use Rattle.a2_film.specs.Rows.{place_text, chapter_line, line_of_counts, byte_text, switches_text, keys_text, store_text}
+use Rattle.a2_film.specs.Rows.{stores_text, no_address, fields_of_parts, fields_text, row_text, plain_byte, plain_text}
+use Rattle.a2_film.specs.Rows.{digits_of_bytes, title_lines, guard_text, opening, source_line, laid, line_of_statement}
+use Rattle.a2_film.specs.Rows.{statement_line, name_line, program_lines, memory_line, line_of_registers, registers_line}
+use Rattle.a2_film.specs.Rows.{start_lines}
 use Rattle.a2_film.specs.Runs.{rows, run_lines}
 use Rattle.a2_film.specs.Film.{film_head}
 use Rattle.a2_film.specs.Laws.{HasNoTag, DataHaveNoTag}
@@ -74,7 +80,8 @@ hex_pair-tagless byte =
     (cons-tagless (hex_digit (byte % 16)) [] (hex_digit-other (byte % 16)) nil-tagless)
 
 hex_word-tagless : (word : ℕ) → HasNoTag (hex_word word)
-hex_word-tagless word = append-tagless (hex_pair (word / 256)) (hex_pair (word % 256)) (hex_pair-tagless (word / 256)) (hex_pair-tagless (word % 256))
+hex_word-tagless word = append-tagless (hex_pair (word / 256)) (hex_pair (word % 256)) (hex_pair-tagless (word / 256))
+    (hex_pair-tagless (word % 256))
 
 glyph-other : (d : ℕ) → d < 10 → digit_glyph false d ≢ 0x3C
 glyph-other d low = go (nat_lt d 10) refl
@@ -91,7 +98,8 @@ onto-tagless (suc k) n others h = go (n / 10 == 0) (onto-tagless k (n / 10) (dig
     more = cons-tagless (digit_glyph false (n % 10)) others (glyph-other (n % 10) (omega arith)) h
 
     go : (v : Bool) → HasNoTag (digits_onto k 10 false (n / 10) (digit_glyph false (n % 10) ∷ others))
-        → HasNoTag (if v then digit_glyph false (n % 10) ∷ others else digits_onto k 10 false (n / 10) (digit_glyph false (n % 10) ∷ others))
+        → HasNoTag (if v then digit_glyph false (n % 10) ∷ others else digits_onto k 10 false (n / 10)
+        (digit_glyph false (n % 10) ∷ others))
     go true rest = more
     go false rest = rest
 
@@ -108,7 +116,8 @@ byte-tagless letter (Some byte) other = cons-tagless letter (hex_pair byte) othe
 switches-tagless : (digit : Option ℕ) → HasNoTag (switches_text digit)
 switches-tagless None = nil-tagless
 switches-tagless (Some digit) =
-    cons-tagless 0x77 (hex_digit digit ∷ []) (other_test 0x77 refl) (cons-tagless (hex_digit digit) [] (hex_digit-other digit) nil-tagless)
+    cons-tagless 0x77 (hex_digit digit ∷ []) (other_test 0x77 refl)
+    (cons-tagless (hex_digit digit) [] (hex_digit-other digit) nil-tagless)
 
 keys-tagless : (taken : ℕ) → HasNoTag (keys_text taken)
 keys-tagless taken = go (taken == 0)
@@ -129,13 +138,15 @@ store-tagless next store = go (store.0 == next)
 stores-tagless : (next : ℕ) (stores : List Store) → HasNoTag (stores_text next stores)
 stores-tagless next [] = nil-tagless
 stores-tagless next (store ∷ stores) =
-    append-tagless (store_text next store) (stores_text (store.0 + 1) stores) (store-tagless next store) (stores-tagless (store.0 + 1) stores)
+    append-tagless (store_text next store) (stores_text (store.0 + 1) stores) (store-tagless next store)
+    (stores-tagless (store.0 + 1) stores)
 
 fields-tagless : (change : Change) → HasNoTag (fields_text change)
 unfolding fields_of_parts
 fields-tagless change =
     concat-tagless
-    (hex_word change.pc ∷ decimal change.cycles ∷ byte_text 0x61 change.a ∷ byte_text 0x78 change.x ∷ byte_text 0x79 change.y ∷ byte_text 0x73 change.s
+    (hex_word change.pc ∷ decimal change.cycles ∷ byte_text 0x61 change.a ∷ byte_text 0x78 change.x ∷ byte_text 0x79
+    change.y ∷ byte_text 0x73 change.s
     ∷ byte_text 0x70 change.p ∷ switches_text change.switches ∷ keys_text change.keys ∷ []) (
       hex_word-tagless change.pc,
       (
@@ -162,12 +173,14 @@ fields-tagless change =
 row-tagless : (change : Change) → HasNoTag (row_text change)
 row-tagless change =
     append-tagless (fields_text change) (stores_text no_address change.stores ++ codes "\n") (fields-tagless change)
-    (append-tagless (stores_text no_address change.stores) (codes "\n") (stores-tagless no_address change.stores) (by_test (codes "\n") refl))
+    (append-tagless (stores_text no_address change.stores) (codes "\n") (stores-tagless no_address change.stores)
+    (by_test (codes "\n") refl))
 
 rows-tagless : (code : Code) (start : World) (n : ℕ) → HasNoTag (rows code start n)
 rows-tagless code start zero = nil-tagless
 rows-tagless code start (suc n) =
-    append-tagless (rows code start n) (row_text (change_of (world_at code start n) (world_at code start (suc n)))) (rows-tagless code start n)
+    append-tagless (rows code start n) (row_text (change_of (world_at code start n) (world_at code start (suc n))))
+    (rows-tagless code start n)
     (row-tagless (change_of (world_at code start n) (world_at code start (suc n))))
 
 cause-tagless : (cause : Cause) → HasNoTag (cause_line cause)
@@ -213,7 +226,8 @@ opening-tagless : (title : List ℕ) (free : Bool) (keys : List ℕ) → HasNoTa
 opening-tagless title free keys =
     append-tagless (title_lines title) (guard_text free ++ (digits_of_bytes keys ++ codes "\n")) (title-tagless title)
     (append-tagless (guard_text free) (digits_of_bytes keys ++ codes "\n") (guard-tagless free)
-    (append-tagless (digits_of_bytes keys) (codes "\n") (flat_map-tagless (λ b. hex_pair b) hex_pair-tagless keys) (by_test (codes "\n") refl)))
+    (append-tagless (digits_of_bytes keys) (codes "\n") (flat_map-tagless (λ b. hex_pair b) hex_pair-tagless keys)
+    (by_test (codes "\n") refl)))
 
 place-tagless : (place : Place) → HasNoTag (place_text place)
 place-tagless (Step n) = append-tagless (codes "C ") (decimal n) (by_test (codes "C ") refl) (decimal-tagless n)
@@ -221,7 +235,8 @@ place-tagless (Line n) = append-tagless (codes "D ") (decimal n) (by_test (codes
 
 chapter-tagless : (chapter : Chapter) → HasNoTag (chapter_line chapter)
 chapter-tagless chapter =
-    append-tagless (place_text chapter.place) (codes " " ++ (plain_text chapter.text.now ++ codes "\n")) (place-tagless chapter.place)
+    append-tagless (place_text chapter.place) (codes " " ++ (plain_text chapter.text.now ++ codes "\n"))
+    (place-tagless chapter.place)
     (append-tagless (codes " ") (plain_text chapter.text.now ++ codes "\n") (by_test (codes " ") refl)
     (append-tagless (plain_text chapter.text.now) (codes "\n") (plain-tagless chapter.text.now) (by_test (codes "\n") refl)))
 
@@ -233,7 +248,8 @@ source-tagless text =
 statement-tagless : (image : ℕ → Option ℕ) (s : Statement) → HasNoTag (statement_line image s)
 unfolding line_of_statement
 statement-tagless image s =
-    concat-tagless (codes "L " ∷ decimal s.line ∷ codes " " ∷ hex_word s.addr ∷ codes " " ∷ decimal (laid image s) ∷ codes "\n" ∷ []) (
+    concat-tagless (codes "L " ∷ decimal s.line ∷ codes " " ∷ hex_word s.addr ∷ codes " " ∷ decimal (laid image s) ∷ codes
+    "\n" ∷ []) (
       by_test (codes "L ") refl,
       (
         decimal-tagless s.line,
@@ -252,14 +268,16 @@ statement-tagless image s =
 
 name-tagless : (entry : List ℕ × ℕ) → HasNoTag (name_line entry)
 name-tagless entry =
-    append-tagless (codes "N ") (plain_text entry.0 ++ (codes " " ++ (hex_word entry.1 ++ codes "\n"))) (by_test (codes "N ") refl)
+    append-tagless (codes "N ") (plain_text entry.0 ++ (codes " " ++ (hex_word entry.1 ++ codes "\n")))
+    (by_test (codes "N ") refl)
     (append-tagless (plain_text entry.0) (codes " " ++ (hex_word entry.1 ++ codes "\n")) (plain-tagless entry.0)
     (append-tagless (codes " ") (hex_word entry.1 ++ codes "\n") (by_test (codes " ") refl)
     (append-tagless (hex_word entry.1) (codes "\n") (hex_word-tagless entry.1) (by_test (codes "\n") refl))))
 
 program-tagless : (program : Assembled) (texts : List (List ℕ)) → HasNoTag (program_lines program texts)
 program-tagless program texts =
-    append-tagless (flat_map source_line texts) (flat_map (statement_line (held program.image)) program.statements ++ flat_map name_line program.names)
+    append-tagless (flat_map source_line texts) (flat_map (statement_line (held program.image)) program.statements
+    ++ flat_map name_line program.names)
     (flat_map-tagless (λ t. source_line t) source-tagless texts)
     (append-tagless (flat_map (statement_line (held program.image)) program.statements) (flat_map name_line program.names)
     (flat_map-tagless (statement_line (held program.image)) (statement-tagless (held program.image)) program.statements)
@@ -286,7 +304,8 @@ registers-tagless start =
     let r = start.registers in
     let digit = hex_digit (switch_digit start.memory.devices.switches) in
     concat-tagless
-    (codes "R " ∷ hex_word r.pc ∷ codes " " ∷ hex_pair r.a ∷ codes " " ∷ hex_pair r.x ∷ codes " " ∷ hex_pair r.y ∷ codes " " ∷ hex_pair r.s ∷ codes " "
+    (codes "R " ∷ hex_word r.pc ∷ codes " " ∷ hex_pair r.a ∷ codes " " ∷ hex_pair r.x ∷ codes " " ∷ hex_pair r.y ∷ codes
+    " " ∷ hex_pair r.s ∷ codes " "
     ∷ hex_pair (byte_of_flags r.flags) ∷ codes " " ∷ (digit ∷ []) ∷ codes "\n" ∷ []) (
       by_test (codes "R ") refl,
       (
@@ -313,7 +332,10 @@ registers-tagless start =
                             hex_pair-tagless (byte_of_flags r.flags),
                             (
                               by_test (codes " ") refl,
-                              (cons-tagless digit [] (hex_digit-other (switch_digit start.memory.devices.switches)) nil-tagless, (by_test (codes "\n") refl, tt)),
+                              (
+                                cons-tagless digit [] (hex_digit-other (switch_digit start.memory.devices.switches)) nil-tagless,
+                                (by_test (codes "\n") refl, tt),
+                              ),
                             ),
                           ),
                         ),
@@ -337,6 +359,8 @@ data-tagless text title chapters free program code steps start end =
     (append-tagless (opening title free keys) (first ++ (listed ++ start_lines steps start)) (opening-tagless title free keys)
     (append-tagless first (listed ++ start_lines steps start) (flat_map-tagless (λ c. chapter_line c) chapter-tagless chapters)
     (append-tagless listed (start_lines steps start) (program-tagless program (lines text))
-    (append-tagless (line_of_counts (decimal steps) (decimal start.cycles)) (memory_line start ++ registers_line start) (counts-tagless steps start.cycles)
+    (append-tagless (line_of_counts (decimal steps) (decimal start.cycles)) (memory_line start ++ registers_line start)
+    (counts-tagless steps start.cycles)
     (append-tagless (memory_line start) (registers_line start) (memory-tagless start) (registers-tagless start))))))
-    (append-tagless (rows code start end.steps) (cause_line end.cause) (rows-tagless code start end.steps) (cause-tagless end.cause))
+    (append-tagless (rows code start end.steps) (cause_line end.cause) (rows-tagless code start end.steps)
+    (cause-tagless end.cause))

@@ -37,7 +37,8 @@ abbrev EndAlike : Code → Code → World → Type 0
 EndAlike code other start = (limit : ℕ) (end : End) → IsEnd code start limit end → IsEnd other start limit end
 
 -- so both go through the same worlds: a run that is limited to so many steps ends at the last of them
-same-world : (code other : Code) (start : World) (n : ℕ) → EndAlike code other start → ((k : ℕ) → k < n → stuck code (world_at code start k) ≡ None)
+same-world : (code other : Code) (start : World) (n : ℕ) → EndAlike code other start
+    → ((k : ℕ) → k < n → stuck code (world_at code start k) ≡ None)
     → world_at code start n ≡ world_at other start n
 same-world code other start n alike going =
     let end = run_from code start 0 n in
@@ -46,21 +47,27 @@ same-world code other start n alike going =
     let all : end.steps ≡ n = omega (arith, is.within, late) in
     subst (λ (k : ℕ). world_at code start k ≡ world_at other start k) all (sym is.reached ∙ (alike n end is).reached)
 
-same-rows : (code other : Code) (start : World) (n : ℕ) → EndAlike code other start → ((k : ℕ) → k < n → stuck code (world_at code start k) ≡ None)
+same-rows : (code other : Code) (start : World) (n : ℕ) → EndAlike code other start
+    → ((k : ℕ) → k < n → stuck code (world_at code start k) ≡ None)
     → rows code start n ≡ rows other start n
 same-rows code other start zero alike going = refl
 same-rows code other start (suc n) alike going =
     let before : (k : ℕ) → k < n → stuck code (world_at code start k) ≡ None = λ k lt. going k (omega (arith, lt)) in
-    ap (λ (l : List ℕ). l ++ row_text (change_of (world_at code start n) (world_at code start (suc n)))) (same-rows code other start n alike before)
-    ∙ ap₂ (λ (v w : World). rows other start n ++ row_text (change_of v w)) (same-world code other start n alike before) (same-world code other start (suc n) alike going)
+    ap (λ (l : List ℕ). l ++ row_text (change_of (world_at code start n) (world_at code start (suc n))))
+    (same-rows code other start n alike before)
+    ∙ ap₂ (λ (v w : World). rows other start n ++ row_text (change_of v w)) (same-world code other start n alike before)
+    (same-world code other start (suc n) alike going)
 
-same-frames : (code other : Code) (start : World) (n : ℕ) → EndAlike code other start → ((k : ℕ) → k < n → stuck code (world_at code start k) ≡ None)
+same-frames : (code other : Code) (start : World) (n : ℕ) → EndAlike code other start
+    → ((k : ℕ) → k < n → stuck code (world_at code start k) ≡ None)
     → frame_at code start n ≡ frame_at other start n
 same-frames code other start zero alike going = refl
 same-frames code other start (suc n) alike going =
     let before : (k : ℕ) → k < n → stuck code (world_at code start k) ≡ None = λ k lt. going k (omega (arith, lt)) in
-    ap (λ (f : Frame). applied (change_of (world_at code start n) (world_at code start (suc n))) f) (same-frames code other start n alike before)
-    ∙ ap₂ (λ (v w : World). applied (change_of v w) (frame_at other start n)) (same-world code other start n alike before) (same-world code other start (suc n) alike going)
+    ap (λ (f : Frame). applied (change_of (world_at code start n) (world_at code start (suc n))) f)
+    (same-frames code other start n alike before)
+    ∙ ap₂ (λ (v w : World). applied (change_of v w) (frame_at other start n)) (same-world code other start n alike before)
+    (same-world code other start (suc n) alike going)
 
 same-run : (code other : Code) (start : World) (limit : ℕ) (cause : Cause) (output : List ℕ) → EndAlike code other start
     → AreRunLines code start limit cause output → AreRunLines other start limit cause output
@@ -68,11 +75,13 @@ same-run code other start limit cause output alike is = record {
   end = is.end;
   is_end = alike limit is.end is.is_end;
   cause_is = is.cause_is;
-  output_is = is.output_is ∙ ap (λ (l : List ℕ). l ++ cause_line is.end.cause) (same-rows code other start is.end.steps alike is.is_end.first);
+  output_is = is.output_is ∙ ap (λ (l : List ℕ). l ++ cause_line is.end.cause)
+      (same-rows code other start is.end.steps alike is.is_end.first);
 }
 
 -- so they are from each world that is come to
-alike-behind : (code other : Code) (start : World) (m : ℕ) → EndAlike code other start → Going code start m → EndAlike code other (world_at code start m)
+alike-behind : (code other : Code) (start : World) (m : ℕ) → EndAlike code other start → Going code start m
+    → EndAlike code other (world_at code start m)
 alike-behind code other start m alike going limit end is =
     subst (λ (w : World). IsEnd other w limit end) (sym (same-world code other start m alike going))
     (end-split other start m limit end (alike (m + limit) (with_steps m end) (end-joined code start m limit end going is)))
@@ -82,12 +91,14 @@ frames_show_the_run text keys limit free program end made is from n within =
     let guard = guard_of_run free program in
     let start = start_of_run program keys in
     let other = code_of_run free program in
-    let alike : EndAlike (bytes guard) other start = λ most end ends. meant free program keys most end (sound-of text program made) ends in
+    let alike : EndAlike (bytes guard) other start =
+    λ most end ends. meant free program keys most end (sound-of text program made) ends in
     let last = run_from (bytes guard) start 0 limit in
     let ends = run-is_end (bytes guard) start limit in
     let same : last ≡ end = end-unique other start limit last end (alike limit last ends) is in
     let steps : last.steps ≡ end.steps = ap (λ (e : End). e.steps) same in
-    let going : Going (bytes guard) start (from + n) = going-first (bytes guard) start (from + n) last.steps (omega (arith, within, steps)) ends.first in
+    let going : Going (bytes guard) start (from + n) =
+    going-first (bytes guard) start (from + n) last.steps (omega (arith, within, steps)) ends.first in
     let first : Going (bytes guard) start from = going-first (bytes guard) start from (from + n) (omega arith) going in
     let here = world_at (bytes guard) start from in
     let onward : Going (bytes guard) here n = going-behind (bytes guard) start from n going in
@@ -101,14 +112,25 @@ frames_show_the_run text keys limit free program end made is from n within =
 -- The film of a text, as it goes out
 
 -- some film of a text that is accepted, whose run ends as it does
-any-run : (code : Code) (start : World) (limit : ℕ) → (cause : Cause) × (output : List ℕ) × AreRunLines code start limit cause output
+any-run : (code : Code) (start : World) (limit : ℕ) → (cause : Cause) × (output : List ℕ) × AreRunLines code start limit cause
+    output
 any-run code start limit =
-    let end = run_from code start 0 limit in
-    (end.cause, run_lines code start end, record { end = end; is_end = run-is_end code start limit; cause_is = refl; output_is = refl })
+    let end = run_from code start 0 limit in (
+      end.cause,
+      run_lines code start end,
+      record {
+        end = end;
+        is_end = run-is_end code start limit;
+        cause_is = refl;
+        output_is = refl;
+      },
+    )
 
 -- the machine went from the start of the program's run to that of the film
-module _ (text title : List ℕ) (chapters : List Chapter) (keys : List ℕ) (window : Window) (free : Bool) (program : Assembled) (old new : Device)
-    (why : Cause) (texts : List (List ℕ)) (low : window.from < 4_294_967_296) (made : IsProgramOf text program) (started : IsStarted free program keys old.state)
+module _ (text title : List ℕ) (chapters : List Chapter) (keys : List ℕ) (window : Window) (free : Bool) (program : Assembled)
+    (old new : Device)
+    (why : Cause) (texts : List (List ℕ)) (low : window.from < 4_294_967_296) (made : IsProgramOf text program)
+    (started : IsStarted free program keys old.state)
     (moved : machine.IsMachineRun window.from old new why) (cut : texts ≡ lines text) where
   abbrev code : Code
   code = bytes (guard_of_run free program)
@@ -123,7 +145,8 @@ module _ (text title : List ℕ) (chapters : List Chapter) (keys : List ℕ) (wi
   before_is = subst Steps steps (subst Most most (subst Start started.world (subst Guarded started.guard moved.end)))
     where
       Guarded : Option Guard → Type 0
-      Guarded guard = IsEnd (bytes guard) (world_of_state old.state) (steps_left window.from old.state) (end_at (new.state.steps - old.state.steps))
+      Guarded guard = IsEnd (bytes guard) (world_of_state old.state) (steps_left window.from old.state)
+          (end_at (new.state.steps - old.state.steps))
 
       Start : World → Type 0
       Start w = IsEnd code w (steps_left window.from old.state) (end_at (new.state.steps - old.state.steps))
@@ -150,13 +173,15 @@ module _ (text title : List ℕ) (chapters : List Chapter) (keys : List ℕ) (wi
       same-run code (code_of_run free program) (world_of_state new.state) window.steps cause run
       (subst (λ (w : World). EndAlike code (code_of_run free program) w) (sym before_is.reached)
       (alike-behind code (code_of_run free program) start new.state.steps alike before_is.first))
-      (subst (λ (k : Code). AreRunLines k (world_of_state new.state) window.steps cause run) (ap bytes (moved.guard ∙ started.guard)) are)
+      (subst (λ (k : Code). AreRunLines k (world_of_state new.state) window.steps cause run)
+      (ap bytes (moved.guard ∙ started.guard)) are)
 
   -- what stands before the rows, as it is written
   abbrev written : List ℕ
   written =
       page.head ++ (opening title free new.state.bus.devices.keys
-      ++ (flat_map chapter_line chapters ++ (program_lines program texts ++ start_lines new.state.steps (world_of_state new.state))))
+      ++ (flat_map chapter_line chapters ++ (program_lines program texts
+      ++ start_lines new.state.steps (world_of_state new.state))))
 
   written_is : written ≡ page.head ++ film_head title chapters text free program new.state.steps (world_of_state new.state)
   written_is =
@@ -177,13 +202,15 @@ module _ (text title : List ℕ) (chapters : List Chapter) (keys : List ℕ) (wi
   }
 
   pub film-done : (a b c : Taker) (cause : Cause) → Sends a b written
-      → ((run : List ℕ) × AreRunLines (code_of new.state) (world_of_state new.state) window.steps cause run × Sends b c (run ++ page.tail))
+      → ((run : List ℕ) × AreRunLines (code_of new.state) (world_of_state new.state) window.steps cause run
+      × Sends b c (run ++ page.tail))
       → (output : List ℕ) × IsFilmOf text title chapters keys window free cause output × Sends a c output
   film-done a b c cause first (run, are, sent) =
       (written ++ (run ++ page.tail), film-is cause run are, Sends-then a b c written (run ++ page.tail) first sent)
 
   pub film-broken : (a b c : Taker) → Sends a b written
-      → ((cause : Cause) × (run : List ℕ) × AreRunLines (code_of new.state) (world_of_state new.state) window.steps cause run × Breaks b c (run ++ page.tail))
+      → ((cause : Cause) × (run : List ℕ) × AreRunLines (code_of new.state) (world_of_state new.state) window.steps cause run
+      × Breaks b c (run ++ page.tail))
       → (cause : Cause) × (output : List ℕ) × IsFilmOf text title chapters keys window free cause output × Breaks a c output
   film-broken a b c first (cause, run, are, broke) =
       (cause, written ++ (run ++ page.tail), film-is cause run are, Breaks-then a b c written (run ++ page.tail) first broke)

@@ -25,7 +25,8 @@ pub going-behind : (code : Code) (start : World) (m n : ℕ) → Going code star
 going-behind code start m n going k low =
     subst (λ (w : World). stuck code w ≡ None) (sym (shift code start m k)) (going (m + k) (omega (arith, low)))
 
-going-joined : (code : Code) (start : World) (m n : ℕ) → Going code start m → Going code (world_at code start m) n → Going code start (m + n)
+going-joined : (code : Code) (start : World) (m n : ℕ) → Going code start m → Going code (world_at code start m) n
+    → Going code start (m + n)
 going-joined code start m n first behind k low = go (split m k)
   where
     split : (m k : ℕ) → (k < m) ⊎ (m ≤ k)
@@ -43,7 +44,8 @@ abbrev pub with_steps : ℕ → End → End
 with_steps m end = record { world = end.world; steps = m + end.steps; cause = end.cause }
 
 abbrev Why : Code → End → ℕ → Type 0
-Why code end limit = (stuck code end.world ≡ Some end.cause) ⊎ ((stuck code end.world ≡ None) × (end.steps ≡ limit) × (end.cause ≡ Limit))
+Why code end limit = (stuck code end.world ≡ Some end.cause)
+    ⊎ ((stuck code end.world ≡ None) × (end.steps ≡ limit) × (end.cause ≡ Limit))
 
 why-joined : (code : Code) (m limit : ℕ) (end : End) → Why code end limit → Why code (with_steps m end) (m + limit)
 why-joined code m limit end (inl is) = inl is
@@ -53,7 +55,8 @@ why-split : (code : Code) (m limit : ℕ) (end : End) → Why code (with_steps m
 why-split code m limit end (inl is) = inl is
 why-split code m limit end (inr is) = inr (is.0, omega (arith, is.1), is.2)
 
-pub end-joined : (code : Code) (start : World) (m limit : ℕ) (end : End) → Going code start m → IsEnd code (world_at code start m) limit end
+pub end-joined : (code : Code) (start : World) (m limit : ℕ) (end : End) → Going code start m → IsEnd code (world_at code start m)
+    limit end
     → IsEnd code start (m + limit) (with_steps m end)
 end-joined code start m limit end going is = record {
   within = omega (arith, is.within);

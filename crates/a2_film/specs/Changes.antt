@@ -1,5 +1,6 @@
 -- What a step changes, as a row of a film says it, and the frames that such rows make. This project's profile.
-use Rattle.std.specs.Prelude.{ℕ, zero, suc, ◌+◌, ◌-◌, ◌*◌, nat_lt, ◌==◌, List, [], ◌∷◌, length, if◌then◌else◌, Option, Some, None, unwrap_or}
+use Rattle.std.specs.Prelude.{ℕ, zero, suc, ◌+◌, ◌-◌, ◌*◌, nat_lt, ◌==◌, List, [], ◌∷◌, length, if◌then◌else◌, Option, Some, None}
+use Rattle.std.specs.Prelude.{unwrap_or}
 use Rattle.a2_page.specs.declared.Switches.{Switches}
 use Rattle.a2_bus.specs.Devices.{Devices, key_taken}
 use Rattle.a2_opcode.specs.Encoding.{fetched}
@@ -39,7 +40,12 @@ abbrev pub switch_digit : Switches → ℕ
 switch_digit switches = one_if switches.text + 2 * one_if switches.mixed + 4 * one_if switches.page2 + 8 * one_if switches.hires
 
 abbrev pub switches_of : ℕ → Switches
-switches_of digit = record { text = is_one_at 0 digit; mixed = is_one_at 1 digit; page2 = is_one_at 2 digit; hires = is_one_at 3 digit }
+switches_of digit = record {
+  text = is_one_at 0 digit;
+  mixed = is_one_at 1 digit;
+  page2 = is_one_at 2 digit;
+  hires = is_one_at 3 digit;
+}
 
 -- the bytes of RAM at these addresses; an address that is no RAM's is left out
 abbrev pub bytes_at : (ℕ → ℕ) → List ℕ → List Store
@@ -57,7 +63,8 @@ unfoldable pub stored : World → World → List Store
 stored before after =
     elim (service_at before.registers.pc) [
       | Some service ↦ differing (ram_byte before.memory) (ram_byte after.memory) 0 ram_end
-      | None ↦ bytes_at (ram_byte after.memory) (stores_at memory_access (fetched (peek before.memory) before.registers.pc) before)
+      | None ↦ bytes_at (ram_byte after.memory)
+          (stores_at memory_access (fetched (peek before.memory) before.registers.pc) before)
     ]
 
 -- the change between two worlds, where these bytes are stored
@@ -94,7 +101,12 @@ pub record Frame : Type 0 where
   pub cycles : ℕ
 
 abbrev pub frame_of : World → Frame
-frame_of world = record { registers = world.registers; bytes = ram_byte world.memory; devices = world.memory.devices; cycles = world.cycles }
+frame_of world = record {
+  registers = world.registers;
+  bytes = ram_byte world.memory;
+  devices = world.memory.devices;
+  cycles = world.cycles;
+}
 
 -- the first so many of the waiting keys are taken
 abbrev pub keys_taken : ℕ → Devices → Devices

@@ -21,8 +21,8 @@ film_head title chapters text free program steps start =
 
 -- the film of a window of a text's run with these keys waiting: the page, and in it the run from the window's first step on, by
 -- the same code as `IsRun` speaks of
-pub record IsFilmOf (text title : List ℕ) (chapters : List Chapter) (keys : List ℕ) (window : Window) (free : Bool) (cause : Cause)
-    (output : List ℕ) : Type 0 where
+pub record IsFilmOf (text title : List ℕ) (chapters : List Chapter) (keys : List ℕ) (window : Window) (free : Bool)
+    (cause : Cause) (output : List ℕ) : Type 0 where
   pub program : Assembled
   pub is_program : IsProgramOf text program
   -- the run up to there; a run that ends before has its end there
@@ -30,4 +30,5 @@ pub record IsFilmOf (text title : List ℕ) (chapters : List Chapter) (keys : Li
   pub is_before : IsEnd (code_of_run free program) (start_of_run program keys) window.from before
   pub run : List ℕ
   pub are_lines : AreRunLines (code_of_run free program) before.world window.steps cause run
-  pub output_is : output ≡ (page.head ++ film_head title chapters text free program before.steps before.world) ++ (run ++ page.tail)
+  pub output_is : output ≡ (page.head ++ film_head title chapters text free program before.steps before.world)
+      ++ (run ++ page.tail)

@@ -1,6 +1,6 @@
 -- What private calls compare and answer. No public clause cites this file.
-use Rattle.std.specs.Prelude.{◌≡◌, ◌≢◌, ℕ, ◌-◌, List, ◌∷◌, ◌++◌, All, length, if◌then◌else◌, slice_index, Option, Some, None}
-use Rattle.std.specs.Prelude.{Result, Ok, Err}
+use Rattle.std.specs.Prelude.{◌≡◌, ◌≢◌, ℕ, ◌+◌, ◌-◌, List, [], ◌∷◌, ◌++◌, All, length, if◌then◌else◌, slice_index, Option, Some}
+use Rattle.std.specs.Prelude.{None, Result, Ok, Err}
 use Rattle.std.specs.Fmt.{decimal}
 use Rattle.a2_stream.specs.Stream.{Taker, Sends, Breaks}
 use Rattle.a2_stream.specs.declared.WriteFault.{WriteFault}
@@ -16,9 +16,9 @@ use Rattle.a2_machine.specs.Meaning.{Code}
 use Rattle.a2_machine.specs.State.{Device, world_of_state, cause_of, IsStep}
 use Rattle.a2_film_page.specs.Page as page
 use Rattle.a2_film.specs.declared.rows.Moment.{Moment}
-use Rattle.a2_film.specs.Changes.{changed, switch_digit, change_of}
+use Rattle.a2_film.specs.Changes.{Store, changed, switch_digit, change_of}
 use Rattle.a2_film.specs.Runs.{AreRunLines}
-use Rattle.a2_film.specs.Rows.{fields_of_parts, byte_text, switches_text, keys_text, row_text}
+use Rattle.a2_film.specs.Rows.{fields_of_parts, byte_text, switches_text, keys_text, stores_text, row_text}
 
 -- what a row compares, beside RAM
 pub record Seen : Type 0 where
@@ -28,7 +28,12 @@ pub record Seen : Type 0 where
   pub waiting : ℕ
 
 abbrev pub seen_by : Moment → Seen
-seen_by moment = record { registers = registers_of moment.regs; cycles = moment.cycles; switches = moment.switches; waiting = moment.waiting }
+seen_by moment = record {
+  registers = registers_of moment.regs;
+  cycles = moment.cycles;
+  switches = moment.switches;
+  waiting = moment.waiting;
+}
 
 abbrev pub seen_of : World → Seen
 seen_of world = record {
@@ -46,7 +51,8 @@ fields_between before after =
     fields_of_parts (hex_word new.pc) (decimal (after.cycles - before.cycles)) (byte_text 0x61 (changed old.a new.a))
     (byte_text 0x78 (changed old.x new.x)) (byte_text 0x79 (changed old.y new.y)) (byte_text 0x73 (changed old.s new.s))
     (byte_text 0x70 (changed (byte_of_flags old.flags) (byte_of_flags new.flags)))
-    (switches_text (changed (switch_digit before.switches) (switch_digit after.switches))) (keys_text (before.waiting - after.waiting))
+    (switches_text (changed (switch_digit before.switches) (switch_digit after.switches)))
+    (keys_text (before.waiting - after.waiting))
 
 -- a text is cut at its first blank
 abbrev pub IsCut : List ℕ → List ℕ → List ℕ → Type 0
@@ -55,6 +61,19 @@ IsCut text front behind = (text ≡ front ++ 0x20 ∷ behind) × All (λ c. c �
 -- where the bytes below page 1 end that a call of a service may change: the line of GETLN, or the mask of characters
 abbrev pub low_end : Service → ℕ
 low_end service = if reach service 0x2FF then 0x300 else 0x33
+
+-- how many bytes a row has room for
+abbrev pub row_room : ℕ
+row_room = 12400
+
+-- the address behind the last of these stores, or the one given where there is none
+abbrev pub next_behind : ℕ → List Store → ℕ
+next_behind next [] = next
+next_behind next (store ∷ stores) = next_behind (store.0 + 1) stores
+
+-- the text of these stores stands behind a row, where a byte at the first number would need no m; nor would one at the second now
+abbrev pub Appends : List ℕ → ℕ → List Store → List ℕ → ℕ → Type 0
+Appends row next stores new last = (new ≡ row ++ stores_text next stores) × (last ≡ next_behind next stores)
 
 -- the byte at an address, of bytes that stand from another on
 abbrev pub from_address : ℕ → List ℕ → ℕ → ℕ
@@ -73,9 +92,12 @@ FilmsStep old new a b (Err _) = (None ≡ cause_of old.state) × IsStep old new 
 -- the lines of a run went out; or a front of them, and a write failed
 abbrev pub Films : Code → World → ℕ → Taker → Taker → Result Cause WriteFault → Type 0
 Films code start limit old new (Ok cause) = (output : List ℕ) × AreRunLines code start limit cause output × Sends old new output
-Films code start limit old new (Err _) = (cause : Cause) × (output : List ℕ) × AreRunLines code start limit cause output × Breaks old new output
+Films code start limit old new (Err _) = (cause : Cause) × (output : List ℕ) × AreRunLines code start limit cause output
+    × Breaks old new output
 
 -- the same with the end of the page behind them
 abbrev pub FilmsRest : Code → World → ℕ → Taker → Taker → Result Cause WriteFault → Type 0
-FilmsRest code start limit old new (Ok cause) = (output : List ℕ) × AreRunLines code start limit cause output × Sends old new (output ++ page.tail)
-FilmsRest code start limit old new (Err _) = (cause : Cause) × (output : List ℕ) × AreRunLines code start limit cause output × Breaks old new (output ++ page.tail)
+FilmsRest code start limit old new (Ok cause) = (output : List ℕ) × AreRunLines code start limit cause output
+    × Sends old new (output ++ page.tail)
+FilmsRest code start limit old new (Err _) = (cause : Cause) × (output : List ℕ) × AreRunLines code start limit cause output
+    × Breaks old new (output ++ page.tail)

@@ -35,5 +35,6 @@ HasNoTag text = All (λ c. c ≢ 0x3C) text
 -- whatever a text, its title, its chapters and its keys are, the data of its film have none
 abbrev pub DataHaveNoTag : Type 0
 DataHaveNoTag =
-    (text title : List ℕ) (chapters : List Chapter) (free : Bool) (program : Assembled) (code : Code) (steps : ℕ) (start : World) (end : End)
+    (text title : List ℕ) (chapters : List Chapter) (free : Bool) (program : Assembled) (code : Code) (steps : ℕ) (start : World)
+    (end : End)
     → HasNoTag (film_head title chapters text free program steps start ++ run_lines code start end)

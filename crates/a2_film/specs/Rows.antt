@@ -1,5 +1,6 @@
 -- How a film is spelt: a row a step, and what stands before the rows. This project's profile.
-use Rattle.std.specs.Prelude.{ℕ, ◌+◌, nat_le, ◌==◌, Bool, not, ◌&&◌, List, [], ◌∷◌, ◌++◌, codes, if◌then◌else◌, Option, Some, None, is_some}
+use Rattle.std.specs.Prelude.{ℕ, ◌+◌, nat_le, ◌==◌, Bool, not, ◌&&◌, List, [], ◌∷◌, ◌++◌, codes, if◌then◌else◌, Option, Some}
+use Rattle.std.specs.Prelude.{None, is_some}
 use Rattle.std.specs.List.{concat, flat_map}
 use Rattle.std.specs.Fmt.{decimal}
 use Rattle.a2_text.specs.Digits.{hex_digit, hex_pair, hex_word}
@@ -104,7 +105,8 @@ line_of_statement line addr count = concat (codes "L " ∷ line ∷ codes " " �
 
 -- a statement: the number of its line, its address, and how many bytes it lays
 abbrev pub statement_line : (ℕ → Option ℕ) → Statement → List ℕ
-statement_line image statement = line_of_statement (decimal statement.line) (hex_word statement.addr) (decimal (laid image statement))
+statement_line image statement = line_of_statement (decimal statement.line) (hex_word statement.addr)
+    (decimal (laid image statement))
 
 -- a name and its value
 abbrev pub name_line : List ℕ × ℕ → List ℕ
@@ -113,7 +115,8 @@ name_line entry = codes "N " ++ (plain_text entry.0 ++ (codes " " ++ (hex_word e
 -- the lines of a source, and the statements and names of its program
 abbrev pub program_lines : Assembled → List (List ℕ) → List ℕ
 program_lines program texts =
-    flat_map source_line texts ++ (flat_map (statement_line (held program.image)) program.statements ++ flat_map name_line program.names)
+    flat_map source_line texts ++ (flat_map (statement_line (held program.image)) program.statements
+    ++ flat_map name_line program.names)
 
 -- the film begins behind so many steps and cycles of the run
 unfoldable pub line_of_counts : List ℕ → List ℕ → List ℕ
@@ -132,7 +135,8 @@ line_of_registers pc a x y s p digit = concat (
 abbrev pub registers_line : World → List ℕ
 registers_line start =
     let registers = start.registers in
-    line_of_registers (hex_word registers.pc) (hex_pair registers.a) (hex_pair registers.x) (hex_pair registers.y) (hex_pair registers.s)
+    line_of_registers (hex_word registers.pc) (hex_pair registers.a) (hex_pair registers.x) (hex_pair registers.y)
+    (hex_pair registers.s)
     (hex_pair (byte_of_flags registers.flags)) (hex_digit (switch_digit start.memory.devices.switches))
 
 -- the start of a film, behind so many steps of the run

@@ -2,24 +2,23 @@
 
 ghost use Rattle.std.specs.Prelude.{◌≡◌, ◌<◌, ◌++◌, ℕ, length, true, false, is_some, codes, map, IfOk, Some, slice_index};
 ghost use Rattle.std.specs.List.{flat_map};
+ghost use Rattle.arrayvec.specs.ArrayVec.{array_vec_len};
 ghost use Rattle.a2_stream.specs.Stream.{SendsOrBreaks};
-ghost use Rattle.a2_bus.specs.Memory.{ram_byte, ram_end};
-ghost use Rattle.a2_bus.specs.View.{memory_of};
+ghost use Rattle.a2_bus.specs.Memory.{ram_end};
 ghost use Rattle.a2_machine.specs.Output as output;
 ghost use Rattle.a2_machine.specs.State.{code_of, world_of_state, IsMachineRun};
 ghost use Rattle.a2_services.specs.Services.{service_at as service_at_of};
 ghost use Rattle.a2_run.specs.Answers.{Answers, OfSource, is_read_fault};
 ghost use Rattle.a2_run.specs.Meaning.{IsRefused};
 ghost use Rattle.a2_film_page.specs.Page as page;
-ghost use Rattle.a2_film.specs.Changes.{bytes_at};
 ghost use Rattle.a2_film.specs.Film.{IsFilmOf};
-ghost use Rattle.a2_film.specs.Filmed.{seen_by, seen_of, fields_between, FilmsStep, Films, FilmsRest};
+ghost use Rattle.a2_film.specs.Filmed.{row_room, FilmsStep, Films, FilmsRest};
 ghost use Rattle.a2_film.specs.Rows as spelt;
 
 use crate::chapters::Chapter;
 use crate::head::{put_chapters, put_opening, put_program, put_start};
-use crate::kept::{keep_low, low_end, others_behind};
-use crate::rows::{Moment, put_fields, put_listed};
+use crate::kept::{append_changes, keep_low, low_end};
+use crate::rows::{Moment, Row, append_listed, begin_row};
 use a2_asm::Program;
 use a2_bus::Keys;
 use a2_cpu::writes;
@@ -41,21 +40,13 @@ pub struct Window {
     pub steps: u32,
 }
 
-// Writes the row of a step, behind which these addresses have what it stored.
-#[tactic(auto, using(a2_stream::proofs::Joined::broke_off, a2_stream::proofs::Joined::went_on))]
-fn put_row<A: Allocator, W: Output>(
-    before: &Moment,
-    addresses: &[u16],
-    machine: &Machine<A>,
-    writer: &mut W,
-) -> Result<(), WriteFault>
-    ensures { let world = world_of_state machine.now.state in
-        SendsOrBreaks (W.taker writer.old) (W.taker writer.new) result (fields_between (seen_by before.now) (seen_of world)
-        ++ (spelt.stores_text spelt.no_address (bytes_at (ram_byte world.memory) addresses.now) ++ codes "\n")) }
+// Ends the row, and writes it.
+fn put_row<W: Output>(row: &mut Row, writer: &mut W) -> Result<(), WriteFault>
+    requires { array_vec_len row.old < row_room }
+    ensures { SendsOrBreaks (W.taker writer.old) (W.taker writer.new) result (row.old.items ++ codes "\n") }
 {
-    put_fields(before, &Moment::of(machine), writer)?;
-    put_listed(addresses, machine, writer)?;
-    put(b"\n", writer)
+    row.push(b'\n');
+    put(row.as_slice(), writer)
 }
 
 // Makes the call of a service and writes its row; or answers the cause that forbids it.
@@ -63,6 +54,7 @@ fn film_call<A: Allocator, W: Output>(
     service: Service,
     machine: &mut Machine<A>,
     ram: &mut [u8],
+    row: &mut Row,
     writer: &mut W,
 ) -> Result<Option<Cause>, WriteFault>
     requires size { length ram.old ≡ ram_end }
@@ -78,14 +70,16 @@ fn film_call<A: Allocator, W: Output>(
     if let Some(cause) = machine.step() {
         return Ok(Some(cause));
     }
-    let others = others_behind(end, ram, &page1, machine);
-    put_row(&before, others.as_slice(), machine, writer)?;
+    begin_row(row, &before, &Moment::of(machine));
+    append_changes(row, end, ram, &page1, machine);
+    put_row(row, writer)?;
     Ok(None)
 }
 
 // Does an instruction and writes its row; or answers the cause that forbids it.
 fn film_instruction<A: Allocator, W: Output>(
     machine: &mut Machine<A>,
+    row: &mut Row,
     writer: &mut W,
 ) -> Result<Option<Cause>, WriteFault>
     requires { is_some (service_at_of machine.old.state.regs.pc) ≡ false }
@@ -98,7 +92,9 @@ fn film_instruction<A: Allocator, W: Output>(
     if let Some(cause) = machine.step() {
         return Ok(Some(cause));
     }
-    put_row(&before, addresses.as_slice(), machine, writer)?;
+    begin_row(row, &before, &Moment::of(machine));
+    append_listed(row, addresses.as_slice(), machine);
+    put_row(row, writer)?;
     Ok(None)
 }
 
@@ -106,14 +102,15 @@ fn film_instruction<A: Allocator, W: Output>(
 fn film_step<A: Allocator, W: Output>(
     machine: &mut Machine<A>,
     ram: &mut [u8],
+    row: &mut Row,
     writer: &mut W,
 ) -> Result<Option<Cause>, WriteFault>
     requires { length ram.old ≡ ram_end }
     ensures { FilmsStep machine.old machine.new (W.taker writer.old) (W.taker writer.new) result }
 {
     match service_at(machine.regs().pc) {
-        Some(service) => film_call(service, machine, ram, writer),
-        None => film_instruction(machine, writer),
+        Some(service) => film_call(service, machine, ram, row, writer),
+        None => film_instruction(machine, row, writer),
     }
 }
 
@@ -135,10 +132,12 @@ fn film_run<A: Allocator, W: Output>(
 ) -> Result<Cause, WriteFault>
     requires steps { machine.old.state.steps < 4_294_967_296 }
     requires size { length ram.old ≡ ram_end }
-    ensures { Films (code_of machine.old.state) (world_of_state machine.old.state) limit (W.taker writer.old) (W.taker writer.new) result }
+    ensures { Films (code_of machine.old.state) (world_of_state machine.old.state) limit (W.taker writer.old) (W.taker writer.new)
+        result }
 {
+    let mut row = Row::new();
     for _ in 0..limit {
-        if let Some(cause) = film_step(machine, ram, writer)? {
+        if let Some(cause) = film_step(machine, ram, &mut row, writer)? {
             return put_end(cause, writer);
         }
     }
@@ -179,7 +178,8 @@ fn put_head<A: Allocator, W: Output>(
     requires size { length ram.now ≡ ram_end }
     requires zeros { (a : ℕ) → slice_index ram.now a ≡ 0 }
     ensures { SendsOrBreaks (W.taker writer.old) (W.taker writer.new) result
-        (page.head ++ (spelt.opening title.now free machine.now.state.bus.devices.keys ++ (flat_map spelt.chapter_line chapters.now
+        (page.head ++ (spelt.opening title.now free machine.now.state.bus.devices.keys
+        ++ (flat_map spelt.chapter_line chapters.now
         ++ (spelt.program_lines program.now (map (λ x. x.now) texts.now)
         ++ spelt.start_lines machine.now.state.steps (world_of_state machine.now.state))))) }
 {
@@ -199,7 +199,8 @@ fn film_rest<A: Allocator, W: Output>(
 ) -> Result<Cause, WriteFault>
     requires steps { machine.old.state.steps < 4_294_967_296 }
     requires size { length ram.old ≡ ram_end }
-    ensures { FilmsRest (code_of machine.old.state) (world_of_state machine.old.state) limit (W.taker writer.old) (W.taker writer.new) result }
+    ensures { FilmsRest (code_of machine.old.state) (world_of_state machine.old.state) limit (W.taker writer.old)
+        (W.taker writer.new) result }
 {
     let cause = film_run(machine, ram, limit, writer)?;
     put(tail(), writer)?;

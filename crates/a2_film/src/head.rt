@@ -14,14 +14,19 @@ ghost use Rattle.a2_film.specs.Changes.{differing};
 ghost use Rattle.a2_film.specs.Rows as spelt;
 
 use crate::chapters::{Chapter, Place};
-use crate::rows::put_differing;
+use crate::rows::{NO_ADDRESS, Row, append_others};
 use crate::texts::{hex_digit, put_between, put_digits, switch_digit};
 use a2_asm::{Names, Program, Statement};
-use a2_hex::Image;
+use a2_hex::{Image, RAM_END};
 use a2_machine::Machine;
 use a2_stream::{Output, WriteFault, put, put_all};
 use a2_text::{decimal, hex_pair, hex_word};
 use std::alloc::Allocator;
+
+// How many bytes of RAM go out at a time, and how often.
+const PIECE_LEN: u16 = 256;
+
+const PIECES: u16 = RAM_END / PIECE_LEN;
 
 // Writes form and title.
 #[tactic(auto, unfolding(crate::specs::Rows::title_lines))]
@@ -45,7 +50,8 @@ fn guard_text(free: bool) -> &'static [u8]
 // Writes whether the run has no guard, and its keys.
 #[tactic(auto, using(a2_stream::proofs::Joined::broke_off, a2_stream::proofs::Joined::went_on))]
 fn put_conditions<W: Output>(free: bool, keys: &[u8], writer: &mut W) -> Result<(), WriteFault>
-    ensures { SendsOrBreaks (W.taker writer.old) (W.taker writer.new) result (spelt.guard_text free ++ (spelt.digits_of_bytes keys.now ++ codes "\n")) }
+    ensures { SendsOrBreaks (W.taker writer.old) (W.taker writer.new) result
+        (spelt.guard_text free ++ (spelt.digits_of_bytes keys.now ++ codes "\n")) }
 {
     put(guard_text(free), writer)?;
     put_digits(keys, writer)?;
@@ -222,6 +228,31 @@ fn put_counts<W: Output>(steps: u64, cycles: u64, writer: &mut W) -> Result<(), 
     )
 }
 
+// Writes the bytes of RAM that are others than these.
+fn put_differing<A: Allocator, W: Output>(
+    old: &[u8],
+    machine: &Machine<A>,
+    writer: &mut W,
+) -> Result<(), WriteFault>
+    requires { length old.now ≡ ram_end }
+    ensures { let new = ram_byte (memory_of machine.now.state.bus) in
+        SendsOrBreaks (W.taker writer.old) (W.taker writer.new) result
+        (spelt.stores_text spelt.no_address (differing (slice_index old.now) new 0 ram_end)) }
+{
+    let mut row = Row::new();
+    let mut next = NO_ADDRESS;
+    for piece in 0..PIECES {
+        let first = piece * PIECE_LEN;
+        let end = first + PIECE_LEN;
+        let begin = usize::from(first);
+        let past = usize::from(end);
+        row.clear();
+        next = append_others(&mut row, next, first, end, &old[begin..past], machine);
+        put(row.as_slice(), writer)?;
+    }
+    Ok(())
+}
+
 // Writes RAM behind a piece, where it is other than `blank`.
 #[tactic(auto, using(a2_stream::proofs::Joined::broke_off, a2_stream::proofs::Joined::went_on))]
 fn put_ram<A: Allocator, W: Output>(
@@ -231,9 +262,9 @@ fn put_ram<A: Allocator, W: Output>(
     writer: &mut W,
 ) -> Result<(), WriteFault>
     requires { length blank.now ≡ ram_end }
-    ensures { SendsOrBreaks (W.taker writer.old) (W.taker writer.new) result
-        (front.now ++ (spelt.stores_text spelt.no_address (differing (slice_index blank.now) (ram_byte (memory_of machine.now.state.bus)) 0 ram_end)
-        ++ codes "\n")) }
+    ensures { let new = ram_byte (memory_of machine.now.state.bus) in
+        SendsOrBreaks (W.taker writer.old) (W.taker writer.new) result
+        (front.now ++ (spelt.stores_text spelt.no_address (differing (slice_index blank.now) new 0 ram_end) ++ codes "\n")) }
 {
     put(front, writer)?;
     put_differing(blank, machine, writer)?;
@@ -248,7 +279,8 @@ fn put_memory<A: Allocator, W: Output>(
 ) -> Result<(), WriteFault>
     requires size { length blank.now ≡ ram_end }
     requires zeros { (a : ℕ) → slice_index blank.now a ≡ 0 }
-    ensures { SendsOrBreaks (W.taker writer.old) (W.taker writer.new) result (spelt.memory_line (world_of_state machine.now.state)) }
+    ensures { SendsOrBreaks (W.taker writer.old) (W.taker writer.new) result
+        (spelt.memory_line (world_of_state machine.now.state)) }
 {
     put_ram(b"M ", blank, machine, writer)
 }
@@ -294,7 +326,8 @@ fn put_registers<A: Allocator, W: Output>(
     machine: &Machine<A>,
     writer: &mut W,
 ) -> Result<(), WriteFault>
-    ensures { SendsOrBreaks (W.taker writer.old) (W.taker writer.new) result (spelt.registers_line (world_of_state machine.now.state)) }
+    ensures { SendsOrBreaks (W.taker writer.old) (W.taker writer.new) result
+        (spelt.registers_line (world_of_state machine.now.state)) }
 {
     let regs = machine.regs();
     let digit = hex_digit(switch_digit(machine.view().switches));
@@ -320,7 +353,8 @@ pub fn put_start<A: Allocator, W: Output>(
 ) -> Result<(), WriteFault>
     requires size { length blank.now ≡ ram_end }
     requires zeros { (a : ℕ) → slice_index blank.now a ≡ 0 }
-    ensures { SendsOrBreaks (W.taker writer.old) (W.taker writer.new) result (spelt.start_lines machine.now.state.steps (world_of_state machine.now.state)) }
+    ensures { SendsOrBreaks (W.taker writer.old) (W.taker writer.new) result
+        (spelt.start_lines machine.now.state.steps (world_of_state machine.now.state)) }
 {
     put_counts(machine.steps(), machine.cycles(), writer)?;
     put_memory(blank, machine, writer)?;

@@ -1,16 +1,17 @@
-//! The bytes of RAM that a call of a service may change: as they were before it, and which of them are others behind it.
+//! The bytes of RAM that a call of a service may change: as they were before it, and those that are others behind it.
 
-ghost use Rattle.std.specs.Prelude.{◌≡◌, ◌<◌, ◌≤◌, ◌+◌, ◌-◌, ◌++◌, ◌∷◌, ◌==◌, [], if◌then◌else◌, ℕ, length, slice_index, slice_range};
+ghost use Rattle.std.specs.Prelude.{◌≡◌, ◌<◌, ◌≤◌, ◌+◌, ◌-◌, ◌*◌, ◌++◌, ℕ, length, slice_index, slice_range};
 ghost use Rattle.arrayvec.specs.ArrayVec.{array_vec_len};
 ghost use Rattle.a2_bus.specs.Memory.{ram_byte, ram_end};
 ghost use Rattle.a2_bus.specs.View.{memory_of};
-ghost use Rattle.a2_film.specs.Changes.{bytes_at, differing};
-ghost use Rattle.a2_film.specs.Filmed.{low_end as low_end_of, from_address};
+ghost use Rattle.a2_film.specs.Changes.{differing};
+ghost use Rattle.a2_film.specs.Filmed.{low_end as low_end_of, from_address, row_room, Appends};
+ghost use Rattle.a2_film.specs.Rows as spelt;
 
+use crate::rows::{NO_ADDRESS, Row, append_others};
 use a2_bus::locations::{CH, INVFLG};
 use a2_machine::Machine;
 use a2_services::{Service, reach};
-use arrayvec::ArrayVec;
 use std::alloc::Allocator;
 
 // The end of the line that GETLN reads.
@@ -23,9 +24,6 @@ const PAGE1: u16 = 0x0400;
 const PIECES: u16 = 16;
 
 const PIECE_LEN: u16 = 64;
-
-/// The addresses of bytes that a call of a service changed.
-pub type Others = ArrayVec<u16, 1756>;
 
 /// Where the bytes below page 1 end that a call of a service may change. The first of them is CH.
 pub fn low_end(service: Service) -> u16
@@ -50,106 +48,86 @@ pub fn keep_low<A: Allocator>(end: u16, machine: &Machine<A>, ram: &mut [u8])
     }
 }
 
-// Adds an address, where the byte there is another than it was.
-fn note(old: u8, new: u8, address: u16, others: &mut Others)
-    requires { array_vec_len others.old < 1756 }
-    ensures items { others.new.items ≡ others.old.items ++ (if old == new then [] else address ∷ []) }
-    ensures room { array_vec_len others.new ≤ array_vec_len others.old + 1 }
-{
-    if old != new {
-        others.push(address);
-    }
-}
-
-// Adds the addresses from `first` on up to `end`, at which RAM has other bytes than these.
-fn add_others<A: Allocator>(
-    first: u16,
-    end: u16,
-    old: &[u8],
-    machine: &Machine<A>,
-    others: &mut Others,
-)
-    requires order { first ≤ end }
-    requires size { length old.now ≡ end - first }
-    requires inside { end ≤ ram_end }
-    requires room { array_vec_len others.old + (end - first) ≤ 1756 }
-    ensures bytes { let new = ram_byte (memory_of machine.now.state.bus) in
-        bytes_at new others.new.items ≡ bytes_at new others.old.items ++ differing (from_address first old.now) new first (end - first) }
-    ensures room { array_vec_len others.new ≤ array_vec_len others.old + (end - first) }
-{
-    for address in first..end {
-        let byte = machine.peek(address).unwrap_or(0);
-        note(old[usize::from(address - first)], byte, address, others);
-    }
-}
-
-// The same, where these bytes are those that RAM has there now: none, if both are the same.
-fn add_piece<A: Allocator>(
+// Appends the bytes of RAM from `first` on up to `end` that are others than these, where it has those of `now` there: none, if
+// both are the same.
+fn append_piece<A: Allocator>(
+    row: &mut Row,
+    next: u32,
     first: u16,
     end: u16,
     old: &[u8],
     now: &[u8],
     machine: &Machine<A>,
-    others: &mut Others,
-)
+) -> u32
     requires order { first ≤ end }
     requires size { length old.now ≡ end - first }
     requires inside { end ≤ ram_end }
-    requires room { array_vec_len others.old + (end - first) ≤ 1756 }
+    requires room { array_vec_len row.old + 7 * (end - first) ≤ row_room }
     requires now { (a : ℕ) → first ≤ a → a < end → from_address first now.now a ≡ ram_byte (memory_of machine.now.state.bus) a }
-    ensures bytes { let new = ram_byte (memory_of machine.now.state.bus) in
-        bytes_at new others.new.items ≡ bytes_at new others.old.items ++ differing (from_address first old.now) new first (end - first) }
-    ensures room { array_vec_len others.new ≤ array_vec_len others.old + (end - first) }
+    ensures stores { let new = ram_byte (memory_of machine.now.state.bus) in
+        Appends row.old.items next (differing (from_address first old.now) new first (end - first)) row.new.items result }
+    ensures length { array_vec_len row.new ≤ array_vec_len row.old + 7 * (end - first) }
 {
     if old == now {
-        return;
+        return next;
     }
-    add_others(first, end, old, machine, others);
+    append_others(row, next, first, end, old, machine)
 }
 
-// Adds the addresses on page 1 at which RAM has other bytes than these.
-fn add_page<A: Allocator>(old: &[u8; 1024], machine: &Machine<A>, others: &mut Others)
-    requires { array_vec_len others.old + 1024 ≤ 1756 }
-    ensures { let new = ram_byte (memory_of machine.now.state.bus) in
-        bytes_at new others.new.items ≡ bytes_at new others.old.items ++ differing (from_address 0x400 old.now) new 0x400 0x400 }
+// Appends the bytes of page 1 that are others than these.
+fn append_page<A: Allocator>(
+    row: &mut Row,
+    next: u32,
+    old: &[u8; 1024],
+    machine: &Machine<A>,
+) -> u32
+    requires { array_vec_len row.old + 7168 ≤ row_room }
+    ensures stores { let new = ram_byte (memory_of machine.now.state.bus) in
+        Appends row.old.items next (differing (from_address 0x400 old.now) new 0x400 0x400) row.new.items result }
+    ensures length { array_vec_len row.new ≤ array_vec_len row.old + 7168 }
 {
     // For the prover alone: all of RAM is there.
     let _ = machine.peek(0);
     let page = machine.view().page1;
+    let mut last = next;
     for piece in 0..PIECES {
         let start = piece * PIECE_LEN;
         let end = start + PIECE_LEN;
         let begin = usize::from(start);
         let past = usize::from(end);
-        add_piece(
+        last = append_piece(
+            row,
+            last,
             PAGE1 + start,
             PAGE1 + end,
             &old[begin..past],
             &page[begin..past],
             machine,
-            others,
         );
     }
+    last
 }
 
-/// The addresses at which RAM has other bytes than before a call of a service: `ram` has those below page 1 from CH on up to
-/// an end.
-pub fn others_behind<A: Allocator>(
+/// Appends the bytes of RAM that are others than before a call of a service: `ram` has those below page 1 from CH on up to an
+/// end.
+pub fn append_changes<A: Allocator>(
+    row: &mut Row,
     end: u16,
     ram: &[u8],
     page1: &[u8; 1024],
     machine: &Machine<A>,
-) -> Others
+)
     requires order { 0x24 ≤ end }
     requires end { end ≤ 0x300 }
     requires size { length ram.now ≡ ram_end }
-    ensures { let new = ram_byte (memory_of machine.now.state.bus) in
-        bytes_at new result.items ≡ differing (from_address 0x24 (slice_range ram.now 0x24 end)) new 0x24 (end - 0x24)
-        ++ differing (from_address 0x400 page1.now) new 0x400 0x400 }
+    requires room { array_vec_len row.old ≤ 62 }
+    ensures stores { let new = ram_byte (memory_of machine.now.state.bus) in
+        row.new.items ≡ row.old.items ++ spelt.stores_text spelt.no_address
+        (differing (from_address 0x24 (slice_range ram.now 0x24 end)) new 0x24 (end - 0x24)
+        ++ differing (from_address 0x400 page1.now) new 0x400 0x400) }
+    ensures length { array_vec_len row.new < row_room }
 {
-    let mut others = Others::new();
     let low = &ram[usize::from(CH)..usize::from(end)];
-    add_others(CH, end, low, machine, &mut others);
-    add_page(page1, machine, &mut others);
-    others
+    let next = append_others(row, NO_ADDRESS, CH, end, low, machine);
+    append_page(row, next, page1, machine);
 }

@@ -3,13 +3,12 @@
 ghost use Rattle.std.specs.Prelude.{◌≡◌, ◌<◌, ◌++◌};
 ghost use Rattle.a2_stream.specs.Stream.{SendsOrBreaks};
 ghost use Rattle.a2_text.specs.Digits.{hex_digit as digit_of};
-ghost use Rattle.a2_film.specs.Changes.{changed};
 ghost use Rattle.a2_film.specs.Changes as change;
 ghost use Rattle.a2_film.specs.Rows as spelt;
 
 use a2_page::Switches;
 use a2_stream::{Output, WriteFault, put};
-use a2_text::{decimal, hex_pair};
+use a2_text::hex_pair;
 use arrayvec::ArrayVec;
 
 // The switches as a digit: 1 for text, 2 for mixed, 4 for page 2, 8 for high resolution.
@@ -33,31 +32,6 @@ pub fn hex_digit(number: u8) -> u8
     } else {
         b'A' + (number - 10)
     }
-}
-
-// w and the switches' digit, where it is another than it was.
-pub fn switches_text(old: Switches, new: Switches) -> ArrayVec<u8, 2>
-    ensures { result.items ≡ spelt.switches_text (changed (change.switch_digit old) (change.switch_digit new)) }
-{
-    let mut text = ArrayVec::new();
-    if switch_digit(old) != switch_digit(new) {
-        text.push(b'w');
-        text.push(hex_digit(switch_digit(new)));
-    }
-    text
-}
-
-// k and a number, where it is not 0.
-pub fn keys_text(taken: usize) -> ArrayVec<u8, 21>
-    ensures { result.items ≡ spelt.keys_text taken }
-{
-    let mut text = ArrayVec::new();
-    if taken > 0 {
-        text.push(b'k');
-        text.try_extend_from_slice(decimal(taken as u64).as_slice())
-            .unwrap();
-    }
-    text
 }
 
 // A byte of a plain text: itself where it is printable and neither < nor \, else \ and its digits.
@@ -105,7 +79,8 @@ pub fn put_between<W: Output>(
     end: &[u8],
     writer: &mut W,
 ) -> Result<(), WriteFault>
-    ensures { SendsOrBreaks (W.taker writer.old) (W.taker writer.new) result (front.now ++ (spelt.plain_text text.now ++ end.now)) }
+    ensures { SendsOrBreaks (W.taker writer.old) (W.taker writer.new) result
+        (front.now ++ (spelt.plain_text text.now ++ end.now)) }
 {
     put(front, writer)?;
     put_plain(text, writer)?;

@@ -1,5 +1,7 @@
 -- Rows are read back, a field at a time.
-use Rattle.std.specs.Prelude.{◌≡◌, ℕ, zero, suc, ◌+◌, ◌/◌, ◌%◌, ◌^◌, ◌<◌, ◌≤◌, ◌==◌, nat_lt, nat_le, ◌||◌, Bool, true, false, if◌then◌else◌, List, [], ◌∷◌, ◌++◌, length, take, drop, Option, Some, None, IfSome, All, codes, refl}
+use Rattle.std.specs.Prelude.{◌≡◌, ℕ, zero, suc, ◌+◌, ◌/◌, ◌%◌, ◌^◌, ◌<◌, ◌≤◌, ◌==◌, nat_lt, nat_le, ◌||◌, Bool, true, false}
+use Rattle.std.specs.Prelude.{if◌then◌else◌, List, [], ◌∷◌, ◌++◌, length, take, drop, Option, Some, None, IfSome, All, codes}
+use Rattle.std.specs.Prelude.{refl}
 use Rattle.std.specs.List.{concat, flat_map, list_all}
 use Rattle.std.proofs.Common.{sym, ap, ap₂, ◌∙◌, subst, arith, append_assoc, length-append, take_at, drop_at, true≢false}
 use Rattle.std.proofs.lemmas.Bool.{and_parts}
@@ -12,9 +14,11 @@ use Rattle.std.specs.Char.{digit_value}
 use Rattle.std.specs.Str.Parse.{digits_value}
 use Rattle.a2_text.specs.Digits.{hex_digit, hex_pair, hex_word}
 use Rattle.a2_text.specs.Bytes.{is_among}
-use Rattle.a2_film.specs.Rows.{fields_of_parts, byte_text, switches_text, keys_text, store_text, stores_text, no_address, row_text}
+use Rattle.a2_film.specs.Rows.{fields_of_parts, byte_text, switches_text, keys_text, store_text, stores_text, no_address}
+use Rattle.a2_film.specs.Rows.{row_text}
 use Rattle.a2_film.specs.Changes.{Store, Change}
-use Rattle.a2_film_read.specs.Reader.{first, hex_number, digit_count, decimal_number, field, keys_field, stores_field, read_row, read_rows}
+use Rattle.a2_film_read.specs.Reader.{first, hex_number, digit_count, decimal_number, field, keys_field, stores_field, read_row}
+use Rattle.a2_film_read.specs.Reader.{read_rows}
 use Rattle.a2_film_read.specs.Laws.{Fits, RowsReadBack}
 
 -- Digits
@@ -57,7 +61,8 @@ decimal-back n rest low stop =
     omega (arith, digit_count-append 10 (decimal n) rest is.0.1, digit_count_none 10 rest stop) in
     record {
       count = count;
-      number = ap (λ (k : ℕ). digits_value 10 (take k (decimal n ++ rest))) count ∙ ap (digits_value 10) (take_at (decimal n) rest (length (decimal n)) refl) ∙ is.1;
+      number = ap (λ (k : ℕ). digits_value 10 (take k (decimal n ++ rest))) count
+          ∙ ap (digits_value 10) (take_at (decimal n) rest (length (decimal n)) refl) ∙ is.1;
       behind = ap (λ (k : ℕ). drop k (decimal n ++ rest)) count ∙ drop_at (decimal n) rest (length (decimal n)) refl;
     }
 
@@ -77,7 +82,8 @@ among-more letter letters text is = or-right (letter == first text) (is_among le
 among-first : (letter : ℕ) (letters text : List ℕ) → Among (letter ∷ letters) (letter ∷ text)
 among-first letter letters text = grind (arith, nat_tests)
 
-other : (letter : ℕ) (letters text : List ℕ) → Among letters text → is_among letters letter ≡ false → (first text == letter) ≡ false
+other : (letter : ℕ) (letters text : List ℕ) → Among letters text → is_among letters letter ≡ false
+    → (first text == letter) ≡ false
 other letter letters text is none = go (first text == letter) refl
   where
     go : (v : Bool) → (first text == letter) ≡ v → v ≡ false
@@ -88,12 +94,14 @@ other letter letters text is none = go (first text == letter) refl
 
 -- Fields
 
-byte-field : (letter : ℕ) (value : Option ℕ) (rest : List ℕ) → (letter == letter) ≡ true → (first rest == letter) ≡ false → IfSome value (λ n. n < 0x100)
+byte-field : (letter : ℕ) (value : Option ℕ) (rest : List ℕ) → (letter == letter) ≡ true → (first rest == letter) ≡ false
+    → IfSome value (λ n. n < 0x100)
     → field letter 2 (byte_text letter value ++ rest) ≡ (value, rest)
 byte-field letter None rest same different fits = rw different
 byte-field letter (Some n) rest same different fits = rw same (ap (λ (m : ℕ). (Some m, rest)) (pair-back n rest fits))
 
-byte-among : (letter : ℕ) (value : Option ℕ) (letters rest : List ℕ) → Among letters rest → Among (letter ∷ letters) (byte_text letter value ++ rest)
+byte-among : (letter : ℕ) (value : Option ℕ) (letters rest : List ℕ) → Among letters rest
+    → Among (letter ∷ letters) (byte_text letter value ++ rest)
 byte-among letter None letters rest is = among-more letter letters rest is
 byte-among letter (Some n) letters rest is = among-first letter letters (hex_pair n ++ rest)
 
@@ -102,11 +110,13 @@ switches-field : (value : Option ℕ) (rest : List ℕ) → (first rest == 0x77)
 switches-field None rest different fits = rw different
 switches-field (Some n) rest different fits = ap (λ (m : ℕ). (Some m, rest)) (one-back n rest fits)
 
-switches-among : (value : Option ℕ) (letters rest : List ℕ) → Among letters rest → Among (0x77 ∷ letters) (switches_text value ++ rest)
+switches-among : (value : Option ℕ) (letters rest : List ℕ) → Among letters rest
+    → Among (0x77 ∷ letters) (switches_text value ++ rest)
 switches-among None letters rest is = among-more 0x77 letters rest is
 switches-among (Some n) letters rest is = among-first 0x77 letters (hex_digit n ∷ rest)
 
-keys-back : (n : ℕ) (rest : List ℕ) → n < 10 ^ 64 → (first rest == 0x6B) ≡ false → NoDigit 10 rest → keys_field (keys_text n ++ rest) ≡ (n, rest)
+keys-back : (n : ℕ) (rest : List ℕ) → n < 10 ^ 64 → (first rest == 0x6B) ≡ false → NoDigit 10 rest
+    → keys_field (keys_text n ++ rest) ≡ (n, rest)
 keys-back n rest low different stop = go (n == 0) refl
   where
     go : (v : Bool) → (n == 0) ≡ v → keys_field ((if v then [] else 0x6B ∷ decimal n) ++ rest) ≡ (n, rest)
@@ -158,46 +168,62 @@ stores-back (store ∷ others) (suc most) next rest low fits =
     here = All-head FitsStore store others fits
 
     go : (tail : List ℕ) → stores_field most (store.0 + 1) tail ≡ (others, rest) → (v : Bool) → (store.0 == next) ≡ v
-        → stores_field (suc most) next (((if v then [] else 0x6D ∷ hex_word store.0) ++ hex_pair store.1) ++ tail) ≡ (store ∷ others, rest)
+        → stores_field (suc most) next (((if v then [] else 0x6D ∷ hex_word store.0) ++ hex_pair store.1)
+        ++ tail) ≡ (store ∷ others, rest)
     go tail again true e =
         let same : next ≡ store.0 = grind (arith, nat_tests, e) in
-        rw (hex-other (store.1 / 16) 0x0A (omega arith), hex-small (store.1 / 16) (omega (arith, here.1)), same, pair-back store.1 tail here.1, again)
+        rw (
+          hex-other (store.1 / 16) 0x0A (omega arith),
+          hex-small (store.1 / 16) (omega (arith, here.1)),
+          same,
+          pair-back store.1
+              tail here.1,
+          again,
+        )
     go tail again false e = rw (word-back store.0 (hex_pair store.1 ++ tail) here.0, pair-back store.1 tail here.1, again)
 
-stores-among : (stores : List Store) (rest : List ℕ) → All FitsStore stores → Among (0x6D ∷ 0x0A ∷ []) (stores_text no_address stores ++ (0x0A ∷ rest))
+stores-among : (stores : List Store) (rest : List ℕ) → All FitsStore stores
+    → Among (0x6D ∷ 0x0A ∷ []) (stores_text no_address stores ++ (0x0A ∷ rest))
 stores-among [] rest fits = among-more 0x6D (0x0A ∷ []) (0x0A ∷ rest) (among-first 0x0A [] rest)
 stores-among (store ∷ others) rest fits = go (store.0 == no_address) refl
   where
     go : (v : Bool) → (store.0 == no_address) ≡ v
-        → Among (0x6D ∷ 0x0A ∷ []) ((((if v then [] else 0x6D ∷ hex_word store.0) ++ hex_pair store.1) ++ stores_text (store.0 + 1) others) ++ (0x0A ∷ rest))
+        → Among (0x6D ∷ 0x0A ∷ []) ((((if v then [] else 0x6D ∷ hex_word store.0) ++ hex_pair store.1)
+        ++ stores_text (store.0 + 1) others) ++ (0x0A ∷ rest))
     go true e = absurd (grind (arith, nat_tests, e, (All-head FitsStore store others fits).0))
-    go false e = among-first 0x6D (0x0A ∷ []) (((hex_word store.0 ++ hex_pair store.1) ++ stores_text (store.0 + 1) others) ++ (0x0A ∷ rest))
+    go false e = among-first 0x6D (0x0A ∷ []) (((hex_word store.0 ++ hex_pair store.1) ++ stores_text (store.0 + 1) others)
+        ++ (0x0A ∷ rest))
 
 stores-long : (stores : List Store) (next : ℕ) → length stores ≤ length (stores_text next stores)
 stores-long [] next = omega arith
 stores-long (store ∷ others) next = go (store.0 == next) (stores-long others (store.0 + 1))
   where
     go : (v : Bool) → length others ≤ length (stores_text (store.0 + 1) others)
-        → length (store ∷ others) ≤ length (((if v then [] else 0x6D ∷ hex_word store.0) ++ hex_pair store.1) ++ stores_text (store.0 + 1) others)
+        → length (store ∷ others) ≤ length (((if v then [] else 0x6D ∷ hex_word store.0) ++ hex_pair store.1)
+        ++ stores_text (store.0 + 1) others)
     go true more = omega (arith, more)
     go false more = omega (arith, more)
 
 -- No digit stands first
 
-nodigit-in : (letters : List ℕ) (c : ℕ) → is_among letters c ≡ true → list_all (λ l. nat_le 10 (digit_value l)) letters ≡ true → 10 ≤ digit_value c
+nodigit-in : (letters : List ℕ) (c : ℕ) → is_among letters c ≡ true → list_all (λ l. nat_le 10 (digit_value l)) letters ≡ true
+    → 10 ≤ digit_value c
 nodigit-in [] c is all = absurd (true≢false (sym is))
-nodigit-in (l ∷ ls) c is all = go (λ h. nodigit-in ls c h (and_parts (nat_le 10 (digit_value l)) (list_all (λ k. nat_le 10 (digit_value k)) ls) all).1) (l == c) refl is
+nodigit-in (l ∷ ls) c is all = go (λ h. nodigit-in ls c h
+    (and_parts (nat_le 10 (digit_value l)) (list_all (λ k. nat_le 10 (digit_value k)) ls) all).1) (l == c) refl is
   where
     parts : (nat_le 10 (digit_value l) ≡ true) × (list_all (λ k. nat_le 10 (digit_value k)) ls ≡ true)
     parts = and_parts (nat_le 10 (digit_value l)) (list_all (λ k. nat_le 10 (digit_value k)) ls) all
 
-    go : (is_among ls c ≡ true → 10 ≤ digit_value c) → (v : Bool) → (l == c) ≡ v → (v || is_among ls c) ≡ true → 10 ≤ digit_value c
+    go : (is_among ls c ≡ true → 10 ≤ digit_value c) → (v : Bool) → (l == c) ≡ v → (v || is_among ls c) ≡ true
+        → 10 ≤ digit_value c
     go again true e h =
         let same : l ≡ c = grind (arith, nat_tests, e) in
         subst (λ (k : ℕ). 10 ≤ digit_value k) same (grind (arith, nat_tests, parts.0))
     go again false e h = again h
 
-nodigit : (letters text : List ℕ) → Among letters text → list_all (λ l. nat_le 10 (digit_value l)) letters ≡ true → NoDigit 10 text
+nodigit : (letters text : List ℕ) → Among letters text → list_all (λ l. nat_le 10 (digit_value l)) letters ≡ true
+    → NoDigit 10 text
 nodigit letters [] is all = omega arith
 nodigit letters (c ∷ text) is all = nodigit-in letters c is all
 
@@ -232,7 +258,8 @@ row-form change rest =
     ∙ ap (λ (l : List ℕ). concat (parts_of change) ++ l) (append_assoc stored (codes "\n") rest)
     ∙ concat-onto (parts_of change) (stores_on change rest)
 
-row-back : (change : Change) (rest : List ℕ) → Fits change → read_row (onto (parts_of change) (stores_on change rest)) ≡ (change, rest)
+row-back : (change : Change) (rest : List ℕ) → Fits change
+    → read_row (onto (parts_of change) (stores_on change rest)) ≡ (change, rest)
 unfolding read_row
 row-back change rest fits =
     let t8 = stores_on change rest in
@@ -251,14 +278,21 @@ row-back change rest fits =
     let m3 = byte-among 0x79 change.y (0x73 ∷ 0x70 ∷ 0x77 ∷ 0x6B ∷ 0x6D ∷ 0x0A ∷ []) t4 m4 in
     let m2 = byte-among 0x78 change.x (0x79 ∷ 0x73 ∷ 0x70 ∷ 0x77 ∷ 0x6B ∷ 0x6D ∷ 0x0A ∷ []) t3 m3 in
     let m1 = byte-among 0x61 change.a (0x78 ∷ 0x79 ∷ 0x73 ∷ 0x70 ∷ 0x77 ∷ 0x6B ∷ 0x6D ∷ 0x0A ∷ []) t2 m2 in
-    let cycles = decimal-back change.cycles t1 fits.cycles (nodigit (0x61 ∷ 0x78 ∷ 0x79 ∷ 0x73 ∷ 0x70 ∷ 0x77 ∷ 0x6B ∷ 0x6D ∷ 0x0A ∷ []) t1 m1 refl) in
+    let cycles = decimal-back change.cycles t1 fits.cycles
+    (nodigit (0x61 ∷ 0x78 ∷ 0x79 ∷ 0x73 ∷ 0x70 ∷ 0x77 ∷ 0x6B ∷ 0x6D ∷ 0x0A ∷ []) t1 m1 refl) in
     let long : length change.stores < length (onto (parts_of change) t8) =
-    omega (arith, stores-long change.stores no_address, length-append (stores_text no_address change.stores) (0x0A ∷ rest), onto-long (parts_of change) t8) in
+    omega (
+      arith,
+      stores-long change.stores no_address,
+      length-append (stores_text no_address change.stores) (0x0A ∷ rest),
+      onto-long (parts_of change) t8,
+    ) in
     rw (
       word-back change.pc (decimal change.cycles ++ t1) fits.pc,
       cycles.number,
       cycles.behind,
-      byte-field 0x61 change.a t2 refl (other 0x61 (0x78 ∷ 0x79 ∷ 0x73 ∷ 0x70 ∷ 0x77 ∷ 0x6B ∷ 0x6D ∷ 0x0A ∷ []) t2 m2 refl) fits.a,
+      byte-field 0x61 change.a t2 refl (other 0x61 (0x78 ∷ 0x79 ∷ 0x73 ∷ 0x70 ∷ 0x77 ∷ 0x6B ∷ 0x6D ∷ 0x0A ∷ []) t2 m2 refl)
+          fits.a,
       byte-field 0x78 change.x t3 refl (other 0x78 (0x79 ∷ 0x73 ∷ 0x70 ∷ 0x77 ∷ 0x6B ∷ 0x6D ∷ 0x0A ∷ []) t3 m3 refl) fits.x,
       byte-field 0x79 change.y t4 refl (other 0x79 (0x73 ∷ 0x70 ∷ 0x77 ∷ 0x6B ∷ 0x6D ∷ 0x0A ∷ []) t4 m4 refl) fits.y,
       byte-field 0x73 change.s t5 refl (other 0x73 (0x70 ∷ 0x77 ∷ 0x6B ∷ 0x6D ∷ 0x0A ∷ []) t5 m5 refl) fits.s,
@@ -270,7 +304,8 @@ row-back change rest fits =
 
 -- All rows
 
-rows-read : (changes : List Change) (most : ℕ) → length changes ≤ most → All (λ change. Fits change) changes → read_rows most (flat_map row_text changes) ≡ changes
+rows-read : (changes : List Change) (most : ℕ) → length changes ≤ most → All (λ change. Fits change) changes
+    → read_rows most (flat_map row_text changes) ≡ changes
 unfolding read_rows
 rows-read [] zero few fits = refl
 rows-read [] (suc most) few fits = refl
@@ -278,8 +313,10 @@ rows-read (change ∷ others) zero few fits = absurd (omega (arith, few))
 rows-read (change ∷ others) (suc most) few fits =
     let rest = flat_map row_text others in
     ap (read_rows (suc most)) (row-form change rest)
-    ∙ ap (λ (found : Change × List ℕ). found.0 ∷ read_rows most found.1) (row-back change rest (All-head (λ c. Fits c) change others fits))
-    ∙ ap (λ (found : List Change). change ∷ found) (rows-read others most (omega (arith, few)) (All-tail (λ c. Fits c) change others fits))
+    ∙ ap (λ (found : Change × List ℕ). found.0 ∷ read_rows most found.1)
+    (row-back change rest (All-head (λ c. Fits c) change others fits))
+    ∙ ap (λ (found : List Change). change ∷ found)
+    (rows-read others most (omega (arith, few)) (All-tail (λ c. Fits c) change others fits))
 
 row-one : (change : Change) → 1 ≤ length (row_text change)
 unfolding fields_of_parts

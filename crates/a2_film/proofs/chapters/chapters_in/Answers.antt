@@ -18,6 +18,10 @@ within texts i low = omega (arith, low, length-map texts (λ (x : Bor (List ℕ)
 line-at : (texts : List (Bor (List ℕ))) (i : ℕ) → i < length texts → get_or (now texts) i [] ≡ (get_or texts i no_text).now
 line-at texts i low = get_or-map (λ (x : Bor (List ℕ)). x.now) texts i no_text [] low
 
+-- a push that did not fail
+went : (ok : Bool) (new longer same : List Chapter) → new ≡ (if ok then longer else same) → ok ≡ true → new ≡ longer
+went ok new longer same is fine = is ∙ ap (λ (v : Bool). if v then longer else same) fine
+
 pub loop-line-preserved-then-is_empty : goal.loop-line-preserved-then-is_empty
 loop-line-preserved-then-is_empty g c =
     let texts = c.args.lines.now in
@@ -55,9 +59,8 @@ loop-line-preserved g c =
     let some : is_silent (get_or texts i no_text).now ≡ false = ap (λ (l : List ℕ). length l == 0) (sym c.behind_blanks.ensures)
     ∙ sym c.if-is_empty.ensures in
     let pushed : c.push.new.self.items ≡ c.loop-line.chapters.items ++ c.in-Some.chapter ∷ [] =
-    c.push.ensures.items
-    ∙ ap (λ (v : Bool). if v then c.loop-line.chapters.items ++ c.in-Some.chapter ∷ [] else c.loop-line.chapters.items)
-    c.if-is_err.ensures.negation in record {
+    went _ c.push.new.self.items (c.loop-line.chapters.items ++ c.in-Some.chapter ∷ []) c.loop-line.chapters.items
+    c.push.ensures.items c.if-is_err.ensures.negation in record {
       number = omega (arith, c.loop-line.invariant.number);
       are = subst (λ (l : List Chapter). AreChapters (take (i + 1) (now texts)) l) (sym pushed)
           (chapters_more (now texts) i (get_or texts i no_text).now c.loop-line.chapters.items c.in-Some.chapter

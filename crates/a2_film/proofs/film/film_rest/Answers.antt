@@ -7,7 +7,8 @@ use Rattle.a2_film.proofs.film.film_rest.Goals as goal
 pub returns-in_err-cause : goal.returns-in_err-cause
 returns-in_err-cause g c =
     let start = c.args.machine.now.state in
-    rest-cut (code_of start) (world_of_state start) c.args.limit (g.W.Output.taker c.args.writer.now) (g.W.Output.taker c.film_run.new.writer)
+    rest-cut (code_of start) (world_of_state start) c.args.limit (g.W.Output.taker c.args.writer.now)
+    (g.W.Output.taker c.film_run.new.writer)
     c.from_residual.result c.from_residual.ensures.0 c.in_err-cause.ensures
 
 pub returns-in_err-put : goal.returns-in_err-put

@@ -5,4 +5,5 @@ use Rattle.a2_film.proofs.film.film_run.Given as goal
 -- the steps so far are made, and their rows went out
 abbrev pub invariant-loop : goal.invariant-loop
 invariant-loop g l =
-    IsFilmed (code_of l.fn.machine.state) (world_of_state l.fn.machine.state) (g.W.Output.taker l.fn.writer) (g.W.Output.taker l.writer) l.machine l.counter
+    IsFilmed (code_of l.fn.machine.state) (world_of_state l.fn.machine.state) (g.W.Output.taker l.fn.writer)
+    (g.W.Output.taker l.writer) l.machine l.counter

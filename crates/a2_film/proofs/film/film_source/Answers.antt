@@ -7,8 +7,10 @@ use Rattle.a2_film.proofs.film.film_source.Goals as goal
 
 pub returns-clause-meaning : goal.returns-clause-meaning
 returns-clause-meaning g c =
-    film-done c.args.source.now c.args.title.now c.args.chapters.now c.args.keys.now c.args.window c.args.free c.in_ok-program.program
-    c.in_ok-machine.machine c.go_on.new.machine c.go_on.result (map (λ x. x.now) c.as_slice.result.now) c.go_on.ensures.range c.in_ok-program.ensures.made c.in_ok-machine.ensures
+    film-done c.args.source.now c.args.title.now c.args.chapters.now c.args.keys.now c.args.window c.args.free
+    c.in_ok-program.program
+    c.in_ok-machine.machine c.go_on.new.machine c.go_on.result (map (λ x. x.now) c.as_slice.result.now) c.go_on.ensures.range
+    c.in_ok-program.ensures.made c.in_ok-machine.ensures
     c.go_on.ensures.run
     (ap (λ (items : List (Bor (List ℕ))). map (λ x. x.now) items) c.as_slice.ensures.value ∙ c.in_ok-texts.ensures)
     (g.W.Output.taker c.args.writer.now) (g.W.Output.taker c.put_head.new.writer) (g.W.Output.taker c.film_rest.new.writer)
@@ -18,8 +20,10 @@ pub returns-in_err-put_head-clause-meaning : goal.returns-in_err-put_head-clause
 returns-in_err-put_head-clause-meaning g c =
     let fault = err_from_is_err_and c.from_residual-in_err-put_head.result c.from_residual-in_err-put_head.ensures.1 in
     rw (fault.1, fault.2)
-    (head-broken c.args.source.now c.args.title.now c.args.chapters.now c.args.keys.now c.args.window c.args.free c.in_ok-program.program
-    c.in_ok-machine.machine c.go_on.new.machine c.go_on.result (map (λ x. x.now) c.as_slice.result.now) c.go_on.ensures.range c.in_ok-program.ensures.made c.in_ok-machine.ensures
+    (head-broken c.args.source.now c.args.title.now c.args.chapters.now c.args.keys.now c.args.window c.args.free
+    c.in_ok-program.program
+    c.in_ok-machine.machine c.go_on.new.machine c.go_on.result (map (λ x. x.now) c.as_slice.result.now) c.go_on.ensures.range
+    c.in_ok-program.ensures.made c.in_ok-machine.ensures
     c.go_on.ensures.run
     (ap (λ (items : List (Bor (List ℕ))). map (λ x. x.now) items) c.as_slice.ensures.value ∙ c.in_ok-texts.ensures)
     (g.W.Output.taker c.args.writer.now) (g.W.Output.taker c.put_head.new.writer) c.in_err-put_head.ensures)
@@ -28,8 +32,10 @@ pub returns-in_err-cause-clause-meaning : goal.returns-in_err-cause-clause-meani
 returns-in_err-cause-clause-meaning g c =
     let fault = err_from_is_err_and c.from_residual-in_err-cause.result c.from_residual-in_err-cause.ensures.1 in
     rw (fault.1, fault.2)
-    (film-broken c.args.source.now c.args.title.now c.args.chapters.now c.args.keys.now c.args.window c.args.free c.in_ok-program.program
-    c.in_ok-machine.machine c.go_on.new.machine c.go_on.result (map (λ x. x.now) c.as_slice.result.now) c.go_on.ensures.range c.in_ok-program.ensures.made c.in_ok-machine.ensures
+    (film-broken c.args.source.now c.args.title.now c.args.chapters.now c.args.keys.now c.args.window c.args.free
+    c.in_ok-program.program
+    c.in_ok-machine.machine c.go_on.new.machine c.go_on.result (map (λ x. x.now) c.as_slice.result.now) c.go_on.ensures.range
+    c.in_ok-program.ensures.made c.in_ok-machine.ensures
     c.go_on.ensures.run
     (ap (λ (items : List (Bor (List ℕ))). map (λ x. x.now) items) c.as_slice.ensures.value ∙ c.in_ok-texts.ensures)
     (g.W.Output.taker c.args.writer.now) (g.W.Output.taker c.put_head.new.writer) (g.W.Output.taker c.film_rest.new.writer)

@@ -11,7 +11,9 @@ pub returns : goal.returns
 unfolding memory_line
 returns g c =
     let byte_at = ram_byte (memory_of c.args.machine.now.state.bus) in
-    subst (λ (l : List Store). SendsOrBreaks (g.W.Output.taker c.args.writer.now) (g.W.Output.taker c.put_ram.new.writer) c.put_ram.result
+    subst (λ (l : List Store). SendsOrBreaks (g.W.Output.taker c.args.writer.now) (g.W.Output.taker c.put_ram.new.writer)
+    c.put_ram.result
     (codes "M " ++ (stores_text no_address l ++ codes "\n")))
-    (differing-alike (slice_index c.args.blank.now) (λ _. 0) byte_at byte_at 0 ram_end (λ k low high. c.requires.zeros k) (λ k low high. refl))
+    (differing-alike (slice_index c.args.blank.now) (λ _. 0) byte_at byte_at 0 ram_end (λ k low high. c.requires.zeros k)
+    (λ k low high. refl))
     c.put_ram.ensures

@@ -9,7 +9,8 @@ pub returns-in_err-put_name : goal.returns-in_err-put_name
 returns-in_err-put_name g c =
     let text : c.as_bytes.result.now ≡ string_bytes c.in-Some.name.now = c.as_bytes.ensures.value ∙ c.as_str.ensures.value in
     left_broke_off _ _ _ c.from_residual.result _ _ _ _ c.from_residual.ensures.0
-    (entries-next (λ e. name_line e) (entries c.args.names.now) c.loop-index.index (string_bytes c.in-Some.name.now, c.in-Some.value.now)
+    (entries-next (λ e. name_line e) (entries c.args.names.now) c.loop-index.index
+    (string_bytes c.in-Some.name.now, c.in-Some.value.now)
     (entry-at _ _ c.get_index.result _ c.args.names.now.entries c.loop-index.index c.get_index.ensures.entry c.in-Some.is))
     c.loop-index.invariant (rw text at c.in_err-put_name.ensures)
 
@@ -17,6 +18,7 @@ pub loop-index-preserved : goal.loop-index-preserved
 loop-index-preserved g c =
     let text : c.as_bytes.result.now ≡ string_bytes c.in-Some.name.now = c.as_bytes.ensures.value ∙ c.as_str.ensures.value in
     left_more _ _ _ _ _ _ _
-    (entries-next (λ e. name_line e) (entries c.args.names.now) c.loop-index.index (string_bytes c.in-Some.name.now, c.in-Some.value.now)
+    (entries-next (λ e. name_line e) (entries c.args.names.now) c.loop-index.index
+    (string_bytes c.in-Some.name.now, c.in-Some.value.now)
     (entry-at _ _ c.get_index.result _ c.args.names.now.entries c.loop-index.index c.get_index.ensures.entry c.in-Some.is))
     c.loop-index.invariant (rw text at c.in_ok-put_name.ensures)

@@ -20,9 +20,11 @@ returns g c =
     let x = c.hex_pair-2.ensures ∙ ap (λ (r : Regs). hex_pair r.x) regs in
     let y = c.hex_pair-3.ensures ∙ ap (λ (r : Regs). hex_pair r.y) regs in
     let s = c.hex_pair-4.ensures ∙ ap (λ (r : Regs). hex_pair r.s) regs in
-    let p = c.hex_pair-p.ensures ∙ ap (λ (n : ℕ). hex_pair n) (c.pushed.ensures ∙ ap (λ (r : Regs). byte_of_flags (flags_of r.p)) regs) in
+    let p = c.hex_pair-p.ensures ∙ ap (λ (n : ℕ). hex_pair n)
+    (c.pushed.ensures ∙ ap (λ (r : Regs). byte_of_flags (flags_of r.p)) regs) in
     let digit = c.hex_digit-digit.ensures ∙ ap (λ (n : ℕ). hex_digit n)
     (c.switch_digit.ensures.value ∙ ap (λ (w : Switches). switch_digit w) (c.view.ensures.switches ∙ sym seen)) in
-    subst (λ (line : List ℕ). SendsOrBreaks (g.W.Output.taker c.args.writer.now) (g.W.Output.taker c.put_register_digits.new.writer) c.put_register_digits.result line)
+    subst (λ (line : List ℕ). SendsOrBreaks (g.W.Output.taker c.args.writer.now)
+    (g.W.Output.taker c.put_register_digits.new.writer) c.put_register_digits.result line)
     (λ i. line_of_registers (pc i) (a i) (x i) (y i) (s i) (p i) (digit i))
     c.put_register_digits.ensures

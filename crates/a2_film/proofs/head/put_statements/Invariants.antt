@@ -9,4 +9,5 @@ use Rattle.a2_film.proofs.head.put_statements.Given as goal
 abbrev pub invariant-loop-statement : goal.invariant-loop-statement
 invariant-loop-statement g l =
     IsLeft (g.W.Output.taker l.fn.writer) (g.W.Output.taker l.writer)
-    (flat_map (statement_line (held l.image)) l.statements) (flat_map (statement_line (held l.image)) (drop l.statement-index l.statements))
+    (flat_map (statement_line (held l.image)) l.statements)
+    (flat_map (statement_line (held l.image)) (drop l.statement-index l.statements))

@@ -7,4 +7,5 @@ use Rattle.a2_text.specs.Digits.{hex_pair}
 -- the bytes so far went out
 abbrev pub invariant-loop-byte : goal.invariant-loop-byte
 invariant-loop-byte g l =
-    IsLeft (g.W.Output.taker l.fn.writer) (g.W.Output.taker l.writer) (flat_map hex_pair l.bytes) (flat_map hex_pair (drop l.byte-index l.bytes))
+    IsLeft (g.W.Output.taker l.fn.writer) (g.W.Output.taker l.writer) (flat_map hex_pair l.bytes)
+    (flat_map hex_pair (drop l.byte-index l.bytes))

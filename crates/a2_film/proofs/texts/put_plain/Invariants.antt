@@ -7,4 +7,5 @@ use Rattle.a2_film.specs.Rows.{plain_byte}
 -- the bytes so far went out
 abbrev pub invariant-loop-byte : goal.invariant-loop-byte
 invariant-loop-byte g l =
-    IsLeft (g.W.Output.taker l.fn.writer) (g.W.Output.taker l.writer) (flat_map plain_byte l.text) (flat_map plain_byte (drop l.byte-index l.text))
+    IsLeft (g.W.Output.taker l.fn.writer) (g.W.Output.taker l.writer) (flat_map plain_byte l.text)
+    (flat_map plain_byte (drop l.byte-index l.text))

@@ -9,7 +9,8 @@ pub returns : goal.returns
 returns g c =
     let seen = devices_seen c.args.machine.now.state.bus in
     let switches = c.view.ensures.switches ∙ sym (ap (λ (d : Devices). d.switches) seen) in
-    let keys = c.waiting.ensures.keys ∙ ap (λ (b : BusState). b.devices.keys) c.space.ensures ∙ sym (ap (λ (d : Devices). d.keys) seen) in
+    let keys = c.waiting.ensures.keys ∙ ap (λ (b : BusState). b.devices.keys) c.space.ensures
+    ∙ sym (ap (λ (d : Devices). d.keys) seen) in
     λ i. record {
       registers = registers_of (c.regs.ensures.value i);
       cycles = c.cycles.ensures i;

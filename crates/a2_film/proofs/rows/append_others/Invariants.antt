@@ -1,0 +1,16 @@
+use Rattle.std.proofs.Common.{◌+◌, ◌-◌, ◌*◌, ◌≤◌, length}
+use Rattle.a2_bus.specs.Memory.{ram_byte}
+use Rattle.a2_bus.specs.View.{memory_of}
+use Rattle.a2_film.specs.Changes.{differing}
+use Rattle.a2_film.specs.Filmed.{from_address, Appends}
+use Rattle.a2_film.proofs.rows.append_others.Given as goal
+
+-- those below an address stand behind the row
+abbrev pub invariant-loop-address : goal.invariant-loop-address
+invariant-loop-address g l = record {
+  from : l.first ≤ l.address;
+  stores : Appends l.fn.row.items l.next
+      (differing (from_address l.first l.old) (ram_byte (memory_of l.machine.state.bus)) l.first (l.address - l.first))
+      l.row.items l.last;
+  room : length l.row.items ≤ length l.fn.row.items + 7 * (l.address - l.first);
+}
