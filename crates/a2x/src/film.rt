@@ -31,7 +31,7 @@ pub struct FilmOrder<'a> {
 }
 
 /// Why the words of a film ask for nothing.
-#[derive(Clone, Copy, Debug, PartialEq, Eq)]
+#[derive(Clone, Copy)]
 pub enum FilmFault<'a> {
     /// An option stands without a value.
     Value(&'static str),

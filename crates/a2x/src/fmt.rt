@@ -17,7 +17,7 @@ use std::alloc::{AllocError, Global};
 const NOT_IN_COLUMNS: u8 = 6;
 
 /// What is done with a text.
-#[derive(Clone, Copy, Debug, PartialEq, Eq)]
+#[derive(Clone, Copy)]
 pub enum Way {
     /// It goes out in columns.
     Show,
@@ -28,7 +28,7 @@ pub enum Way {
 }
 
 /// Why words ask for nothing.
-#[derive(Clone, Copy, Debug, PartialEq, Eq)]
+#[derive(Clone, Copy)]
 pub enum FmtWordsFault<'a> {
     /// A word begins with `-`, and is no option here.
     Option(&'a str),
@@ -110,7 +110,7 @@ pub fn tell_fmt_words<E: Output>(fault: FmtWordsFault<'_>, complaints: &mut E) -
 }
 
 /// Why a text is not laid out.
-#[derive(Clone, Copy, Debug, PartialEq, Eq)]
+#[derive(Clone, Copy)]
 pub enum FmtFault {
     /// It has no columns.
     Layout(FormatFault),
@@ -266,9 +266,9 @@ pub fn fmt<D: Desk, W: Output, E: Output>(
     ensures { result ≤ 6 }
 {
     let done = match way {
-        Way::Show => show_columns(alloc, text, output).map(|_| true),
+        Way::Show => show_columns(alloc, text, output).and(Ok(true)),
         Way::Check => name_other(alloc, name, text, output),
-        Way::Rewrite => rewrite(alloc, name, text, desk).map(|_| true),
+        Way::Rewrite => rewrite(alloc, name, text, desk).and(Ok(true)),
     };
     match done {
         Ok(true) => 0,

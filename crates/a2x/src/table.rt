@@ -6,7 +6,7 @@ use std::alloc::{AllocError, Global};
 use strsim::levenshtein;
 
 /// What a word does.
-#[derive(Clone, Copy, Debug, PartialEq, Eq)]
+#[derive(Clone, Copy)]
 pub enum Tool {
     Check,
     Debug,

@@ -10,7 +10,7 @@ use a2_run::step_limit;
 const DEFAULT_LIMIT: u32 = 1_000_000;
 
 /// Why words ask for nothing.
-#[derive(Clone, Copy, Debug, PartialEq, Eq)]
+#[derive(Clone, Copy)]
 pub enum WordsFault {
     /// They are no form of the command line.
     Words,
@@ -98,7 +98,7 @@ pub fn order_of(words: &[String]) -> Result<Order<'_>, WordsFault>
 }
 
 /// What is wrong with words that are refused.
-#[derive(Clone, Copy, Debug, PartialEq, Eq)]
+#[derive(Clone, Copy)]
 pub enum Misfit<'a> {
     /// A word begins with `-`, and is no option here.
     Option(&'a str),
