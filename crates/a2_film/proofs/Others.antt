@@ -1,17 +1,16 @@
 -- The bytes that are others behind a step, listed by their addresses.
 use Rattle.std.specs.Prelude.{◌≡◌, ℕ, zero, suc, ◌+◌, ◌-◌, ◌*◌, ◌<◌, ◌≤◌, nat_lt, ◌==◌, Bool, true, false, List, [], ◌∷◌, ◌++◌}
 use Rattle.std.specs.Prelude.{length, if◌then◌else◌, slice_range, refl}
-use Rattle.std.proofs.Common.{sym, ap, ap₂, ◌∙◌, arith, append_assoc}
+use Rattle.std.proofs.Common.{ap, ◌∙◌, arith}
 use Rattle.std.proofs.lemmas.Bool.Decides.{nat_tests}
 use Rattle.std.proofs.lemmas.List.{append-nil}
 use Rattle.a2_page.proofs.Parts.{range-at, range_long}
 use Rattle.a2_bus.specs.BusState.{BusState}
-use Rattle.a2_bus.specs.Memory.{Memory, ram_byte, ram_end}
+use Rattle.a2_bus.specs.Memory.{ram_byte, ram_end}
 use Rattle.a2_bus.specs.View.{memory_of}
 use Rattle.a2_bus.proofs.Viewing.{byte_seen}
 use Rattle.a2_film.specs.Changes.{Store, bytes_at, differing}
 use Rattle.a2_film.specs.Filmed.{from_address}
-use Rattle.a2_film.proofs.Parts.{differing-alike}
 
 -- the bytes at addresses and at others behind them
 pub bytes_at-joined : (m : ℕ → ℕ) (front back : List ℕ) → bytes_at m (front ++ back) ≡ bytes_at m front ++ bytes_at m back

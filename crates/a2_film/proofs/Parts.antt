@@ -1,18 +1,14 @@
 -- What is left of a text that goes out piece by piece.
-use Rattle.std.proofs.Common.{◌≡◌, ◌≢◌, ℕ, zero, suc, ◌+◌, ◌-◌, ◌<◌, ◌≤◌, List, [], ◌∷◌, ◌++◌, length, map, drop, get_or, Option}
+use Rattle.std.proofs.Common.{◌≡◌, ℕ, zero, suc, ◌+◌, ◌<◌, ◌≤◌, List, [], ◌∷◌, ◌++◌, length, map, drop, get_or, Option}
 use Rattle.std.proofs.Common.{Some, None, unwrap_or, is_some, true≢false, Bool, true, false, nat_lt, ◌==◌, if◌then◌else◌, refl}
-use Rattle.std.proofs.Common.{sym, ap, ◌∙◌, subst, arith, slice_get, slice_index, option_map, replicate, ◌⊎◌, inl, inr, Result}
-use Rattle.std.proofs.Common.{IsErr}
+use Rattle.std.proofs.Common.{sym, ap, ◌∙◌, arith, slice_get, slice_index, option_map, replicate, ◌⊎◌, inl, inr}
 use Rattle.std.proofs.lemmas.Bool.Decides.{nat_tests}
 use Rattle.std.proofs.lemmas.List.{length-map, get_or-map, drop_more, get_or-replicate, get_or_past, length-replicate}
 use Rattle.std.proofs.lemmas.Option.{get_or_from_slice_get, slice_get-map, slice_get_within}
 use Rattle.std.specs.List.{flat_map}
-use Rattle.a2_stream.specs.Stream.{Taker, Sends, Breaks, SendsOrBreaks}
-use Rattle.a2_page.proofs.Sending.{IsLeft, left_more, left_none, left_broke_off}
 use Rattle.std.specs.Borrow.{Bor}
 use Rattle.a2_bus.specs.Memory.{Memory, ram_byte, ram_end, peek}
-use Rattle.a2_film.specs.Changes.{bytes_at, differing}
-use Rattle.a2_film.specs.Rows.{store_text, stores_text}
+use Rattle.a2_film.specs.Changes.{differing}
 
 none-some : {X : Type 0} (x : X) → None ≡ Some x → ⊥
 none-some x e = true≢false (sym (ap is_some e))

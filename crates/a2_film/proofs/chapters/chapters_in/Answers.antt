@@ -3,7 +3,7 @@ use Rattle.std.proofs.Common.{get_or, take, sym, ap, ◌∙◌, arith, refl, sub
 use Rattle.std.proofs.lemmas.List.{length-map, get_or-map}
 use Rattle.a2_film.specs.declared.chapters.Chapter.{Chapter}
 use Rattle.a2_film.specs.Chapters.{is_silent, AreChapters}
-use Rattle.a2_film.proofs.ChapterLaws.{chapters_silent, chapters_more, chapters_all, first_other}
+use Rattle.a2_film.proofs.ChapterLaws.{chapters_silent, chapters_more, first_other}
 use Rattle.a2_film.proofs.chapters.chapters_in.Goals as goal
 
 abbrev now : List (Bor (List ℕ)) → List (List ℕ)

@@ -1,5 +1,4 @@
-use Rattle.std.proofs.Common.{◌≡◌, List, ℕ, sym, ap, ◌∙◌, subst}
-use Rattle.std.specs.Str.{IsUtf8}
+use Rattle.std.proofs.Common.{List, ℕ, sym, subst}
 use Rattle.a2_run.specs.Limits.{IsStepLimit}
 use Rattle.a2_film.proofs.ChapterLaws.{number_utf8, numbered_none, numbered_uncut}
 use Rattle.a2_film.proofs.chapters.numbered.Goals as goal

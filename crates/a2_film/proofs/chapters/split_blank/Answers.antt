@@ -1,4 +1,4 @@
-use Rattle.std.proofs.Common.{rules, ◌+◌, ◌<◌, ◌==◌, length, not, refl, arith}
+use Rattle.std.proofs.Common.{rules, ◌+◌, ◌==◌, not, refl, arith}
 use Rattle.std.proofs.lemmas.List.{take_rest}
 use Rattle.a2_film.proofs.ChapterLaws.{cut_some, cut_none}
 use Rattle.a2_film.proofs.chapters.split_blank.Goals as goal

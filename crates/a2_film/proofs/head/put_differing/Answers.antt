@@ -1,9 +1,8 @@
-use Rattle.std.proofs.Common.{◌≡◌, ℕ, ◌+◌, ◌-◌, ◌*◌, List, ◌++◌, ap, ◌∙◌, subst, slice_index, slice_range, arith}
+use Rattle.std.proofs.Common.{◌+◌, ◌-◌, ◌*◌, slice_index, arith}
 use Rattle.a2_page.proofs.Sending.{left_all, left_none, left_more, left_broke_off}
 use Rattle.a2_bus.specs.Memory.{ram_byte, ram_end}
 use Rattle.a2_bus.specs.View.{memory_of}
 use Rattle.a2_film.specs.Changes.{differing}
-use Rattle.a2_film.specs.Filmed.{from_address, Appends}
 use Rattle.a2_film.specs.Rows.{stores_text, no_address}
 use Rattle.a2_film.proofs.Appending.{none-left, piece-parted}
 use Rattle.a2_film.proofs.head.put_differing.Goals as goal

@@ -1,4 +1,4 @@
-use Rattle.std.proofs.Common.{◌≡◌, ℕ, ◌+◌, ◌-◌, ◌*◌, ap, subst, slice_range, arith}
+use Rattle.std.proofs.Common.{◌≡◌, ℕ, ◌+◌, ◌-◌, ◌*◌, subst, slice_range, arith}
 use Rattle.a2_bus.specs.Memory.{ram_byte}
 use Rattle.a2_bus.specs.View.{memory_of}
 use Rattle.a2_film.specs.Changes.{differing}

@@ -1,4 +1,4 @@
-use Rattle.std.proofs.Common.{◌≡◌, ℕ, ◌+◌, ◌-◌, ◌<◌, ap, subst, ◌∙◌, unwrap_or, slice_index, arith}
+use Rattle.std.proofs.Common.{◌≡◌, ℕ, ◌-◌, ◌<◌, ap, subst, ◌∙◌, unwrap_or, slice_index, arith}
 use Rattle.a2_bus.specs.Memory.{ram_byte, ram_end}
 use Rattle.a2_bus.specs.View.{memory_of}
 use Rattle.a2_film.specs.Changes.{differing}
