@@ -1,0 +1,4 @@
+pub mod EndLaws
+pub mod ImageLaws
+pub mod LineLaws
+pub mod ShownLaws

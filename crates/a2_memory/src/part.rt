@@ -1,0 +1,13 @@
+//! A part of RAM.
+
+ghost use Rattle.std.specs.Prelude.{◌<◌, ◌≤◌};
+ghost use Rattle.a2_bus.specs.Memory.{ram_end};
+
+/// Addresses of RAM, from one up to another, as [`Part::of`] gives them.
+#[derive(Clone, Copy, Debug)]
+pub struct Part {
+    pub(crate) first: u16,
+    pub(crate) last: u16,
+    ghost ordered: { first ≤ last },
+    ghost inside: { last < ram_end },
+}
