@@ -1,5 +1,6 @@
 pub mod Columns
 pub mod Filmed
+pub mod Imports
 pub mod Named
 pub mod Release
 pub mod Words

@@ -85,6 +85,15 @@ Alone before F:
               wrote
 ";
 
+// The options that old texts alone have.
+const IMPORT_OPTIONS: &[u8] = b"
+F is an old text, which goes out as a source. What changed in it, and what
+could not be brought over, is told line by line. Before or behind F:
+
+  --from N    what F is: sc, lisa, merlin, edasm, ca65, a listing of the
+              Monitor (listing), or whatever its lines tell (auto)
+";
+
 const BLANKS: &[u8] = b"                      ";
 
 // Writes the row of a word.
@@ -120,6 +129,7 @@ fn own_options(tool: Tool) -> &'static [u8] {
         Tool::Fmt => FMT_OPTIONS,
         Tool::Play => PLAY_OPTIONS,
         Tool::Run => REPLAY_OPTION,
+        Tool::Import => IMPORT_OPTIONS,
         _ => b"",
     }
 }

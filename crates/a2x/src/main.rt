@@ -12,6 +12,7 @@ mod debugging;
 mod film;
 mod fmt;
 mod help;
+mod import;
 mod named;
 mod play;
 mod program;

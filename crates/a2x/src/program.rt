@@ -6,6 +6,7 @@ use crate::debugging::debug_of;
 use crate::film::{FilmFault, FilmOrder, is_film_limit, parted, window_of};
 use crate::fmt::{Way, fmt, fmt_order, tell_fmt_words};
 use crate::help::{put_page, put_use};
+use crate::import::{import, import_order, tell_import_words};
 use crate::named::{check_order, file_in};
 use crate::play::{Seat, play_of};
 use crate::release::put_version;
@@ -21,13 +22,14 @@ use a2_film::{ScriptFault, chapters_of};
 use a2_host::Shelf;
 use a2_manual::{manual, near, topic};
 use a2_play::Clock;
-use a2_run::{RunFault, read_front, read_text};
+use a2_run::{ReadingFault, RunFault, read_front, read_text};
 use a2_stream::{Input, Output, put, put_all};
 use a2_syntax::Fault;
 use a2_text::decimal;
 use std::alloc::Global;
 
-// The most bytes of a text that a session begins with: object lines of all of RAM, eight bytes each, have 178,176.
+// The most bytes of an old text, and of one that a session begins with: object lines of all of RAM, eight bytes each, have
+// 178,176.
 const MOST_LOADED: usize = 1 << 20;
 
 // Writes a line of these parts behind the program's name. Where that fails there is no place left to tell it.
@@ -48,6 +50,20 @@ fn tell_unopened<E: Output>(name: &str, complaints: &mut E) -> u8
     4
 }
 
+// A long text that was read; or the status, where it is told that it was not, or is too long.
+fn long_text<E: Output>(
+    read: Result<Vec<u8>, ReadingFault>,
+    complaints: &mut E,
+) -> Result<Vec<u8>, u8>
+    ensures { IfErr result (λ status. status ≤ 5) }
+{
+    match read {
+        Ok(text) if text.len() <= MOST_LOADED => Ok(text),
+        Ok(_) => Err(told(RunFault::Source(Fault::TooLarge(0)), complaints)),
+        Err(fault) => Err(told(RunFault::from(fault), complaints)),
+    }
+}
+
 // What a session is to begin with, of the file with this name; or the status, where that is told.
 pub(crate) fn loaded_text<S: Shelf, E: Output>(
     alloc: Global,
@@ -60,11 +76,7 @@ pub(crate) fn loaded_text<S: Shelf, E: Output>(
     let Ok(mut reader) = shelf.open(name) else {
         return Err(tell_unopened(name, complaints));
     };
-    match read_front(alloc, &mut reader, MOST_LOADED + 1) {
-        Ok(text) if text.len() <= MOST_LOADED => Ok(text),
-        Ok(_) => Err(told(RunFault::Source(Fault::TooLarge(0)), complaints)),
-        Err(fault) => Err(told(RunFault::from(fault), complaints)),
-    }
+    long_text(read_front(alloc, &mut reader, MOST_LOADED + 1), complaints)
 }
 
 // The text of a file, or of the standard input where none is named; or the status, where that is told.
@@ -515,6 +527,32 @@ fn fmt_text<S: Shelf, D: Desk, R: Input, W: Output, E: Output>(
     }
 }
 
+// Brings over the old text that words name, or that of the standard input.
+fn import_of<S: Shelf, R: Input, W: Output, E: Output>(
+    alloc: Global,
+    words: &[String],
+    shelf: &mut S,
+    input: &mut R,
+    output: &mut W,
+    complaints: &mut E,
+) -> u8
+    ensures { result ≤ 5 }
+{
+    let order = match import_order(words) {
+        Ok(order) => order,
+        Err(fault) => return tell_import_words(fault, complaints),
+    };
+    let name = order.file.unwrap_or("-");
+    let text = match order.file {
+        Some(file) => loaded_text(alloc, file, shelf, complaints),
+        None => long_text(read_front(alloc, input, MOST_LOADED + 1), complaints),
+    };
+    match text {
+        Ok(text) => import(alloc, name, order.from, text.as_slice(), output, complaints),
+        Err(status) => status,
+    }
+}
+
 // Does what a word says.
 fn act<S: Shelf, D: Desk, C: Clock, R: Input, W: Output, E: Output>(
     alloc: Global,
@@ -567,6 +605,7 @@ fn act<S: Shelf, D: Desk, C: Clock, R: Input, W: Output, E: Output>(
             complaints,
         ),
         Tool::Fmt => Ok(fmt_of(alloc, behind(words), shelf, desk, input, output, complaints)),
+        Tool::Import => Ok(import_of(alloc, behind(words), shelf, input, output, complaints)),
         Tool::Debug => match order_of(words) {
             Ok(order) => debug_of(alloc, &order, seat.types, shelf, input, output, complaints),
             Err(fault) => Err(refused(word, behind(words), fault, complaints)),

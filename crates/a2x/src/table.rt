@@ -13,6 +13,7 @@ pub enum Tool {
     Film,
     Fmt,
     Help,
+    Import,
     List,
     Mon,
     Play,
@@ -36,7 +37,7 @@ pub struct Word {
 }
 
 /// All words, in the order of the page of help.
-pub static WORDS: [Word; 12] = [
+pub static WORDS: [Word; 13] = [
     Word {
         name: "run",
         arguments: "[options] [F]",
@@ -85,6 +86,13 @@ pub static WORDS: [Word; 12] = [
         runs: false,
         says: "lays F out in columns",
         tool: Tool::Fmt,
+    },
+    Word {
+        name: "import",
+        arguments: "[--from N] [F]",
+        runs: false,
+        says: "writes the old text F in this language",
+        tool: Tool::Import,
     },
     Word {
         name: "test",
