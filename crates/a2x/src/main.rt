@@ -83,7 +83,8 @@ fn obeyed<W: Output>(
     )
 }
 
-// Sends what `lines` keeps, and gives the status. By 4, where a write may have failed, nothing more is sent.
+// Sends what `lines` keeps, and gives the status. By 4 a failed write was told already; where it was a file that could not be read,
+// what was written of others goes out.
 fn ended<W: Write + Drop>(status: u8, lines: &mut BufWriter<W>) -> Result<u8, RunFault>
     ensures status { IfOk result (λ answer. answer ≡ status) }
     // By any status but 4 all that was kept went out.
@@ -91,10 +92,12 @@ fn ended<W: Write + Drop>(status: u8, lines: &mut BufWriter<W>) -> Result<u8, Ru
     ensures bytes { Keeps (writer_contents W.contents lines.old) (writer_contents W.contents lines.new) }
     ensures fault { IfErr result (λ fault. fault ≡ WriteFails) }
 {
-    if status != 4 && lines.flush().is_err() {
-        return Err(RunFault::Write);
+    let is_sent = lines.flush().is_ok();
+    if is_sent || status == 4 {
+        Ok(status)
+    } else {
+        Err(RunFault::Write)
     }
-    Ok(status)
 }
 
 // Does what the words ask for. Many lines go out by one write, but where someone waits for each answer.

@@ -33,20 +33,31 @@ fn format_named(name: &str) -> Result<Format, WordsFault> {
     }
 }
 
-/// The format that words ask for, and the file that they name, or none, where the standard input is meant: `--format` with its
-/// value may stand before the file. The first word says what is done.
-pub fn check_order(words: &[String]) -> Result<(Format, Option<&str>), WordsFault> {
+// Refuses a file whose name begins with `-`, but for one behind `--`.
+fn files_in(words: &[String]) -> Result<&[String], WordsFault> {
     match words {
-        [_, option, format] if option.as_str() == "--format" => {
-            Ok((format_named(format.as_str())?, None))
+        [end, files @ ..] if end.as_str() == "--" && files.len() == 1 => return Ok(files),
+        _ => {}
+    }
+    for word in words {
+        if word.as_str().starts_with('-') {
+            return Err(WordsFault::Words);
         }
-        [_, option, format, file]
-            if option.as_str() == "--format" && !file.as_str().starts_with('-') => {
-            Ok((format_named(format.as_str())?, Some(file.as_str())))
+    }
+    Ok(words)
+}
+
+/// The format that words ask for, and the files that they name; without one the standard input is meant. `--format` with its
+/// value may stand before the files or behind them. The first word says what is done.
+pub fn check_order(words: &[String]) -> Result<(Format, &[String]), WordsFault> {
+    match words {
+        [] => Ok((Format::Long, words)),
+        [_, option, format, files @ ..] if option.as_str() == "--format" => {
+            Ok((format_named(format.as_str())?, files_in(files)?))
         }
-        [_, file, option, format] if option.as_str() == "--format" => {
-            Ok((format_named(format.as_str())?, Some(file.as_str())))
+        [_, files @ .., option, format] if option.as_str() == "--format" => {
+            Ok((format_named(format.as_str())?, files_in(files)?))
         }
-        _ => Ok((Format::Long, file_in(words)?)),
+        [_, files @ ..] => Ok((Format::Long, files_in(files)?)),
     }
 }

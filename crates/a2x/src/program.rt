@@ -17,6 +17,7 @@ use crate::tests::{exam_in, tell_words, test};
 use crate::tools::{check, film, list, profile, run, told, written};
 use crate::tracing::trace_of;
 use crate::words::{Misfit, Order, WordsFault, misfit_in, order_of};
+use a2_check::Format;
 use a2_desk::Desk;
 use a2_film::{ScriptFault, chapters_of};
 use a2_host::Shelf;
@@ -527,6 +528,65 @@ fn fmt_text<S: Shelf, D: Desk, R: Input, W: Output, E: Output>(
     }
 }
 
+// Tells the refusals of a file, one of several where it is headed, or of the standard input.
+fn check_text<S: Shelf, R: Input, W: Output, E: Output>(
+    alloc: Global,
+    format: Format,
+    file: Option<&str>,
+    headed: bool,
+    shelf: &mut S,
+    input: &mut R,
+    output: &mut W,
+    complaints: &mut E,
+) -> u8
+    ensures { result ≤ 5 }
+{
+    let name = file.unwrap_or("-");
+    match text_of(alloc, file, shelf, input, complaints) {
+        Ok(text) => check(
+            alloc,
+            name,
+            headed,
+            text.as_slice(),
+            format,
+            output,
+            complaints,
+        ),
+        Err(status) => status,
+    }
+}
+
+// Tells the refusals of the files that words name, or of the standard input. The status is the greatest of those of the texts.
+fn check_of<S: Shelf, R: Input, W: Output, E: Output>(
+    alloc: Global,
+    word: &Word,
+    words: &[String],
+    shelf: &mut S,
+    input: &mut R,
+    output: &mut W,
+    complaints: &mut E,
+) -> u8
+    ensures { result ≤ 5 }
+{
+    let (format, files) = match check_order(words) {
+        Ok(order) => order,
+        Err(fault) => return refused(word, behind(words), fault, complaints),
+    };
+    if files.is_empty() {
+        return check_text(alloc, format, None, false, shelf, input, output, complaints);
+    }
+    let headed = files.len() > 1;
+    let mut status = 0;
+    for file in files {
+        let name = Some(file.as_str());
+        status = check_text(
+            alloc, format, name, headed, shelf, input, output, complaints,
+        )
+        .max(status);
+    }
+    status
+}
+
 // Brings over the old text that words name, or that of the standard input.
 fn import_of<S: Shelf, R: Input, W: Output, E: Output>(
     alloc: Global,
@@ -571,14 +631,7 @@ fn act<S: Shelf, D: Desk, C: Clock, R: Input, W: Output, E: Output>(
 {
     match word.tool {
         Tool::Help => Ok(help(alloc, behind(words), output, complaints)),
-        Tool::Check => match check_order(words) {
-            Ok((format, file)) => {
-                let text = text_of(alloc, file, shelf, input, complaints)?;
-                let name = file.unwrap_or("-");
-                Ok(check(alloc, name, text.as_slice(), format, output, complaints))
-            }
-            Err(fault) => Err(refused(word, behind(words), fault, complaints)),
-        },
+        Tool::Check => Ok(check_of(alloc, word, words, shelf, input, output, complaints)),
         Tool::List => match file_in(words) {
             Ok(file) => {
                 let text = text_of(alloc, file, shelf, input, complaints)?;

@@ -47,7 +47,7 @@ pub static WORDS: [Word; 13] = [
     },
     Word {
         name: "check",
-        arguments: "[--format N] [F]",
+        arguments: "[--format N] F..",
         runs: false,
         says: "tells all refusals of F with their mends",
         tool: Tool::Check,

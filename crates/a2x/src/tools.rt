@@ -15,7 +15,8 @@ use a2_host::tell;
 use a2_list::list_told;
 use a2_profile::profile_source;
 use a2_run::{Options, RunFault, fault_status, run_text, status};
-use a2_stream::{FromRead, Output, WriteFault};
+use a2_stream::{FromRead, Output, WriteFault, put_all};
+use a2_syntax::Fault;
 use a2_trace::{Choice, trace_source};
 use std::alloc::Global;
 
@@ -165,10 +166,28 @@ pub fn film<D: Desk, W: Output, E: Output>(
     status(&answer)
 }
 
-/// Writes all refusals of a source, which is called `name`. The status is 1 where there is one.
+// Writes refusals of a source; `headed`, and at length, behind a line with its name.
+fn put_headed<W: Output>(
+    alloc: Global,
+    name: &str,
+    headed: bool,
+    source: &[u8],
+    refusals: &[Fault],
+    format: Format,
+    output: &mut W,
+) -> Result<(), TellFault> {
+    if headed && format == Format::Long {
+        put_all(&[name.as_bytes(), b":\n"], output)?;
+    }
+    put_refusals(alloc, name, source, refusals, format, output)
+}
+
+/// Writes all refusals of a source, which is called `name`; where it is one of several, `headed`, behind its name. The status is
+/// 1 where there is one.
 pub fn check<W: Output, E: Output>(
     alloc: Global,
     name: &str,
+    headed: bool,
     source: &[u8],
     format: Format,
     output: &mut W,
@@ -179,7 +198,15 @@ pub fn check<W: Output, E: Output>(
     let Ok(refusals) = refusals_of(alloc, source) else {
         return told(RunFault::Memory, complaints);
     };
-    match put_refusals(alloc, name, source, refusals.as_slice(), format, output) {
+    match put_headed(
+        alloc,
+        name,
+        headed,
+        source,
+        refusals.as_slice(),
+        format,
+        output,
+    ) {
         Ok(()) if refusals.is_empty() => 0,
         Ok(()) => 1,
         Err(TellFault::Write) => told(RunFault::Write, complaints),
