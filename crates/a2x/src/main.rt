@@ -14,6 +14,7 @@ mod fmt;
 mod help;
 mod import;
 mod named;
+mod notes;
 mod play;
 mod program;
 mod release;

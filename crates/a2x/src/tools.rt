@@ -6,6 +6,7 @@ ghost use Rattle.a2_run.specs.Status.{fault_status as status_of_fault};
 ghost use Rattle.a2_run.specs.Texts.{run_fault_text};
 
 use crate::film::{FilmOrder, film_into};
+use crate::notes::tell_source_notes;
 use crate::words::Order;
 use a2_check::{Format, TellFault, put_refusals, refusals_of};
 use a2_desk::Desk;
@@ -182,7 +183,7 @@ fn put_headed<W: Output>(
     put_refusals(alloc, name, source, refusals, format, output)
 }
 
-/// Writes all refusals of a source, which is called `name`; where it is one of several, `headed`, behind its name. The status is
+/// Writes all refusals of a source, which is called `name`, or tells the notes of one that is accepted; where it is one of several, `headed`, behind its name. The status is
 /// 1 where there is one.
 pub fn check<W: Output, E: Output>(
     alloc: Global,
@@ -207,7 +208,7 @@ pub fn check<W: Output, E: Output>(
         format,
         output,
     ) {
-        Ok(()) if refusals.is_empty() => 0,
+        Ok(()) if refusals.is_empty() => tell_source_notes(alloc, name, source, complaints),
         Ok(()) => 1,
         Err(TellFault::Write) => told(RunFault::Write, complaints),
         Err(TellFault::Memory) => told(RunFault::Memory, complaints),
