@@ -61,7 +61,8 @@ fn number<A: Allocator>(e: &Expr<A>) -> Option<u16> {
 // The address in page 0 that a line reads by its number, where that could have been the number itself.
 fn read_by<A: Allocator>(line: &Line<A>) -> Option<u16> {
     match &line.body {
-        Body::Instr(mnemonic, Operand::Plain(e)) if row_for(*mnemonic, Mode::Immediate).is_some() => number(e),
+        Body::Instr(mnemonic, Operand::Plain(e)) if row_for(*mnemonic, Mode::Immediate).is_some() =>
+            number(e),
         _ => None,
     }
 }
