@@ -16,7 +16,7 @@ use Rattle.a2_inspect.specs.Stops.{is_stop, is_changed_in}
 use Rattle.a2_inspect.specs.declared.order.Order.{Order}
 use Rattle.a2_inspect.specs.declared.order.Order.TheVariants.{Step, Next, Out, Back, GoBackOver, Go, Until, GoBack, Watch, Who, Break, Clear, TypeKeys}
 use Rattle.a2_inspect.specs.declared.stops.Break.{Break as Breakpoint}
-use Rattle.a2_inspect.specs.declared.stops.Span.{Span}
+use Rattle.a2_places.specs.declared.places.Span.{Span}
 use Rattle.a2_inspect.specs.declared.verbs.Verb.{Verb}
 
 pub record Inspection : Type 0 where

@@ -1,5 +1,4 @@
 pub mod Words
-pub mod Places
 pub mod Stops
 pub mod Conditions
 pub mod Sayings

@@ -5,9 +5,10 @@ use Rattle.a2_text.specs.Words.{words}
 use Rattle.a2_bus.specs.KeyText.{SpellsKeys}
 use Rattle.a2_asm.specs.Assembled.{Assembled}
 use Rattle.a2_debug.specs.Lines.{only_word}
-use Rattle.a2_inspect.specs.Places.{place_of, span_of, watchable}
+use Rattle.a2_places.specs.Places.{place_of, span_of}
+use Rattle.a2_inspect.specs.Stops.{watchable}
 use Rattle.a2_inspect.specs.Conditions.{break_in}
-use Rattle.a2_inspect.specs.declared.stops.Span.{Span}
+use Rattle.a2_places.specs.declared.places.Span.{Span}
 use Rattle.a2_inspect.specs.declared.order.Order.{Order}
 use Rattle.a2_inspect.specs.declared.order.Order.TheVariants as order
 use Rattle.a2_inspect.specs.declared.verbs.Verb.{Verb}

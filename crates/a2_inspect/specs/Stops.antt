@@ -1,5 +1,5 @@
 -- Where a run stops for whoever looks: breakpoints with their conditions, and bytes that are watched. This project's profile.
-use Rattle.std.specs.Prelude.{ℕ, zero, suc, ◌+◌, ◌-◌, ◌==◌, Bool, true, false, ◌||◌, ◌&&◌, not, nat_lt, List, Option, Some, None}
+use Rattle.std.specs.Prelude.{ℕ, zero, suc, ◌+◌, ◌-◌, ◌==◌, Bool, true, false, ◌||◌, ◌&&◌, not, nat_lt, List, Option, Some, None, if◌then◌else◌}
 use Rattle.std.specs.List.{list_any}
 use Rattle.a2_bus.specs.Memory.{peek}
 use Rattle.a2_cpu.specs.Registers.{byte_of_flags}
@@ -12,7 +12,7 @@ use Rattle.a2_inspect.specs.declared.stops.Relation.{Relation}
 use Rattle.a2_inspect.specs.declared.stops.Relation.TheVariants.{Equal, Other, Less, More}
 use Rattle.a2_inspect.specs.declared.stops.Condition.{Condition}
 use Rattle.a2_inspect.specs.declared.stops.Break.{Break}
-use Rattle.a2_inspect.specs.declared.stops.Span.{Span}
+use Rattle.a2_places.specs.declared.places.Span.{Span}
 
 -- what a register holds; of P the byte that PHP pushes
 abbrev pub in_register : Register → World → ℕ
@@ -66,3 +66,8 @@ is_changed_in now world span = is_changed_from span.first (span.last + 1 - span.
 -- a world at a breakpoint, or in which a watched byte is another than now
 abbrev pub is_stop : List Break → List Span → World → World → Bool
 is_stop breaks watches now world = list_any (is_hit world) breaks || list_any (is_changed_in now world) watches
+
+-- what is watched: at most 256 bytes
+abbrev pub watchable : Option Span → Option Span
+watchable None = None
+watchable (Some span) = if nat_lt span.last (span.first + 256) then Some span else None

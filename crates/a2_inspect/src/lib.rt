@@ -4,7 +4,6 @@
 mod conditions;
 mod inspector;
 mod order;
-mod places;
 mod reading;
 mod sheet;
 mod sights;

@@ -1,7 +1,8 @@
 //! What a line asks for.
 
-use crate::stops::{Break, Register, Span};
+use crate::stops::{Break, Register};
 use a2_bus::Keys;
+use a2_places::Span;
 
 /// What is shown. Nothing changes by it.
 #[derive(Clone, Copy, Debug, PartialEq, Eq)]

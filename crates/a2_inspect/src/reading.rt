@@ -7,11 +7,11 @@ ghost use Rattle.a2_inspect.specs.Sayings.{Says, SaysNone, count_in as count_of,
 
 use crate::conditions::{break_in, register_of};
 use crate::order::{Order, Refusal, Show};
-use crate::places::{place_of, span_of, watchable};
-use crate::stops::Span;
+use crate::stops::watchable;
 use crate::verbs::Verb;
 use a2_asm::Program;
 use a2_bus::Keys;
+use a2_places::{Span, place_of, span_of};
 use a2_text::{behind_blanks, capital, first_word, front_len, is_blank, number_in};
 use std::alloc::Allocator;
 

@@ -5,13 +5,14 @@ ghost use Rattle.a2_stream.specs.Stream.{SendsOrBreaks};
 
 use crate::inspector::{MOST_BREAKS, MOST_WATCHES};
 use crate::order::{Outcome, Refusal, Show};
-use crate::stops::{Break, Condition, Register, Relation, Span, Subject, in_register};
+use crate::stops::{Break, Condition, Register, Relation, Subject, in_register};
 use a2_cpu::Regs;
 use a2_explain::{Scene, meaning, put_address, put_number, put_place, statement_at};
 use a2_history::{Entry, History};
 use a2_machine::{Cause, Machine, write_registers};
 use a2_opcode::list_line;
 use a2_page::print;
+use a2_places::Span;
 use a2_stream::{Output, ToWrite, WriteFault, put, put_all};
 use a2_text::{decimal, hex_pair, hex_word};
 use std::alloc::Allocator;

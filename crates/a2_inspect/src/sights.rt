@@ -1,8 +1,9 @@
 //! What is looked for in a run.
 
-use crate::stops::{Break, Span, are_changed, is_at_break, is_changed_in};
+use crate::stops::{Break, are_changed, is_at_break, is_changed_in};
 use a2_history::Sight;
 use a2_machine::Machine;
+use a2_places::Span;
 use std::alloc::Allocator;
 
 /// Worlds at an address.

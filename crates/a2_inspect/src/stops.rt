@@ -6,7 +6,11 @@ ghost use Rattle.a2_machine.specs.State.{world_of_state};
 ghost use Rattle.a2_inspect.specs.Stops as stop;
 
 use a2_machine::Machine;
+use a2_places::Span;
 use std::alloc::Allocator;
+
+// The most bytes that are watched together.
+const MOST_WATCHED: u16 = 256;
 
 /// A register of a byte.
 #[derive(Clone, Copy, Debug, PartialEq, Eq, Drop)]
@@ -50,13 +54,6 @@ pub struct Break {
     pub address: u16,
     /// Where there is one, only worlds in which it holds are stops.
     pub condition: Option<Condition>,
-}
-
-/// The addresses from one to another, which is not below it.
-#[derive(Clone, Copy, Debug, Default, PartialEq, Eq, Drop)]
-pub struct Span {
-    pub first: u16,
-    pub last: u16,
 }
 
 /// What a register holds.
@@ -172,4 +169,16 @@ pub fn are_changed<A: Allocator, B: Allocator>(
     watches
         .iter()
         .any(|span| is_changed_in(span, before, machine))
+}
+
+/// The addresses, where they may be watched together: at most 256.
+pub fn watchable(span: Option<Span>) -> Option<Span>
+    ensures { result ≡ stop.watchable span }
+{
+    let span = span?;
+    if u32::from(span.last) < u32::from(span.first) + u32::from(MOST_WATCHED) {
+        Some(span)
+    } else {
+        None
+    }
 }

@@ -1,52 +1,74 @@
 -- The addresses that words say. This project's profile.
-use Rattle.std.specs.Prelude.{ℕ, ◌+◌, nat_lt, nat_le, not, ◌&&◌, ◌==◌, List, [], ◌∷◌, length, take, drop, Option, Some, None, if◌then◌else◌}
+use Rattle.std.specs.Prelude.{ℕ, ◌+◌, Bool, ◌&&◌, ◌==◌, not, nat_le, nat_lt, List, [], ◌∷◌, take, drop, find, if◌then◌else◌, Option, Some, None, is_some}
 use Rattle.std.specs.List.{prefix_len}
 use Rattle.a2_text.specs.Signs.{sign}
-use Rattle.a2_text.specs.Bytes.{number_in}
+use Rattle.a2_text.specs.Bytes.{is_digit, number_in}
 use Rattle.a2_syntax.specs.Names.{is_name}
+use Rattle.a2_asm.specs.declared.program.Statement.{Statement}
 use Rattle.a2_asm.specs.Assembled.{Assembled}
 use Rattle.a2_asm.specs.Values.{name_value}
 use Rattle.a2_places.specs.declared.places.Span.{Span}
 
--- $ and 1 to 4 hexadecimal digits, or a name of the program
+abbrev pub is_instruction_on : ℕ → Statement → Bool
+is_instruction_on number s = (s.line == number) && is_some s.instr
+
+-- the instruction on a line
+abbrev pub instruction_on : List Statement → ℕ → Option Statement
+instruction_on statements n = find (is_instruction_on n) statements
+
+-- its address
+abbrev pub address_on : List Statement → ℕ → Option ℕ
+address_on statements n = elim (instruction_on statements n) [ None ↦ None | Some s ↦ Some s.addr ]
+
+abbrev pub address_on_line : List Statement → Option ℕ → Option ℕ
+address_on_line statements None = None
+address_on_line statements (Some number) = address_on statements number
+
+-- a number: $ and 1 to 4 hexadecimal digits, or 1 to 5 decimal ones
+unfoldable pub number_of : List ℕ → Option ℕ
+number_of [] = None
+number_of (c ∷ cs) = if c == sign "$" then number_in 16 4 cs else number_in 10 5 (c ∷ cs)
+
+-- $ and 1 to 4 hexadecimal digits; the number of a line with an instruction; or a name
 unfoldable pub base_of : Assembled → List ℕ → Option ℕ
 base_of program [] = None
 base_of program (c ∷ cs) =
     if c == sign "$" then number_in 16 4 cs
+    else if is_digit c then address_on_line program.statements (number_in 10 5 (c ∷ cs))
     else if is_name (c ∷ cs) then name_value program.names (c ∷ cs)
     else None
 
--- the sum of two numbers, where it is an address
-abbrev pub sum_of : Option ℕ → Option ℕ → Option ℕ
-sum_of None more = None
-sum_of (Some base) None = None
-sum_of (Some base) (Some more) = if nat_lt (base + more) 65536 then Some (base + more) else None
-
--- how many bytes stand before the first of this letter
+-- what stands before the first of this sign, and from it on
 abbrev pub front_of : ℕ → List ℕ → ℕ
-front_of letter word = prefix_len (λ c. not (c == letter)) word
+front_of sign word = prefix_len (λ c. not (c == sign)) word
 
--- an address, alone or with + and a number behind it
+-- so many addresses further, where there is one
+abbrev pub further : ℕ → Option ℕ → Option ℕ
+further address None = None
+further address (Some count) = if nat_lt (address + count) 65536 then Some (address + count) else None
+
+abbrev pub moved : List ℕ → Option ℕ → Option ℕ
+moved [] base = base
+moved (plus ∷ count) None = None
+moved (plus ∷ count) (Some address) = further address (number_of count)
+
+-- one of these, alone, or with + and a number behind it
 unfoldable pub place_of : Assembled → List ℕ → Option ℕ
 place_of program word =
-    let front = front_of (sign "+") word in
-    if front == length word then base_of program word
-    else sum_of (base_of program (take front word)) (number_in 10 5 (drop (front + 1) word))
+    let n = front_of (sign "+") word in moved (drop n word) (base_of program (take n word))
 
--- two addresses, the second not below the first
-abbrev pub span_between : Option ℕ → Option ℕ → Option Span
-span_between None last = None
-span_between (Some first) None = None
-span_between (Some first) (Some last) = if nat_le first last then Some (record { first = first; last = last }) else None
+-- the addresses from one to another, which is not below it
+abbrev pub spanned : Option ℕ → Option ℕ → Option Span
+spanned None last = None
+spanned (Some first) None = None
+spanned (Some first) (Some last) = if nat_le first last then Some (record { first = first; last = last }) else None
 
--- .. and an address end it; nothing does, where it is one address
 abbrev pub span_by : Assembled → Option ℕ → List ℕ → Option Span
-span_by program first [] = span_between first first
-span_by program first (c ∷ []) = None
-span_by program first (c ∷ d ∷ last) = if (c == sign ".") && (d == sign ".") then span_between first (place_of program last) else None
+span_by program first [] = spanned first first
+span_by program first (dot ∷ []) = None
+span_by program first (dot ∷ next ∷ last) = if next == sign "." then spanned first (place_of program last) else None
 
--- two addresses with .. between, or one
+-- one place, or two with .. between
 unfoldable pub span_of : Assembled → List ℕ → Option Span
 span_of program word =
-    let front = front_of (sign ".") word in
-    span_by program (place_of program (take front word)) (drop front word)
+    let n = front_of (sign ".") word in span_by program (place_of program (take n word)) (drop n word)

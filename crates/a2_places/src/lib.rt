@@ -3,4 +3,4 @@
 
 mod places;
 
-pub use places::{Span, place_of, span_of};
+pub use places::{Span, number_of, place_of, span_of};

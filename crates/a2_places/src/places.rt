@@ -1,17 +1,17 @@
 //! Addresses, one or from one up to another.
 
-ghost use Rattle.std.specs.Prelude.{◌≡◌, ◌≤◌, true, option_map, length};
+ghost use Rattle.std.specs.Prelude.{◌≡◌, ◌∷◌, ◌≤◌, Some, true, length, take, drop};
 ghost use Rattle.a2_syntax.specs.Names.{is_name as is_name_of};
 ghost use Rattle.a2_asm.specs.Values.{name_value};
 ghost use Rattle.a2_places.specs.Places as place;
 
-use a2_asm::Program;
+use a2_asm::{Program, Statement};
 use a2_syntax::is_name;
 use a2_text::{front_len, number_in};
 use std::alloc::Allocator;
 
 /// The addresses from one up to another, both among them.
-#[derive(Clone, Copy, Debug, PartialEq, Eq)]
+#[derive(Clone, Copy, Debug, Default, PartialEq, Eq, Drop)]
 pub struct Span {
     pub first: u16,
     /// Not below the first, where [`span_of`] gives it.
@@ -29,75 +29,116 @@ fn value_of<A: Allocator>(program: &Program<A>, name: &[u8]) -> Option<u16>
     }
 }
 
-// The address that a word says without a number behind it.
+// Whether a statement is the instruction on a line.
+fn is_instruction_on(statement: &Statement, number: u16) -> bool
+    ensures { result ≡ place.is_instruction_on number statement.now }
+{
+    statement.line == number && statement.instr.is_some()
+}
+
+// The instruction on a line.
+fn instruction_on(statements: &[Statement], number: u16) -> Option<Statement>
+    ensures { result ≡ place.instruction_on statements.now number }
+{
+    for statement in statements {
+        if is_instruction_on(statement, number) {
+            return Some(*statement);
+        }
+    }
+    None
+}
+
+// Its address.
+fn address_on(statements: &[Statement], number: u16) -> Option<u16>
+    ensures { result ≡ place.address_on statements.now number }
+{
+    match instruction_on(statements, number) {
+        Some(statement) => Some(statement.addr),
+        None => None,
+    }
+}
+
+/// The number that a word says: `$` and 1 to 4 hexadecimal digits, or 1 to 5 decimal ones, up to 65,535. This
+/// project's profile.
+#[tactic(auto, unfolding(crate::specs::Places::number_of))]
+pub fn number_of(word: &[u8]) -> Option<u16>
+    ensures { result ≡ place.number_of word.now }
+{
+    match word {
+        [] => None,
+        [b'$', digits @ ..] => number_in(16, 4, digits),
+        _ => number_in(10, 5, word),
+    }
+}
+
+// The address that a word says which moves by nothing.
 #[tactic(auto, unfolding(crate::specs::Places::base_of))]
 fn base_of<A: Allocator>(program: &Program<A>, word: &[u8]) -> Option<u16>
     ensures { result ≡ place.base_of program.now word.now }
 {
     match word {
         [b'$', digits @ ..] => number_in(16, 4, digits),
+        [b'0'..=b'9', ..] => address_on(program.statements(), number_in(10, 5, word)?),
         _ if is_name(word) => value_of(program, word),
         _ => None,
     }
 }
 
-// An address so many behind another.
-fn sum_of(base: Option<u16>, more: Option<u16>) -> Option<u16>
-    ensures { result ≡ place.sum_of base more }
+// What stands before the first of a sign, and from it on.
+fn split_at_sign(word: &[u8], sign: u8) -> (&[u8], &[u8])
+    ensures front { result.0.now ≡ take (place.front_of sign word.now) word.now }
+    ensures behind { result.1.now ≡ drop (place.front_of sign word.now) word.now }
 {
-    base?.checked_add(more?)
+    word.split_at(front_len(word, |c| c != sign))
 }
 
-// How many bytes of a word stand before the first of this letter.
-fn front_of(word: &[u8], letter: u8) -> usize
-    ensures is { result ≡ place.front_of letter word.now }
-    ensures within { result ≤ length word.now }
+// The address so many further as a text says behind its first byte; this one, where the text is empty.
+fn moved(base: Option<u16>, behind: &[u8]) -> Option<u16>
+    ensures { result ≡ place.moved behind.now base }
 {
-    front_len(word, |c| c != letter)
+    match behind {
+        [] => base,
+        [_, count @ ..] => {
+            let address = base?;
+            address.checked_add(number_of(count)?)
+        }
+    }
 }
 
-/// The address that a word says: `$` and 1 to 4 hexadecimal digits, or a name that a line of the program defines; behind either
-/// may stand `+` and a decimal number of 1 to 5 digits, with which it is at most $FFFF. This project's profile.
+/// The address that a word says: `$` and 1 to 4 hexadecimal digits; the decimal number of a line, from 1, where an instruction
+/// stands on it; or a name that a line of the program defines. Behind each may stand `+` and a number, which is added; none where the
+/// sum is above 65,535. This project's profile.
 #[tactic(auto, unfolding(crate::specs::Places::place_of))]
 pub fn place_of<A: Allocator>(program: &Program<A>, word: &[u8]) -> Option<u16>
     ensures { result ≡ place.place_of program.now word.now }
 {
-    let front = front_of(word, b'+');
-    if front == word.len() {
-        return base_of(program, word);
-    }
-    sum_of(
-        base_of(program, &word[..front]),
-        number_in(10, 5, &word[front + 1..]),
-    )
+    let (front, behind) = split_at_sign(word, b'+');
+    moved(base_of(program, front), behind)
 }
 
-// The addresses from one up to another, where the second is not below the first.
-fn span_between(first: Option<u16>, last: Option<u16>) -> Option<Span>
-    ensures { result ≡ place.span_between first last }
+// The addresses from one to another.
+fn spanned(first: Option<u16>, last: Option<u16>) -> Option<Span>
+    ensures { result ≡ place.spanned first last }
 {
-    let span = Span {
-        first: first?,
-        last: last?,
-    };
-    if span.first <= span.last {
-        Some(span)
+    let (first, last) = (first?, last?);
+    if first <= last {
+        Some(Span { first, last })
     } else {
         None
     }
 }
 
-/// The addresses that a word says: two as of [`place_of`] with `..` between, of which the second is not below the first; or one,
-/// which is both. This project's profile.
+/// The addresses from one to another that a word says: one place, or two with `..` between, the second not below the first.
+/// This project's profile.
 #[tactic(auto, unfolding(crate::specs::Places::span_of))]
 pub fn span_of<A: Allocator>(program: &Program<A>, word: &[u8]) -> Option<Span>
     ensures { result ≡ place.span_of program.now word.now }
 {
-    let front = front_of(word, b'.');
-    let first = place_of(program, &word[..front]);
-    match &word[front..] {
-        [] => span_between(first, first),
-        [b'.', b'.', last @ ..] => span_between(first, place_of(program, last)),
+    let (front, behind) = split_at_sign(word, b'.');
+    let first = place_of(program, front);
+    match behind {
+        [] => spanned(first, first),
+        [_, b'.', last @ ..] => spanned(first, place_of(program, last)),
         _ => None,
     }
 }
