@@ -19,7 +19,7 @@ F is a source; without it the standard input is taken. Options of a run, before 
               and 100,000 of a film
   --free      without the guard: code may begin anywhere, and be stored to
 
-trace and film have more, which a2x help trace tells, and so on. N of
+run, trace and film have more, which a2x help run tells, and so on. N of
 --format is short, for editors, or json; of test csv, json or junit. Alone
 stands:
 
@@ -27,6 +27,19 @@ stands:
 
 Status: 0 well, 1 source refused, 2 words or keys refused, 3 another stop,
 4 a read or write failed, 5 no memory, 6 tests or checks that failed.
+";
+
+// The options that `run` alone has.
+const RUN_OPTIONS: &[u8] = b"
+Options of a run, and of run alone, before or behind F:
+
+  --mem P..P    behind the run the bytes of RAM from one place to another,
+                as the Monitor shows them; may stand several times
+  --save IMAGE  all of RAM behind the run goes into this file, as object
+                lines, whole or not at all; a2x mon IMAGE begins with it
+  --last N      the last N steps go to standard error, as trace writes them
+
+P is $300, a name of F, or either with a number behind it, as NAME+2.
 ";
 
 // The options that `trace` alone has.
@@ -125,6 +138,7 @@ pub fn put_page<W: Output>(writer: &mut W) -> Result<(), WriteFault> {
 fn own_options(tool: Tool) -> &'static [u8] {
     match tool {
         Tool::Film => FILM_OPTIONS,
+        Tool::Run => RUN_OPTIONS,
         Tool::Trace => TRACE_OPTIONS,
         Tool::Fmt => FMT_OPTIONS,
         Tool::Play => PLAY_OPTIONS,

@@ -19,6 +19,7 @@ mod play;
 mod program;
 mod release;
 mod replay;
+mod running;
 mod table;
 mod terminal;
 mod tests;

@@ -11,10 +11,11 @@ use crate::named::{check_order, file_in};
 use crate::play::{Seat, play_of};
 use crate::release::put_version;
 use crate::replay::{asks_replay, replay_of};
+use crate::running::run_of;
 use crate::table::{Tool, Word, nearest, word_named};
 use crate::terminal::mon;
 use crate::tests::{exam_in, tell_words, test};
-use crate::tools::{check, film, list, profile, run, told, written};
+use crate::tools::{check, film, list, profile, told, written};
 use crate::tracing::trace_of;
 use crate::words::{Misfit, Order, WordsFault, misfit_in, order_of};
 use a2_check::Format;
@@ -347,24 +348,29 @@ fn refused_script<E: Output>(name: &str, fault: ScriptFault, complaints: &mut E)
     }
 }
 
-// Tells that the page would take the place of a file that is read, where it would.
-fn spares_input<D: Desk, E: Output>(
-    page: Option<&str>,
+// Tells that what an option names, as a film's page, would take the place of a file that is read, where it would.
+pub(crate) fn spares_input<D: Desk, E: Output>(
+    what: &[u8],
+    option: &[u8],
+    written: Option<&str>,
     input: Option<&str>,
     desk: &D,
     complaints: &mut E,
 ) -> Result<(), u8>
     ensures { IfErr result (λ status. status ≤ 5) }
 {
-    let (Some(page), Some(input)) = (page, input) else {
+    let (Some(written), Some(input)) = (written, input) else {
         return Ok(());
     };
-    if page == input || desk.are_one(page, input) {
+    if written == input || desk.are_one(written, input) {
         tell(
             &[
-                b"film: the page would take the place of ",
+                what,
+                b" would take the place of ",
                 input.as_bytes(),
-                b": give -o another name",
+                b": give ",
+                option,
+                b" another name",
             ],
             complaints,
         );
@@ -427,8 +433,9 @@ fn film_by<S: Shelf, D: Desk, R: Input, W: Output, E: Output>(
     ensures done { IfOk result (λ status. status ≤ 5) }
     ensures refused { IfErr result (λ status. status ≤ 5) }
 {
-    spares_input(asked.page, order.file, desk, complaints)?;
-    spares_input(asked.page, asked.script, desk, complaints)?;
+    let (page, what) = (asked.page, b"film: the page");
+    spares_input(what, b"-o", page, order.file, desk, complaints)?;
+    spares_input(what, b"-o", page, asked.script, desk, complaints)?;
     let text = text_of(alloc, order.file, shelf, input, complaints)?;
     let script = script_of(alloc, asked.script, shelf, input, complaints)?;
     let chapters = match chapters_of(alloc, script.as_slice()) {
@@ -667,13 +674,7 @@ fn act<S: Shelf, D: Desk, C: Clock, R: Input, W: Output, E: Output>(
         Tool::Run if asks_replay(behind(words)) => {
             replay_of(alloc, behind(words), shelf, input, output, complaints)
         }
-        Tool::Run => match order_of(words) {
-            Ok(order) => {
-                let text = text_of(alloc, order.file, shelf, input, complaints)?;
-                Ok(run(alloc, text.as_slice(), &order, output, complaints))
-            }
-            Err(fault) => Err(refused(word, behind(words), fault, complaints)),
-        },
+        Tool::Run => run_of(alloc, word, words, shelf, desk, input, output, complaints),
         Tool::Trace => trace_of(alloc, word, words, shelf, input, output, complaints),
         Tool::Profile => match order_of(words) {
             Ok(order) => {
