@@ -39,6 +39,11 @@ Options of a run, and of run alone, before or behind F:
                 lines, whole or not at all; a2x mon IMAGE begins with it
   --last N      the last N steps go to standard error, as trace writes them
 
+Alone before F stands
+
+  --replay T    the run of a session again, whose keys a2x play --record T
+                wrote
+
 P is $300, a name of F, or either with a number behind it, as NAME+2.
 ";
 
@@ -90,14 +95,6 @@ Before F:
   --colours C lo-res in full colours, in those of 256, or none
 ";
 
-// How a session's run is made again.
-const REPLAY_OPTION: &[u8] = b"
-Alone before F:
-
-  --replay T  the run of a session again, whose keys a2x play --record T
-              wrote
-";
-
 // The options that old texts alone have.
 const IMPORT_OPTIONS: &[u8] = b"
 F is an old text, which goes out as a source. What changed in it, and what
@@ -142,7 +139,6 @@ fn own_options(tool: Tool) -> &'static [u8] {
         Tool::Trace => TRACE_OPTIONS,
         Tool::Fmt => FMT_OPTIONS,
         Tool::Play => PLAY_OPTIONS,
-        Tool::Run => REPLAY_OPTION,
         Tool::Import => IMPORT_OPTIONS,
         _ => b"",
     }
