@@ -21,8 +21,8 @@ use a2_syntax::Fault;
 use a2_trace::{Choice, trace_source};
 use std::alloc::Global;
 
-// Tells why a text has no answer, by a line of the fault's text.
-fn complain<E: Output>(fault: RunFault, complaints: &mut E)
+/// Tells why a text has no answer, by a line of the fault's text.
+pub fn complain<E: Output>(fault: RunFault, complaints: &mut E)
     ensures { TellsLine (E.taker complaints.old) (E.taker complaints.new) (run_fault_text fault) }
 {
     tell(fault.text().as_str(), complaints);
