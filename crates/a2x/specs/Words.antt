@@ -1,9 +1,10 @@
 -- The words of a run, of which the first says what is done with it. This project's profile.
-use Rattle.std.specs.Prelude.{◌≡◌, ◌≢◌, ◌⊎◌, ℕ, ◌≤◌, Bool, true, false, List, [], ◌∷◌, codes, length, get_or, Option, Some, None}
+use Rattle.std.specs.Prelude.{◌≡◌, ◌⊎◌, ℕ, ◌≤◌, Bool, true, false, List, [], ◌∷◌, codes, length, Option, Some, None}
 use Rattle.std.specs.Option.{option_map}
 use Rattle.std.specs.Str.Parse.{digits_value}
 use Rattle.a2_bus.specs.KeyText.{SpellsKeys}
 use Rattle.a2_run.specs.Limits.{IsStepLimit}
+use Rattle.a2x.specs.Named.{IsFile}
 use Rattle.a2x.specs.declared.words.WordsFault.{WordsFault}
 use Rattle.a2x.specs.declared.words.WordsFault.TheVariants.{Words, Keys}
 use Rattle.a2x.specs.declared.words.Order.{Order}
@@ -32,7 +33,7 @@ abbrev pub Asks : Asked → List (List ℕ) → Asked → Type 0
 Asks before [] asked = asked ≡ before
 Asks before (word ∷ []) asked =
     ((word ≡ codes "--free") × (asked ≡ record before { free = true }))
-    ⊎ ((get_or word 0 0 ≢ 0x2D) × (asked ≡ record before { file = Some word }))
+    ⊎ (IsFile word × (asked ≡ record before { file = Some word }))
 Asks before (word ∷ next ∷ rest) asked =
     ((word ≡ codes "--free") × Asks (record before { free = true }) (next ∷ rest) asked)
     ⊎ ((word ≡ codes "--keys") × ((keys : List ℕ) × AreKeys next keys × Asks (record before { keys = keys }) rest asked))

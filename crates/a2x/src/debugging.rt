@@ -2,7 +2,8 @@
 
 ghost use Rattle.std.specs.Prelude.{◌≤◌, IfOk, IfErr};
 
-use crate::program::{tell, text_of};
+use crate::named::is_input;
+use crate::program::{tell_lines_come, text_of};
 use crate::terminal::ended;
 use crate::tools::told;
 use crate::words::Order;
@@ -54,12 +55,11 @@ pub fn debug_of<S: Shelf, R: Input, W: Output, E: Output>(
     ensures done { IfOk result (λ status. status ≤ 5) }
     ensures refused { IfErr result (λ status. status ≤ 5) }
 {
-    if order.file.is_none() {
-        tell(
-            &[b"debug takes a file: its lines come from standard input (a2x help debug)"],
-            complaints,
-        );
-        return Err(2);
+    let Some(file) = order.file else {
+        return Err(tell_lines_come(b"debug", complaints));
+    };
+    if is_input(file) {
+        return Err(tell_lines_come(b"debug", complaints));
     }
     let source = text_of(alloc, order.file, shelf, input, complaints)?;
     Ok(debug(

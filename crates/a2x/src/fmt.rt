@@ -5,6 +5,7 @@ ghost use Rattle.a2_fmt.specs.Formatted.{CanBeLaid, IsFormatFault};
 ghost use Rattle.a2_fmt.specs.Layout.{laid};
 ghost use Rattle.a2x.specs.Columns.{Shows, Names, Rewrites};
 
+use crate::named::{is_file, is_input};
 use crate::tools::told;
 use a2_check::{Format, TellFault, put_refusals, refusals_of};
 use a2_desk::Desk;
@@ -64,29 +65,40 @@ fn parted(words: &[String]) -> (Way, &[String]) {
     (Way::Show, words)
 }
 
-// Refuses a file whose name begins with `-`.
+// Refuses a word that names no file.
 fn are_files(words: &[String]) -> Result<(), FmtWordsFault<'_>> {
     for word in words {
         let word = word.as_str();
         if way_named(word).is_some() {
             return Err(FmtWordsFault::Both);
         }
-        if word.starts_with('-') {
+        if !is_file(word) {
             return Err(FmtWordsFault::Option(word));
         }
     }
     Ok(())
 }
 
+// Whether the standard input is one of these files.
+fn has_input(files: &[String]) -> bool {
+    for file in files {
+        if is_input(file.as_str()) {
+            return true;
+        }
+    }
+    false
+}
+
 /// What the words behind `fmt` ask for, and with which files: `--check` or `-w` may stand before them or behind them. Without a
-/// file the standard input is meant. Refused are further words that begin with `-`, several files that are to go out, and `-w`
-/// without a file.
+/// file, as by a single `-`, the standard input is meant. Refused are further words that begin with `-`, several files that are to go
+/// out, and `-w` without a file or with the standard input.
 pub fn fmt_order(words: &[String]) -> Result<(Way, &[String]), FmtWordsFault<'_>> {
     let (way, files) = parted(words);
     are_files(files)?;
     match (way, files) {
         (Way::Show, [_, _, ..]) => Err(FmtWordsFault::Several),
         (Way::Rewrite, []) => Err(FmtWordsFault::NoFile),
+        (Way::Rewrite, files) if has_input(files) => Err(FmtWordsFault::NoFile),
         _ => Ok((way, files)),
     }
 }

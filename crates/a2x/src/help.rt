@@ -12,7 +12,8 @@ const HEAD: &[u8] = b"a2x has tools beside a2, the 6502 assembler with its model
 
 // What stands behind them.
 const TAIL: &[u8] = b"
-F is a source; without it the standard input is taken. Options of a run, before F:
+F is a source; without it, and as -, the standard input is taken. Options of a
+run, before F:
 
   --keys K    these keys wait at the start; \\r is RETURN
   --limit N   at most so many steps, to 100,000,000; without it 1,000,000,

@@ -3,6 +3,7 @@
 ghost use Rattle.std.specs.Prelude.{◌≡◌, ◌≤◌};
 ghost use Rattle.a2x.specs.Imports.{ShowsRows};
 
+use crate::named::is_file;
 use crate::tools::told;
 use a2_hex::HexFault;
 use a2_import::{
@@ -55,11 +56,9 @@ fn file_of(words: &[String]) -> Result<Option<&str>, ImportWordsFault<'_>> {
     match words {
         [] => Ok(None),
         [option] if option.as_str() == "--from" => Err(ImportWordsFault::Value),
-        [file] if file.as_str().starts_with('-') => Err(ImportWordsFault::Option(file.as_str())),
+        [file] if !is_file(file.as_str()) => Err(ImportWordsFault::Option(file.as_str())),
         [file] => Ok(Some(file.as_str())),
-        [option, ..] if option.as_str().starts_with('-') => Err(ImportWordsFault::Option(
-            option.as_str(),
-        )),
+        [option, ..] if !is_file(option.as_str()) => Err(ImportWordsFault::Option(option.as_str())),
         _ => Err(ImportWordsFault::Several),
     }
 }

@@ -1,13 +1,13 @@
 //! What the program does, over any files and streams.
 
-ghost use Rattle.std.specs.Prelude.{◌≡◌, ◌≢◌, ◌≤◌, None, IfOk, IfErr};
+ghost use Rattle.std.specs.Prelude.{◌≡◌, ◌≢◌, ◌≤◌, codes, IfSome, IfOk, IfErr};
 
 use crate::debugging::debug_of;
 use crate::film::{FilmFault, FilmOrder, is_film_limit, parted, window_of};
 use crate::fmt::{Way, fmt, fmt_order, tell_fmt_words};
 use crate::help::{put_page, put_use};
 use crate::import::{import, import_order, tell_import_words};
-use crate::named::{check_order, file_in};
+use crate::named::{check_order, file_in, is_input};
 use crate::play::{Seat, play_of};
 use crate::release::put_version;
 use crate::replay::{asks_replay, replay_of};
@@ -81,7 +81,7 @@ pub(crate) fn loaded_text<S: Shelf, E: Output>(
     long_text(read_front(alloc, &mut reader, MOST_LOADED + 1), complaints)
 }
 
-// The text of a file, or of the standard input where none is named; or the status, where that is told.
+// The text of a file, or of the standard input where none or `-` is named; or the status, where that is told.
 pub(crate) fn text_of<S: Shelf, R: Input, E: Output>(
     alloc: Global,
     file: Option<&str>,
@@ -91,16 +91,16 @@ pub(crate) fn text_of<S: Shelf, R: Input, E: Output>(
 ) -> Result<Vec<u8>, u8>
     ensures refused { IfErr result (λ status. status ≤ 5) }
     // A file that does not open is not taken for the standard input.
-    ensures unread { file.entry ≢ None → input.new ≡ input.old }
+    ensures unread { IfSome file.entry (λ name. name.now ≢ codes "-" → input.new ≡ input.old) }
 {
     let read = match file {
-        Some(name) => {
+        Some(name) if !is_input(name) => {
             let Ok(mut reader) = shelf.open(name) else {
                 return Err(tell_unopened(name, complaints));
             };
             read_text(alloc, &mut reader)
         }
-        None => read_text(alloc, input),
+        _ => read_text(alloc, input),
     };
     match read {
         Ok(text) => Ok(text),
@@ -263,6 +263,22 @@ fn help<W: Output, E: Output>(
     }
 }
 
+/// Tells that a word takes its lines from the standard input, and so its source from elsewhere; the status.
+pub fn tell_lines_come<E: Output>(name: &[u8], complaints: &mut E) -> u8
+    ensures { result ≤ 5 }
+{
+    tell(
+        &[
+            name,
+            b" takes a file: its lines come from standard input (a2x help ",
+            name,
+            b")",
+        ],
+        complaints,
+    );
+    2
+}
+
 // Answers Monitor lines over what a file holds.
 fn talk_over<S: Shelf, R: Input, W: Output, E: Output>(
     alloc: Global,
@@ -302,6 +318,7 @@ fn talk_of<S: Shelf, R: Input, W: Output, E: Output>(
     ensures { result ≤ 5 }
 {
     match file_in(words) {
+        Ok(Some(name)) if is_input(name) => tell_lines_come(word.name.as_bytes(), complaints),
         Ok(Some(name)) => talk_over(alloc, name, prompts, shelf, input, output, complaints),
         Ok(None) => mon(alloc, None, prompts, input, output, complaints),
         Err(fault) => refused(word, behind(words), fault, complaints),
@@ -611,8 +628,8 @@ fn import_of<S: Shelf, R: Input, W: Output, E: Output>(
     };
     let name = order.file.unwrap_or("-");
     let text = match order.file {
-        Some(file) => loaded_text(alloc, file, shelf, complaints),
-        None => long_text(read_front(alloc, input, MOST_LOADED + 1), complaints),
+        Some(file) if !is_input(file) => loaded_text(alloc, file, shelf, complaints),
+        _ => long_text(read_front(alloc, input, MOST_LOADED + 1), complaints),
     };
     match text {
         Ok(text) => import(alloc, name, order.from, text.as_slice(), output, complaints),

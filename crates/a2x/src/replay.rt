@@ -2,6 +2,7 @@
 
 ghost use Rattle.std.specs.Prelude.{◌≤◌, IfOk, IfErr};
 
+use crate::named::is_file;
 use crate::play::{put_stand, status_where};
 use crate::program::{loaded_text, tell, tell_option, tell_value, text_of};
 use crate::tools::{told, written};
@@ -31,10 +32,10 @@ fn files_in<'a, E: Output>(
 {
     match words {
         [_, record] => return Ok((record.as_str(), None)),
-        [_, record, file] if !file.as_str().starts_with('-') => {
+        [_, record, file] if is_file(file.as_str()) => {
             return Ok((record.as_str(), Some(file.as_str())));
         }
-        [_, _, word, ..] if word.as_str().starts_with('-') => {
+        [_, _, word, ..] if !is_file(word.as_str()) => {
             tell(
                 &[
                     b"run: ",

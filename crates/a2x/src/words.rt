@@ -3,6 +3,7 @@
 ghost use Rattle.std.specs.Prelude.{◌≡◌, ◌<◌, ◌↔◌, map, drop, length, string_bytes, IfOk, IfErr};
 ghost use Rattle.a2x.specs.Words.{Asked, Asks, asked_of, nothing_asked, HaveBadKeys, IsFaultOf};
 
+use crate::named::is_file;
 use a2_bus::Keys;
 use a2_run::step_limit;
 
@@ -21,7 +22,7 @@ pub enum WordsFault {
 /// What the words ask for.
 #[derive(Drop)]
 pub struct Order<'a> {
-    /// The file, or none for the standard input.
+    /// The file; none and `-` are the standard input.
     pub file: Option<&'a str>,
     /// The keys that wait at the start.
     pub keys: Keys,
@@ -60,7 +61,7 @@ fn take<'a>(order: &mut Order<'a>, words: &'a [String]) -> Result<&'a [String], 
             order.limit = limit;
             Ok(rest)
         }
-        [file] if !file.as_str().starts_with('-') => {
+        [file] if is_file(file.as_str()) => {
             order.file = Some(file.as_str());
             Ok(&[])
         }
@@ -69,7 +70,7 @@ fn take<'a>(order: &mut Order<'a>, words: &'a [String]) -> Result<&'a [String], 
 }
 
 /// What the `words` of a run ask for. The first says what is done with it. The options `--keys K`, `--limit N` and `--free` stand before
-/// the file; of two of one name the later counts. Without a file the standard input is taken; without options the run is
+/// the file; of two of one name the later counts. Without a file, as by a single `-`, the standard input is taken; without options the run is
 /// guarded, no keys wait, and it has at most 1,000,000 steps. Refused are keys that are badly spelt, by
 /// `WordsFault::Keys`, and other words, by `WordsFault::Words`; of two such words the first is told. This project's
 /// profile.
@@ -127,9 +128,9 @@ fn next_behind(word: &str, valued: bool) -> Next {
     }
 }
 
-// Whether a word begins with `-` and is neither `--` nor, where these may stand, an option without a value.
+// Whether a word names no file, and is neither `--` nor, where these may stand, an option without a value.
 fn is_strange(word: &str, flags: bool) -> bool {
-    word.starts_with('-') && word != "--" && !(flags && word == "--free")
+    !is_file(word) && word != "--" && !(flags && word == "--free")
 }
 
 /// What is wrong with the first of `words` that cannot stand, where they are refused as `WordsFault::Words`. `runs` says whether
