@@ -1,26 +1,8 @@
 -- The routines on the way.
-use Rattle.std.specs.Prelude.{filter}
 use Rattle.std.proofs.Common.{◌≡◌, ◌⊎◌, inl, inr, ℕ, suc, ◌+◌, ◌<◌, ◌≤◌, List, [], length, Option, Some, None, sym, ap, ap₂, subst, ◌∙◌, arith, add-one}
-use Rattle.a2_services.specs.World.{World}
-use Rattle.a2_history.specs.declared.routines.Entry.{Entry}
-use Rattle.a2_history.specs.Courses.{Course, world_on}
-use Rattle.a2_history.specs.Routines.{is_within, with_call, entered, IsNewestOutside}
-
--- at the start there are none
-pub entered-start : (course : Course) (entries : List Entry) → entries ≡ [] → entries ≡ entered course 0
-unfolding entered
-entered-start course entries is = is
-
--- a step further
-pub entered-next : (course : Course) (n : ℕ) (old mid new : List Entry) (here : World) (position : ℕ) (there : World) → old ≡ entered course n
-    → mid ≡ with_call position here old → position ≡ n → here ≡ world_on course n → new ≡ filter (is_within there) mid → there ≡ world_on course (n + 1)
-    → new ≡ entered course (n + 1)
-unfolding entered
-entered-next course n old mid new here position there before entering at is leaving next =
-    let called : mid ≡ with_call n (world_on course n) (entered course n)
-    = entering ∙ ap (λ p. with_call p here old) at ∙ ap₂ (λ w es. with_call n w es) is before in
-    let step : n + 1 ≡ suc n = add-one n in
-    leaving ∙ ap₂ (λ w es. filter (is_within w) es) (next ∙ ap (world_on course) step) called ∙ sym (ap (entered course) step)
+use Rattle.a2_routines.specs.declared.routines.Entry.{Entry}
+use Rattle.a2_history.specs.Courses.{Course}
+use Rattle.a2_history.specs.Routines.{entered, IsNewestOutside}
 
 below-next : (n : ℕ) (P : ℕ → Type 0) → P n → ((k : ℕ) → k < n → P k) → (k : ℕ) → k < n + 1 → P k
 below-next n P here before k lt = go (split k lt)

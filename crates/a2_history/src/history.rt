@@ -10,10 +10,11 @@ ghost use Rattle.a2_history.specs.declared.fault.TypingFault.TheVariants.{Full};
 
 use crate::checkpoints::Checkpoints;
 use crate::course::Course;
-use crate::routines::{Entry, way_to};
+use crate::routines::way_to;
 use crate::{Halt, Sight, TypingFault};
 use a2_bus::Keys;
 use a2_machine::{Cause, Machine};
+use a2_routines::Entry;
 use std::alloc::{AllocError, Allocator, Global};
 use std::marker::Model;
 

@@ -10,9 +10,9 @@ mod sight;
 
 use a2_bus::Keys;
 use a2_machine::Cause;
+pub use a2_routines::{Entry, is_call};
 pub use fault::TypingFault;
 pub use history::History;
-pub use routines::{Entry, is_call};
 pub use sight::{Nothing, Sight};
 
 /// Keys that were typed at a position.

@@ -1,27 +1,13 @@
-//! The routines that a run entered and did not leave.
+//! The routines that a course entered and did not leave.
 
-ghost use Rattle.std.specs.Prelude.{◌≡◌, ◌≤◌, length, filter, IfOk};
-ghost use Rattle.a2_machine.specs.State.{world_of_state};
+ghost use Rattle.std.specs.Prelude.{◌≡◌, ◌≤◌, IfOk};
 ghost use Rattle.a2_history.specs.Courses.{NoneStuck};
-ghost use Rattle.a2_history.specs.Routines.{is_call as is_call_of, is_within as is_within_of, with_call, entered, IsNewestOutside};
+ghost use Rattle.a2_history.specs.Routines.{entered, IsNewestOutside};
 
 use crate::course::Course;
 use a2_machine::Machine;
+use a2_routines::{Entry, enter, leave};
 use std::alloc::{AllocError, Allocator};
-
-// JSR's operation code.
-const JSR: u8 = 0x20;
-
-/// A routine that was entered by a JSR.
-#[derive(Clone, Copy, Debug, PartialEq, Eq)]
-pub struct Entry {
-    /// The position of the JSR: how many steps were made before it.
-    pub position: u64,
-    /// The address of the JSR.
-    pub call: u16,
-    /// The stack pointer before it.
-    pub s: u8,
-}
 
 /// What a way through a run came by.
 #[derive(Drop)]
@@ -30,42 +16,6 @@ pub struct Way<A: Allocator> {
     pub entries: Vec<Entry, A>,
     /// The newest position at which no more than so many were.
     pub outside: Option<u64>,
-}
-
-/// Whether a machine's next step is a JSR.
-pub fn is_call<A: Allocator>(machine: &Machine<A>) -> bool
-    ensures { result ≡ is_call_of (world_of_state machine.now.state) }
-{
-    match machine.peek(machine.regs().pc) {
-        Some(byte) => byte == JSR,
-        None => false,
-    }
-}
-
-// Adds what the next step enters. Refused only for want of memory.
-fn enter<A: Allocator, M: Allocator>(
-    entries: &mut Vec<Entry, A>,
-    machine: &Machine<M>,
-) -> Result<(), AllocError>
-    ensures { IfOk result (λ _. entries.new.items ≡ with_call machine.now.state.steps (world_of_state machine.now.state) entries.old.items) }
-{
-    if is_call(machine) {
-        let regs = machine.regs();
-        entries.push(Entry {
-            position: machine.steps(),
-            call: regs.pc,
-            s: regs.s,
-        })?;
-    }
-    Ok(())
-}
-
-// Takes those away that the last step left.
-fn leave<A: Allocator, M: Allocator>(entries: &mut Vec<Entry, A>, machine: &Machine<M>)
-    ensures { entries.new.items ≡ filter (is_within_of (world_of_state machine.now.state)) entries.old.items }
-{
-    let s = machine.regs().s;
-    entries.retain(|entry| s < entry.s);
 }
 
 /// Goes along a run from its start to an end that was reached: the routines that are entered there, and the newest position before it

@@ -7,9 +7,10 @@ use Rattle.a2_asm.specs.Assembled.{Assembled}
 use Rattle.a2_run.specs.Started.{IsStarted}
 use Rattle.a2_debug.specs.Lines.{first_word, behind_word}
 use Rattle.a2_history.specs.declared.Halt.{Halt}
-use Rattle.a2_history.specs.declared.routines.Entry.{Entry}
+use Rattle.a2_routines.specs.declared.routines.Entry.{Entry}
 use Rattle.a2_history.specs.Going.{Track, here, Advances, IsNewest, with_typed}
-use Rattle.a2_history.specs.Routines.{is_call, entered, IsNewestOutside}
+use Rattle.a2_routines.specs.Routines.{is_call}
+use Rattle.a2_history.specs.Routines.{entered, IsNewestOutside}
 use Rattle.a2_inspect.specs.Words.{IsVerb}
 use Rattle.a2_inspect.specs.Sayings.{Says, SaysNone}
 use Rattle.a2_inspect.specs.Stops.{is_stop, is_changed_in}

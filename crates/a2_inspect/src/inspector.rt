@@ -3,7 +3,8 @@
 ghost use Rattle.std.specs.Prelude.{◌≡◌, ◌==◌, ◌&&◌, ◌⊎◌, ◌-◌, false, IfOk, IfErr};
 ghost use Rattle.a2_machine.specs.State.{world_of_state};
 ghost use Rattle.a2_history.specs.Going.{here};
-ghost use Rattle.a2_history.specs.Routines.{is_call as is_call_of, entered};
+ghost use Rattle.a2_history.specs.Routines.{entered};
+ghost use Rattle.a2_routines.specs.Routines.{is_call as is_call_of};
 ghost use Rattle.a2_asm.specs.Assembled.{Assembled};
 ghost use Rattle.a2_run.specs.Meaning.{IsProgramOf};
 ghost use Rattle.a2_run.specs.Started.{RefusesText};

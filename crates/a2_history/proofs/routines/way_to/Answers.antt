@@ -2,7 +2,8 @@ use Rattle.std.proofs.Common.{◌+◌, arith, subst, sym, ap, ◌∙◌}
 use Rattle.a2_history.specs.Courses.{world_on}
 use Rattle.a2_history.specs.Routines.{IsNewestOutside}
 use Rattle.a2_history.proofs.Ways.{on-way}
-use Rattle.a2_history.proofs.Routes.{entered-start, entered-next, outside-start, outside-here, outside-before}
+use Rattle.a2_routines.proofs.Along.{entered-start, entered-next}
+use Rattle.a2_history.proofs.Routes.{outside-start, outside-here, outside-before}
 use Rattle.a2_history.proofs.routines.way_to.Goals.{then-len-most, else-len-most}
 use Rattle.a2_history.proofs.routines.way_to.Goals as goal
 
@@ -11,7 +12,7 @@ loop-position-init g c = record {
   on = c.restart.ensures.on;
   steps = c.restart.ensures.steps;
   guard = c.restart.ensures.guard;
-  entered = entered-start c.args.course.now c.new-entries.result.items c.new-entries.ensures.items;
+  entered = entered-start (world_on c.args.course.now) c.new-entries.result.items c.new-entries.ensures.items;
   outside = outside-start c.args.course.now c.args.most;
 }
 
@@ -26,7 +27,7 @@ loop-position-preserved g c =
       on = made.0;
       steps = omega (arith, made.1, before.steps);
       guard = c.make_step.ensures.guard ∙ before.guard;
-      entered = entered-next course n c.loop-position.entries.items c.enter.new.entries.items c.leave.new.entries.items _ _ _ before.entered
+      entered = entered-next (world_on course) n c.loop-position.entries.items c.enter.new.entries.items c.leave.new.entries.items _ _ _ before.entered
           c.in_ok-enter.ensures before.steps (before.on.world ∙ ap (world_on course) before.steps) c.leave.ensures
           (made.0.world ∙ ap (world_on course) (omega (arith, made.1, before.steps)));
       outside = elim c.if-len-most.branch [

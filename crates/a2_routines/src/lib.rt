@@ -1,0 +1,6 @@
+//! The routines that a run entered and did not leave, as its steps are made.
+#![tactic(auto)]
+
+mod routines;
+
+pub use routines::{Entry, enter, is_call, leave};
