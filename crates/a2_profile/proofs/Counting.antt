@@ -1,26 +1,16 @@
 -- The steps of a run that is profiled, one after another.
-use Rattle.std.specs.Prelude.{◌≡◌, ◌≢◌, ◌⊎◌, ℕ, zero, suc, ◌+◌, ◌-◌, ◌*◌, ◌%◌, ◌<◌, ◌≤◌, ◌==◌, ◌&&◌, not, Bool, true, false, List, length, replicate, slice_set, if◌then◌else◌, Option, Some, None, Result, Ok, Err, is_some, refl}
-use Rattle.std.proofs.Common.{sym, ap, ap₂, ◌∙◌, subst, arith, inl, inr, true≢false, get_or-set_same, get_or-set_other, below_more}
+use Rattle.std.specs.Prelude.{◌≡◌, ◌≢◌, ◌⊎◌, ℕ, zero, suc, ◌+◌, ◌-◌, ◌%◌, ◌<◌, ◌==◌, ◌&&◌, not, Bool, true, false, List, length, replicate, slice_set, if◌then◌else◌, Some, None, refl}
+use Rattle.std.proofs.Common.{sym, ap, ap₂, ◌∙◌, subst, arith, inl, inr, get_or-set_same, get_or-set_other}
 use Rattle.std.proofs.lemmas.Bool.Decides.{nat_tests}
 use Rattle.std.proofs.lemmas.List.{length-set}
 use Rattle.std.proofs.lemmas.List.Sums.{sum_by-set}
-use Rattle.a2_opcode.specs.declared.Row.{Row}
-use Rattle.a2_bus.specs.Memory.{memory_access}
-use Rattle.a2_cpu.specs.Instruction.{performed}
-use Rattle.a2_services.specs.declared.Service.{Service}
-use Rattle.a2_services.specs.Services.{service_at, served}
 use Rattle.a2_services.specs.World.{World}
 use Rattle.a2_asm.specs.Assembled.{Assembled}
 use Rattle.a2_asm.specs.Programs.{IsSound}
 use Rattle.a2_machine.specs.declared.Cause.{Cause}
-use Rattle.a2_machine.specs.declared.Cause.TheVariants.{Limit}
 use Rattle.a2_machine.specs.ByteRun.{bytes}
-use Rattle.a2_machine.specs.Meaning.{Code, Decoded, End, IsEnd, stuck, next, next_at, found_at_pc, world_at}
-use Rattle.a2_machine.specs.State.{Device, MachineState, world_of_state, code_of, cause_of, most_steps, steps_left, IsStep}
-use Rattle.a2_machine.specs.State as machine
-use Rattle.a2_machine.proofs.Making.{cause_told, cause_none}
-use Rattle.a2_machine.proofs.RunFrom.{run_from}
-use Rattle.a2_machine.proofs.Runs.{run-is_end}
+use Rattle.a2_machine.specs.Meaning.{Code, End, IsEnd, stuck, world_at}
+use Rattle.a2_machine.specs.State.{Device, MachineState, world_of_state, code_of, cause_of, most_steps, IsStep}
 use Rattle.a2_run.specs.Meaning.{code_of_run, start_of_run}
 use Rattle.a2_run.specs.Started.{IsStarted, guard_of_run}
 use Rattle.a2_run.proofs.Runs.{meant}
@@ -28,27 +18,7 @@ use Rattle.a2_profile.specs.declared.profile.Count.{Count}
 use Rattle.a2_profile.specs.Counts.{none, counted, count_at, steps_in, cycles_in}
 use Rattle.a2_profile.specs.Run.{is_at, count_of, done_at, cycles_at, taken_at, AreCounts, IsProfile}
 use Rattle.a2_profile.proofs.CountLaws.{no_counts-at, no_counts-summed}
-
--- No step takes cycles back
-
-found-later : (w : World) (found : Result Decoded Cause)
-    → w.cycles ≤ (elim found as (λ _. World) [ Err cause ↦ w | Ok decoded ↦ performed memory_access decoded.row decoded.value w ]).cycles
-unfolding performed
-found-later w (Err cause) = omega arith
-found-later w (Ok decoded) = omega arith
-
-service-later : (w : World) (found : Result Decoded Cause) (service : Option Service)
-    → w.cycles ≤ (elim service as (λ _. World) [
-      | Some s ↦ served s w
-      | None ↦ elim found as (λ _. World) [ Err cause ↦ w | Ok decoded ↦ performed memory_access decoded.row decoded.value w ]
-    ]).cycles
-unfolding served
-service-later w found (Some s) = omega arith
-service-later w found None = found-later w found
-
-pub next-later : (code : Code) (w : World) → w.cycles ≤ (next code w).cycles
-unfolding next next_at
-next-later code w = service-later w (found_at_pc code w) (service_at w.registers.pc)
+use Rattle.a2_profile.proofs.Going.{IsGone, gone-none, gone-next, step-reached, step-later, ended_at, EndAlike, same-world}
 
 -- A step more
 
@@ -82,66 +52,36 @@ count-next code start n a = go (is_at (world_at code start n) a) (turns_at code 
 
 -- so many steps are made and counted
 pub record IsCounted (code : Code) (start : World) (d : Device) (n : ℕ) (counts : List Count) : Type 0 where
-  pub steps : d.state.steps ≡ n
-  pub world : world_of_state d.state ≡ world_at code start n
-  pub code_is : code_of d.state ≡ code
-  pub going : (k : ℕ) → k < n → stuck code (world_at code start k) ≡ None
+  pub gone : IsGone code start d n
   pub size : length counts ≡ 65536
   pub counts_are : (a : ℕ) → a < 65536 → count_at counts a ≡ count_of code start n a
   pub steps_are : steps_in counts ≡ n
   pub cycles_are : cycles_in counts ≡ d.state.cycles
 
-none-some : {X : Type 0} (x : X) → None ≡ Some x → ⊥
-none-some x e = true≢false (sym (ap is_some e))
-
--- below the greatest number of steps a machine's cause is why it is stuck
-cause-stuck : (d : Device) → d.state.steps < most_steps → cause_of d.state ≡ stuck (code_of d.state) (world_of_state d.state)
-cause-stuck d low = go (stuck (code_of d.state) (world_of_state d.state)) refl
-  where
-    go : (found : Option Cause) → stuck (code_of d.state) (world_of_state d.state) ≡ found → cause_of d.state ≡ stuck (code_of d.state) (world_of_state d.state)
-    go None e = sym (cause_none d e low) ∙ sym e
-    go (Some cause) e = sym (cause_told d cause e) ∙ sym e
-
 pub counted-none : (d : Device) (counts : List Count) → d.state.steps ≡ 0 → d.state.cycles ≡ 0 → counts ≡ replicate 65536 none → IsCounted (code_of d.state) (world_of_state d.state) d 0 counts
-unfolding world_at done_at cycles_at taken_at
+unfolding done_at cycles_at taken_at
 counted-none d counts steps cycles empty = record {
-  steps = steps;
-  world = refl;
-  code_is = refl;
-  going = λ k lt. absurd (omega (arith, lt));
+  gone = gone-none d steps;
   size = ap length empty ∙ no_counts-summed.size;
   counts_are = λ a lt. ap (λ (l : List Count). count_at l a) empty ∙ no_counts-at a;
   steps_are = ap steps_in empty ∙ no_counts-summed.steps_are;
   cycles_are = ap cycles_in empty ∙ no_counts-summed.cycles_are ∙ sym cycles;
 }
 
--- a machine that steps is not stuck
-steps-on : (code : Code) (start : World) (d : Device) (n : ℕ) (counts : List Count) → IsCounted code start d n counts → n < most_steps → None ≡ cause_of d.state
-    → stuck code (world_at code start n) ≡ None
-steps-on code start d n counts h low none =
-    sym (subst (λ k. stuck k (world_of_state d.state) ≡ stuck code (world_at code start n)) (sym h.code_is) (ap (stuck code) h.world))
-    ∙ sym (cause-stuck d (omega (arith, h.steps, low))) ∙ sym none
-
--- its step takes no cycles back
-pub step-later : (old new : Device) → IsStep old new → old.state.cycles ≤ new.state.cycles
-step-later old new step =
-    subst (λ (w : World). old.state.cycles ≤ w.cycles) (sym step.world) (next-later (code_of old.state) (world_of_state old.state))
-
 module _ (code : Code) (start : World) (old new : Device) (n : ℕ) (counts : List Count) (h : IsCounted code start old n counts) (step : IsStep old new)
     (pc cost : ℕ) (turned : Bool) (pc_is : pc ≡ (world_of_state old.state).registers.pc) (low : pc < 65536)
     (cost_is : cost ≡ new.state.cycles - old.state.cycles) (turned_is : turned ≡ not (is_at (world_of_state new.state) ((pc + 2) % 65536))) where
   reached : world_of_state new.state ≡ world_at code start (suc n)
-  unfolding world_at
-  reached = step.world ∙ ap (λ (k : Code). next k (world_of_state old.state)) h.code_is ∙ ap (next code) h.world
+  reached = step-reached code start old new n h.gone step
 
   one : suc n ≡ n + 1
   one = omega arith
 
   here : pc ≡ (world_at code start n).registers.pc
-  here = pc_is ∙ ap (λ (w : World). w.registers.pc) h.world
+  here = pc_is ∙ ap (λ (w : World). w.registers.pc) h.gone.world
 
   cost-is : cost ≡ cost_at code start n
-  cost-is = cost_is ∙ ap₂ (λ (v w : World). w.cycles - v.cycles) h.world reached
+  cost-is = cost_is ∙ ap₂ (λ (v w : World). w.cycles - v.cycles) h.gone.world reached
 
   turned-is : turned ≡ turns_at code start n pc
   turned-is = turned_is ∙ ap (λ (w : World). not (is_at w ((pc + 2) % 65536))) reached
@@ -184,10 +124,7 @@ module _ (code : Code) (start : World) (old new : Device) (n : ℕ) (counts : Li
 
   pub counted-next : n < most_steps → None ≡ cause_of old.state → IsCounted code start new (n + 1) after
   counted-next few free = record {
-    steps = omega (arith, h.steps, step.steps);
-    world = reached ∙ ap (world_at code start) one;
-    code_is = ap bytes step.guard ∙ h.code_is;
-    going = below_more _ _ h.going (steps-on code start old n counts h few free);
+    gone = gone-next code start old new n h.gone step few free;
     size = length-set counts pc (counted cost turned (count_at counts pc)) ∙ h.size;
     counts_are = λ a within. at_each a within ∙ ap (λ (m : ℕ). count_of code start m a) one;
     steps_are = omega (arith, sum_by-set (λ (c : Count). c.times) counts pc (counted cost turned (count_at counts pc)) none (omega (arith, low, h.size)), h.steps_are);
@@ -196,10 +133,10 @@ module _ (code : Code) (start : World) (old new : Device) (n : ℕ) (counts : Li
 
 -- The end of the run
 
-ended : (code : Code) (start : World) (d : Device) (n limit : ℕ) (counts : List Count) (cause : Cause) → IsCounted code start d n counts
-    → IsEnd code start limit (record { world = world_of_state d.state; steps = n; cause = cause }) → AreCounts code start limit counts cause
-ended code start d n limit counts cause h is = record {
-  end = record { world = world_of_state d.state; steps = n; cause = cause };
+pub counts-end : (code : Code) (start : World) (d : Device) (n limit : ℕ) (counts : List Count) (cause : Cause) → IsCounted code start d n counts
+    → IsEnd code start limit (ended_at d n cause) → AreCounts code start limit counts cause
+counts-end code start d n limit counts cause h is = record {
+  end = ended_at d n cause;
   is_end = is;
   cause_is = refl;
   counts_are = h.counts_are;
@@ -207,68 +144,7 @@ ended code start d n limit counts cause h is = record {
   cycles_are = h.cycles_are;
 }
 
-pub counts-stuck : (code : Code) (start : World) (d : Device) (n limit : ℕ) (counts : List Count) (cause : Cause) → IsCounted code start d n counts → n ≤ limit
-    → n < most_steps → Some cause ≡ cause_of d.state → AreCounts code start limit counts cause
-counts-stuck code start d n limit counts cause h within low e = ended code start d n limit counts cause h (record {
-  within = within;
-  reached = h.world;
-  first = h.going;
-  cause = inl (subst (λ k. stuck k (world_of_state d.state) ≡ Some cause) h.code_is (sym (cause-stuck d (omega (arith, h.steps, low))) ∙ sym e));
-})
-
-pub counts-limit : (code : Code) (start : World) (old new : Device) (limit : ℕ) (counts : List Count) (cause : Cause) → IsCounted code start old limit counts
-    → machine.IsMachineRun 0 old new cause → AreCounts code start limit counts cause
-unfolding world_at
-counts-limit code start old new limit counts cause h run =
-    let none : new.state.steps - old.state.steps ≡ 0 = omega (arith, run.end.within) in
-    let reached : world_of_state new.state ≡ world_of_state old.state = run.end.reached ∙ ap (world_at (code_of old.state) (world_of_state old.state)) none in
-    ended code start old limit limit counts cause h (record {
-      within = omega arith;
-      reached = h.world;
-      first = h.going;
-      cause = why (subst (λ k. Why k) h.code_is (subst (λ w. WhyAt w) reached run.end.cause));
-    })
-  where
-    WhyAt : World → Type 0
-    WhyAt w = (stuck (code_of old.state) w ≡ Some cause) ⊎ ((stuck (code_of old.state) w ≡ None) × (new.state.steps - old.state.steps ≡ steps_left 0 old.state) × (cause ≡ Limit))
-
-    Why : Code → Type 0
-    Why k = (stuck k (world_of_state old.state) ≡ Some cause) ⊎ ((stuck k (world_of_state old.state) ≡ None) × (new.state.steps - old.state.steps ≡ steps_left 0 old.state) × (cause ≡ Limit))
-
-    why : Why code → (stuck code (world_of_state old.state) ≡ Some cause) ⊎ ((stuck code (world_of_state old.state) ≡ None) × (limit ≡ limit) × (cause ≡ Limit))
-    why (inl is) = inl is
-    why (inr is) = inr (is.0, refl, is.2)
-
 -- The profile of the program's run
-
--- each end of the one code's runs from a start is an end of the other's
-abbrev EndAlike : Code → Code → World → Type 0
-EndAlike code other start = (limit : ℕ) (end : End) → IsEnd code start limit end → IsEnd other start limit end
-
--- a run that has made so many steps makes so many at least
-end-late : (code : Code) (start : World) (limit n : ℕ) (end : End) → IsEnd code start limit end → ((k : ℕ) → k < n → stuck code (world_at code start k) ≡ None) → n ≤ limit → n ≤ end.steps
-end-late code start limit n end is going within = go (split end.steps n)
-  where
-    split : (s n : ℕ) → (n ≤ s) ⊎ (s < n)
-    split s n = grind arith
-
-    short : end.steps < n → (stuck code end.world ≡ Some end.cause) ⊎ ((stuck code end.world ≡ None) × (end.steps ≡ limit) × (end.cause ≡ Limit)) → n ≤ end.steps
-    short lt (inl e) = absurd (none-some end.cause (sym (ap (stuck code) is.reached ∙ going end.steps lt) ∙ e))
-    short lt (inr e) = omega (arith, lt, e.1, within)
-
-    go : (n ≤ end.steps) ⊎ (end.steps < n) → n ≤ end.steps
-    go (inl le) = le
-    go (inr lt) = short lt is.cause
-
--- so both go through the same worlds: a run that is limited to so many steps ends at the last of them
-same-world : (code other : Code) (start : World) (n : ℕ) → EndAlike code other start → ((k : ℕ) → k < n → stuck code (world_at code start k) ≡ None)
-    → world_at code start n ≡ world_at other start n
-same-world code other start n alike going =
-    let end = run_from code start 0 n in
-    let is = run-is_end code start n in
-    let late : n ≤ end.steps = end-late code start n n end is going (omega arith) in
-    let all : end.steps ≡ n = omega (arith, is.within, late) in
-    subst (λ (k : ℕ). world_at code start k ≡ world_at other start k) all (sym is.reached ∙ (alike n end is).reached)
 
 same-count : (code other : Code) (start : World) (n a : ℕ) → EndAlike code other start → ((k : ℕ) → k < n → stuck code (world_at code start k) ≡ None)
     → count_of code start n a ≡ count_of other start n a

@@ -1,4 +1,9 @@
 pub mod Counts
 pub mod Run
+pub mod Totals
+pub mod Routines
+pub mod Walks
+pub mod Walked
 pub mod Table
+pub mod RoutineTable
 pub mod Texts

@@ -1,12 +1,18 @@
-//! How often each line of a source is done by its run, and what it costs.
+//! How often each line of a source, and each of its routines, is done by its run, and what it costs.
 #![tactic(auto)]
 
 mod profile;
+mod routine_table;
+mod routines;
 mod run;
 mod source;
 mod table;
+mod walk;
 
 pub use profile::{Count, Profile, ProfileFull};
+pub use routine_table::write_routines;
+pub use routines::profile_routines;
 pub use run::profile_run;
-pub use source::profile_source;
+pub use source::{profile_source, profile_source_routines};
 pub use table::write_profile;
+pub use walk::{RoutineProfile, Totals};

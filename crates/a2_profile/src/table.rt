@@ -27,14 +27,14 @@ type Digits = ArrayVec<u8, 20>;
 type Share = ArrayVec<u8, 42>;
 
 // The blanks before a text that ends at a column.
-fn gap(width: usize, text: &[u8]) -> &[u8]
+pub(crate) fn gap(width: usize, text: &[u8]) -> &[u8]
     ensures { result.now ≡ table.gap width text.now }
 {
     &BLANKS[..width.saturating_sub(text.len()).min(14)]
 }
 
 // What stands between a label and its text.
-fn before_text(text: &[u8]) -> &[u8]
+pub(crate) fn before_text(text: &[u8]) -> &[u8]
     ensures { result.now ≡ table.before_text text.now }
 {
     if text.len() == 0 { b"" } else { b"  " }
@@ -86,7 +86,7 @@ fn append(share: &mut Share, bytes: &[u8])
 }
 
 // How many thousandths of all cycles these are.
-fn per_mille(cycles: u64, all: u64) -> u64
+pub(crate) fn per_mille(cycles: u64, all: u64) -> u64
     requires { cycles ≤ all }
     ensures { result ≡ table.per_mille cycles all }
 {
@@ -98,7 +98,7 @@ fn per_mille(cycles: u64, all: u64) -> u64
 
 // The same in hundredths.
 #[tactic(auto, unfolding(crate::specs::Table::share_digits))]
-fn share_digits(thousandths: u64) -> Share
+pub(crate) fn share_digits(thousandths: u64) -> Share
     ensures { result.items ≡ table.share_digits thousandths }
 {
     let mut share = Share::new();
@@ -312,13 +312,17 @@ fn put_never_rows<A: Allocator, W: Output>(
     Ok(())
 }
 
-// Writes the line of the sums.
+// Writes the line of these sums.
 #[tactic(auto, unfolding(crate::specs::Table::sum_line))]
-fn put_sums<A: Allocator, W: Output>(profile: &Profile<A>, writer: &mut W) -> Result<(), WriteFault>
-    ensures { SendsOrBreaks (W.taker writer.old) (W.taker writer.new) result (table.sums profile.now) }
+pub(crate) fn put_sum_line<W: Output>(
+    steps: u64,
+    cycles: u64,
+    writer: &mut W,
+) -> Result<(), WriteFault>
+    ensures { SendsOrBreaks (W.taker writer.old) (W.taker writer.new) result (table.sum_line (decimal_of steps) (decimal_of cycles)) }
 {
-    let steps = decimal(profile.steps());
-    let cycles = decimal(profile.cycles());
+    let steps = decimal(steps);
+    let cycles = decimal(cycles);
     put_all(
         &[
             b"STEPS=",
@@ -329,6 +333,13 @@ fn put_sums<A: Allocator, W: Output>(profile: &Profile<A>, writer: &mut W) -> Re
         ],
         writer,
     )
+}
+
+// Writes the line of the sums.
+fn put_sums<A: Allocator, W: Output>(profile: &Profile<A>, writer: &mut W) -> Result<(), WriteFault>
+    ensures { SendsOrBreaks (W.taker writer.old) (W.taker writer.new) result (table.sums profile.now) }
+{
+    put_sum_line(profile.steps(), profile.cycles(), writer)
 }
 
 // Writes what stands behind the rows of addresses.

@@ -1,7 +1,8 @@
 use Rattle.std.proofs.Common.{◌≡◌, ◌+◌, ◌-◌, ◌%◌, sym, ap, ap₂, ◌∙◌, subst, arith, ℕ, not, nat_eq}
 use Rattle.a2_cpu.specs.declared.Regs.{Regs}
 use Rattle.a2_machine.specs.State.{code_of, world_of_state}
-use Rattle.a2_profile.proofs.Counting.{IsCounted, counted-none, counted-next, counts-stuck, counts-limit, step-later}
+use Rattle.a2_profile.proofs.Going.{step-later, stuck-ends, limit-ends}
+use Rattle.a2_profile.proofs.Counting.{IsCounted, counted-none, counted-next, counts-end}
 use Rattle.a2_profile.proofs.run.profile_machine.Goals as goal
 
 pub loop-init : goal.loop-init
@@ -10,8 +11,9 @@ loop-init g c = counted-none c.args.machine.now c.args.profile.now c.requires.st
 pub returns-in-Some : goal.returns-in-Some
 returns-in-Some g c =
     let start = c.args.machine.now.state in
-    counts-stuck (code_of start) (world_of_state start) c.loop.machine c.loop.counter c.args.limit c.loop.profile c.in-Some.cause c.loop.invariant
-    (omega (arith, c.loop-test.true)) (omega (arith, c.loop-test.true, c.ranges.limit.fits)) (sym c.in-Some.is ∙ c.step.ensures.cause)
+    counts-end (code_of start) (world_of_state start) c.loop.machine c.loop.counter c.args.limit c.loop.profile c.in-Some.cause c.loop.invariant
+    (stuck-ends (code_of start) (world_of_state start) c.loop.machine c.loop.counter c.args.limit c.in-Some.cause c.loop.invariant.gone
+    (omega (arith, c.loop-test.true)) (omega (arith, c.loop-test.true, c.ranges.limit.fits)) (sym c.in-Some.is ∙ c.step.ensures.cause))
 
 pub overflow_sub-cycles : goal.overflow_sub-cycles
 overflow_sub-cycles g c =
@@ -33,5 +35,6 @@ pub returns : goal.returns
 returns g c =
     let start = c.args.machine.now.state in
     let all : c.loop.counter ≡ c.args.limit = omega (arith, c.loop-test.false, c.loop.auto.counter-end) in
-    counts-limit (code_of start) (world_of_state start) c.loop.machine c.run.new.self c.args.limit c.loop.profile c.run.result
-    (subst (λ (n : ℕ). IsCounted (code_of start) (world_of_state start) c.loop.machine n c.loop.profile) all c.loop.invariant) c.run.ensures
+    let done = subst (λ (n : ℕ). IsCounted (code_of start) (world_of_state start) c.loop.machine n c.loop.profile) all c.loop.invariant in
+    counts-end (code_of start) (world_of_state start) c.loop.machine c.args.limit c.args.limit c.loop.profile c.run.result done
+    (limit-ends (code_of start) (world_of_state start) c.loop.machine c.run.new.self c.args.limit c.run.result done.gone c.run.ensures)

@@ -1,0 +1,7 @@
+use Rattle.a2_profile.proofs.Walking.{routines-of-run}
+use Rattle.a2_profile.proofs.routines.profile_routines.Goals as goal
+
+pub returns : goal.returns
+returns g c =
+    routines-of-run c.args.program.now c.args.keys.now c.args.limit c.args.free c.in_ok-machine.machine.state c.is_sound.ensures c.in_ok-machine.ensures
+    c.walk_machine.new.walk c.in_ok-cause.cause c.in_ok-cause.ensures c.finish.result c.finish.ensures.seen c.finish.ensures.steps c.finish.ensures.cycles

@@ -1,0 +1,28 @@
+use Rattle.std.proofs.Common.{refl}
+use Rattle.std.proofs.lemmas.Result.{err_from_is_err_and}
+use Rattle.a2_stream.proofs.Joined.{Sends-nil}
+use Rattle.a2_profile.specs.RoutineTable.{routine_table}
+use Rattle.a2_profile.proofs.source.profile_source_routines.Goals as goal
+
+pub returns-in_err-profile-clause-meaning : goal.returns-in_err-profile-clause-meaning
+returns-in_err-profile-clause-meaning g c =
+    let fault = err_from_is_err_and c.from_residual-in_err-profile.result c.from_residual-in_err-profile.ensures.1 in
+    rw (fault.1, fault.2) (Sends-nil (g.W.Output.taker c.args.writer.now))
+
+pub returns-in_err-write_routines-clause-meaning : goal.returns-in_err-write_routines-clause-meaning
+returns-in_err-write_routines-clause-meaning g c =
+    let fault = err_from_is_err_and c.from_residual-in_err-write_routines.result c.from_residual-in_err-write_routines.ensures.1 in
+    let program = c.in_ok-program.program in
+    let totals = c.in_ok-profile.profile in
+    rw (fault.1, fault.2) (
+      c.in_ok-profile.cause,
+      routine_table program totals,
+      record {
+        program = program;
+        is_program = c.in_ok-program.ensures.made;
+        totals = totals;
+        is_profile = c.in_ok-profile.ensures;
+        output_is = refl;
+      },
+      c.in_err-write_routines.ensures,
+    )

@@ -1,0 +1,65 @@
+-- What is done in the routines of a run. A routine is entered by a JSR, and left as `entered` says. This project's profile.
+use Rattle.std.specs.Prelude.{◌≡◌, ℕ, suc, ◌-◌, ◌<◌, ◌==◌, ◌&&◌, Bool, List, ◌∷◌, map, length, slice_index, if◌then◌else◌}
+use Rattle.std.specs.List.{list_any}
+use Rattle.a2_asm.specs.Assembled.{Assembled}
+use Rattle.a2_services.specs.World.{World}
+use Rattle.a2_machine.specs.declared.Cause.{Cause}
+use Rattle.a2_machine.specs.Meaning.{Code, End, IsEnd, world_at}
+use Rattle.a2_run.specs.Meaning.{code_of_run, start_of_run}
+use Rattle.a2_routines.specs.declared.routines.Entry.{Entry}
+use Rattle.a2_routines.specs.Routines.{is_call, entered}
+use Rattle.a2_profile.specs.declared.walk.Totals.{Totals}
+use Rattle.a2_profile.specs.Run.{over_steps, is_at}
+use Rattle.a2_profile.specs.Totals.{itself, totals_at, own_steps_in, own_cycles_in}
+
+-- where a routine begins: at the address that its JSR went to
+abbrev pub begin_of : (ℕ → World) → Entry → ℕ
+begin_of worlds entry = (worlds (suc entry.position)).registers.pc
+
+-- what a step is made in, the outermost first: the program itself, and the routines entered and not left
+abbrev pub around : (ℕ → World) → ℕ → List ℕ
+around worlds n = itself ∷ map (begin_of worlds) (entered worlds n)
+
+abbrev pub innermost : List ℕ → ℕ
+innermost routines = slice_index routines (length routines - 1)
+
+-- it is made in a routine, or in what that calls; a routine that calls itself is one
+abbrev pub is_in : (ℕ → World) → ℕ → ℕ → Bool
+is_in worlds routine n = list_any (λ r. r == routine) (around worlds n)
+
+-- it is the routine's own
+abbrev pub is_own : (ℕ → World) → ℕ → ℕ → Bool
+is_own worlds routine n = innermost (around worlds n) == routine
+
+-- it is a JSR to the routine
+abbrev pub is_entry : (ℕ → World) → ℕ → ℕ → Bool
+is_entry worlds routine n = is_call (worlds n) && is_at (worlds (suc n)) routine
+
+-- the cycles that it takes
+abbrev pub cost : (ℕ → World) → ℕ → ℕ
+cost worlds n = (worlds (suc n)).cycles - (worlds n).cycles
+
+-- the totals of a routine over the first n steps: how often it was entered, its own steps with their cycles, and those with
+-- what it calls
+unfoldable pub totals_of : (ℕ → World) → ℕ → ℕ → Totals
+totals_of worlds n routine = record {
+  times = over_steps (λ k. if is_entry worlds routine k then 1 else 0) n;
+  steps = over_steps (λ k. if is_own worlds routine k then 1 else 0) n;
+  cycles = over_steps (λ k. if is_own worlds routine k then cost worlds k else 0) n;
+  all_steps = over_steps (λ k. if is_in worlds routine k then 1 else 0) n;
+  all_cycles = over_steps (λ k. if is_in worlds routine k then cost worlds k else 0) n;
+}
+
+-- a run with a limit ends by this cause, and these are the totals of its routines and of the program itself, whose own steps
+-- and cycles together are the run's
+pub record AreTotals (code : Code) (start : World) (limit : ℕ) (totals : List Totals) (cause : Cause) : Type 0 where
+  pub end : End
+  pub is_end : IsEnd code start limit end
+  pub cause_is : cause ≡ end.cause
+  pub totals_are : (routine : ℕ) → routine < 65537 → totals_at totals routine ≡ totals_of (world_at code start) end.steps routine
+  pub steps_are : own_steps_in totals ≡ end.steps
+  pub cycles_are : own_cycles_in totals ≡ end.world.cycles
+
+-- the same of a program's run with these keys waiting, by the code and start of the run that `IsRun` speaks of
+abbrev pub IsRoutineProfile : Assembled → List ℕ → ℕ → Bool → List Totals → Cause → Type 0
+IsRoutineProfile program keys limit free totals cause = AreTotals (code_of_run free program) (start_of_run program keys) limit totals cause

@@ -1,0 +1,244 @@
+//! The table of a profile by routine.
+
+ghost use Rattle.std.specs.Prelude.{◌≡◌, ◌≤◌, ◌++◌, string_bytes};
+ghost use Rattle.a2_asm.specs.Entries.{entries};
+ghost use Rattle.a2_profile.specs.RoutineTable as table;
+ghost use Rattle.a2_stream.specs.Stream.{SendsOrBreaks};
+
+use crate::table::{before_text, gap, per_mille, put_sum_line, share_digits};
+use crate::{RoutineProfile, Totals};
+use a2_asm::{Names, Program};
+use a2_stream::{Output, WriteFault, put_all};
+use a2_text::{decimal, hex_word};
+use std::alloc::Allocator;
+
+// How many addresses there are.
+const ADDRESSES: u32 = 0x1_0000;
+
+// Writes a row of these cells.
+#[tactic(auto, unfolding(crate::specs::RoutineTable::routine_cells))]
+fn put_cells<'a, W: Output>(
+    times: &'a [u8],
+    steps: &'a [u8],
+    cycles: &'a [u8],
+    share: &'a [u8],
+    all_steps: &'a [u8],
+    all_cycles: &'a [u8],
+    all_share: &'a [u8],
+    label: &'a [u8],
+    name: &'a [u8],
+    writer: &mut W,
+) -> Result<(), WriteFault>
+    ensures { SendsOrBreaks (W.taker writer.old) (W.taker writer.new) result
+        (table.routine_cells times.now steps.now cycles.now share.now all_steps.now all_cycles.now all_share.now label.now name.now) }
+{
+    put_all(
+        &[
+            gap(10, times),
+            times,
+            gap(12, steps),
+            steps,
+            gap(14, cycles),
+            cycles,
+            gap(8, share),
+            share,
+            gap(12, all_steps),
+            all_steps,
+            gap(14, all_cycles),
+            all_cycles,
+            gap(8, all_share),
+            all_share,
+            b"  ",
+            label,
+            before_text(name),
+            name,
+            b"\n",
+        ],
+        writer,
+    )
+}
+
+// Writes the row of totals.
+fn put_totals<W: Output>(
+    all: u64,
+    times: &[u8],
+    totals: Totals,
+    label: &[u8],
+    name: &[u8],
+    writer: &mut W,
+) -> Result<(), WriteFault>
+    requires own { totals.cycles ≤ all }
+    requires within { totals.all_cycles ≤ all }
+    ensures { SendsOrBreaks (W.taker writer.old) (W.taker writer.new) result (table.totals_row all times.now totals label.now name.now) }
+{
+    let steps = decimal(totals.steps);
+    let cycles = decimal(totals.cycles);
+    let share = share_digits(per_mille(totals.cycles, all));
+    let all_steps = decimal(totals.all_steps);
+    let all_cycles = decimal(totals.all_cycles);
+    let all_share = share_digits(per_mille(totals.all_cycles, all));
+    put_cells(
+        times,
+        steps.as_slice(),
+        cycles.as_slice(),
+        share.as_slice(),
+        all_steps.as_slice(),
+        all_cycles.as_slice(),
+        all_share.as_slice(),
+        label,
+        name,
+        writer,
+    )
+}
+
+// What is told of the program itself.
+fn itself_text() -> &'static [u8]
+    ensures { result.now ≡ Rattle.std.specs.Prelude.codes "THE PROGRAM ITSELF" }
+{
+    b"THE PROGRAM ITSELF"
+}
+
+// Writes the row of the program itself.
+fn put_itself<A: Allocator, W: Output>(
+    profile: &RoutineProfile<A>,
+    writer: &mut W,
+) -> Result<(), WriteFault>
+    ensures { SendsOrBreaks (W.taker writer.old) (W.taker writer.new) result (table.itself_row profile.now) }
+{
+    put_totals(
+        profile.cycles(),
+        b"",
+        profile.itself(),
+        itself_text(),
+        b"",
+        writer,
+    )
+}
+
+// The first name that stands for an address, or nothing.
+fn name_of<A: Allocator>(names: &Names<A>, address: u16) -> &[u8]
+    ensures { result.now ≡ table.name_of (entries names.now) address }
+{
+    for index in 0..names.len() {
+        let Some((name, value)) = names.get_index(index) else {
+            return b"";
+        };
+        if *value == address {
+            return name.as_str().as_bytes();
+        }
+    }
+    b""
+}
+
+// Writes the row of a routine, if it was entered.
+fn put_routine<A: Allocator, B: Allocator, W: Output>(
+    names: &Names<B>,
+    profile: &RoutineProfile<A>,
+    address: u16,
+    writer: &mut W,
+) -> Result<(), WriteFault>
+    ensures { SendsOrBreaks (W.taker writer.old) (W.taker writer.new) result (table.routine_row (entries names.now) profile.now address) }
+{
+    let totals = profile.at(address);
+    if totals.times == 0 {
+        return Ok(());
+    }
+    let times = decimal(totals.times);
+    put_totals(
+        profile.cycles(),
+        times.as_slice(),
+        totals,
+        &hex_word(address),
+        name_of(names, address),
+        writer,
+    )
+}
+
+// Writes the rows of all routines.
+fn put_routines<A: Allocator, B: Allocator, W: Output>(
+    names: &Names<B>,
+    profile: &RoutineProfile<A>,
+    writer: &mut W,
+) -> Result<(), WriteFault>
+    ensures { SendsOrBreaks (W.taker writer.old) (W.taker writer.new) result (table.routine_rows (entries names.now) profile.now) }
+{
+    for address in 0..ADDRESSES {
+        put_routine(names, profile, address as u16, writer)?;
+    }
+    Ok(())
+}
+
+// Writes the line of the sums.
+fn put_sums<A: Allocator, W: Output>(
+    profile: &RoutineProfile<A>,
+    writer: &mut W,
+) -> Result<(), WriteFault>
+    ensures { SendsOrBreaks (W.taker writer.old) (W.taker writer.new) result (table.routine_sums profile.now) }
+{
+    put_sum_line(profile.steps(), profile.cycles(), writer)
+}
+
+// Writes what stands behind the row of the program itself.
+#[tactic(auto, using(a2_stream::proofs::Joined::broke_off, a2_stream::proofs::Joined::went_on))]
+fn put_rest<A: Allocator, B: Allocator, W: Output>(
+    names: &Names<B>,
+    profile: &RoutineProfile<A>,
+    writer: &mut W,
+) -> Result<(), WriteFault>
+    ensures { SendsOrBreaks (W.taker writer.old) (W.taker writer.new) result
+        (table.routine_rows (entries names.now) profile.now ++ table.routine_sums profile.now) }
+{
+    put_routines(names, profile, writer)?;
+    put_sums(profile, writer)
+}
+
+// Writes what stands behind the heading.
+#[tactic(auto, using(a2_stream::proofs::Joined::broke_off, a2_stream::proofs::Joined::went_on))]
+fn put_body<A: Allocator, B: Allocator, W: Output>(
+    program: &Program<B>,
+    profile: &RoutineProfile<A>,
+    writer: &mut W,
+) -> Result<(), WriteFault>
+    ensures { SendsOrBreaks (W.taker writer.old) (W.taker writer.new) result
+        (table.itself_row profile.now ++ (table.routine_rows program.now.names profile.now ++ table.routine_sums profile.now)) }
+{
+    put_itself(profile, writer)?;
+    put_rest(program.names(), profile, writer)
+}
+
+// Writes the heading.
+fn put_heading<W: Output>(writer: &mut W) -> Result<(), WriteFault>
+    ensures { SendsOrBreaks (W.taker writer.old) (W.taker writer.new) result table.routine_heading }
+{
+    put_cells(
+        b"TIMES",
+        b"STEPS",
+        b"CYCLES",
+        b"SHARE",
+        b"ALL STEPS",
+        b"ALL CYCLES",
+        b"SHARE",
+        b"ROUTINE",
+        b"",
+        writer,
+    )
+}
+
+/// Writes the table of a profile of `program` by routine: a row for the program itself, and for each routine that was entered,
+/// by their addresses, how often it was, its own steps and cycles and their share of all cycles, rounded down, and those with
+/// what it calls; its address, and the first name of the source that stands for it; and the sums. This project's profile.
+///
+/// # Errors
+///
+/// `WriteFault` at the first write that failed, which is the last one made: a front of the table went out.
+#[tactic(auto, using(a2_stream::proofs::Joined::broke_off, a2_stream::proofs::Joined::went_on))]
+pub fn write_routines<A: Allocator, B: Allocator, W: Output>(
+    program: &Program<B>,
+    profile: &RoutineProfile<A>,
+    writer: &mut W,
+) -> Result<(), WriteFault>
+    ensures { SendsOrBreaks (W.taker writer.old) (W.taker writer.new) result (table.routine_table program.now profile.now) }
+{
+    put_heading(writer)?;
+    put_body(program, profile, writer)
+}
