@@ -98,7 +98,13 @@ none-walk n e = record {
   depths = λ r low. ap (λ (o : Opening). o.depth) (count_at-nothing n r closed);
   within = λ r low. subst (λ (o : Opening). IsWithin none o (totals_at (replicate n nothing) r)) (sym (count_at-nothing n r closed))
       (subst (λ (t : Totals). IsWithin none closed t) (sym (count_at-nothing n r nothing)) (record {
-        since_steps = omega arith; since_cycles = omega arith; steps = omega arith; cycles = omega arith; all_steps = omega arith; all_cycles = omega arith }));
+        since_steps = omega arith;
+        since_cycles = omega arith;
+        steps = omega arith;
+        cycles = omega arith;
+        all_steps = omega arith;
+        all_cycles = omega arith;
+      }));
   steps_are = sum_by-replicate (λ (t : Totals). t.steps) n nothing ∙ mul-zero n;
   cycles_are = sum_by-replicate (λ (t : Totals). t.cycles) n nothing ∙ mul-zero n;
 }
@@ -187,7 +193,13 @@ module _ (walk : Walk) (h : IsWalk walk) (routine s : ℕ) (few : routine < 6553
           all_cycles = subst (λ (n : ℕ). n ≤ walk.cycles) (sym (open-entered walk.cycles old_opening.depth t.all_cycles old_opening.cycles)) w.all_cycles;
         })
         (λ r ne lt. let w = h.within r lt in record {
-          since_steps = w.since_steps; since_cycles = w.since_cycles; steps = w.steps; cycles = w.cycles; all_steps = w.all_steps; all_cycles = w.all_cycles });
+          since_steps = w.since_steps;
+          since_cycles = w.since_cycles;
+          steps = w.steps;
+          cycles = w.cycles;
+          all_steps = w.all_steps;
+          all_cycles = w.all_cycles;
+        });
     steps_are = h.steps_are;
     cycles_are = h.cycles_are;
   }
@@ -196,8 +208,8 @@ module _ (walk : Walk) (h : IsWalk walk) (routine s : ℕ) (few : routine < 6553
   seen-opened r lt =
       each-set (λ (k : ℕ) (o : Opening). k < 65537 → seen walk.steps walk.cycles o (totals_at walk.totals k) ≡ seen_at walk k) walk.openings routine new_opening closed size
       (λ _. let t = totals_at walk.totals routine in
-        seen-alike walk.steps walk.cycles old_opening new_opening t t refl refl refl
-        (open-entered walk.steps old_opening.depth t.all_steps old_opening.steps) (open-entered walk.cycles old_opening.depth t.all_cycles old_opening.cycles))
+      seen-alike walk.steps walk.cycles old_opening new_opening t t refl refl refl
+      (open-entered walk.steps old_opening.depth t.all_steps old_opening.steps) (open-entered walk.cycles old_opening.depth t.all_cycles old_opening.cycles))
       (λ k ne few'. refl) r lt
 
 -- The innermost that is left
@@ -284,7 +296,13 @@ module _ (walk : Walk) (h : IsWalk walk) (some : 0 < length walk.frames) where
           all_cycles = subst (λ (n : ℕ). n ≤ walk.cycles) (sym (open-left walk.cycles last_opening.depth last_totals.all_cycles last_opening.cycles last-open)) w.all_cycles;
         })
         (λ r ne lt. let w = h.within r lt in record {
-          since_steps = w.since_steps; since_cycles = w.since_cycles; steps = w.steps; cycles = w.cycles; all_steps = w.all_steps; all_cycles = w.all_cycles });
+          since_steps = w.since_steps;
+          since_cycles = w.since_cycles;
+          steps = w.steps;
+          cycles = w.cycles;
+          all_steps = w.all_steps;
+          all_cycles = w.all_cycles;
+        });
     steps_are = omega (arith, sum_by-set (λ (t : Totals). t.steps) walk.totals at left_totals nothing totals-low, h.steps_are);
     cycles_are = omega (arith, sum_by-set (λ (t : Totals). t.cycles) walk.totals at left_totals nothing totals-low, h.cycles_are);
   }
@@ -293,8 +311,8 @@ module _ (walk : Walk) (h : IsWalk walk) (some : 0 < length walk.frames) where
   left-alike = record {
     seen_are = each-left (λ (r : ℕ) (o : Opening) (t : Totals). r < 65537 → seen walk.steps walk.cycles o t ≡ seen_at walk r)
         (λ _. seen-alike walk.steps walk.cycles last_opening left_opening last_totals left_totals refl refl refl
-          (open-left walk.steps last_opening.depth last_totals.all_steps last_opening.steps last-open)
-          (open-left walk.cycles last_opening.depth last_totals.all_cycles last_opening.cycles last-open))
+        (open-left walk.steps last_opening.depth last_totals.all_steps last_opening.steps last-open)
+        (open-left walk.cycles last_opening.depth last_totals.all_cycles last_opening.cycles last-open))
         (λ r ne lt. refl);
     steps = refl;
     cycles = refl;
@@ -306,30 +324,44 @@ pub opened-is : (walk : Walk) (routine s : ℕ) → IsWalk walk → routine < 65
     → (frames : List Frame) (o : Opening) (steps cycles : ℕ) → frames ≡ walk.frames ++ record { routine = routine; s = s } ∷ []
     → o ≡ opening_at walk.openings routine → steps ≡ (if o.depth == 0 then walk.steps else o.steps)
     → cycles ≡ (if o.depth == 0 then walk.cycles else o.cycles)
-    → IsWalk (record { frames = frames; totals = walk.totals;
-      openings = slice_set walk.openings routine (record { depth = o.depth + 1; steps = steps; cycles = cycles }); steps = walk.steps; cycles = walk.cycles })
+    → IsWalk (record {
+      frames = frames;
+      totals = walk.totals;
+      openings = slice_set walk.openings routine (record { depth = o.depth + 1; steps = steps; cycles = cycles });
+      steps = walk.steps;
+      cycles = walk.cycles;
+    })
 opened-is walk routine s h few low frames o steps cycles e f i j =
     subst (λ (l : List Frame). IsWalk (with_parts l o steps cycles)) (sym e)
     (subst (λ (n : ℕ). IsWalk (with_parts new_frames o n cycles)) (sym i)
     (subst (λ (n : ℕ). IsWalk (with_parts new_frames o (if o.depth == 0 then walk.steps else o.steps) n)) (sym j)
     (subst (λ (p : Opening). IsWalk (with_parts new_frames p (if p.depth == 0 then walk.steps else p.steps) (if p.depth == 0 then walk.cycles else p.cycles)))
-      (sym f) (opened-walk walk h routine s few low))))
+    (sym f) (opened-walk walk h routine s few low))))
   where
     new_frames : List Frame
     new_frames = walk.frames ++ record { routine = routine; s = s } ∷ []
 
     with_parts : List Frame → Opening → ℕ → ℕ → Walk
-    with_parts l p n m = record { frames = l; totals = walk.totals;
-      openings = slice_set walk.openings routine (record { depth = p.depth + 1; steps = n; cycles = m }); steps = walk.steps; cycles = walk.cycles }
+    with_parts l p n m = record {
+      frames = l;
+      totals = walk.totals;
+      openings = slice_set walk.openings routine (record { depth = p.depth + 1; steps = n; cycles = m });
+      steps = walk.steps;
+      cycles = walk.cycles;
+    }
 
 module _ (walk : Walk) (frames : List Frame) (i : ℕ) (o : Opening) (t : Totals) (steps cycles : ℕ)
     (e : frames ≡ take (length walk.frames - 1) walk.frames) (at : i ≡ inner walk.frames) (is_o : o ≡ opening_at walk.openings i)
     (is_t : t ≡ totals_at walk.totals i) (f : steps ≡ (if o.depth == 1 then walk.steps - o.steps else 0))
     (g : cycles ≡ (if o.depth == 1 then walk.cycles - o.cycles else 0)) where
   abbrev pub parts : List Frame → ℕ → Opening → Totals → ℕ → ℕ → Walk
-  parts l k p u n m = record { frames = l;
+  parts l k p u n m = record {
+    frames = l;
     totals = slice_set walk.totals k (record { times = u.times; steps = u.steps; cycles = u.cycles; all_steps = u.all_steps + n; all_cycles = u.all_cycles + m });
-    openings = slice_set walk.openings k (record { depth = p.depth - 1; steps = p.steps; cycles = p.cycles }); steps = walk.steps; cycles = walk.cycles }
+    openings = slice_set walk.openings k (record { depth = p.depth - 1; steps = p.steps; cycles = p.cycles });
+    steps = walk.steps;
+    cycles = walk.cycles;
+  }
 
   abbrev whole : ℕ → Opening → Totals → Walk
   whole k p u =

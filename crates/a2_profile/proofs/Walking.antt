@@ -80,8 +80,8 @@ pub frames-next : (worlds : ℕ → World) (n : ℕ) (old mid new : List Frame) 
 unfolding entered
 frames-next worlds n old mid new calls routine s now is_old is_mid is_calls is_routine is_s is_now few is_new =
     is_new ∙ ap (filter (λ f. nat_lt now f.s)) (is_mid ∙ ap₂ (λ (b : Bool) (l : List Frame). if b then l ++ record { routine = routine; s = s } ∷ [] else l) is_calls is_old
-      ∙ ap₂ (λ (r t : ℕ). if is_call (worlds n) then frames_of worlds n ++ record { routine = r; s = t } ∷ [] else frames_of worlds n) is_routine is_s
-      ∙ called (is_call (worlds n)))
+    ∙ ap₂ (λ (r t : ℕ). if is_call (worlds n) then frames_of worlds n ++ record { routine = r; s = t } ∷ [] else frames_of worlds n) is_routine is_s
+    ∙ called (is_call (worlds n)))
     ∙ ap (λ (b : Bool). if b then base ∷ rest else rest) (lt-ltb now 256 few)
     ∙ ap (λ (l : List Frame). base ∷ l) (map-filter (frame_of worlds) (is_within (worlds (suc n))) (λ f. nat_lt now f.s) alike (with_call n (worlds n) (entered worlds n)))
   where
@@ -108,8 +108,8 @@ routines-of worlds n = ap (λ (l : List ℕ). itself ∷ l) (go (entered worlds 
 own-is : (worlds : ℕ → World) (n r : ℕ) → (inner (frames_of worlds n) == r) ≡ is_own worlds r n
 own-is worlds n r =
     ap (λ (k : ℕ). k == r) (sym (get_or-map (λ (f : Frame). f.routine) (frames_of worlds n) (length (frames_of worlds n) - 1) base 0 (omega arith))
-      ∙ ap₂ (λ (l : List ℕ) (k : ℕ). slice_index_or l (k - 1) 0) (routines-of worlds n)
-      (sym (length-map (frames_of worlds n) (λ (f : Frame). f.routine)) ∙ ap length (routines-of worlds n)))
+    ∙ ap₂ (λ (l : List ℕ) (k : ℕ). slice_index_or l (k - 1) 0) (routines-of worlds n)
+    (sym (length-map (frames_of worlds n) (λ (f : Frame). f.routine)) ∙ ap length (routines-of worlds n)))
 
 any-count : (r : ℕ) (frames : List Frame) → not (depth_of r frames == 0) ≡ list_any (λ q. q == r) (map (λ (f : Frame). f.routine) frames)
 any-count r [] = refl
@@ -262,8 +262,8 @@ map-alike f g P same (x ∷ xs) all =
 around-alike : (v w : ℕ → World) (n : ℕ) → ((k : ℕ) → k ≤ n → v k ≡ w k) → around v n ≡ around w n
 around-alike v w n alike =
     ap (λ (l : List ℕ). itself ∷ l) (map-alike (begin_of v) (begin_of w) (λ (e : Entry). e.position < n)
-      (λ e lt. ap (λ (a : World). a.registers.pc) (alike (suc e.position) (omega (arith, lt)))) (entered v n) (entered-before v n)
-      ∙ ap (map (begin_of w)) (entered-alike v w n alike))
+    (λ e lt. ap (λ (a : World). a.registers.pc) (alike (suc e.position) (omega (arith, lt)))) (entered v n) (entered-before v n)
+    ∙ ap (map (begin_of w)) (entered-alike v w n alike))
 
 totals-alike-of : (v w : ℕ → World) (n r : ℕ) → ((k : ℕ) → k ≤ n → v k ≡ w k) → totals_of v n r ≡ totals_of w n r
 unfolding totals_of

@@ -115,7 +115,12 @@ impl<A: Allocator + Copy> Walk<A> {
     // A walk of no steps, in which no routine is entered.
     fn empty(alloc: A) -> Result<Walk<A>, AllocError>
         ensures { IfOk result (λ walk. walk ≡ record {
-            frames = []; totals = replicate 65537 nothing; openings = replicate 65537 walks.closed; steps = 0; cycles = 0 }) }
+          frames = [];
+          totals = replicate 65537 nothing;
+          openings = replicate 65537 walks.closed;
+          steps = 0;
+          cycles = 0;
+        }) }
     {
         Ok(Walk {
             frames: Vec::new(alloc),

@@ -13,7 +13,7 @@ returns-then-value-address g c =
     let next = name-next names c.args.address c.loop-index.index (name, c.in-Some.value.now)
     (entry-at _ _ c.get_index.result _ c.args.names.now.entries c.loop-index.index c.get_index.ensures.entry c.in-Some.is) in
     text ∙ sym (next ∙ ap (λ (b : Bool). if b then name else name_of (drop (c.loop-index.index + 1) names) c.args.address)
-      (eq-eqb c.in-Some.value.now c.args.address c.if-value-address.true)) ∙ c.loop-index.invariant
+    (eq-eqb c.in-Some.value.now c.args.address c.if-value-address.true)) ∙ c.loop-index.invariant
 
 pub loop-index-preserved : goal.loop-index-preserved
 loop-index-preserved g c =
@@ -22,4 +22,4 @@ loop-index-preserved g c =
     let next = name-next names c.args.address c.loop-index.index (name, c.in-Some.value.now)
     (entry-at _ _ c.get_index.result _ c.args.names.now.entries c.loop-index.index c.get_index.ensures.entry c.in-Some.is) in
     sym (next ∙ ap (λ (b : Bool). if b then name else name_of (drop (c.loop-index.index + 1) names) c.args.address)
-      (ne_eqb c.in-Some.value.now c.args.address c.if-value-address.false)) ∙ c.loop-index.invariant
+    (ne_eqb c.in-Some.value.now c.args.address c.if-value-address.false)) ∙ c.loop-index.invariant

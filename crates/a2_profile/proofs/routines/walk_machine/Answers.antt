@@ -39,8 +39,14 @@ enter_where-requires-clause-times g c =
     let start = c.args.machine.now.state in
     let pc = c.regs-regs.result.pc in
     let few : pc < 65537 = omega (arith, c.regs-regs.type_inv) in
-    omega (arith, ap (λ (t : Totals). t.times) (c.count_step.ensures.seen pc few), ap (λ (t : Totals). t.times) (c.loop.invariant.seen pc few),
-      times-few (world_at (code_of start) (world_of_state start)) c.loop.counter pc, c.loop-test.true, c.ranges.limit.fits)
+    omega (
+      arith,
+      ap (λ (t : Totals). t.times) (c.count_step.ensures.seen pc few),
+      ap (λ (t : Totals). t.times) (c.loop.invariant.seen pc few),
+      times-few (world_at (code_of start) (world_of_state start)) c.loop.counter pc,
+      c.loop-test.true,
+      c.ranges.limit.fits,
+    )
 
 pub enter_where-requires-clause-low : goal.enter_where-requires-clause-low
 enter_where-requires-clause-low g c =

@@ -11,7 +11,12 @@ pub overflow_sub-opening : goal.overflow_sub-opening
 overflow_sub-opening g c =
     let inside = c.self.inside in
     let walk : Walk = record {
-      frames = inside.frames.items; totals = inside.totals.items; openings = inside.openings.items; steps = inside.steps; cycles = inside.cycles } in
+      frames = inside.frames.items;
+      totals = inside.totals.items;
+      openings = inside.openings.items;
+      steps = inside.steps;
+      cycles = inside.cycles;
+    } in
     let some : 0 < length inside.frames.items = subst (λ (w : Walk). 0 < length w.frames) (sym c.self.view_is) c.requires in
     let len : vec_len inside.frames ≡ length inside.frames.items = omega arith in
     let some_len : 0 < vec_len inside.frames = omega (arith, some, len) in
@@ -28,7 +33,12 @@ pub invariant_of-self-2 : goal.invariant_of-self-2
 invariant_of-self-2 g c =
     let inside = c.self.inside in
     let walk : Walk = record {
-      frames = inside.frames.items; totals = inside.totals.items; openings = inside.openings.items; steps = inside.steps; cycles = inside.cycles } in
+      frames = inside.frames.items;
+      totals = inside.totals.items;
+      openings = inside.openings.items;
+      steps = inside.steps;
+      cycles = inside.cycles;
+    } in
     let some : 0 < length inside.frames.items = subst (λ (w : Walk). 0 < length w.frames) (sym c.self.view_is) c.requires in
     let len : vec_len inside.frames ≡ length inside.frames.items = omega arith in
     let some_len : 0 < vec_len inside.frames = omega (arith, some, len) in
@@ -48,7 +58,12 @@ pub returns-clause-alike : goal.returns-clause-alike
 returns-clause-alike g c =
     let inside = c.self.inside in
     let walk : Walk = record {
-      frames = inside.frames.items; totals = inside.totals.items; openings = inside.openings.items; steps = inside.steps; cycles = inside.cycles } in
+      frames = inside.frames.items;
+      totals = inside.totals.items;
+      openings = inside.openings.items;
+      steps = inside.steps;
+      cycles = inside.cycles;
+    } in
     let some : 0 < length inside.frames.items = subst (λ (w : Walk). 0 < length w.frames) (sym c.self.view_is) c.requires in
     let len : vec_len inside.frames ≡ length inside.frames.items = omega arith in
     let some_len : 0 < vec_len inside.frames = omega (arith, some, len) in

@@ -9,7 +9,12 @@ pub returns-in-Some-clause-kept : goal.returns-in-Some-clause-kept
 returns-in-Some-clause-kept g c = λ e.
     let inside = c.self.inside in
     let walk : Walk = record {
-      frames = inside.frames.items; totals = inside.totals.items; openings = inside.openings.items; steps = inside.steps; cycles = inside.cycles } in
+      frames = inside.frames.items;
+      totals = inside.totals.items;
+      openings = inside.openings.items;
+      steps = inside.steps;
+      cycles = inside.cycles;
+    } in
     let frames = inside.frames.items in
     let last : c.in-Some.frame.now ≡ frame_at frames (length frames - 1)
     = c.in-Some.ensures.item.3.1 base ∙ ap (λ (l : List Frame). frame_at l (length l - 1)) c.deref.ensures.value in

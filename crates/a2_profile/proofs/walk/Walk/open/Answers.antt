@@ -16,14 +16,26 @@ overflow_add-opening g c =
     let read : c.index-opening.result.now ≡ opening_at inside.openings.items c.args.routine
     = get_or_read_under inside.openings.items c.args.routine (length inside.openings.items) c.index-opening.result.now closed c.index-opening.ensures low refl in
     let read-depth : c.index-opening.result.now.depth ≡ (opening_at inside.openings.items c.args.routine).depth = ap (λ (o : Opening). o.depth) read in
-    omega (arith, read-depth, c.self.invariant.depths c.args.routine c.requires.routine, count_by-le-length (λ (f : Frame). nat_eq f.routine c.args.routine) inside.frames.items,
-      c.in_ok-push.ensures.len, c.len.ensures, c.len.type_inv)
+    omega (
+      arith,
+      read-depth,
+      c.self.invariant.depths c.args.routine c.requires.routine,
+      count_by-le-length (λ (f : Frame). nat_eq f.routine c.args.routine) inside.frames.items,
+      c.in_ok-push.ensures.len,
+      c.len.ensures,
+      c.len.type_inv,
+    )
 
 pub invariant_of-self-2 : goal.invariant_of-self-2
 invariant_of-self-2 g c =
     let inside = c.self.inside in
     let walk : Walk = record {
-      frames = inside.frames.items; totals = inside.totals.items; openings = inside.openings.items; steps = inside.steps; cycles = inside.cycles } in
+      frames = inside.frames.items;
+      totals = inside.totals.items;
+      openings = inside.openings.items;
+      steps = inside.steps;
+      cycles = inside.cycles;
+    } in
     let low : c.args.routine < length inside.openings.items = omega (arith, c.self.invariant.openings_size, c.requires.routine) in
     opened-is walk c.args.routine c.args.s c.self.invariant c.requires.routine
     (subst (λ (w : Walk). All (λ (f : Frame). c.args.s ≤ f.s) w.frames) (sym c.self.view_is) c.requires.low) c.push.new.self.items c.index-opening.result.now c.begun.result c.begun-2.result
