@@ -36,14 +36,14 @@ export async function browser() {
     for (const begun = Date.now(); !events.some(test); await sleep(5)) if (Date.now() - begun > 300000) throw new Error('Chromium does not answer');
   };
 
-  // A page in a tab of its own, of this size, and in light or dark colours.
-  const open = async (url, {width = 1280, height = 900, dark = false} = {}) => {
+  // A page in a tab of its own, of this size, in light or dark colours, and on the screen or as it is printed.
+  const open = async (url, {width = 1280, height = 900, dark = false, media = 'screen'} = {}) => {
     const {targetId} = await send('Target.createTarget', {url: 'about:blank'});
     const {sessionId} = await send('Target.attachToTarget', {targetId, flatten: true});
     const call = (method, params) => send(method, params, sessionId);
     for (const part of ['Page', 'Runtime', 'Network', 'Log']) await call(part + '.enable');
     await call('Emulation.setDeviceMetricsOverride', {width, height, deviceScaleFactor: 1, mobile: width < 500});
-    await call('Emulation.setEmulatedMedia', {features: [{name: 'prefers-color-scheme', value: dark ? 'dark' : 'light'}]});
+    await call('Emulation.setEmulatedMedia', {media, features: [{name: 'prefers-color-scheme', value: dark ? 'dark' : 'light'}]});
     const begun = performance.now();
     await call('Page.navigate', {url});
     await until(event => event.sessionId == sessionId && event.method == 'Page.loadEventFired');

@@ -80,7 +80,34 @@ await sleep(100);
 await is('Enter on play', 'timer>0', true);
 await page.key('Enter');
 await is('Enter on play again', 'timer', 0);
-await page.value('go(9);$("src").focus()');
+await page.value('go(5);$("goto").value="33";$("gob").focus()');
+await page.key('Enter');
+await is('Enter on Go', 'at', 33);
+await page.value('$("at").focus()');
+await page.key('ArrowRight');
+await is('an arrow on the slider', '[at,$("at").value]', '34,34');
+for (const name of ['speed', 'pg']) {
+  await page.value(`v_=$("${name}").selectedIndex;$("${name}").focus()`);
+  await page.key('ArrowDown');
+  await is(`an arrow in the list ${name}`, `$("${name}").selectedIndex-v_`, 1);
+}
+await is('the page of the list', 'page', await page.value('+$("pg").value'));
+await page.value('v_=$("fol").checked;$("fol").focus()');
+await page.key(' ');
+await is('Space on follow', '$("fol").checked!=v_&&!timer', true);
+await page.value('go(500);T_.querySelector("[data-r=X]").focus()');
+await page.key('Enter');
+await is('Enter on a register', 'selr', 'X');
+await page.value('pick(a_);k_=find(-1);$("whot").querySelector("button").focus()');
+await page.key('Enter');
+await is('Enter on the step that wrote it', 'at', await page.value('k_'));
+await page.value('[...$("whot").querySelectorAll("button")].find(b=>b.textContent.startsWith("Return")).focus()');
+await page.key('Enter');
+await is('Enter on the way back', 'at', 500);
+await page.value('go(123);$("link").focus()');
+await page.key('Enter');
+await is('Enter on the link', 'location.hash.startsWith("#step=123")&&at==123', true);
+await page.value('bps.clear();go(9);$("src").focus()');
 await page.key('ArrowDown');
 await page.key('Enter');
 await is('Enter on a line of the program', 'bps.size', 1);
@@ -119,6 +146,14 @@ for (const [width, height] of [[1280, 900], [390, 844]]) for (const dark of [fal
   told(`${name}: errors and requests`, view.faults(), '');
   await view.close();
 }
+
+// ---- on paper: no controls, all of the program, and dark colours are light there
+const paper = await chromium.open(url + '#step=401', {width: 794, height: 1123, dark: true, media: 'print'});
+told('controls on paper', await paper.value('["nav","bar","memc","whot","link"].filter(i=>getComputedStyle($(i)).display!="none")'), '');
+told('the program on paper', await paper.value('getComputedStyle($("src")).maxHeight+" "+($("src").scrollHeight-$("src").clientHeight)'), 'none 0');
+told('wider than the paper', await paper.value('document.documentElement.scrollWidth-document.documentElement.clientWidth'), 0);
+told('contrast on paper', await paper.value(LOW), '');
+told('errors on paper', paper.faults(), '');
 await chromium.close();
 console.log(`${passed} passed, ${failed} failed`);
 process.exit(failed ? 1 : 0);
