@@ -7,10 +7,36 @@ use Rattle.std.proofs.lemmas.List.{append-nil, take_more, take_all}
 use Rattle.a2_page.proofs.Parts.{range-at}
 use Rattle.a2_bus.specs.Memory.{Memory, ram_byte, ram_end, peek}
 use Rattle.a2_film.specs.Changes.{Store, bytes_at, differing}
-use Rattle.a2_film.specs.Rows.{store_text, stores_text, no_address}
+use Rattle.a2_film.specs.Rows.{fields_of_parts, store_text, stores_text, no_address}
 use Rattle.a2_film.specs.Filmed.{from_address, next_behind, Appends}
 use Rattle.a2_film.proofs.Parts.{differing-alike, peek-some, peek-none}
 use Rattle.a2_film.proofs.Others.{bytes_at-joined, differing-cut, differing-none}
+
+-- Fields behind one another
+
+behind : (start before after xs ys : List ℕ) → after ≡ before ++ ys → before ≡ start ++ xs → after ≡ start ++ (xs ++ ys)
+behind start before after xs ys last first = last ∙ ap (λ (l : List ℕ). l ++ ys) first ∙ append_assoc start xs ys
+
+nine-parts : (pc cycles a x y s p switches keys : List ℕ)
+    → ((((((((pc ++ cycles) ++ a) ++ x) ++ y) ++ s) ++ p) ++ switches) ++ keys)
+    ≡ fields_of_parts pc cycles a x y s p switches keys
+unfolding fields_of_parts
+nine-parts pc cycles a x y s p switches keys = simp (append_assoc, append-nil)
+
+-- nine texts that are appended one after another are the fields
+pub nine-behind : (r0 r1 r2 r3 r4 r5 r6 r7 r8 r9 pc cycles a x y s p switches keys : List ℕ)
+    → r1 ≡ r0 ++ pc → r2 ≡ r1 ++ cycles → r3 ≡ r2 ++ a → r4 ≡ r3 ++ x → r5 ≡ r4 ++ y → r6 ≡ r5 ++ s → r7 ≡ r6 ++ p
+    → r8 ≡ r7 ++ switches → r9 ≡ r8 ++ keys → r9 ≡ r0 ++ fields_of_parts pc cycles a x y s p switches keys
+nine-behind r0 r1 r2 r3 r4 r5 r6 r7 r8 r9 pc cycles a x y s p switches keys e1 e2 e3 e4 e5 e6 e7 e8 e9 =
+    let f2 = behind r0 r1 r2 pc cycles e2 e1 in
+    let f3 = behind r0 r2 r3 (pc ++ cycles) a e3 f2 in
+    let f4 = behind r0 r3 r4 ((pc ++ cycles) ++ a) x e4 f3 in
+    let f5 = behind r0 r4 r5 (((pc ++ cycles) ++ a) ++ x) y e5 f4 in
+    let f6 = behind r0 r5 r6 ((((pc ++ cycles) ++ a) ++ x) ++ y) s e6 f5 in
+    let f7 = behind r0 r6 r7 (((((pc ++ cycles) ++ a) ++ x) ++ y) ++ s) p e7 f6 in
+    let f8 = behind r0 r7 r8 ((((((pc ++ cycles) ++ a) ++ x) ++ y) ++ s) ++ p) switches e8 f7 in
+    behind r0 r8 r9 (((((((pc ++ cycles) ++ a) ++ x) ++ y) ++ s) ++ p) ++ switches) keys e9 f8
+    ∙ ap (λ (l : List ℕ). r0 ++ l) (nine-parts pc cycles a x y s p switches keys)
 
 -- Stores behind others
 

@@ -12,7 +12,7 @@ use Rattle.a2_machine.specs.declared.Cause.TheVariants.{Limit}
 use Rattle.a2_machine.specs.ByteRun.{bytes}
 use Rattle.a2_machine.specs.Meaning.{Code, End, IsEnd, stuck, next, world_at}
 use Rattle.a2_machine.specs.Output.{cause_line}
-use Rattle.a2_machine.specs.State.{Device, MachineState, world_of_state, code_of, cause_of, most_steps, steps_left, IsStep}
+use Rattle.a2_machine.specs.State.{Device, world_of_state, code_of, cause_of, most_steps, steps_left, IsStep}
 use Rattle.a2_machine.specs.State as machine
 use Rattle.a2_machine.proofs.Making.{cause_told, cause_none}
 use Rattle.a2_machine.proofs.RunFrom.{run_from}
@@ -35,23 +35,27 @@ cause-stuck d low = go (stuck (code_of d.state) (world_of_state d.state)) refl
     go None e = sym (cause_none d e low) ∙ sym e
     go (Some cause) e = sym (cause_told d cause e) ∙ sym e
 
--- so many steps are made, and their rows went out
-pub record IsFilmed (code : Code) (start : World) (a b : Taker) (d : Device) (n : ℕ) : Type 0 where
+-- so many steps are made, and their rows went out, but for those that are kept
+pub record IsFilmed (code : Code) (start : World) (a b : Taker) (d : Device) (n : ℕ) (kept : List ℕ) : Type 0 where
   pub low : d.state.steps < n + 4_294_967_296
   pub world : world_of_state d.state ≡ world_at code start n
   pub code_is : code_of d.state ≡ code
   pub going : (k : ℕ) → k < n → stuck code (world_at code start k) ≡ None
-  pub sent : Sends a b (rows code start n)
+  pub out : List ℕ
+  pub sent : Sends a b out
+  pub all : out ++ kept ≡ rows code start n
 
-pub filmed-none : (d : Device) (a : Taker) → d.state.steps < 4_294_967_296 → IsFilmed (code_of d.state) (world_of_state d.state) a
-    a d 0
+pub filmed-none : (d : Device) (a : Taker) (kept : List ℕ) → d.state.steps < 4_294_967_296 → kept ≡ []
+    → IsFilmed (code_of d.state) (world_of_state d.state) a a d 0 kept
 unfolding world_at
-filmed-none d a e = record {
+filmed-none d a kept e none = record {
   low = omega (arith, e);
   world = refl;
   code_is = refl;
   going = λ k lt. absurd (omega (arith, lt));
+  out = [];
   sent = Sends-nil a;
+  all = none;
 }
 
 below_next : (n : ℕ) (P : ℕ → Type 0) → P n → ((k : ℕ) → k < n → P k) → (k : ℕ) → k < suc n → P k
@@ -65,47 +69,64 @@ below_next n P here before k lt = go (split k lt)
     go (inr l) = before k l
 
 -- a machine that steps is not stuck
-steps-on : (code : Code) (start : World) (a b : Taker) (d : Device) (n : ℕ) → IsFilmed code start a b d n
+steps-on : (code : Code) (start : World) (a b : Taker) (d : Device) (n : ℕ) (kept : List ℕ) → IsFilmed code start a b d n kept
     → n + 4_294_967_296 ≤ most_steps → None ≡ cause_of d.state
     → stuck code (world_at code start n) ≡ None
-steps-on code start a b d n h low none =
+steps-on code start a b d n kept h low none =
     sym (subst (λ k. stuck k (world_of_state d.state) ≡ stuck code (world_at code start n)) (sym h.code_is)
     (ap (stuck code) h.world))
     ∙ sym (cause-stuck d (omega (arith, h.low, low))) ∙ sym none
 
 -- the row of the next step, behind those before it
-next-rows : (code : Code) (start : World) (a b : Taker) (old new : Device) (n : ℕ) → IsFilmed code start a b old n
-    → IsStep old new
+next-rows : (code : Code) (start : World) (a b : Taker) (old new : Device) (n : ℕ) (kept : List ℕ)
+    → IsFilmed code start a b old n kept → IsStep old new
     → rows code start n ++ row_between old new ≡ rows code start (n + 1)
 unfolding world_at
-next-rows code start a b old new n h step =
+next-rows code start a b old new n kept h step =
     let one : suc n ≡ n + 1 = omega arith in
     let after : world_of_state new.state ≡ world_at code start (suc n) =
     step.world ∙ ap (λ (k : Code). next k (world_of_state old.state)) h.code_is ∙ ap (next code) h.world in
     ap₂ (λ (v w : World). rows code start n ++ row_text (change_of v w)) h.world after ∙ ap (rows code start) one
 
--- a step was made, and its row went out
-pub filmed-next : (code : Code) (start : World) (a b e : Taker) (old new : Device) (n : ℕ) → IsFilmed code start a b old n
-    → n + 4_294_967_296 ≤ most_steps
-    → FilmsStep old new b e (Ok None) → IsFilmed code start a e new (n + 1)
+-- a step was made, and its row is kept
+pub filmed-next : (code : Code) (start : World) (a b : Taker) (old new : Device) (n : ℕ) (kept after : List ℕ)
+    → IsFilmed code start a b old n kept → n + 4_294_967_296 ≤ most_steps → FilmsStep old new kept after None
+    → IsFilmed code start a b new (n + 1) after
 unfolding world_at
-filmed-next code start a b e old new n h low (none, step, row) =
+filmed-next code start a b old new n kept after h low (none, step, row) =
     let one : suc n ≡ n + 1 = omega arith in record {
       low = omega (arith, h.low, step.steps);
       world = step.world ∙ ap (λ (k : Code). next k (world_of_state old.state)) h.code_is ∙ ap (next code) h.world
           ∙ ap (world_at code start) one;
       code_is = ap bytes step.guard ∙ h.code_is;
       going = subst (λ (m : ℕ). (k : ℕ) → k < m → stuck code (world_at code start k) ≡ None) one
-          (below_next n (λ k. stuck code (world_at code start k) ≡ None) (steps-on code start a b old n h low none) h.going);
-      sent = subst (Sends a e) (next-rows code start a b old new n h step) (Sends-then a b e _ _ h.sent row);
+          (below_next n (λ k. stuck code (world_at code start k) ≡ None) (steps-on code start a b old n kept h low none) h.going);
+      out = h.out;
+      sent = h.sent;
+      all = ap (λ (l : List ℕ). h.out ++ l) row ∙ sym (append_assoc h.out kept (row_between old new))
+          ∙ ap (λ (l : List ℕ). l ++ row_between old new) h.all ∙ next-rows code start a b old new n kept h step;
     }
+
+-- rows that were kept went out
+pub filmed-handed : (code : Code) (start : World) (a b c : Taker) (d : Device) (n : ℕ) (kept left : List ℕ)
+    → IsFilmed code start a b d n kept → ((sent : List ℕ) × (kept ≡ sent ++ left) × Sends b c sent)
+    → IsFilmed code start a c d n left
+filmed-handed code start a b c d n kept left h (sent, parts, out) = record {
+  low = h.low;
+  world = h.world;
+  code_is = h.code_is;
+  going = h.going;
+  out = h.out ++ sent;
+  sent = Sends-then a b c h.out sent h.sent out;
+  all = append_assoc h.out sent left ∙ ap (λ (l : List ℕ). h.out ++ l) (sym parts) ∙ h.all;
+}
 
 -- The end of the run
 
-pub end-stuck : (code : Code) (start : World) (a b : Taker) (d : Device) (n limit : ℕ) (cause : Cause)
-    → IsFilmed code start a b d n → n ≤ limit → n + 4_294_967_296 ≤ most_steps
+pub end-stuck : (code : Code) (start : World) (a b : Taker) (d : Device) (n limit : ℕ) (kept : List ℕ) (cause : Cause)
+    → IsFilmed code start a b d n kept → n ≤ limit → n + 4_294_967_296 ≤ most_steps
     → Some cause ≡ cause_of d.state → IsEnd code start limit (record { world = world_of_state d.state; steps = n; cause = cause })
-end-stuck code start a b d n limit cause h within low e = record {
+end-stuck code start a b d n limit kept cause h within low e = record {
   within = within;
   reached = h.world;
   first = h.going;
@@ -113,12 +134,12 @@ end-stuck code start a b d n limit cause h within low e = record {
       (sym (cause-stuck d (omega (arith, h.low, low))) ∙ sym e));
 }
 
-pub end-limit : (code : Code) (start : World) (a b : Taker) (old new : Device) (limit : ℕ) (cause : Cause)
-    → IsFilmed code start a b old limit
+pub end-limit : (code : Code) (start : World) (a b : Taker) (old new : Device) (limit : ℕ) (kept : List ℕ) (cause : Cause)
+    → IsFilmed code start a b old limit kept
     → machine.IsMachineRun 0 old new cause → IsEnd code start limit
     (record { world = world_of_state old.state; steps = limit; cause = cause })
 unfolding world_at
-end-limit code start a b old new limit cause h run =
+end-limit code start a b old new limit kept cause h run =
     let none : new.state.steps - old.state.steps ≡ 0 = omega (arith, run.end.within) in
     let reached : world_of_state new.state ≡ world_of_state old.state =
     run.end.reached ∙ ap (world_at (code_of old.state) (world_of_state old.state)) none in
@@ -143,26 +164,32 @@ end-limit code start a b old new limit cause h run =
     why (inl is) = inl is
     why (inr is) = inr (is.0, refl, is.2)
 
--- the cause line goes out behind the rows, or breaks off
-pub films-end : (code : Code) (start : World) (a b c : Taker) (d : Device) (n limit : ℕ) (cause : Cause)
-    (r : Result Cause WriteFault) → IsFilmed code start a b d n
+-- the rows that are left go out with the cause line, or break off
+pub films-end : (code : Code) (start : World) (a b c : Taker) (d : Device) (n limit : ℕ) (kept : List ℕ) (cause : Cause)
+    (r : Result Cause WriteFault) → IsFilmed code start a b d n kept
     → IsEnd code start limit (record { world = world_of_state d.state; steps = n; cause = cause })
-    → SendsOrBreaks b c r (cause_line cause) → IfOk r (λ told. told ≡ cause)
+    → SendsOrBreaks b c r (kept ++ cause_line cause) → IfOk r (λ told. told ≡ cause)
     → Films code start limit a c r
-films-end code start a b c d n limit cause (Ok told) h is sent same =
-    let end : End = record { world = world_of_state d.state; steps = n; cause = cause } in (
+films-end code start a b c d n limit kept cause r h is sent same = go r sent same
+  where
+    end : End
+    end = record { world = world_of_state d.state; steps = n; cause = cause }
+
+    lines : h.out ++ (kept ++ cause_line cause) ≡ run_lines code start end
+    lines = sym (append_assoc h.out kept (cause_line cause)) ∙ ap (λ (l : List ℕ). l ++ cause_line cause) h.all
+
+    go : (r : Result Cause WriteFault) → SendsOrBreaks b c r (kept ++ cause_line cause) → IfOk r (λ told. told ≡ cause)
+        → Films code start limit a c r
+    go (Ok told) out is_cause = (
       run_lines code start end,
-      record { end = end; is_end = is; cause_is = same; output_is = refl },
-      Sends-then a b c _ _ h.sent
-          sent,
+      record { end = end; is_end = is; cause_is = is_cause; output_is = refl },
+      subst (Sends a c) lines (Sends-then a b c _ _ h.sent out),
     )
-films-end code start a b c d n limit cause (Err _) h is broke same =
-    let end : End = record { world = world_of_state d.state; steps = n; cause = cause } in (
+    go (Err _) broke is_cause = (
       cause,
       run_lines code start end,
       record { end = end; is_end = is; cause_is = refl; output_is = refl },
-      Breaks-then a b c _ _
-          h.sent broke,
+      subst (Breaks a c) lines (Breaks-then a b c _ _ h.sent broke),
     )
 
 -- The rows of more steps begin with those of fewer
@@ -215,29 +242,23 @@ lines-broken code start a c n limit going within broke =
       subst (λ (l : List ℕ). Breaks a c (l ++ cause_line end.cause)) lines cut,
     )
 
-pub films-broken : (code : Code) (start : World) (a b e : Taker) (old new : Device) (n limit : ℕ) (r : Result Cause WriteFault)
-    → IsErr r
-    → IsFilmed code start a b old n → n < limit → n + 4_294_967_296 ≤ most_steps → (None ≡ cause_of old.state) × IsStep old new
-    × Breaks b e (row_between old new)
-    → Films code start limit a e r
-films-broken code start a b e old new n limit (Ok _) failed h within low broke = cc
-films-broken code start a b e old new n limit (Err _) failed h within low (none, step, broke) =
-    let one : suc n ≡ n + 1 = omega arith in
-    let le : n + 1 ≤ limit = omega (arith, within) in
-    lines-broken code start a e (n + 1) limit
-    (subst (λ (m : ℕ). (k : ℕ) → k < m → stuck code (world_at code start k) ≡ None) one
-    (below_next n (λ k. stuck code (world_at code start k) ≡ None) (steps-on code start a b old n h low none) h.going))
-    le (subst (Breaks a e) (next-rows code start a b old new n h step) (Breaks-then a b e _ _ h.sent broke))
+pub films-broken : (code : Code) (start : World) (a b c : Taker) (d : Device) (n limit : ℕ) (kept : List ℕ)
+    (r : Result Cause WriteFault) → IsErr r → IsFilmed code start a b d n kept → n ≤ limit
+    → Breaks b c kept → Films code start limit a c r
+films-broken code start a b c d n limit kept (Ok _) failed h within broke = cc
+films-broken code start a b c d n limit kept (Err _) failed h within broke =
+    lines-broken code start a c n limit h.going within (subst (Breaks a c) h.all (Breaks-then a b c _ _ h.sent broke))
 
 -- a cause forbids the next step, and its line goes out or breaks off
-pub films-stuck : (code : Code) (start : World) (a b e c : Taker) (old new : Device) (n limit : ℕ) (cause : Cause)
+pub films-stuck : (code : Code) (start : World) (a b c : Taker) (old new : Device) (n limit : ℕ) (kept after : List ℕ) (cause : Cause)
     (r : Result Cause WriteFault)
-    → IsFilmed code start a b old n → n < limit → n + 4_294_967_296 ≤ most_steps → FilmsStep old new b e (Ok (Some cause))
-    → SendsOrBreaks e c r (cause_line cause) → IfOk r (λ told. told ≡ cause) → Films code start limit a c r
-films-stuck code start a b e c old new n limit cause r h within low (why, kept, none) sent same =
-    films-end code start a b c old n limit cause r h
-    (end-stuck code start a b old n limit cause h (omega (arith, within)) low why)
-    (subst (λ (t : Taker). SendsOrBreaks t c r (cause_line cause)) none sent) same
+    → IsFilmed code start a b old n kept → n < limit → n + 4_294_967_296 ≤ most_steps
+    → FilmsStep old new kept after (Some cause)
+    → SendsOrBreaks b c r (after ++ cause_line cause) → IfOk r (λ told. told ≡ cause) → Films code start limit a c r
+films-stuck code start a b c old new n limit kept after cause r h within low (why, same, none) sent told =
+    films-end code start a b c old n limit kept cause r h
+    (end-stuck code start a b old n limit kept cause h (omega (arith, within)) low why)
+    (subst (λ (l : List ℕ). SendsOrBreaks b c r (l ++ cause_line cause)) none sent) told
 
 -- The end of the page behind the run
 

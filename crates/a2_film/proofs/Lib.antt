@@ -2,6 +2,7 @@ pub mod Parts
 pub mod Reached
 pub mod Others
 pub mod Appending
+pub mod OneStep
 pub mod Stepping
 pub mod Filming
 pub mod Following

@@ -1,7 +1,7 @@
 -- What the calls for a step write is the row of the step.
 use Rattle.std.proofs.Common.{◌≡◌, ℕ, ◌-◌, ◌<◌, ◌≤◌, List, ◌++◌, length, codes, slice_index, slice_range, slice_get, Option, Some}
-use Rattle.std.proofs.Common.{None, is_some, true, false, refl, sym, ap, ap₂, ◌∙◌, arith, append_assoc, true≢false, Result, Ok}
-use Rattle.std.proofs.Common.{Err, IsErr}
+use Rattle.std.proofs.Common.{None, is_some, true, false, refl, sym, ap, ap₂, ◌∙◌, arith, append_assoc, true≢false, Ok}
+use Rattle.std.proofs.Common.{Err}
 use Rattle.a2_opcode.specs.Encoding.{Fetched, no_byte, undocumented, instruction, fetched}
 use Rattle.a2_bus.specs.BusState.{BusState, board_access}
 use Rattle.a2_bus.specs.Memory.{ram_byte, ram_end, peek, memory_access}
@@ -16,14 +16,11 @@ use Rattle.a2_services.specs.declared.Service.{Service}
 use Rattle.a2_services.specs.Services.{service_at, reach, served}
 use Rattle.a2_services.proofs.Effects.{served-kept}
 use Rattle.a2_services.specs.World.{World, world_of}
-use Rattle.a2_stream.specs.Stream.{Taker, Breaks}
-use Rattle.a2_stream.specs.declared.WriteFault.{WriteFault}
-use Rattle.a2_machine.specs.declared.Cause.{Cause}
 use Rattle.a2_machine.specs.Meaning.{Code, found_at_pc, next, next_at}
-use Rattle.a2_machine.specs.State.{Device, world_of_state, code_of, cause_of, IsStep}
+use Rattle.a2_machine.specs.State.{Device, world_of_state, code_of, IsStep}
 use Rattle.a2_machine.proofs.Outcomes.{stores-world, fetched-world}
 use Rattle.a2_film.specs.Changes.{Store, stored, bytes_at, differing}
-use Rattle.a2_film.specs.Filmed.{Seen, seen_of, fields_between, row_between, low_end, from_address, FilmsStep}
+use Rattle.a2_film.specs.Filmed.{Seen, seen_of, fields_between, row_between, low_end, from_address}
 use Rattle.a2_film.specs.Rows.{stores_text, no_address}
 use Rattle.a2_film.proofs.Parts.{differing-alike}
 use Rattle.a2_film.proofs.Reached.{reach-below, reach-above, reach-between, low_end-least, low_end-most}
@@ -79,12 +76,13 @@ stored-by_service before after some = go (service_at before.registers.pc) some
     go None is = absurd (true≢false (sym is))
     go (Some service) is = refl
 
--- what is built for a step is its row, up to its end
-pub row_of : (row start fields stores whole : List ℕ) → row ≡ start ++ stores → start ≡ fields → fields
-    ++ (stores ++ codes "\n") ≡ whole → row ++ codes "\n" ≡ whole
-row_of row start fields stores whole stored begun is =
-    ap (λ (l : List ℕ). l ++ codes "\n") (stored ∙ ap (λ (l : List ℕ). l ++ stores) begun)
-    ∙ append_assoc fields stores (codes "\n") ∙ is
+-- what is built for a step is its row, behind the others
+pub row_of : (rows start row all fields stores whole : List ℕ) → all ≡ row ++ codes "\n" → row ≡ start ++ stores
+    → start ≡ rows ++ fields → fields ++ (stores ++ codes "\n") ≡ whole → all ≡ rows ++ whole
+row_of rows start row all fields stores whole ended stored begun is =
+    ended ∙ ap (λ (l : List ℕ). l ++ codes "\n") (stored ∙ ap (λ (l : List ℕ). l ++ stores) begun)
+    ∙ append_assoc (rows ++ fields) stores (codes "\n") ∙ append_assoc rows fields (stores ++ codes "\n")
+    ∙ ap (λ (l : List ℕ). rows ++ l) is
 
 -- the row of an instruction's step, by the addresses that the processor tells before it
 pub instruction_row : (old new : Device) (seen : Seen) (addresses : List ℕ) → is_some (service_at old.state.regs.pc) ≡ false
@@ -169,10 +167,3 @@ service_row old new seen service ram page end there step size is end_is long hel
         differing-alike (from_address 0x400 page) was now now 0x400 0x400
         (λ k high low. page-seen old.state.bus page k size paged high (omega (arith, low)))
         (λ k high low. refl)
-
--- a step's row broke off, and the result says so
-pub films-err : (old new : Device) (a b : Taker) (r : Result (Option Cause) WriteFault) → IsErr r → None ≡ cause_of old.state
-    → IsStep old new
-    → Breaks a b (row_between old new) → FilmsStep old new a b r
-films-err old new a b (Ok _) failed none step broke = cc
-films-err old new a b (Err _) failed none step broke = (none, step, broke)

@@ -62,9 +62,12 @@ IsCut text front behind = (text ≡ front ++ 0x20 ∷ behind) × All (λ c. c �
 abbrev pub low_end : Service → ℕ
 low_end service = if reach service 0x2FF then 0x300 else 0x33
 
--- how many bytes a row has room for
-abbrev pub row_room : ℕ
-row_room = 12400
+-- how many bytes rows have room for, and with how many at most there is room for one more
+abbrev pub rows_room : ℕ
+rows_room = 13424
+
+abbrev pub most_kept : ℕ
+most_kept = 1024
 
 -- the address behind the last of these stores, or the one given where there is none
 abbrev pub next_behind : ℕ → List Store → ℕ
@@ -83,11 +86,15 @@ from_address first bytes a = slice_index bytes (a - first)
 abbrev pub row_between : Device → Device → List ℕ
 row_between old new = row_text (change_of (world_of_state old.state) (world_of_state new.state))
 
--- a step was made and its row went out, or a front of it and a write failed; or a cause forbids the step, and nothing was done
-abbrev pub FilmsStep : Device → Device → Taker → Taker → Result (Option Cause) WriteFault → Type 0
-FilmsStep old new a b (Ok None) = (None ≡ cause_of old.state) × IsStep old new × Sends a b (row_between old new)
-FilmsStep old new a b (Ok (Some cause)) = (Some cause ≡ cause_of old.state) × (new ≡ old) × (b ≡ a)
-FilmsStep old new a b (Err _) = (None ≡ cause_of old.state) × IsStep old new × Breaks a b (row_between old new)
+-- a step was made and its row stands behind the others; or a cause forbids the step, and nothing was done
+abbrev pub FilmsStep : Device → Device → List ℕ → List ℕ → Option Cause → Type 0
+FilmsStep old new rows after None = (None ≡ cause_of old.state) × IsStep old new × (after ≡ rows ++ row_between old new)
+FilmsStep old new rows after (Some cause) = (Some cause ≡ cause_of old.state) × (new ≡ old) × (after ≡ rows)
+
+-- a front of the rows went out, and the others are kept; or a write failed behind a front
+abbrev pub HandsOn : {T E : Type 0} → Taker → Taker → List ℕ → List ℕ → Result T E → Type 0
+HandsOn a b rows kept (Ok _) = (sent : List ℕ) × (rows ≡ sent ++ kept) × Sends a b sent
+HandsOn a b rows kept (Err _) = Breaks a b rows
 
 -- the lines of a run went out; or a front of them, and a write failed
 abbrev pub Films : Code → World → ℕ → Taker → Taker → Result Cause WriteFault → Type 0

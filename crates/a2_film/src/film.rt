@@ -1,6 +1,6 @@
 //! The film of a run.
 
-ghost use Rattle.std.specs.Prelude.{◌≡◌, ◌<◌, ◌++◌, ℕ, length, true, false, is_some, codes, map, IfOk, Some, slice_index};
+ghost use Rattle.std.specs.Prelude.{◌≡◌, ◌<◌, ◌≤◌, ◌++◌, ℕ, length, false, is_some, map, IfOk, Some, slice_index};
 ghost use Rattle.std.specs.List.{flat_map};
 ghost use Rattle.arrayvec.specs.ArrayVec.{array_vec_len};
 ghost use Rattle.a2_stream.specs.Stream.{SendsOrBreaks};
@@ -12,16 +12,16 @@ ghost use Rattle.a2_run.specs.Answers.{Answers, OfSource, is_read_fault};
 ghost use Rattle.a2_run.specs.Meaning.{IsRefused};
 ghost use Rattle.a2_film_page.specs.Page as page;
 ghost use Rattle.a2_film.specs.Film.{IsFilmOf};
-ghost use Rattle.a2_film.specs.Filmed.{row_room, FilmsStep, Films, FilmsRest};
+ghost use Rattle.a2_film.specs.Filmed.{most_kept, seen_by, seen_of, FilmsStep, HandsOn, Films, FilmsRest};
 ghost use Rattle.a2_film.specs.Rows as spelt;
 
 use crate::chapters::Chapter;
 use crate::head::{put_chapters, put_opening, put_program, put_start};
 use crate::kept::{append_changes, keep_low, low_end};
-use crate::rows::{Moment, Row, append_listed, begin_row};
+use crate::rows::{MOST_KEPT, Moment, Rows, append_listed, begin_row};
+use crate::steps::{make_step, stores_at_pc};
 use a2_asm::Program;
 use a2_bus::Keys;
-use a2_cpu::writes;
 use a2_film_page::{head, tail};
 use a2_hex::RAM_END;
 use a2_machine::{Cause, Machine, write_cause};
@@ -40,85 +40,97 @@ pub struct Window {
     pub steps: u32,
 }
 
-// Ends the row, and writes it.
-fn put_row<W: Output>(row: &mut Row, writer: &mut W) -> Result<(), WriteFault>
-    requires { array_vec_len row.old < row_room }
-    ensures { SendsOrBreaks (W.taker writer.old) (W.taker writer.new) result (row.old.items ++ codes "\n") }
-{
-    row.push(b'\n');
-    put(row.as_slice(), writer)
-}
-
-// Makes the call of a service and writes its row; or answers the cause that forbids it.
-fn film_call<A: Allocator, W: Output>(
+// Makes the call of a service and appends its row; or answers the cause that forbids it.
+fn film_call<A: Allocator>(
     service: Service,
     machine: &mut Machine<A>,
+    seen: &mut Moment,
     ram: &mut [u8],
-    row: &mut Row,
-    writer: &mut W,
-) -> Result<Option<Cause>, WriteFault>
+    rows: &mut Rows,
+) -> Option<Cause>
     requires size { length ram.old ≡ ram_end }
     requires service { Some service ≡ service_at_of machine.old.state.regs.pc }
-    ensures { FilmsStep machine.old machine.new (W.taker writer.old) (W.taker writer.new) result }
+    requires seen { seen_by seen.old ≡ seen_of (world_of_state machine.old.state) }
+    requires room { array_vec_len rows.old ≤ most_kept }
+    ensures step { FilmsStep machine.old machine.new rows.old.items rows.new.items result }
+    ensures seen { seen_by seen.new ≡ seen_of (world_of_state machine.new.state) }
 {
-    let before = Moment::of(machine);
     // For the prover alone: all of RAM is there.
     let _ = machine.peek(0);
     let end = low_end(service);
     keep_low(end, machine, ram);
     let page1 = *machine.view().page1;
-    if let Some(cause) = machine.step() {
-        return Ok(Some(cause));
+    if let Some(cause) = make_step(machine) {
+        return Some(cause);
     }
-    begin_row(row, &before, &Moment::of(machine));
-    append_changes(row, end, ram, &page1, machine);
-    put_row(row, writer)?;
-    Ok(None)
+    begin_row(rows, seen, machine);
+    append_changes(rows, end, ram, &page1, machine);
+    rows.push(b'\n');
+    None
 }
 
-// Does an instruction and writes its row; or answers the cause that forbids it.
-fn film_instruction<A: Allocator, W: Output>(
+// Does an instruction and appends its row; or answers the cause that forbids it.
+fn film_instruction<A: Allocator>(
     machine: &mut Machine<A>,
-    row: &mut Row,
-    writer: &mut W,
-) -> Result<Option<Cause>, WriteFault>
-    requires { is_some (service_at_of machine.old.state.regs.pc) ≡ false }
-    ensures { FilmsStep machine.old machine.new (W.taker writer.old) (W.taker writer.new) result }
+    seen: &mut Moment,
+    rows: &mut Rows,
+) -> Option<Cause>
+    requires instruction { is_some (service_at_of machine.old.state.regs.pc) ≡ false }
+    requires seen { seen_by seen.old ≡ seen_of (world_of_state machine.old.state) }
+    requires room { array_vec_len rows.old ≤ most_kept }
+    ensures step { FilmsStep machine.old machine.new rows.old.items rows.new.items result }
+    ensures seen { seen_by seen.new ≡ seen_of (world_of_state machine.new.state) }
 {
-    let before = Moment::of(machine);
     // For the prover alone: all of RAM is there.
     let _ = machine.peek(0);
-    let addresses = writes(&machine.regs(), machine.space());
-    if let Some(cause) = machine.step() {
-        return Ok(Some(cause));
+    let addresses = stores_at_pc(machine);
+    if let Some(cause) = make_step(machine) {
+        return Some(cause);
     }
-    begin_row(row, &before, &Moment::of(machine));
-    append_listed(row, addresses.as_slice(), machine);
-    put_row(row, writer)?;
-    Ok(None)
+    begin_row(rows, seen, machine);
+    append_listed(rows, addresses.as_slice(), machine);
+    rows.push(b'\n');
+    None
 }
 
-// Makes a step and writes its row; or answers the cause that forbids it.
-fn film_step<A: Allocator, W: Output>(
+// Makes a step and appends its row; or answers the cause that forbids it. `seen` is the moment before the next step.
+fn film_step<A: Allocator>(
     machine: &mut Machine<A>,
+    seen: &mut Moment,
     ram: &mut [u8],
-    row: &mut Row,
-    writer: &mut W,
-) -> Result<Option<Cause>, WriteFault>
-    requires { length ram.old ≡ ram_end }
-    ensures { FilmsStep machine.old machine.new (W.taker writer.old) (W.taker writer.new) result }
+    rows: &mut Rows,
+) -> Option<Cause>
+    requires size { length ram.old ≡ ram_end }
+    requires seen { seen_by seen.old ≡ seen_of (world_of_state machine.old.state) }
+    requires room { array_vec_len rows.old ≤ most_kept }
+    ensures step { FilmsStep machine.old machine.new rows.old.items rows.new.items result }
+    ensures seen { seen_by seen.new ≡ seen_of (world_of_state machine.new.state) }
 {
     match service_at(machine.regs().pc) {
-        Some(service) => film_call(service, machine, ram, row, writer),
-        None => film_instruction(machine, row, writer),
+        Some(service) => film_call(service, machine, seen, ram, rows),
+        None => film_instruction(machine, seen, rows),
     }
 }
 
-// Writes the cause line, and answers the cause.
-fn put_end<W: Output>(cause: Cause, writer: &mut W) -> Result<Cause, WriteFault>
-    ensures line { SendsOrBreaks (W.taker writer.old) (W.taker writer.new) result (output.cause_line cause) }
+// Writes the rows, where there is no room for one more.
+fn put_many<W: Output>(rows: &mut Rows, writer: &mut W) -> Result<(), WriteFault>
+    ensures rows { HandsOn (W.taker writer.old) (W.taker writer.new) rows.old.items rows.new.items result }
+    ensures room { IfOk result (λ _. array_vec_len rows.new ≤ most_kept) }
+{
+    if rows.len() > MOST_KEPT {
+        put(rows.as_slice(), writer)?;
+        rows.clear();
+    }
+    Ok(())
+}
+
+// Writes the rows that are left and the cause line, and answers the cause.
+#[tactic(auto, using(a2_stream::proofs::Joined::broke_off, a2_stream::proofs::Joined::went_on))]
+fn put_end<W: Output>(rows: &Rows, cause: Cause, writer: &mut W) -> Result<Cause, WriteFault>
+    ensures lines { SendsOrBreaks (W.taker writer.old) (W.taker writer.new) result (rows.now.items ++ output.cause_line cause) }
     ensures cause { IfOk result (λ told. told ≡ cause) }
 {
+    put(rows.as_slice(), writer)?;
     write_cause(cause, writer)?;
     Ok(cause)
 }
@@ -135,14 +147,16 @@ fn film_run<A: Allocator, W: Output>(
     ensures { Films (code_of machine.old.state) (world_of_state machine.old.state) limit (W.taker writer.old) (W.taker writer.new)
         result }
 {
-    let mut row = Row::new();
+    let mut seen = Moment::of(machine);
+    let mut rows = Rows::new();
     for _ in 0..limit {
-        if let Some(cause) = film_step(machine, ram, &mut row, writer)? {
-            return put_end(cause, writer);
+        if let Some(cause) = film_step(machine, &mut seen, ram, &mut rows) {
+            return put_end(&rows, cause, writer);
         }
+        put_many(&mut rows, writer)?;
     }
     let cause = machine.run(0);
-    put_end(cause, writer)
+    put_end(&rows, cause, writer)
 }
 
 // Makes so many steps, or those up to the run's end.

@@ -14,7 +14,7 @@ ghost use Rattle.a2_film.specs.Changes.{differing};
 ghost use Rattle.a2_film.specs.Rows as spelt;
 
 use crate::chapters::{Chapter, Place};
-use crate::rows::{NO_ADDRESS, Row, append_others};
+use crate::rows::{NO_ADDRESS, Rows, append_others};
 use crate::texts::{hex_digit, put_between, put_digits, switch_digit};
 use a2_asm::{Names, Program, Statement};
 use a2_hex::{Image, RAM_END};
@@ -239,16 +239,16 @@ fn put_differing<A: Allocator, W: Output>(
         SendsOrBreaks (W.taker writer.old) (W.taker writer.new) result
         (spelt.stores_text spelt.no_address (differing (slice_index old.now) new 0 ram_end)) }
 {
-    let mut row = Row::new();
+    let mut rows = Rows::new();
     let mut next = NO_ADDRESS;
     for piece in 0..PIECES {
         let first = piece * PIECE_LEN;
         let end = first + PIECE_LEN;
         let begin = usize::from(first);
         let past = usize::from(end);
-        row.clear();
-        next = append_others(&mut row, next, first, end, &old[begin..past], machine);
-        put(row.as_slice(), writer)?;
+        rows.clear();
+        next = append_others(&mut rows, next, first, end, &old[begin..past], machine);
+        put(rows.as_slice(), writer)?;
     }
     Ok(())
 }

@@ -5,10 +5,10 @@ ghost use Rattle.arrayvec.specs.ArrayVec.{array_vec_len};
 ghost use Rattle.a2_bus.specs.Memory.{ram_byte, ram_end};
 ghost use Rattle.a2_bus.specs.View.{memory_of};
 ghost use Rattle.a2_film.specs.Changes.{differing};
-ghost use Rattle.a2_film.specs.Filmed.{low_end as low_end_of, from_address, row_room, Appends};
+ghost use Rattle.a2_film.specs.Filmed.{low_end as low_end_of, from_address, most_kept, rows_room, Appends};
 ghost use Rattle.a2_film.specs.Rows as spelt;
 
-use crate::rows::{NO_ADDRESS, Row, append_others};
+use crate::rows::{NO_ADDRESS, Rows, append_others};
 use a2_bus::locations::{CH, INVFLG};
 use a2_machine::Machine;
 use a2_services::{Service, reach};
@@ -51,7 +51,7 @@ pub fn keep_low<A: Allocator>(end: u16, machine: &Machine<A>, ram: &mut [u8])
 // Appends the bytes of RAM from `first` on up to `end` that are others than these, where it has those of `now` there: none, if
 // both are the same.
 fn append_piece<A: Allocator>(
-    row: &mut Row,
+    rows: &mut Rows,
     next: u32,
     first: u16,
     end: u16,
@@ -62,29 +62,29 @@ fn append_piece<A: Allocator>(
     requires order { first ≤ end }
     requires size { length old.now ≡ end - first }
     requires inside { end ≤ ram_end }
-    requires room { array_vec_len row.old + 7 * (end - first) ≤ row_room }
+    requires room { array_vec_len rows.old + 7 * (end - first) ≤ rows_room }
     requires now { (a : ℕ) → first ≤ a → a < end → from_address first now.now a ≡ ram_byte (memory_of machine.now.state.bus) a }
     ensures stores { let new = ram_byte (memory_of machine.now.state.bus) in
-        Appends row.old.items next (differing (from_address first old.now) new first (end - first)) row.new.items result }
-    ensures length { array_vec_len row.new ≤ array_vec_len row.old + 7 * (end - first) }
+        Appends rows.old.items next (differing (from_address first old.now) new first (end - first)) rows.new.items result }
+    ensures length { array_vec_len rows.new ≤ array_vec_len rows.old + 7 * (end - first) }
 {
     if old == now {
         return next;
     }
-    append_others(row, next, first, end, old, machine)
+    append_others(rows, next, first, end, old, machine)
 }
 
 // Appends the bytes of page 1 that are others than these.
 fn append_page<A: Allocator>(
-    row: &mut Row,
+    rows: &mut Rows,
     next: u32,
     old: &[u8; 1024],
     machine: &Machine<A>,
 ) -> u32
-    requires { array_vec_len row.old + 7168 ≤ row_room }
+    requires { array_vec_len rows.old + 7168 ≤ rows_room }
     ensures stores { let new = ram_byte (memory_of machine.now.state.bus) in
-        Appends row.old.items next (differing (from_address 0x400 old.now) new 0x400 0x400) row.new.items result }
-    ensures length { array_vec_len row.new ≤ array_vec_len row.old + 7168 }
+        Appends rows.old.items next (differing (from_address 0x400 old.now) new 0x400 0x400) rows.new.items result }
+    ensures length { array_vec_len rows.new ≤ array_vec_len rows.old + 7168 }
 {
     // For the prover alone: all of RAM is there.
     let _ = machine.peek(0);
@@ -96,7 +96,7 @@ fn append_page<A: Allocator>(
         let begin = usize::from(start);
         let past = usize::from(end);
         last = append_piece(
-            row,
+            rows,
             last,
             PAGE1 + start,
             PAGE1 + end,
@@ -111,7 +111,7 @@ fn append_page<A: Allocator>(
 /// Appends the bytes of RAM that are others than before a call of a service: `ram` has those below page 1 from CH on up to an
 /// end.
 pub fn append_changes<A: Allocator>(
-    row: &mut Row,
+    rows: &mut Rows,
     end: u16,
     ram: &[u8],
     page1: &[u8; 1024],
@@ -120,14 +120,14 @@ pub fn append_changes<A: Allocator>(
     requires order { 0x24 ≤ end }
     requires end { end ≤ 0x300 }
     requires size { length ram.now ≡ ram_end }
-    requires room { array_vec_len row.old ≤ 62 }
+    requires room { array_vec_len rows.old ≤ most_kept + 62 }
     ensures stores { let new = ram_byte (memory_of machine.now.state.bus) in
-        row.new.items ≡ row.old.items ++ spelt.stores_text spelt.no_address
+        rows.new.items ≡ rows.old.items ++ spelt.stores_text spelt.no_address
         (differing (from_address 0x24 (slice_range ram.now 0x24 end)) new 0x24 (end - 0x24)
         ++ differing (from_address 0x400 page1.now) new 0x400 0x400) }
-    ensures length { array_vec_len row.new < row_room }
+    ensures length { array_vec_len rows.new < rows_room }
 {
     let low = &ram[usize::from(CH)..usize::from(end)];
-    let next = append_others(row, NO_ADDRESS, CH, end, low, machine);
-    append_page(row, next, page1, machine);
+    let next = append_others(rows, NO_ADDRESS, CH, end, low, machine);
+    append_page(rows, next, page1, machine);
 }

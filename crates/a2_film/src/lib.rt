@@ -11,6 +11,7 @@ mod film;
 mod head;
 mod kept;
 mod rows;
+mod steps;
 mod texts;
 
 pub use chapters::{Chapter, Place, ScriptFault, chapters_of};

@@ -18,7 +18,7 @@ returns-in_err-put g c =
     let start = c.loop-piece.piece * 256 in
     left_broke_off _ _ _ c.from_residual.result _ _ _ _ c.from_residual.ensures.0
     (piece-parted c.args.old.now (ram_byte (memory_of c.args.machine.now.state.bus)) c.clear.new.self.items
-    c.append_others-next.new.row.items c.loop-piece.next
+    c.append_others-next.new.rows.items c.loop-piece.next
     c.append_others-next.result start (start + 256) ((c.loop-piece.piece + 1) * 256) ram_end c.clear.ensures (omega arith)
     (omega (arith, c.loop-piece-test.true))
     (omega arith) c.requires (rw (c.from-begin.ensures, c.from-past.ensures) at c.append_others-next.ensures.stores))
@@ -29,7 +29,7 @@ loop-piece-preserved g c =
     let start = c.loop-piece.piece * 256 in
     left_more _ _ _ _ _ _ _
     (piece-parted c.args.old.now (ram_byte (memory_of c.args.machine.now.state.bus)) c.clear.new.self.items
-    c.append_others-next.new.row.items c.loop-piece.next
+    c.append_others-next.new.rows.items c.loop-piece.next
     c.append_others-next.result start (start + 256) ((c.loop-piece.piece + 1) * 256) ram_end c.clear.ensures (omega arith)
     (omega (arith, c.loop-piece-test.true))
     (omega arith) c.requires (rw (c.from-begin.ensures, c.from-past.ensures) at c.append_others-next.ensures.stores))

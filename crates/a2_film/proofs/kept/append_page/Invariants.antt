@@ -8,7 +8,7 @@ use Rattle.a2_film.proofs.kept.append_page.Given as goal
 -- those of the pieces so far stand behind the row
 abbrev pub invariant-loop-piece : goal.invariant-loop-piece
 invariant-loop-piece g l = record {
-  stores : Appends l.fn.row.items l.next
-      (differing (from_address 0x400 l.old) (ram_byte (memory_of l.machine.state.bus)) 0x400 (l.piece * 64)) l.row.items l.last;
-  room : length l.row.items ≤ length l.fn.row.items + 7 * (l.piece * 64);
+  stores : Appends l.fn.rows.items l.next
+      (differing (from_address 0x400 l.old) (ram_byte (memory_of l.machine.state.bus)) 0x400 (l.piece * 64)) l.rows.items l.last;
+  room : length l.rows.items ≤ length l.fn.rows.items + 7 * (l.piece * 64);
 }

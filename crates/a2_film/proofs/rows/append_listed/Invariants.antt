@@ -9,7 +9,7 @@ use Rattle.a2_film.proofs.rows.append_listed.Given as goal
 -- the bytes at the addresses so far stand behind the row
 abbrev pub invariant-loop-address : goal.invariant-loop-address
 invariant-loop-address g l = record {
-  stores : Appends l.fn.row.items no_address
-      (bytes_at (ram_byte (memory_of l.machine.state.bus)) (take l.address-index l.addresses)) l.row.items l.next;
-  room : length l.row.items ≤ length l.fn.row.items + 7 * l.address-index;
+  stores : Appends l.fn.rows.items no_address
+      (bytes_at (ram_byte (memory_of l.machine.state.bus)) (take l.address-index l.addresses)) l.rows.items l.next;
+  room : length l.rows.items ≤ length l.fn.rows.items + 7 * l.address-index;
 }

@@ -13,8 +13,8 @@ loop-address-preserved g c =
     let a = c.loop-address.address in
     let low : a < ram_end = omega (arith, c.loop-address-test.true, c.requires.inside) in record {
       from = omega (arith, c.loop-address.invariant.from);
-      stores = other-looked (from_address c.args.first c.args.old.now) (ram_byte memory) c.args.row.now.items
-          c.loop-address.row.items c.append_other-last.new.row.items
+      stores = other-looked (from_address c.args.first c.args.old.now) (ram_byte memory) c.args.rows.now.items
+          c.loop-address.rows.items c.append_other-last.new.rows.items
           c.args.next c.loop-address.last c.append_other-last.result c.args.first a (slice_index c.args.old.now c.from.result)
           c.unwrap_or-byte.result
           c.loop-address.invariant.from (ap (λ (i : ℕ). slice_index c.args.old.now i) c.from.ensures)
@@ -27,7 +27,7 @@ pub loop-address-init : goal.loop-address-init
 loop-address-init g c = record {
   from = omega arith;
   stores = appends-empty (from_address c.args.first c.args.old.now) (ram_byte (memory_of c.args.machine.now.state.bus))
-      c.args.row.now.items c.args.next
+      c.args.rows.now.items c.args.next
       c.args.first (c.args.first - c.args.first) (omega arith);
   room = omega arith;
 }
@@ -36,7 +36,7 @@ pub returns-clause-stores : goal.returns-clause-stores
 returns-clause-stores g c =
     let all : c.loop-address.address ≡ c.args.end =
     omega (arith, c.loop-address-test.false, c.loop-address.auto.address-end, c.requires.order) in
-    subst (λ (a : ℕ). Appends c.args.row.now.items c.args.next
+    subst (λ (a : ℕ). Appends c.args.rows.now.items c.args.next
     (differing (from_address c.args.first c.args.old.now) (ram_byte (memory_of c.args.machine.now.state.bus)) c.args.first
     (a - c.args.first))
-    c.loop-address.row.items c.loop-address.last) all c.loop-address.invariant.stores
+    c.loop-address.rows.items c.loop-address.last) all c.loop-address.invariant.stores

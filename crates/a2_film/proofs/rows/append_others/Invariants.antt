@@ -9,8 +9,8 @@ use Rattle.a2_film.proofs.rows.append_others.Given as goal
 abbrev pub invariant-loop-address : goal.invariant-loop-address
 invariant-loop-address g l = record {
   from : l.first ≤ l.address;
-  stores : Appends l.fn.row.items l.next
+  stores : Appends l.fn.rows.items l.next
       (differing (from_address l.first l.old) (ram_byte (memory_of l.machine.state.bus)) l.first (l.address - l.first))
-      l.row.items l.last;
-  room : length l.row.items ≤ length l.fn.row.items + 7 * (l.address - l.first);
+      l.rows.items l.last;
+  room : length l.rows.items ≤ length l.fn.rows.items + 7 * (l.address - l.first);
 }

@@ -1,0 +1,88 @@
+//! One step of a machine, and where it stores.
+
+ghost use Rattle.std.specs.Prelude.{◌≡◌, ℕ, [], false, IfNone, IfSome};
+ghost use Rattle.a2_bus.specs.BusState.{board_access};
+ghost use Rattle.a2_cpu.specs.Code.{effect_stores};
+ghost use Rattle.a2_cpu.specs.Effect.{effect_of};
+ghost use Rattle.a2_cpu.specs.Place.{Place};
+ghost use Rattle.a2_cpu.specs.StepStores.{step_stores};
+ghost use Rattle.a2_cpu.specs.View.{before_step};
+ghost use Rattle.a2_machine.specs.State.{cause_of, IsStep};
+
+use a2_cpu::{Breakpoints, writes};
+use a2_machine::{Cause, Machine, Stop};
+use a2_opcode::{Mnemonic, row_of};
+use arrayvec::ArrayVec;
+use std::alloc::Allocator;
+
+// All addresses: a run to a breakpoint is then one step, with no burst begun behind it.
+struct Everywhere;
+
+impl Breakpoints for Everywhere {
+    ghost use Rattle.std.specs.Prelude.{true};
+
+    ghost is_breakpoint = { λ _ _. true };
+
+    #[inline(always)]
+    fn is_breakpoint(&self, _address: u16) -> bool {
+        true
+    }
+}
+
+/// Makes one step; or answers the cause that forbids it, and changes nothing.
+pub fn make_step<A: Allocator>(machine: &mut Machine<A>) -> Option<Cause>
+    ensures cause { result ≡ cause_of machine.old.state }
+    ensures made { IfNone result (IsStep machine.old machine.new) }
+    ensures stuck { IfSome result (λ _. machine.new ≡ machine.old) }
+{
+    match machine.run_to(1, &Everywhere) {
+        Stop::Breakpoint => None,
+        Stop::Cause(cause) => Some(cause),
+    }
+}
+
+// Whether instructions of this mnemonic store.
+#[tactic(auto, unfolding(a2_cpu::specs::Effect::effect_of))]
+fn is_storing(mnemonic: Mnemonic) -> bool
+    ensures { result ≡ false → (place : Place) (s : ℕ) → effect_stores (effect_of mnemonic) place s ≡ [] }
+{
+    matches!(
+        mnemonic,
+        Mnemonic::Asl
+            | Mnemonic::Lsr
+            | Mnemonic::Rol
+            | Mnemonic::Ror
+            | Mnemonic::Inc
+            | Mnemonic::Dec
+            | Mnemonic::Sta
+            | Mnemonic::Stx
+            | Mnemonic::Sty
+            | Mnemonic::Pha
+            | Mnemonic::Php
+            | Mnemonic::Jsr
+    )
+}
+
+// Whether the instruction at PC stores, as far as its opcode tells.
+fn may_store<A: Allocator>(machine: &Machine<A>) -> bool
+    ensures { result ≡ false → step_stores board_access (before_step machine.now.state.regs machine.now.state.bus) ≡ [] }
+{
+    let Some(opcode) = machine.peek(machine.regs().pc) else {
+        return false;
+    };
+    match row_of(opcode) {
+        Some(row) => is_storing(row.mnemonic),
+        None => false,
+    }
+}
+
+/// Where the instruction at PC stores, in the order of its writes.
+pub fn stores_at_pc<A: Allocator>(machine: &Machine<A>) -> ArrayVec<u16, 2>
+    ensures { result.items ≡ step_stores board_access (before_step machine.now.state.regs machine.now.state.bus) }
+{
+    if may_store(machine) {
+        writes(&machine.regs(), machine.space())
+    } else {
+        ArrayVec::new()
+    }
+}
