@@ -29,18 +29,27 @@ unfoldable pub number_of : List ℕ → Option ℕ
 number_of [] = None
 number_of (c ∷ cs) = if c == sign "$" then number_in 16 4 cs else number_in 10 5 (c ∷ cs)
 
+-- what stands before the first of this sign, and from it on
+abbrev pub front_of : ℕ → List ℕ → ℕ
+front_of sign word = prefix_len (λ c. not (c == sign)) word
+
+-- the number of a line: 1 to 5 decimal digits, alone or with a colon behind them
+abbrev pub line_by : List ℕ → List ℕ → Option ℕ
+line_by digits [] = number_in 10 5 digits
+line_by digits (colon ∷ []) = number_in 10 5 digits
+line_by digits (colon ∷ next ∷ more) = None
+
+unfoldable pub line_of : List ℕ → Option ℕ
+line_of word = let n = front_of (sign ":") word in line_by (take n word) (drop n word)
+
 -- $ and 1 to 4 hexadecimal digits; the number of a line with an instruction; or a name
 unfoldable pub base_of : Assembled → List ℕ → Option ℕ
 base_of program [] = None
 base_of program (c ∷ cs) =
     if c == sign "$" then number_in 16 4 cs
-    else if is_digit c then address_on_line program.statements (number_in 10 5 (c ∷ cs))
+    else if is_digit c then address_on_line program.statements (line_of (c ∷ cs))
     else if is_name (c ∷ cs) then name_value program.names (c ∷ cs)
     else None
-
--- what stands before the first of this sign, and from it on
-abbrev pub front_of : ℕ → List ℕ → ℕ
-front_of sign word = prefix_len (λ c. not (c == sign)) word
 
 -- so many addresses further, where there is one
 abbrev pub further : ℕ → Option ℕ → Option ℕ

@@ -71,6 +71,26 @@ pub fn number_of(word: &[u8]) -> Option<u16>
     }
 }
 
+// What stands before the first of a sign, and from it on.
+fn split_at_sign(word: &[u8], sign: u8) -> (&[u8], &[u8])
+    ensures front { result.0.now ≡ take (place.front_of sign word.now) word.now }
+    ensures behind { result.1.now ≡ drop (place.front_of sign word.now) word.now }
+{
+    word.split_at(front_len(word, |c| c != sign))
+}
+
+// The number of a line: decimal digits, alone or with a colon behind them.
+#[tactic(auto, unfolding(crate::specs::Places::line_of))]
+fn line_of(word: &[u8]) -> Option<u16>
+    ensures { result ≡ place.line_of word.now }
+{
+    let (digits, behind) = split_at_sign(word, b':');
+    match behind {
+        [] | [_] => number_in(10, 5, digits),
+        _ => None,
+    }
+}
+
 // The address that a word says which moves by nothing.
 #[tactic(auto, unfolding(crate::specs::Places::base_of))]
 fn base_of<A: Allocator>(program: &Program<A>, word: &[u8]) -> Option<u16>
@@ -78,18 +98,10 @@ fn base_of<A: Allocator>(program: &Program<A>, word: &[u8]) -> Option<u16>
 {
     match word {
         [b'$', digits @ ..] => number_in(16, 4, digits),
-        [b'0'..=b'9', ..] => address_on(program.statements(), number_in(10, 5, word)?),
+        [b'0'..=b'9', ..] => address_on(program.statements(), line_of(word)?),
         _ if is_name(word) => value_of(program, word),
         _ => None,
     }
-}
-
-// What stands before the first of a sign, and from it on.
-fn split_at_sign(word: &[u8], sign: u8) -> (&[u8], &[u8])
-    ensures front { result.0.now ≡ take (place.front_of sign word.now) word.now }
-    ensures behind { result.1.now ≡ drop (place.front_of sign word.now) word.now }
-{
-    word.split_at(front_len(word, |c| c != sign))
 }
 
 // The address so many further as a text says behind its first byte; this one, where the text is empty.
@@ -105,9 +117,9 @@ fn moved(base: Option<u16>, behind: &[u8]) -> Option<u16>
     }
 }
 
-/// The address that a word says: `$` and 1 to 4 hexadecimal digits; the decimal number of a line, from 1, where an instruction
-/// stands on it; or a name that a line of the program defines. Behind each may stand `+` and a number, which is added; none where the
-/// sum is above 65,535. This project's profile.
+/// The address that a word says: `$` and 1 to 4 hexadecimal digits; the decimal number of a line, from 1, with `:` behind it or not, where
+/// an instruction stands on it; or a name that a line of the program defines. Behind each may stand `+` and a number, which is added; none
+/// where the sum is above 65,535. This project's profile.
 #[tactic(auto, unfolding(crate::specs::Places::place_of))]
 pub fn place_of<A: Allocator>(program: &Program<A>, word: &[u8]) -> Option<u16>
     ensures { result ≡ place.place_of program.now word.now }

@@ -45,8 +45,8 @@ Alone before F stands
   --replay T    the run of a session again, whose keys a2x play --record T
                 wrote
 
-P is $300, a name of F, the number of a line of F, or one of these with a
-number behind it, as NAME+2.
+P is $300, a name of F, a line of F as 12:, or one of these with a number
+behind it, as NAME+2.
 ";
 
 // The options that `trace` alone has.
