@@ -72,10 +72,11 @@ impl<A: Allocator> Model for Player<A> {
 }
 
 impl<A: Allocator + Copy> Player<A> {
-    /// A machine at the start of a program, guarded, with nothing typed yet. Refused only for want of memory.
+    /// A machine at the start of a program, guarded, with no step made and nothing typed yet. Refused only for want of memory.
     pub fn new(alloc: A, program: &Program<A>) -> Result<Player<A>, AllocError>
         ensures played { IfOk result (λ player. IsPlayed program.now player) }
         ensures log { IfOk result (λ player. player.log ≡ []) }
+        ensures steps { IfOk result (λ player. player.machine.state.steps ≡ 0) }
     {
         let machine = Machine::new(alloc)?;
         let mut player = Player {
@@ -92,6 +93,7 @@ impl<A: Allocator> Player<A> {
     pub fn restart(&mut self, program: &Program<A>)
         ensures played { IsPlayed program.now self.new }
         ensures log { self.new.log ≡ [] }
+        ensures steps { self.new.machine.state.steps ≡ 0 }
     {
         self.machine.boot(program.image(), program.entry());
         self.machine.guard(program);

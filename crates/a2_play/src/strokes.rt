@@ -1,6 +1,6 @@
 //! What typed bytes say.
 
-ghost use Rattle.std.specs.Prelude.{◌≡◌, ◌<◌, Some, length, IfSome};
+ghost use Rattle.std.specs.Prelude.{◌≡◌, ◌<◌, Some, [], length, IfSome, IfNone};
 ghost use Rattle.a2_play.specs.Strokes as strokes;
 
 use a2_text::capital;
@@ -101,6 +101,7 @@ fn arrow_of(letter: u8) -> Stroke
 /// profile; Apple II Reference Manual (1979), page 7.
 pub fn first_stroke(bytes: &[u8], is_ordered: bool) -> Option<(Stroke, &[u8])>
     ensures value { IfSome result (λ found. strokes.first is_ordered bytes.now ≡ Some (record { stroke = found.0; rest = found.1.now })) }
+    ensures none { IfNone result (bytes.now ≡ []) }
     ensures code { IfSome result (λ found. strokes.HasSevenBits found.0) }
     ensures shorter { IfSome result (λ found. length found.1.now < length bytes.now) }
 {
