@@ -1,4 +1,5 @@
 mod Logs
 mod Ways
 mod Histories
+mod Leaping
 mod Routes

@@ -13,7 +13,7 @@ use Rattle.a2_history.specs.Going.{IsNewest, IsOn, AreOn, up_to, with_typed}
 use Rattle.a2_history.specs.Typing.{IsTyped, IsTypedBy}
 use Rattle.a2_history.proofs.Logs.{logged-append, logged-up_to, logged-here, logged-not_yet}
 
-none-some : {X : Type 0} (x : X) → None ≡ Some x → ⊥
+pub none-some : {X : Type 0} (x : X) → None ≡ Some x → ⊥
 none-some x e = true≢false (sym (ap is_some e))
 
 -- below the greatest number of steps a machine's cause is why it is stuck

@@ -1,5 +1,5 @@
 -- The ways through a run.
-use Rattle.std.specs.Prelude.{◌≡◌, ◌⊎◌, ℕ, ◌<◌, ◌≤◌, Bool, true, false, nat_le, List, [], ◌∷◌, ◌++◌, filter, All, Option, Some, None}
+use Rattle.std.specs.Prelude.{◌≡◌, ◌⊎◌, ℕ, ◌+◌, ◌<◌, ◌≤◌, Bool, true, false, nat_le, List, [], ◌∷◌, ◌++◌, filter, All, Option, Some, None}
 use Rattle.a2_services.specs.World.{World}
 use Rattle.a2_machine.specs.declared.Cause.TheVariants.{Limit}
 use Rattle.a2_machine.specs.Meaning.{stuck}
@@ -39,6 +39,12 @@ pub record Advances (seen : World → Bool) (course : Course) (from end to : ℕ
   pub passed : (k : ℕ) → from < k → k < to → seen (world_on course k) ≡ false
   pub went : NoneStuck course to
   pub ends : EndsBy seen course from end to halt
+
+-- what is seen behind a position, away from these addresses, is seen behind the next step too
+abbrev pub Lasts : (World → Bool) → (ℕ → Bool) → Course → ℕ → Type 0
+Lasts seen is_breakpoint course from =
+    (k : ℕ) → from < k → NoneStuck course (k + 1) → is_breakpoint (world_on course k).registers.pc ≡ false
+    → seen (world_on course k) ≡ true → seen (world_on course (k + 1)) ≡ true
 
 -- the keys that were typed up to a position
 abbrev pub up_to : ℕ → List Typed → List Typed

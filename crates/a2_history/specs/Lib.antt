@@ -2,4 +2,5 @@ pub mod Courses
 pub mod Typing
 pub mod Going
 pub mod Gone
+pub mod Bursts
 pub mod Routines

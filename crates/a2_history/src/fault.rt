@@ -1,7 +1,7 @@
 //! Why keys are not typed.
 
 /// Why keys are not typed.
-#[derive(Clone, Copy, Debug, PartialEq, Eq)]
+#[derive(Clone, Copy)]
 pub enum TypingFault {
     /// More than 4,096 would wait.
     Full,

@@ -3,7 +3,7 @@
 ghost use Rattle.std.specs.Prelude.{◌≡◌, ◌+◌, ◌<◌, ◌≤◌, ℕ, min, [], length, IfOk, IfErr, OnOk, OnErr};
 ghost use Rattle.a2_machine.specs.State.{world_of_state};
 ghost use Rattle.a2_history.specs.Courses.{NoneStuck, with_keys};
-ghost use Rattle.a2_history.specs.Going.{here, Advances, IsNewest, IsOn, AreOn, with_typed};
+ghost use Rattle.a2_history.specs.Going.{here, Advances, Lasts, IsNewest, IsOn, AreOn, with_typed};
 ghost use Rattle.a2_history.specs.Gone.{IsGone, IsCauseAt};
 ghost use Rattle.a2_history.specs.Routines.{entered as entered_on, IsNewestOutside};
 ghost use Rattle.a2_history.specs.declared.fault.TypingFault.TheVariants.{Full};
@@ -13,6 +13,7 @@ use crate::course::Course;
 use crate::routines::way_to;
 use crate::{Halt, Sight, TypingFault};
 use a2_bus::Keys;
+use a2_cpu::Breakpoints;
 use a2_machine::{Cause, Machine};
 use a2_routines::Entry;
 use std::alloc::{AllocError, Allocator, Global};
@@ -75,20 +76,51 @@ impl<A: Allocator + Copy> History<A> {
         ensures advances { Advances (S.is_seen sight.now) self.old.course self.old.position (min (self.old.position + limit) 100_000_000)
             self.new.position result }
     {
+        self.advance_in_bursts(limit, sight, &Everywhere)
+    }
+
+    /// The same, in bursts up to `breakpoints`: worlds between are not looked at, so it wants that what is seen away from these addresses
+    /// is seen behind the next step too. It takes less time the fewer they are.
+    pub fn advance_in_bursts<S: Sight, B: Breakpoints>(
+        &mut self,
+        limit: u32,
+        sight: &S,
+        breakpoints: &B,
+    ) -> Halt
+        requires { Lasts (S.is_seen sight.now) (B.is_breakpoint breakpoints.now) self.old.course self.old.position }
+        ensures course { self.new.course ≡ self.old.course }
+        ensures advances { Advances (S.is_seen sight.now) self.old.course self.old.position (min (self.old.position + limit) 100_000_000)
+            self.new.position result }
+    {
         let from = self.machine.steps();
         let end = (from + u64::from(limit)).min(MOST_STEPS);
-        let halt = go_on(
+        let halt = burst_on(
             self.alloc,
             &self.course,
             &mut self.machine,
             &mut self.checkpoints,
             end,
             sight,
+            breakpoints,
         );
         match halt {
             Some(halt) => halt,
             None => Halt::Stopped(cause_at(&mut self.machine)),
         }
+    }
+}
+
+// Every address.
+#[derive(Drop)]
+struct Everywhere;
+
+impl Breakpoints for Everywhere {
+    ghost use Rattle.std.specs.Prelude.{true};
+
+    ghost is_breakpoint = { λ everywhere address. true };
+
+    fn is_breakpoint(&self, _address: u16) -> bool {
+        true
     }
 }
 
@@ -127,6 +159,64 @@ fn go_on<A: Allocator + Copy, S: Sight>(
         if sight.is_seen(machine) {
             return Some(Halt::Seen);
         }
+    }
+    None
+}
+
+// Puts a machine at a position that was reached.
+fn put_at<A: Allocator>(
+    course: &Course<A>,
+    machine: &mut Machine<A>,
+    checkpoints: &Checkpoints<A>,
+    position: u64,
+)
+    requires kept { AreOn course.now checkpoints.now }
+    requires guard { machine.old.state.guard ≡ course.now.origin.guard }
+    requires few { position ≤ 100_000_000 }
+    requires went { NoneStuck course.now position }
+    ensures on { IsOn course.now machine.new.state }
+    ensures steps { machine.new.state.steps ≡ position }
+    ensures guard { machine.new.state.guard ≡ machine.old.state.guard }
+{
+    match checkpoints.newest_before(position) {
+        Some(kept) => machine.restore(kept),
+        None => course.restart(machine),
+    }
+    course.bring(machine, position);
+}
+
+// The same in bursts. What is seen behind one may have been seen before: then its steps are made one by one.
+fn burst_on<A: Allocator + Copy, S: Sight, B: Breakpoints>(
+    alloc: A,
+    course: &Course<A>,
+    machine: &mut Machine<A>,
+    checkpoints: &mut Checkpoints<A>,
+    end: u64,
+    sight: &S,
+    breakpoints: &B,
+) -> Option<Halt>
+    requires on { IsOn course.now machine.old.state }
+    requires guard { machine.old.state.guard ≡ course.now.origin.guard }
+    requires kept { AreOn course.now checkpoints.old }
+    requires ahead { machine.old.state.steps ≤ end }
+    requires few { end ≤ 100_000_000 }
+    requires lasts { Lasts (S.is_seen sight.now) (B.is_breakpoint breakpoints.now) course.now machine.old.state.steps }
+    ensures on { IsOn course.now machine.new.state }
+    ensures guard { machine.new.state.guard ≡ course.now.origin.guard }
+    ensures kept { AreOn course.now checkpoints.new }
+    ensures gone { IsGone (S.is_seen sight.now) course.now machine.old.state.steps end machine.new.state.steps result }
+{
+    let mut from = machine.steps();
+    while from < end {
+        if let Some(cause) = course.leap(machine, end, breakpoints) {
+            return Some(Halt::Stopped(cause));
+        }
+        checkpoints.keep(alloc, machine);
+        if sight.is_seen(machine) {
+            put_at(course, machine, checkpoints, from);
+            return go_on(alloc, course, machine, checkpoints, end, sight);
+        }
+        from = machine.steps();
     }
     None
 }
@@ -210,11 +300,7 @@ impl<A: Allocator> History<A> {
         requires { position ≤ self.old.position }
         ensures { self.new ≡ record self.old { position = position } }
     {
-        match self.checkpoints.newest_before(position) {
-            Some(kept) => self.machine.restore(kept),
-            None => self.course.restart(&mut self.machine),
-        }
-        self.course.bring(&mut self.machine, position);
+        put_at(&self.course, &mut self.machine, &self.checkpoints, position);
     }
 
     /// The newest position before its own, from the start on, at which `sight` is seen; none where it is seen at none of them. It stands

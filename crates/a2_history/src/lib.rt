@@ -23,7 +23,7 @@ pub struct Typed {
 }
 
 /// Why going forwards ended.
-#[derive(Clone, Copy, Debug, PartialEq, Eq)]
+#[derive(Clone, Copy)]
 pub enum Halt {
     /// What was looked for is seen.
     Seen,

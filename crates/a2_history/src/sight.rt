@@ -18,7 +18,7 @@ pub trait Sight {
 }
 
 /// What is seen in no world.
-#[derive(Clone, Copy, PartialEq, Eq, Debug)]
+#[derive(Clone, Copy)]
 pub struct Nothing;
 
 impl Sight for Nothing {

@@ -1,12 +1,22 @@
-use Rattle.std.proofs.Common.{arith, ◌∙◌}
-use Rattle.a2_history.proofs.Ways.{on-way}
+use Rattle.std.proofs.Common.{arith, sym, ◌∙◌, false}
+use Rattle.a2_history.proofs.Leaping.{leap-way}
 use Rattle.a2_history.proofs.course.Course.bring.Goals as goal
 
-pub loop-preserved : goal.loop-preserved
-loop-preserved g c =
-    let made = on-way c.args.self.now c.args.position c.loop.machine c.make_step.new.machine c.make_step.result c.loop.invariant.on
-    (omega (arith, c.loop.invariant.steps, c.loop-test.true)) c.requires.went c.make_step.ensures.on c.make_step.ensures.steps c.make_step.ensures.stuck in record {
+pub loop-from-preserved : goal.loop-from-preserved
+loop-from-preserved g c =
+    let before = c.loop-from.invariant in
+    let made = leap-way (λ _. false) c.args.self.now c.args.position c.loop-from.machine c.leap.new.machine c.leap.result before.on
+    (omega (arith, before.steps, c.loop-from-test.true)) c.requires.went c.leap.ensures.on c.leap.ensures.leaps c.leap.ensures.stuck in
+    let at = c.steps-from-in-loop-from.ensures in record {
       on = made.0;
-      steps = omega (arith, made.1, c.loop.invariant.steps);
-      guard = c.make_step.ensures.guard ∙ c.loop.invariant.guard;
+      steps = sym at;
+      within = omega (arith, at, made.1.within);
+      guard = c.leap.ensures.guard ∙ before.guard;
     }
+
+pub loop-from-smaller : goal.loop-from-smaller
+loop-from-smaller g c =
+    let before = c.loop-from.invariant in
+    let made = leap-way (λ _. false) c.args.self.now c.args.position c.loop-from.machine c.leap.new.machine c.leap.result before.on
+    (omega (arith, before.steps, c.loop-from-test.true)) c.requires.went c.leap.ensures.on c.leap.ensures.leaps c.leap.ensures.stuck in
+    omega (arith, c.steps-from-in-loop-from.ensures, made.1.ahead, made.1.within, before.steps)

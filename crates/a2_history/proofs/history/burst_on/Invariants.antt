@@ -1,0 +1,19 @@
+use Rattle.std.proofs.Common.{◌≡◌, ◌-◌, ◌≤◌, ◌<◌, ℕ, false}
+use Rattle.a2_history.specs.Courses.{world_on}
+use Rattle.a2_history.specs.Going.{IsOn, AreOn}
+use Rattle.a2_history.proofs.history.burst_on.Given as goal
+
+-- nothing was seen behind the steps so far
+abbrev pub invariant-loop-from : goal.invariant-loop-from
+invariant-loop-from g l = record {
+  on : IsOn l.course l.machine.state;
+  guard : l.machine.state.guard ≡ l.course.origin.guard;
+  kept : AreOn l.course l.checkpoints;
+  steps : l.machine.state.steps ≡ l.from;
+  further : l.fn.machine.state.steps ≤ l.from;
+  within : l.from ≤ l.end;
+  passed : (k : ℕ) → l.fn.machine.state.steps < k → k ≤ l.from → g.S.Sight.is_seen l.sight (world_on l.course k) ≡ false;
+}
+
+abbrev pub decreases-loop-from : goal.decreases-loop-from
+decreases-loop-from g l = l.end - l.from
