@@ -1,5 +1,5 @@
 -- What the lines of a debugger leave. This project's profile.
-use Rattle.std.specs.Prelude.{◌≡◌, ◌⊎◌, ℕ, ◌+◌, ◌-◌, min, not, nat_lt, nat_le, List, [], ◌∷◌, ◌++◌, ◌==◌, ◌||◌, ◌&&◌, length, map, take, filter, slice_get, Bool, true, false, Option, Some, None, if◌then◌else◌}
+use Rattle.std.specs.Prelude.{◌≡◌, ◌⊎◌, ℕ, ◌+◌, ◌-◌, ◌<◌, ◌≤◌, min, not, nat_lt, nat_le, List, [], ◌∷◌, ◌++◌, ◌==◌, ◌||◌, ◌&&◌, length, map, take, filter, slice_get, Bool, true, false, Option, Some, None, if◌then◌else◌}
 use Rattle.a2_text.specs.Bytes.{capital}
 use Rattle.a2_text.specs.Words.{words}
 use Rattle.a2_services.specs.World.{World}
@@ -15,6 +15,8 @@ use Rattle.a2_inspect.specs.Words.{IsVerb}
 use Rattle.a2_inspect.specs.Sayings.{Says, SaysNone}
 use Rattle.a2_inspect.specs.Stops.{is_stop, is_changed_in}
 use Rattle.a2_inspect.specs.declared.order.Order.{Order}
+use Rattle.a2_inspect.specs.declared.order.Outcome.{Outcome}
+use Rattle.a2_inspect.specs.declared.order.Outcome.TheVariants.{Typed, KeysFull, Memory}
 use Rattle.a2_inspect.specs.declared.order.Order.TheVariants.{Step, Next, Out, Back, GoBackOver, Go, Until, GoBack, Watch, Who, Break, Clear, TypeKeys}
 use Rattle.a2_inspect.specs.declared.stops.Break.{Break as Breakpoint}
 use Rattle.a2_places.specs.declared.places.Span.{Span}
@@ -57,9 +59,23 @@ pub record GoesBack (seen : World → Bool) (old new : Track) : Type 0 where
   pub newest : IsNewest seen old.course 0 old.position found
   pub turned : new ≡ turned_to found old
 
--- keys were typed; or they were not, and all is as it was
+-- keys were typed at a place
+abbrev pub with_keys_typed : List ℕ → Track → Track
+with_keys_typed keys track = record track { course = with_typed track.position keys track.course }
+
+-- how many keys wait at a place with these behind them
+abbrev pub waiting_with : List ℕ → Track → ℕ
+waiting_with keys track = length (here track).memory.devices.keys + length keys
+
+-- what came of typing keys: they wait; or more than 4,096 would, or there is no memory, and all is as it was
+abbrev pub TypesBy : Outcome → List ℕ → Track → Track → Type 0
+TypesBy Typed keys old new = (waiting_with keys old ≤ 4096) × (new ≡ with_keys_typed keys old)
+TypesBy KeysFull keys old new = (4096 < waiting_with keys old) × (new ≡ old)
+TypesBy Memory keys old new = new ≡ old
+TypesBy outcome keys old new = ⊥
+
 abbrev pub Types : List ℕ → Track → Track → Type 0
-Types keys old new = (new ≡ record old { course = with_typed old.position keys old.course }) ⊎ (new ≡ old)
+Types keys old new = (outcome : Outcome) × TypesBy outcome keys old new
 
 -- where a JSR is next steps were made until its routine is left, or to a stop; else one
 abbrev pub GoesOver : Bool → ℕ → (World → Bool) → ℕ → Track → Track → Type 0

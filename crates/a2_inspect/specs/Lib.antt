@@ -1,5 +1,6 @@
 pub mod Words
 pub mod Stops
+pub mod Alerts
 pub mod Conditions
 pub mod Sayings
 pub mod Inspections

@@ -2,23 +2,24 @@
 
 ghost use Rattle.std.specs.Prelude.{◌≡◌, ◌==◌, ◌&&◌, ◌⊎◌, ◌-◌, false, IfOk, IfErr};
 ghost use Rattle.a2_machine.specs.State.{world_of_state};
-ghost use Rattle.a2_history.specs.Going.{here};
+ghost use Rattle.a2_history.specs.Going.{here, Lasts};
 ghost use Rattle.a2_history.specs.Routines.{entered};
 ghost use Rattle.a2_routines.specs.Routines.{is_call as is_call_of};
 ghost use Rattle.a2_asm.specs.Assembled.{Assembled};
 ghost use Rattle.a2_run.specs.Meaning.{IsProgramOf};
-ghost use Rattle.a2_run.specs.Started.{RefusesText};
+ghost use Rattle.a2_run.specs.Started.{RefusesText, guard_of_run};
 ghost use Rattle.a2_inspect.specs.Stops.{is_stop, is_changed_in};
 ghost use Rattle.a2_inspect.specs.Inspections.{
   IsDone,
   IsObeyed,
   IsBegun,
+  is_at,
   GoesOn,
   GoesOver,
   GoesOut,
   GoesBack,
   GoesBackOver,
-  Types,
+  TypesBy,
   is_left,
   innermost,
   others,
@@ -29,6 +30,7 @@ ghost use Rattle.a2_inspect.specs.Inspections.{
   meant,
 };
 
+use crate::alerts::Alerts;
 use crate::order::{Order, Outcome, Refusal, Show};
 use crate::reading::{order_of, split_word};
 use crate::sheet::{Stand, tell};
@@ -37,6 +39,7 @@ use crate::stops::Break;
 use crate::verbs::verb_of;
 use a2_asm::Program;
 use a2_bus::Keys;
+use a2_cpu::{Breakpoints, NoBreakpoints};
 use a2_explain::Scene;
 use a2_history::{Entry, Halt, History, Nothing, Sight, TypingFault, is_call};
 use a2_machine::{Cause, Machine};
@@ -78,6 +81,10 @@ pub struct Inspector<'a, A: Allocator = Global> {
     history: History<A>,
     // The machine before the order that was done last.
     before: Machine<A>,
+    // Where a run is looked at that goes on to a stop.
+    alerts: Alerts<A>,
+    // Whether the run is free of the guard.
+    free: bool,
     breaks: Breaks,
     watches: Watches,
     last: Line,
@@ -86,6 +93,8 @@ pub struct Inspector<'a, A: Allocator = Global> {
 }
 
 impl<'a, A: Allocator> Model for Inspector<'a, A> {
+    ghost use Rattle.std.specs.Prelude.{◌≡◌};
+    ghost use Rattle.a2_run.specs.Started.{guard_of_run};
     ghost use Rattle.a2_inspect.specs.Inspections.{Inspection};
 
     ghost Value = { Inspection };
@@ -98,6 +107,9 @@ impl<'a, A: Allocator> Model for Inspector<'a, A> {
       last = i.last.items;
       most = i.most;
     } };
+
+    // The guard of the run is that of its program, where it is not free.
+    ghost invariant = { λ i. i.history.course.origin.guard ≡ guard_of_run i.free i.program };
 }
 
 // What came of going on.
@@ -115,11 +127,24 @@ fn go_on<A: Allocator + Copy, S: Sight>(history: &mut History<A>, most: u32, sig
     outcome_of(history.advance(most, sight))
 }
 
+// The same in bursts.
+fn burst_on<A: Allocator + Copy, S: Sight, B: Breakpoints>(
+    history: &mut History<A>,
+    most: u32,
+    sight: &S,
+    breakpoints: &B,
+) -> Outcome
+    requires { Lasts (S.is_seen sight.now) (B.is_breakpoint breakpoints.now) history.old.course history.old.position }
+    ensures { GoesOn (S.is_seen sight.now) most history.old history.new }
+{
+    outcome_of(history.advance_in_bursts(most, sight, breakpoints))
+}
+
 // Makes so many steps.
 fn step<A: Allocator + Copy>(history: &mut History<A>, steps: u16) -> Outcome
     ensures { GoesOn (λ world. false) steps history.old history.new }
 {
-    match go_on(history, u32::from(steps), &Nothing) {
+    match burst_on(history, u32::from(steps), &Nothing, &NoBreakpoints) {
         Outcome::Stopped(Cause::Limit) => Outcome::Moved,
         outcome => outcome,
     }
@@ -154,12 +179,29 @@ fn note<A: Allocator>(before: &mut Machine<A>, history: &History<A>)
     before.copy_from(history.machine());
 }
 
-// Makes steps, at most so many, up to a stop.
-fn go<A: Allocator + Copy>(history: &mut History<A>, most: u32, stops: Stops<A>) -> Outcome
-    requires { world_of_state stops.before.now.state ≡ here history.old }
+// Makes steps, at most so many, up to a stop, by the run of a program that is free of the guard or not.
+fn go<A: Allocator + Copy>(
+    history: &mut History<A>,
+    most: u32,
+    stops: Stops<A>,
+    program: &Program<A>,
+    free: bool,
+    alerts: &mut Alerts<A>,
+) -> Outcome
+    requires here { world_of_state stops.before.now.state ≡ here history.old }
+    requires guarded { history.old.course.origin.guard ≡ guard_of_run free program.now }
     ensures { GoesOn (is_stop stops.entry.breaks.now stops.entry.watches.now (here history.old)) most history.old history.new }
 {
-    go_on(history, most, &stops)
+    alerts.set(free, program, stops.before, stops.breaks, stops.watches);
+    burst_on(history, most, &stops, alerts)
+}
+
+// Makes steps, at most so many, up to an address.
+fn until<A: Allocator + Copy>(history: &mut History<A>, most: u32, address: u16) -> Outcome
+    ensures { GoesOn (is_at address) most history.old history.new }
+{
+    let at = At { address };
+    burst_on(history, most, &at, &at)
 }
 
 // Makes steps, at most so many, until a routine is left, by the stack pointer before its JSR, or to a stop.
@@ -252,7 +294,7 @@ fn who<A: Allocator + Copy>(history: &mut History<A>, span: Span, before: &Machi
 
 // Types keys where the run stands.
 fn type_keys<A: Allocator + Copy>(history: &mut History<A>, keys: Keys) -> Outcome
-    ensures { Types keys history.old history.new }
+    ensures { TypesBy result keys history.old history.new }
 {
     match history.type_keys(keys) {
         Ok(()) => Outcome::Typed,
@@ -344,6 +386,7 @@ impl<'a, A: Allocator + Copy> Inspector<'a, A> {
         let lines = cut(alloc, source)?;
         let machine = started(alloc, &program, keys, free)?;
         let before = Machine::new(alloc)?;
+        let alerts = Alerts::new(alloc)?;
         let history = History::new(alloc, machine, MOST_KEPT)?;
         Ok(Inspector {
             alloc,
@@ -351,6 +394,8 @@ impl<'a, A: Allocator + Copy> Inspector<'a, A> {
             lines,
             history,
             before,
+            alerts,
+            free,
             breaks: Breaks::new(),
             watches: Watches::new(),
             last: Line::new(),
@@ -374,8 +419,15 @@ impl<'a, A: Allocator + Copy> Inspector<'a, A> {
             Order::Out => out(&mut self.history, self.most, stops),
             Order::Back(steps) => back(&mut self.history, steps),
             Order::GoBackOver => go_back_over(&mut self.history),
-            Order::Go => go(&mut self.history, self.most, stops),
-            Order::Until(address) => go_on(&mut self.history, self.most, &At { address }),
+            Order::Go => go(
+                &mut self.history,
+                self.most,
+                stops,
+                &self.program,
+                self.free,
+                &mut self.alerts,
+            ),
+            Order::Until(address) => until(&mut self.history, self.most, address),
             Order::GoBack => go_back_to_stop(&mut self.history, stops),
             Order::Who(span) => who(&mut self.history, span, &self.before),
             Order::Watch(span) => watch(&mut self.watches, span),
@@ -416,9 +468,9 @@ fn with_entries<A: Allocator + Copy>(
 ) -> (Outcome, Vec<Entry, A>)
     ensures { history.new ≡ history.old }
 {
-    if outcome != Outcome::Shown(Show::Place) {
+    let Outcome::Shown(Show::Place) = outcome else {
         return (outcome, Vec::new(alloc));
-    }
+    };
     match history.entered() {
         Ok(entries) => (outcome, entries),
         Err(_) => (Outcome::Memory, Vec::new(alloc)),
@@ -448,5 +500,32 @@ impl<A: Allocator + Copy> Partner for Inspector<'_, A> {
             most: self.most,
         };
         tell(self.alloc, &stand, outcome, writer)
+    }
+}
+
+// What is shown of a run beside its answers.
+impl<'a, A: Allocator> Inspector<'a, A> {
+    /// The machine where the run stands.
+    pub fn machine(&self) -> &Machine<A>
+        ensures { world_of_state result.now.state ≡ here self.now.track }
+    {
+        self.history.machine()
+    }
+
+    /// The machine before the last line that asked for something.
+    pub fn before(&self) -> &Machine<A> {
+        &self.before
+    }
+
+    /// The source's program.
+    pub fn program(&self) -> &Program<A>
+        ensures { result.now ≡ self.now.program }
+    {
+        &self.program
+    }
+
+    /// The source's lines.
+    pub fn lines(&self) -> &[&'a [u8]] {
+        self.lines.as_slice()
     }
 }

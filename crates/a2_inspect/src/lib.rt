@@ -1,6 +1,7 @@
 //! A source's run at a terminal, gone along in both directions: the lines of a debugger, answered one after another.
 #![tactic(auto)]
 
+mod alerts;
 mod conditions;
 mod inspector;
 mod order;

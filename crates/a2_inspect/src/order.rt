@@ -5,7 +5,7 @@ use a2_bus::Keys;
 use a2_places::Span;
 
 /// What is shown. Nothing changes by it.
-#[derive(Clone, Copy, Debug, PartialEq, Eq)]
+#[derive(Clone, Copy)]
 pub enum Show {
     /// Where the run stands, and the routines that it entered.
     Place,
@@ -63,7 +63,7 @@ pub enum Order {
 }
 
 /// Why a line is refused.
-#[derive(Clone, Copy, Debug, PartialEq, Eq)]
+#[derive(Clone, Copy)]
 pub enum Refusal {
     /// Its first word is none.
     Word,
@@ -86,7 +86,7 @@ pub enum Refusal {
 }
 
 /// What came of a line.
-#[derive(Clone, Copy, Debug, PartialEq, Eq)]
+#[derive(Clone, Copy)]
 pub enum Outcome {
     /// There was nothing to do again.
     Nothing,

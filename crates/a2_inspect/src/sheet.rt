@@ -40,14 +40,14 @@ screen       shows the screen
 list         shows the lines around                      l
 info         shows breakpoints and watches               i
 help, quit   this; ends
-P is a name, a line's number, or an address as $300, also with + and a number behind it. An empty line does the last again.
+P is a name, a line as 12:, or an address as $300, also with + and a number behind it. An empty line does the last again.
 ";
 
 // How many lines are shown before the place, and behind it.
 const LINES_AROUND: u16 = 4;
 
 /// Where a run stands.
-#[derive(Clone, Copy)]
+#[derive(Drop)]
 pub struct Stand<'a, A: Allocator> {
     pub scene: Scene<'a, A>,
     pub history: &'a History<A>,
@@ -436,7 +436,7 @@ fn reason(refusal: Refusal) -> &'static [u8] {
         Refusal::More => b"nothing stands behind this word (help)\n",
         Refusal::Count => b"a number of steps stands behind it: 0 to 65535\n",
         Refusal::Place =>
-            b"a place stands behind it: a name of the source, the number of a line with an instruction, or an address as $300\n",
+            b"a place stands behind it: a name of the source, a line with an instruction as 12:, or an address as $300\n",
         Refusal::Break =>
             b"a place stands behind it, alone or with a condition: break P if A = $40 (A X Y S P or a place; = <> < >; a number)\n",
         Refusal::Range => b"one place stands behind it, or two as $300..$30F, the lower first\n",

@@ -1,13 +1,14 @@
 //! What is looked for in a run.
 
 use crate::stops::{Break, are_changed, is_at_break, is_changed_in};
+use a2_cpu::Breakpoints;
 use a2_history::Sight;
 use a2_machine::Machine;
 use a2_places::Span;
 use std::alloc::Allocator;
 
 /// Worlds at an address.
-#[derive(Clone, Copy)]
+#[derive(Drop)]
 pub struct At {
     pub address: u16,
 }
@@ -22,8 +23,19 @@ impl Sight for At {
     }
 }
 
+impl Breakpoints for At {
+    ghost use Rattle.std.specs.Prelude.{◌==◌};
+
+    ghost is_breakpoint = { λ at address. address == at.address };
+
+    #[inline(always)]
+    fn is_breakpoint(&self, address: u16) -> bool {
+        address == self.address
+    }
+}
+
 /// Worlds at a breakpoint, or in which a watched byte is another than in a machine before.
-#[derive(Clone, Copy)]
+#[derive(Drop)]
 pub struct Stops<'a, B: Allocator> {
     pub breaks: &'a [Break],
     pub watches: &'a [Span],
@@ -42,7 +54,7 @@ impl<B: Allocator> Sight for Stops<'_, B> {
 }
 
 /// Worlds in which a routine is left, by the stack pointer before its JSR; and those of stops.
-#[derive(Clone, Copy)]
+#[derive(Drop)]
 pub struct Left<'a, B: Allocator> {
     pub s: u8,
     pub stops: Stops<'a, B>,
@@ -62,7 +74,7 @@ impl<B: Allocator> Sight for Left<'_, B> {
 }
 
 /// Worlds in which one of some bytes is another than in a machine before.
-#[derive(Clone, Copy)]
+#[derive(Drop)]
 pub struct Changed<'a, B: Allocator> {
     pub span: Span,
     pub before: &'a Machine<B>,

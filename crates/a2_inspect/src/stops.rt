@@ -13,7 +13,7 @@ use std::alloc::Allocator;
 const MOST_WATCHED: u16 = 256;
 
 /// A register of a byte.
-#[derive(Clone, Copy, Debug, PartialEq, Eq, Drop)]
+#[derive(Clone, Copy)]
 pub enum Register {
     A,
     X,
@@ -23,7 +23,7 @@ pub enum Register {
 }
 
 /// What a condition is about.
-#[derive(Clone, Copy, Debug, PartialEq, Eq, Drop)]
+#[derive(Clone, Copy)]
 pub enum Subject {
     /// What a register holds.
     InRegister(Register),
@@ -32,7 +32,7 @@ pub enum Subject {
 }
 
 /// How a condition compares.
-#[derive(Clone, Copy, Debug, PartialEq, Eq, Drop)]
+#[derive(Clone, Copy)]
 pub enum Relation {
     Equal,
     Other,
@@ -41,7 +41,7 @@ pub enum Relation {
 }
 
 /// What is to hold for a stop at a breakpoint.
-#[derive(Clone, Copy, Debug, PartialEq, Eq, Drop)]
+#[derive(Clone, Copy)]
 pub struct Condition {
     pub subject: Subject,
     pub relation: Relation,
@@ -49,7 +49,7 @@ pub struct Condition {
 }
 
 /// A breakpoint.
-#[derive(Clone, Copy, Debug, Default, PartialEq, Eq, Drop)]
+#[derive(Clone, Copy, Default)]
 pub struct Break {
     pub address: u16,
     /// Where there is one, only worlds in which it holds are stops.

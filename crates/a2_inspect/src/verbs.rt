@@ -8,7 +8,7 @@ ghost use Rattle.a2_inspect.specs.declared.verbs.Verb.{Verb as DeclaredVerb};
 use a2_text::capital;
 
 /// What a line begins with.
-#[derive(Clone, Copy, Debug, PartialEq, Eq)]
+#[derive(Clone, Copy)]
 pub enum Verb {
     Step,
     Next,

@@ -1,0 +1,196 @@
+//! Where a run is looked at that is gone along in bursts.
+
+ghost use Rattle.std.specs.Prelude.{◌≡◌, ◌⊎◌, ℕ, true, false, length};
+ghost use Rattle.std.specs.List.{list_any};
+ghost use Rattle.a2_services.specs.World.{World};
+ghost use Rattle.a2_machine.specs.State.{world_of_state};
+ghost use Rattle.a2_inspect.specs.Stops.{is_hit};
+ghost use Rattle.a2_inspect.specs.Alerts.{is_marked, KeepsMemory, IsHarmless, StandsCalm, IsCalm, MarksAllBut, AreAlerts};
+
+use crate::stops::Break;
+use a2_asm::{Program, Statement};
+use a2_cpu::Breakpoints;
+use a2_machine::Machine;
+use a2_opcode::{Mnemonic, Mode, Row, row_of};
+use a2_places::Span;
+use a2_services::service_at;
+use std::alloc::{AllocError, Allocator, Global};
+use std::marker::Model;
+
+/// How many addresses there are.
+const ADDRESSES: usize = 0x1_0000;
+
+/// For each address, whether worlds there are looked at.
+#[derive(Drop)]
+pub struct Alerts<A: Allocator = Global> {
+    marks: Vec<bool, A>,
+}
+
+impl<A: Allocator> Model for Alerts<A> {
+    ghost use Rattle.std.specs.Prelude.{◌≡◌, List, Bool, length};
+
+    ghost Value = { List Bool };
+
+    ghost view = { λ a. a.marks.items };
+
+    ghost invariant = { λ a. length a.marks.items ≡ 65536 };
+}
+
+impl<A: Allocator> Breakpoints for Alerts<A> {
+    ghost use Rattle.a2_inspect.specs.Alerts.{is_marked};
+
+    ghost is_breakpoint = { λ marks address. is_marked marks address };
+
+    #[inline(always)]
+    fn is_breakpoint(&self, address: u16) -> bool {
+        self.marks[address as usize]
+    }
+}
+
+// Whether an instruction stores nothing and pushes nothing, whatever its operand is.
+#[tactic(auto, unfolding(a2_cpu::specs::Effect::effect_of))]
+fn keeps_memory(row: Row) -> bool
+    ensures { result ≡ true → KeepsMemory row }
+{
+    match row.mnemonic {
+        Mnemonic::Asl | Mnemonic::Lsr | Mnemonic::Rol | Mnemonic::Ror => {
+            row.mode == Mode::Accumulator
+        }
+        Mnemonic::Inc
+        | Mnemonic::Dec
+        | Mnemonic::Sta
+        | Mnemonic::Stx
+        | Mnemonic::Sty
+        | Mnemonic::Pha
+        | Mnemonic::Php
+        | Mnemonic::Jsr => false,
+        _ => true,
+    }
+}
+
+// Whether a byte is the opcode of such an instruction.
+fn is_harmless(opcode: Option<u8>) -> bool
+    ensures { result ≡ true → IsHarmless opcode }
+{
+    let Some(opcode) = opcode else {
+        return false;
+    };
+    match row_of(opcode) {
+        Some(row) => keeps_memory(row),
+        None => false,
+    }
+}
+
+// Whether such an instruction is a statement's, as a machine holds it, and no service.
+fn is_calm<A: Allocator>(statement: &Statement, machine: &Machine<A>) -> bool
+    ensures { result ≡ true → StandsCalm (world_of_state machine.now.state).memory statement.now }
+{
+    statement.instr.is_some()
+        && statement.length > 0
+        && service_at(statement.addr).is_none()
+        && is_harmless(machine.peek(statement.addr))
+}
+
+// Marks a statement's first byte no longer where that is so.
+fn calm<A: Allocator>(marks: &mut [bool], statement: &Statement, machine: &Machine<A>)
+    requires { length marks.old ≡ 65536 }
+    ensures { (address : ℕ) → is_marked marks.new address ≡ false → (is_marked marks.old address ≡ false)
+        ⊎ ((address ≡ statement.now.addr) × StandsCalm (world_of_state machine.now.state).memory statement.now) }
+{
+    if is_calm(statement, machine) {
+        marks[usize::from(statement.addr)] = false;
+    }
+}
+
+// The same for each statement.
+fn calm_all<A: Allocator>(marks: &mut [bool], statements: &[Statement], machine: &Machine<A>)
+    requires size { length marks.old ≡ 65536 }
+    requires all { MarksAllBut statements.now (world_of_state machine.now.state).memory marks.old }
+    ensures { MarksAllBut statements.now (world_of_state machine.now.state).memory marks.new }
+{
+    for statement in statements {
+        calm(marks, statement, machine);
+    }
+}
+
+// Marks the addresses of breakpoints.
+fn mark_all(marks: &mut [bool], breaks: &[Break])
+    requires { length marks.old ≡ 65536 }
+    ensures marked { (world : World) → list_any (is_hit world) breaks.now ≡ true → is_marked marks.new world.registers.pc ≡ true }
+    ensures others { (address : ℕ) → is_marked marks.new address ≡ false → is_marked marks.old address ≡ false }
+{
+    for place in breaks {
+        marks[usize::from(place.address)] = true;
+    }
+}
+
+// Marks all addresses, or none.
+fn fill(marks: &mut [bool], mark: bool)
+    requires { length marks.old ≡ 65536 }
+    ensures { (address : ℕ) → is_marked marks.new address ≡ false → mark ≡ false }
+{
+    marks.fill(mark);
+}
+
+// Marks what is to be marked where bytes are watched: all but where instructions stand that store nothing.
+fn mark_watched<A: Allocator>(
+    marks: &mut [bool],
+    free: bool,
+    statements: &[Statement],
+    machine: &Machine<A>,
+)
+    requires { length marks.old ≡ 65536 }
+    ensures { (address : ℕ) → is_marked marks.new address ≡ false
+        → (free ≡ false) × IsCalm statements.now (world_of_state machine.now.state).memory address }
+{
+    fill(marks, true);
+    if !free {
+        calm_all(marks, statements, machine);
+    }
+}
+
+// Marks breakpoints, and what is to be marked where bytes are watched.
+fn mark<A: Allocator>(
+    marks: &mut [bool],
+    free: bool,
+    statements: &[Statement],
+    machine: &Machine<A>,
+    breaks: &[Break],
+    watches: &[Span],
+)
+    requires { length marks.old ≡ 65536 }
+    ensures { AreAlerts free statements.now (world_of_state machine.now.state).memory breaks.now watches.now marks.new }
+{
+    if watches.is_empty() {
+        fill(marks, false);
+    } else {
+        mark_watched(marks, free, statements, machine);
+    }
+    mark_all(marks, breaks);
+}
+
+impl<A: Allocator + Copy> Alerts<A> {
+    /// No address is marked. Refused only for want of memory.
+    pub fn new(alloc: A) -> Result<Alerts<A>, AllocError> {
+        let marks = vec![in alloc; false; ADDRESSES]?;
+        Ok(Alerts { marks })
+    }
+}
+
+impl<A: Allocator> Alerts<A> {
+    /// Marks the addresses of breakpoints; and where bytes are watched all others too, but those at which an instruction of a program
+    /// stands that is not free of the guard, as a machine holds it, and that stores nothing.
+    pub fn set<C: Allocator>(
+        &mut self,
+        free: bool,
+        program: &Program<C>,
+        machine: &Machine<C>,
+        breaks: &[Break],
+        watches: &[Span],
+    )
+        ensures { AreAlerts free program.now.statements (world_of_state machine.now.state).memory breaks.now watches.now self.new }
+    {
+        let marks = self.marks.as_mut_slice();
+        mark(marks, free, program.statements(), machine, breaks, watches);
+    }
+}
