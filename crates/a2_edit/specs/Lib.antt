@@ -1,0 +1,5 @@
+pub mod Keys
+pub mod Lines
+pub mod Drawn
+pub mod Histories
+pub mod Editors
