@@ -12,4 +12,4 @@ mod typist;
 pub use drawing::put_line;
 pub use editor::{Act, Editor};
 pub use line::Line;
-pub use typist::{Seat, Typist};
+pub use typist::{Console, Typist};

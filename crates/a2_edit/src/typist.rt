@@ -19,7 +19,7 @@ const BELL: &[u8] = b"\x07";
 
 /// Where lines are typed.
 #[derive(Drop)]
-pub struct Seat<'a, R, E> {
+pub struct Console<'a, R, E> {
     /// The terminal's bytes, as they are typed.
     pub reader: &'a mut R,
     /// What shows them.
@@ -37,7 +37,7 @@ pub struct Seat<'a, R, E> {
 /// gives none. A write that fails is not told: the line is read all the same.
 #[derive(Drop)]
 pub struct Typist<'a, R, E> {
-    seat: Seat<'a, R, E>,
+    console: Console<'a, R, E>,
     editor: Editor,
     given: Given,
     sent: usize,
@@ -45,8 +45,13 @@ pub struct Typist<'a, R, E> {
 }
 
 // Draws the line.
-fn draw<R, E: Output>(seat: &mut Seat<'_, R, E>, editor: &Editor) {
-    let _ = put_line(seat.prompt, seat.columns.get(), editor.line(), seat.echo);
+fn draw<R, E: Output>(console: &mut Console<'_, R, E>, editor: &Editor) {
+    let _ = put_line(
+        console.prompt,
+        console.columns.get(),
+        editor.line(),
+        console.echo,
+    );
 }
 
 // The line that is given, of at most 255 bytes, and its end.
@@ -63,24 +68,28 @@ fn given_of(line: &[u8]) -> Given
 }
 
 // Does what is to be done behind a byte; the line that is given, where one is.
-fn follow<R, E: Output>(seat: &mut Seat<'_, R, E>, editor: &mut Editor, act: Act) -> Option<Given> {
+fn follow<R, E: Output>(
+    console: &mut Console<'_, R, E>,
+    editor: &mut Editor,
+    act: Act,
+) -> Option<Given> {
     match act {
         Act::Nothing | Act::Leave => {}
-        Act::Draw => draw(seat, editor),
+        Act::Draw => draw(console, editor),
         Act::Ring => {
-            let _ = put(BELL, seat.echo);
+            let _ = put(BELL, console.echo);
         }
-        Act::Clear => match seat.by_clear {
+        Act::Clear => match console.by_clear {
             Some(line) if editor.line().bytes().is_empty() => return Some(given_of(line)),
             _ => {
-                let _ = put(CLEAR, seat.echo);
-                draw(seat, editor);
+                let _ = put(CLEAR, console.echo);
+                draw(console, editor);
             }
         },
         Act::Take => {
             let given = given_of(editor.line().bytes());
             editor.finish();
-            let _ = put(b"\n", seat.echo);
+            let _ = put(b"\n", console.echo);
             return Some(given);
         }
     }
@@ -89,19 +98,19 @@ fn follow<R, E: Output>(seat: &mut Seat<'_, R, E>, editor: &mut Editor, act: Act
 
 // The next line that is typed, if there is one.
 fn typed_line<R: Input, E: Output>(
-    seat: &mut Seat<'_, R, E>,
+    console: &mut Console<'_, R, E>,
     editor: &mut Editor,
 ) -> Result<Option<Given>, ReadFault> {
     for _ in 0..u64::MAX {
         let mut byte = [0u8; 1];
-        if seat.reader.read(&mut byte)? == 0 {
+        if console.reader.read(&mut byte)? == 0 {
             break;
         }
         let act = editor.press(byte[0]);
         if act == Act::Leave {
             break;
         }
-        let given = follow(seat, editor, act);
+        let given = follow(console, editor, act);
         if given.is_some() {
             return Ok(given);
         }
@@ -111,9 +120,9 @@ fn typed_line<R: Input, E: Output>(
 
 impl<'a, R: Input, E: Output> Typist<'a, R, E> {
     /// An input of the lines that are typed there, and edited by `editor`. No call failed yet.
-    pub fn new(seat: Seat<'a, R, E>, editor: Editor) -> Typist<'a, R, E> {
+    pub fn new(console: Console<'a, R, E>, editor: Editor) -> Typist<'a, R, E> {
         Typist {
-            seat,
+            console,
             editor,
             given: Given::new(),
             sent: 0,
@@ -133,7 +142,7 @@ impl<R: Input, E: Output> Input for Typist<'_, R, E> {
             return Ok(0);
         };
         if self.sent >= self.given.len() {
-            match typed_line(&mut self.seat, &mut self.editor) {
+            match typed_line(&mut self.console, &mut self.editor) {
                 Ok(Some(given)) => self.given = given,
                 Ok(None) => return Ok(0),
                 Err(fault) => {

@@ -2,50 +2,140 @@
 
 ghost use Rattle.std.specs.Prelude.{◌≤◌, IfOk, IfErr};
 
+use crate::asked::{held_in, order_in};
+use crate::lines::{Lines, Terminal, columns_of, talked, terminal_in};
 use crate::named::is_input;
-use crate::program::{tell_lines_come, text_of};
-use crate::terminal::ended;
-use crate::tools::told;
+use crate::program::{tell, tell_lines_come, text_of};
+use crate::table::Word;
+use crate::tools::{told, written};
 use crate::words::Order;
 use a2_host::Shelf;
 use a2_inspect::Inspector;
+use a2_options::{Kind, Row};
+use a2_panes::{Panes, Wall};
 use a2_stream::{Input, Output};
-use a2_talk::talk;
 use std::alloc::Global;
+use std::cell::Cell;
+
+// The options of `debug`, of which those of each run are left.
+static DEBUG_OPTIONS: [Row; 3] = [
+    Row {
+        name: "--tui",
+        kind: Kind::Flag,
+    },
+    Row {
+        name: "--keys",
+        kind: Kind::Left,
+    },
+    Row {
+        name: "--limit",
+        kind: Kind::Left,
+    },
+];
+
+// The rows and columns of panes.
+const ROWS: u16 = 24;
+
+const COLUMNS: u16 = 80;
 
 // What stands before each line.
 fn prompt_where(prompts: bool) -> &'static [u8] {
     if prompts { b"(a2x) " } else { b"" }
 }
 
-// Answers the debugger's lines over the run of a source, which a line `where` begins where there are prompts.
-fn debug<R: Input, W: Output, E: Output>(
+// Where panes can be drawn, if the terminal has room for them.
+fn wall_of(terminal: Option<Terminal>, columns: Option<&Cell<usize>>) -> Option<Wall<'_>> {
+    match (terminal, columns) {
+        (Some(terminal), Some(columns)) if terminal.rows >= ROWS && terminal.columns >= COLUMNS => {
+            Some(Wall {
+                columns,
+                all: usize::from(terminal.columns),
+                colours: terminal.colours,
+            })
+        }
+        _ => None,
+    }
+}
+
+// Answers the lines of a session over a run, in panes from its start where these are up.
+fn debug_in<R: Input, W: Output, E: Output>(
     alloc: Global,
-    source: &[u8],
-    order: &Order,
-    prompts: bool,
+    panes: &mut Panes<'_, '_>,
+    are_up: bool,
+    lines: Lines<'_>,
     input: &mut R,
     output: &mut W,
     complaints: &mut E,
 ) -> u8
     ensures { result ≤ 5 }
 {
-    match Inspector::new(alloc, source, &order.keys, order.free, order.limit) {
-        Ok(mut inspector) => {
-            let answer = talk(&mut inspector, prompt_where(prompts), input, output);
-            ended(answer, complaints)
+    if are_up {
+        let status = written(panes.turn(output), complaints);
+        if status != 0 {
+            return status;
         }
+    }
+    let status = talked(alloc, panes, lines, input, output, complaints);
+    let taken_down = written(panes.leave(output), complaints);
+    status.max(taken_down)
+}
+
+// Tells that there is no room for panes.
+fn tell_no_wall<E: Output>(complaints: &mut E) {
+    tell(
+        &[b"debug: panes want a terminal of 80 columns of 24 rows or more, begun by a2x-debug"],
+        complaints,
+    )
+}
+
+// Answers the debugger's lines over the run of a source.
+fn debug<R: Input, W: Output, E: Output>(
+    alloc: Global,
+    source: &[u8],
+    order: &Order,
+    are_up: bool,
+    prompts: bool,
+    terminal: Option<Terminal>,
+    input: &mut R,
+    output: &mut W,
+    complaints: &mut E,
+) -> u8
+    ensures { result ≤ 5 }
+{
+    let columns = columns_of(terminal);
+    let wall = wall_of(terminal, columns.as_ref());
+    if are_up && wall.is_none() {
+        tell_no_wall(complaints);
+        return 2;
+    }
+    let lines = Lines {
+        prompt: prompt_where(prompts),
+        columns: columns.as_ref(),
+        by_clear: if wall.is_some() { Some(b"panes") } else { None },
+    };
+    match Inspector::new(alloc, source, &order.keys, order.free, order.limit) {
+        Ok(inspector) => debug_in(
+            alloc,
+            &mut Panes::new(alloc, inspector, wall),
+            are_up,
+            lines,
+            input,
+            output,
+            complaints,
+        ),
         Err(fault) => told(fault, complaints),
     }
 }
 
 /// Answers the debugger's lines of `input` on `output`, each before the next is read, over the run of the file that the words
-/// name, up to the input's end or `quit`. `prompts` says whether a prompt stands before each line. The status is 1 where the
-/// source is refused, 2 where no file is named, 4 where the file does not open or a read or a write fails, and 5 for want of
-/// memory, each told on `complaints`.
+/// name, up to the input's end or `quit`. `prompts` says whether a prompt stands before each line. The lines are edited where the
+/// words tell of a terminal that gives each byte, and `--tui` begins with panes. The status is 1 where the source is refused, 2
+/// where the words are, no file is named or panes have no room, 4 where the file does not open or a read or a write fails, and 5
+/// for want of memory, each told on `complaints`.
 pub fn debug_of<S: Shelf, R: Input, W: Output, E: Output>(
     alloc: Global,
-    order: &Order<'_>,
+    word: &Word,
+    words: &[String],
     prompts: bool,
     shelf: &mut S,
     input: &mut R,
@@ -55,6 +145,9 @@ pub fn debug_of<S: Shelf, R: Input, W: Output, E: Output>(
     ensures done { IfOk result (λ status. status ≤ 5) }
     ensures refused { IfErr result (λ status. status ≤ 5) }
 {
+    let (terminal, words) = terminal_in(words);
+    let held = held_in(alloc, word, &DEBUG_OPTIONS, words, complaints)?;
+    let order = order_in(word, held.others.as_slice(), complaints)?;
     let Some(file) = order.file else {
         return Err(tell_lines_come(b"debug", complaints));
     };
@@ -65,8 +158,10 @@ pub fn debug_of<S: Shelf, R: Input, W: Output, E: Output>(
     Ok(debug(
         alloc,
         source.as_slice(),
-        order,
+        &order,
+        !held.found.is_empty(),
         prompts,
+        terminal,
         input,
         output,
         complaints,

@@ -13,6 +13,7 @@ mod film;
 mod fmt;
 mod help;
 mod import;
+mod lines;
 mod named;
 mod notes;
 mod play;

@@ -7,15 +7,19 @@ use crate::film::{FilmFault, FilmOrder, is_film_limit, parted, window_of};
 use crate::fmt::{Way, fmt, fmt_order, tell_fmt_words};
 use crate::help::{put_page, put_use};
 use crate::import::{import, import_order, tell_import_words};
+use crate::lines::{Terminal, terminal_in};
+use crate::listing::list_of;
 use crate::named::{check_order, file_in, is_input};
 use crate::play::{Seat, play_of};
+use crate::profiling::profile_of;
+use crate::promising::promise_of;
 use crate::release::put_version;
 use crate::replay::{asks_replay, replay_of};
 use crate::running::run_of;
 use crate::table::{Tool, Word, nearest, word_named};
 use crate::terminal::mon;
 use crate::tests::{exam_in, tell_words, test};
-use crate::tools::{check, film, list, profile, told, written};
+use crate::tools::{check, film, told, written};
 use crate::tracing::trace_of;
 use crate::words::{Misfit, Order, WordsFault, misfit_in, order_of};
 use a2_check::Format;
@@ -284,6 +288,7 @@ fn talk_over<S: Shelf, R: Input, W: Output, E: Output>(
     alloc: Global,
     name: &str,
     prompts: bool,
+    terminal: Option<Terminal>,
     shelf: &mut S,
     input: &mut R,
     output: &mut W,
@@ -296,6 +301,7 @@ fn talk_over<S: Shelf, R: Input, W: Output, E: Output>(
             alloc,
             Some(text.as_slice()),
             prompts,
+            terminal,
             input,
             output,
             complaints,
@@ -317,10 +323,13 @@ fn talk_of<S: Shelf, R: Input, W: Output, E: Output>(
 ) -> u8
     ensures { result ≤ 5 }
 {
+    let (terminal, words) = terminal_in(words);
     match file_in(words) {
         Ok(Some(name)) if is_input(name) => tell_lines_come(word.name.as_bytes(), complaints),
-        Ok(Some(name)) => talk_over(alloc, name, prompts, shelf, input, output, complaints),
-        Ok(None) => mon(alloc, None, prompts, input, output, complaints),
+        Ok(Some(name)) => talk_over(
+            alloc, name, prompts, terminal, shelf, input, output, complaints,
+        ),
+        Ok(None) => mon(alloc, None, prompts, terminal, input, output, complaints),
         Err(fault) => refused(word, behind(words), fault, complaints),
     }
 }
@@ -656,17 +665,12 @@ fn act<S: Shelf, D: Desk, C: Clock, R: Input, W: Output, E: Output>(
     match word.tool {
         Tool::Help => Ok(help(alloc, behind(words), output, complaints)),
         Tool::Check => Ok(check_of(alloc, word, words, shelf, input, output, complaints)),
-        Tool::List => match file_in(words) {
-            Ok(file) => {
-                let text = text_of(alloc, file, shelf, input, complaints)?;
-                Ok(list(alloc, text.as_slice(), output, complaints))
-            }
-            Err(fault) => Err(refused(word, behind(words), fault, complaints)),
-        },
+        Tool::List => list_of(alloc, word, words, shelf, input, output, complaints),
         Tool::Test => match exam_in(words) {
             Ok(exam) => Ok(test(alloc, &exam, shelf, output, complaints)),
             Err(_) => Err(tell_words(complaints)),
         },
+        Tool::Promise => promise_of(alloc, words, shelf, input, output, complaints),
         Tool::Mon => Ok(talk_of(
             alloc, word, words, seat.types, shelf, input, output, complaints,
         )),
@@ -683,23 +687,16 @@ fn act<S: Shelf, D: Desk, C: Clock, R: Input, W: Output, E: Output>(
         ),
         Tool::Fmt => Ok(fmt_of(alloc, behind(words), shelf, desk, input, output, complaints)),
         Tool::Import => Ok(import_of(alloc, behind(words), shelf, input, output, complaints)),
-        Tool::Debug => match order_of(words) {
-            Ok(order) => debug_of(alloc, &order, seat.types, shelf, input, output, complaints),
-            Err(fault) => Err(refused(word, behind(words), fault, complaints)),
-        },
+        Tool::Debug => debug_of(
+            alloc, word, words, seat.types, shelf, input, output, complaints,
+        ),
         Tool::Film => film_of(alloc, word, words, shelf, desk, input, output, complaints),
         Tool::Run if asks_replay(behind(words)) => {
             replay_of(alloc, behind(words), shelf, input, output, complaints)
         }
         Tool::Run => run_of(alloc, word, words, shelf, desk, input, output, complaints),
         Tool::Trace => trace_of(alloc, word, words, shelf, input, output, complaints),
-        Tool::Profile => match order_of(words) {
-            Ok(order) => {
-                let text = text_of(alloc, order.file, shelf, input, complaints)?;
-                Ok(profile(alloc, text.as_slice(), &order, output, complaints))
-            }
-            Err(fault) => Err(refused(word, behind(words), fault, complaints)),
-        },
+        Tool::Profile => profile_of(alloc, word, words, shelf, input, output, complaints),
     }
 }
 
