@@ -1,0 +1,7 @@
+pub mod Keys
+pub mod Typing
+pub mod Worlds
+pub mod Running
+pub mod Meant
+pub mod Ended
+pub mod ViewLaws
