@@ -1,9 +1,13 @@
 //! Why a run stopped, in words: what stands at PC, which line led there, and what that rests on.
 #![tactic(auto)]
 
+mod course;
 mod pushes;
+mod rounds;
 mod scene;
 mod stop;
+mod window;
 
+pub use course::Course;
 pub use scene::{Scene, put_address, put_number, put_place, statement_at};
 pub use stop::{explain_stop, meaning, tell_stop};

@@ -1,6 +1,7 @@
 //! Which instruction pushed what lies on the stack.
 
 use a2_machine::Machine;
+use a2_typed::Strokes;
 use std::alloc::{AllocError, Allocator};
 
 /// The address of the instruction or service that last pushed each byte of the stack page, where it was seen.
@@ -24,13 +25,14 @@ impl<A: Allocator> Pushes<A> {
         }
     }
 
-    /// Makes so many steps, and notes which of them pushed what.
-    pub fn watch<C: Allocator>(&mut self, machine: &mut Machine<C>, steps: u32) {
+    /// Makes so many steps, types the keys of each, and notes which of them pushed what.
+    pub fn watch<C: Allocator>(&mut self, machine: &mut Machine<C>, strokes: &Strokes, steps: u32) {
         for _ in 0..steps {
             let before = machine.regs();
             if machine.step().is_some() {
                 return;
             }
+            strokes.type_due(machine);
             let pushed = before.s.wrapping_sub(machine.regs().s);
             if pushed == 1 || pushed == 2 {
                 self.note(before.s, before.pc);

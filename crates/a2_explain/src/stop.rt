@@ -1,16 +1,30 @@
 //! A stop in words.
 
+use crate::course::{Course, run_to};
 use crate::pushes::Pushes;
+use crate::rounds::tell_round;
 use crate::scene::{Scene, put_address, put_number, put_place, statement_at};
+use crate::window::tell_window;
 use a2_asm::Program;
-use a2_bus::Keys;
 use a2_cpu::Regs;
-use a2_machine::{Cause, Machine};
-use a2_opcode::Mnemonic;
-use a2_run::{RunFault, program_of, started};
+use a2_hex::RAM_END;
+use a2_machine::Cause;
+use a2_opcode::{Instr, Mnemonic};
+use a2_run::{RunFault, program_of};
 use a2_stream::{Output, WriteFault, put};
 use a2_text::cut;
 use std::alloc::Allocator;
+
+// What is to be done where a run came to the Monitor, and to no service.
+const NO_SERVICE: &[u8] =
+    b"a2x: the Monitor's addresses hold the services alone, as COUT: write what is wanted in place of others\n";
+
+// And about a store into code, by an instruction and by a service.
+const CODE_STORES: &[u8] =
+    b"a2x: store into a DFB or DS of its own; a program that changes itself runs with --free\n";
+
+const SERVICE_STORES: &[u8] =
+    b"a2x: that service stores at $24 to $29 and on the screen, $0400 to $07FF, GETLN at $0200 too: keep code away\n";
 
 // How many steps before the stop are gone through for what was pushed.
 const WATCHED: u32 = 100_000;
@@ -32,24 +46,22 @@ pub fn meaning(cause: Cause) -> &'static [u8] {
     }
 }
 
-// The steps of a run again, up to so many.
-fn rerun<A: Allocator + Copy>(
-    alloc: A,
-    program: &Program<A>,
-    keys: &Keys,
-    free: bool,
-    steps: u32,
-) -> Result<Machine<A>, RunFault> {
-    let mut machine = started(alloc, program, keys, free)?;
-    let _ = machine.run(steps);
-    Ok(machine)
-}
-
 // Whether the instruction at an address takes its next address from the stack.
 fn returns<A: Allocator>(program: &Program<A>, address: u16) -> bool {
     match program.instr_at(address) {
         Some(instr) => matches!(instr.mnemonic, Mnemonic::Rts),
         None => false,
+    }
+}
+
+// What is to be done about an RTS, with S before it, that led astray.
+fn pulled_mend<A: Allocator>(pushes: &Pushes<A>, s: u8) -> &'static [u8] {
+    let is_pushed = pushes.at(s.wrapping_add(1)).is_some()
+        || pushes.at(s.wrapping_add(2)).is_some();
+    if is_pushed {
+        b"a2x: pull what was pushed, by PLA or PLP, before RTS\n"
+    } else {
+        b"a2x: leave S as it is at the start, or end by JMP $FF69: the last return's address lies at $01FE\n"
     }
 }
 
@@ -72,7 +84,7 @@ fn put_pulled<A: Allocator, W: Output>(
             None => put(b"no step before it pushed\n", writer)?,
         }
     }
-    Ok(())
+    put(pulled_mend(pushes, s), writer)
 }
 
 // How many steps were made before the last that did a statement of the source, and the registers there, where it is one of the
@@ -80,13 +92,13 @@ fn put_pulled<A: Allocator, W: Output>(
 fn last_of_source<A: Allocator + Copy>(
     alloc: A,
     program: &Program<A>,
-    keys: &Keys,
-    free: bool,
+    course: &Course<'_>,
     steps: u32,
 ) -> Result<Option<(u32, Regs)>, RunFault> {
     for back in 0..steps.min(4) {
         let before = steps - back - 1;
-        let regs = rerun(alloc, program, keys, free, before)?.regs();
+        let (machine, _) = run_to(alloc, program, course, before)?;
+        let regs = machine.regs();
         if statement_at(program.statements(), regs.pc).is_some() {
             return Ok(Some((before, regs)));
         }
@@ -108,6 +120,47 @@ fn put_last<A: Allocator, W: Output>(
     put(b", and led there\n", writer)
 }
 
+// Whether an instruction goes on behind itself, but for a branch that is taken.
+fn goes_on(instr: Instr) -> bool {
+    !matches!(
+        instr.mnemonic,
+        Mnemonic::Jmp | Mnemonic::Jsr | Mnemonic::Rts | Mnemonic::Rti | Mnemonic::Brk
+    )
+}
+
+// Writes that the last instruction went on where none stands, where the run stopped right behind it.
+fn put_behind<A: Allocator, W: Output>(
+    scene: &Scene<A>,
+    pc: u16,
+    stop: Stop,
+    writer: &mut W,
+) -> Result<(), WriteFault> {
+    let statements = scene.program.statements();
+    let Some(last) = statement_at(statements, pc) else {
+        return Ok(());
+    };
+    let Some(instr) = last.instr else {
+        return Ok(());
+    };
+    if !goes_on(instr) || last.addr.wrapping_add(last.length) != stop.pc {
+        return Ok(());
+    }
+    match statement_at(statements, stop.pc) {
+        Some(_) => {
+            put(b"a2x: behind it stands ", writer)?;
+            put_place(scene, stop.pc, writer)?;
+            put(
+                b", which is data: end by RTS before it, or go round it by JMP\n",
+                writer,
+            )
+        }
+        None => put(
+            b"a2x: behind it stands nothing: end by RTS, or go on by JMP\n",
+            writer,
+        ),
+    }
+}
+
 // Writes where a run stopped, and why.
 fn put_stop<A: Allocator, W: Output>(
     scene: &Scene<A>,
@@ -126,14 +179,13 @@ fn put_stop<A: Allocator, W: Output>(
 fn pushes_before<A: Allocator + Copy>(
     alloc: A,
     program: &Program<A>,
-    keys: &Keys,
-    free: bool,
+    course: &Course<'_>,
     steps: u32,
 ) -> Result<Pushes<A>, RunFault> {
     let watched = steps.min(WATCHED);
-    let mut machine = rerun(alloc, program, keys, free, steps - watched)?;
+    let (mut machine, _) = run_to(alloc, program, course, steps - watched)?;
     let mut pushes = Pushes::new(alloc)?;
-    pushes.watch(&mut machine, watched);
+    pushes.watch(&mut machine, course.strokes, watched);
     Ok(pushes)
 }
 
@@ -149,16 +201,13 @@ struct Stop {
 fn stop_of<A: Allocator + Copy>(
     alloc: A,
     program: &Program<A>,
-    keys: &Keys,
-    limit: u32,
-    free: bool,
+    course: &Course<'_>,
 ) -> Result<Stop, RunFault> {
-    let mut machine = started(alloc, program, keys, free)?;
-    let cause = machine.run(limit);
+    let (machine, cause) = run_to(alloc, program, course, course.limit)?;
     Ok(Stop {
         pc: machine.regs().pc,
         cause,
-        steps: u32::try_from(machine.steps()).unwrap_or(limit),
+        steps: u32::try_from(machine.steps()).unwrap_or(course.limit),
     })
 }
 
@@ -167,18 +216,26 @@ fn stop_of<A: Allocator + Copy>(
 fn put_way<A: Allocator + Copy, W: Output>(
     alloc: A,
     scene: &Scene<A>,
-    keys: &Keys,
-    free: bool,
+    course: &Course<'_>,
     stop: Stop,
     writer: &mut W,
 ) -> Result<(), RunFault> {
-    let Some((before, regs)) = last_of_source(alloc, scene.program, keys, free, stop.steps)? else {
+    let Some((before, regs)) = last_of_source(alloc, scene.program, course, stop.steps)? else {
         return Ok(());
     };
     put_last(scene, before, regs.pc, writer)?;
+    match stop.cause {
+        Cause::OffStatement if returns(scene.program, regs.pc) => {}
+        Cause::OffStatement if stop.pc >= RAM_END => put(NO_SERVICE, writer)?,
+        Cause::OffStatement => put_behind(scene, regs.pc, stop, writer)?,
+        Cause::CodeWrite if stop.pc >= RAM_END => put(SERVICE_STORES, writer)?,
+        Cause::CodeWrite => put(CODE_STORES, writer)?,
+        Cause::Window => tell_window(alloc, scene, course, stop.pc, stop.steps, writer)?,
+        _ => {}
+    }
     let is_outside = statement_at(scene.program.statements(), stop.pc).is_none();
     if is_outside && returns(scene.program, regs.pc) {
-        let pushes = pushes_before(alloc, scene.program, keys, free, before)?;
+        let pushes = pushes_before(alloc, scene.program, course, before)?;
         put_pulled(scene, &pushes, regs.s, writer)?;
     }
     Ok(())
@@ -188,32 +245,29 @@ fn put_way<A: Allocator + Copy, W: Output>(
 fn explain<A: Allocator + Copy, W: Output>(
     alloc: A,
     scene: &Scene<A>,
-    keys: &Keys,
-    limit: u32,
-    free: bool,
+    course: &Course<'_>,
     writer: &mut W,
 ) -> Result<(), RunFault> {
-    let stop = stop_of(alloc, scene.program, keys, limit, free)?;
+    let stop = stop_of(alloc, scene.program, course)?;
     if matches!(stop.cause, Cause::Returned | Cause::Brk) {
         return Ok(());
     }
     put_stop(scene, stop.pc, stop.cause, writer)?;
     if matches!(stop.cause, Cause::Limit) {
-        return Ok(());
+        return tell_round(alloc, scene, course, stop.steps, writer);
     }
-    put_way(alloc, scene, keys, free, stop, writer)
+    put_way(alloc, scene, course, stop, writer)
 }
 
 /// Writes why the run of a source stops, in lines that begin with `a2x: `: the cause, what stands at PC, the last step of the
-/// source, and of an `RTS` that led astray what pushed the bytes that it pulled, as far as the last 100,000 steps tell. Nothing
-/// is written of a run that ends by RETURNED or BRK. The run is that of the source with these keys waiting, at most `limit` steps, guarded or `free`;
-/// it is made again for this. Refused where the source is, where a write fails, and for want of memory. This project's profile.
+/// source; of an `RTS` that led astray what pushed the bytes that it pulled, of a window off the screen which lines stored it, as far
+/// as the last 100,000 steps tell; what stands behind an instruction that ran on; and of the limit the lines in which the last 4,096
+/// steps went round. Nothing is written of a run that ends by RETURNED or BRK. The run is that of the source as `course` says; it is made again for this.
+/// Refused where the source is, where a write fails, and for want of memory. This project's profile.
 pub fn explain_stop<A: Allocator + Copy, W: Output>(
     alloc: A,
     source: &[u8],
-    keys: &Keys,
-    limit: u32,
-    free: bool,
+    course: &Course<'_>,
     writer: &mut W,
 ) -> Result<(), RunFault> {
     let program = program_of(alloc, source)?;
@@ -222,7 +276,7 @@ pub fn explain_stop<A: Allocator + Copy, W: Output>(
         program: &program,
         lines: lines.as_slice(),
     };
-    explain(alloc, &scene, keys, limit, free, writer)
+    explain(alloc, &scene, course, writer)
 }
 
 /// Writes where a run of this source, which is that of `program`, stopped with PC at `pc`, and what the cause means there, in

@@ -10,7 +10,7 @@ use crate::notes::tell_source_notes;
 use crate::words::Order;
 use a2_check::{Format, TellFault, put_refusals, refusals_of};
 use a2_desk::Desk;
-use a2_explain::explain_stop;
+use a2_explain::{Course, explain_stop};
 use a2_film::{Chapter, Window, film_source};
 use a2_host::tell;
 use a2_list::list_told;
@@ -19,6 +19,7 @@ use a2_run::{Options, RunFault, fault_status, run_text, status};
 use a2_stream::{FromRead, Output, WriteFault, put_all};
 use a2_syntax::Fault;
 use a2_trace::{Choice, trace_source};
+use a2_typed::Strokes;
 use std::alloc::Global;
 
 /// Tells why a text has no answer, by a line of the fault's text.
@@ -63,6 +64,24 @@ pub fn list<W: Output, E: Output>(
     }
 }
 
+/// Tells why the run of a source stopped, at which these keys were typed.
+pub fn explain<E: Output>(
+    alloc: Global,
+    source: &[u8],
+    order: &Order,
+    strokes: &Strokes,
+    complaints: &mut E,
+) {
+    let course = Course {
+        keys: &order.keys,
+        strokes,
+        limit: order.limit,
+        free: order.free,
+    };
+    // Where this fails there is no place left to tell it.
+    let _ = explain_stop(alloc, source, &course, complaints);
+}
+
 /// Runs a source as a2 does, and tells why it stopped.
 pub fn run<W: Output, E: Output>(
     alloc: Global,
@@ -86,17 +105,7 @@ pub fn run<W: Output, E: Output>(
         output,
     );
     match answer {
-        Ok(_) => {
-            // Where this fails there is no place left to tell it.
-            let _ = explain_stop(
-                alloc,
-                source,
-                &order.keys,
-                order.limit,
-                order.free,
-                complaints,
-            );
-        }
+        Ok(_) => explain(alloc, source, order, &Strokes::new(alloc), complaints),
         Err(fault) => complain(fault, complaints),
     }
     status(&answer)
