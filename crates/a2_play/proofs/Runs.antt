@@ -8,10 +8,11 @@ use Rattle.a2_machine.specs.Meaning.{stuck, world_at}
 use Rattle.a2_machine.specs.ByteRun.{bytes}
 use Rattle.a2_machine.specs.ProgramGuard.{guard_of_program}
 use Rattle.a2_machine.specs.State.{Device, MachineState, world_of_state, code_of, steps_left, IsMachineRun}
-use Rattle.a2_play.specs.declared.player.Typed.{Typed}
-use Rattle.a2_play.specs.Played.{IsPlayed, IsStuckBy, code_of_play, start, typed, with_key, world_before_keys, world_with_keys}
+use Rattle.a2_typed.specs.declared.strokes.Typed.{Typed}
+use Rattle.a2_typed.specs.Typed.{typed}
+use Rattle.a2_play.specs.Played.{IsPlayed, IsStuckBy, code_of_play, start, with_key, world_with_keys}
 use Rattle.a2_play.proofs.Keys.{NoneAbove-push, NoneAbove-weaker}
-use Rattle.a2_play.proofs.Worlds.{world-more, world-typed, world-earlier, world-start}
+use Rattle.a2_play.proofs.Worlds.{world-more, world-typed, world-earlier, world-start-at}
 
 key_holds : (key : ℕ) (device : Device) → world_of_state (with_key key device).state ≡ typed (key ∷ []) (world_of_state device.state)
 unfolding typed memory_of
@@ -24,9 +25,8 @@ code_is program state e = ap (λ g. bytes g) e
 -- at the start
 pub played_start : (program : Assembled) (machine : Device) → world_of_state machine.state ≡ start program → machine.state.steps ≡ 0
     → machine.state.guard ≡ Some (guard_of_program program) → IsPlayed program (record { machine = machine; log = [] })
-unfolding world_before_keys
 played_start program machine holds steps guarded = record {
-  holds = holds ∙ sym (world-start program) ∙ sym (ap (λ n. world_with_keys program [] n) steps);
+  holds = holds ∙ sym (world-start-at program) ∙ sym (ap (λ n. world_with_keys program [] n) steps);
   went = λ k l. absurd (omega (arith, steps, l));
   guarded = guarded;
   past = tt;

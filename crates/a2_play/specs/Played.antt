@@ -1,18 +1,17 @@
 -- A machine that is played: its world is that of the program's meaning under the keys typed at the steps where they were typed.
-use Rattle.std.specs.Prelude.{◌≡◌, ◌⊎◌, ℕ, zero, suc, ◌<◌, ◌≤◌, ◌==◌, Bool, true, false, List, [], ◌∷◌, ◌++◌, Option, Some, None, if◌then◌else◌}
+use Rattle.std.specs.Prelude.{◌≡◌, ◌⊎◌, ℕ, ◌<◌, ◌≤◌, Bool, true, false, List, [], ◌∷◌, ◌++◌, Option, Some, None, if◌then◌else◌}
 use Rattle.a2_hex.specs.Images.{held}
 use Rattle.a2_asm.specs.Assembled.{Assembled}
-use Rattle.a2_bus.specs.Devices.{keys_typed}
-use Rattle.a2_bus.specs.Memory.{Memory}
 use Rattle.a2_services.specs.World.{World}
 use Rattle.a2_machine.specs.declared.Cause.{Cause}
 use Rattle.a2_machine.specs.declared.Cause.TheVariants.{Limit}
-use Rattle.a2_machine.specs.Meaning.{Code, stuck, next}
+use Rattle.a2_machine.specs.Meaning.{Code, stuck}
 use Rattle.a2_machine.specs.ByteRun.{bytes}
 use Rattle.a2_machine.specs.ProgramGuard.{guard_of_program}
 use Rattle.a2_machine.specs.Start.{start_world}
 use Rattle.a2_machine.specs.State.{Device, MachineState, world_of_state, code_of}
-use Rattle.a2_play.specs.declared.player.Typed.{Typed}
+use Rattle.a2_typed.specs.declared.strokes.Typed.{Typed}
+use Rattle.a2_typed.specs.Typed.{with_keys, world_with_keys as run_with_keys}
 
 -- a machine, and the keys that were typed at it
 pub record Play : Type 0 where
@@ -26,25 +25,9 @@ code_of_play program = bytes (Some (guard_of_program program))
 unfoldable pub start : Assembled → World
 start program = start_world (held program.image) program.entry []
 
--- the world after these keys are typed
-abbrev pub keys_typed_in : List ℕ → Memory → Memory
-keys_typed_in keys memory = record memory { devices = keys_typed memory.devices keys }
-
-unfoldable pub typed : List ℕ → World → World
-typed keys world = record world { memory = keys_typed_in keys world.memory }
-
--- the keys that were typed behind so many steps
-abbrev pub keys_at : List Typed → ℕ → List ℕ
-keys_at [] n = []
-keys_at (t ∷ ts) n = if t.steps == n then t.key ∷ keys_at ts n else keys_at ts n
-
--- the world behind so many steps, before the keys that were typed there, and with them
-unfoldable pub world_before_keys : Assembled → List Typed → ℕ → World
-world_before_keys program log zero = start program
-world_before_keys program log (suc n) = next (code_of_play program) (typed (keys_at log n) (world_before_keys program log n))
-
-unfoldable pub world_with_keys : Assembled → List Typed → ℕ → World
-world_with_keys program log n = typed (keys_at log n) (world_before_keys program log n)
+-- the world behind so many steps, with the keys that were typed there
+abbrev pub world_with_keys : Assembled → List Typed → ℕ → World
+world_with_keys program log n = run_with_keys (code_of_play program) (start program) log n
 
 -- none was typed behind more steps
 abbrev pub NoneAbove : ℕ → List Typed → Type 0
@@ -65,9 +48,7 @@ pub record Sitting : Type 0 where
 
 -- a machine at which a key was typed, or, where there was no room, was not
 abbrev pub with_key : ℕ → Device → Device
-with_key key device =
-    let s = device.state in let b = s.bus in
-    record device { state = record s { bus = record b { devices = keys_typed b.devices (key ∷ []) } } }
+with_key key device = with_keys (key ∷ []) device
 
 abbrev pub machine_after : Bool → ℕ → Device → Device
 machine_after is_typed key device = if is_typed then with_key key device else device

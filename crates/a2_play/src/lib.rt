@@ -14,7 +14,7 @@ mod strokes;
 
 pub use clock::Clock;
 pub use pace::{Pace, due};
-pub use player::{Player, Typed};
+pub use player::Player;
 pub use record::{Record, RecordFault, put_record, record_of};
 pub use session::{Session, play};
 pub use spelling::put_keys;

@@ -7,6 +7,7 @@ ghost use Rattle.a2_play.specs.Played.{IsPlayed, IsStuckBy, machine_after, after
 use a2_asm::Program;
 use a2_bus::Keys;
 use a2_machine::{Cause, Machine};
+use a2_typed::Typed;
 use std::alloc::{AllocError, Allocator, Global};
 use std::marker::Model;
 
@@ -18,14 +19,6 @@ const MOST_CYCLES: u64 = 7;
 
 /// The most steps of one run.
 const MOST_STEPS: u64 = 1_000_000;
-
-/// A key, and the steps that were made when it was typed.
-#[derive(Clone, Copy, Debug, PartialEq, Eq)]
-pub struct Typed {
-    pub steps: u64,
-    /// 0 to 127.
-    pub key: u8,
-}
 
 /// A machine, and the keys that were typed at it. Contracts see both.
 #[derive(Drop)]

@@ -1,8 +1,8 @@
 //! Typed keys as a text of the option `--keys`.
 
-use crate::player::Typed;
 use a2_stream::{Output, WriteFault, put, put_all};
 use a2_text::decimal;
+use a2_typed::Typed;
 
 // How the option spells a key, if it can.
 fn put_key<W: Output>(key: u8, writer: &mut W) -> Result<bool, WriteFault> {
