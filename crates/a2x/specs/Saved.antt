@@ -1,5 +1,6 @@
 -- Memory behind a run that is written into a file. This project's profile.
 use Rattle.std.specs.Prelude.{◌≡◌, ℕ, Bool, List, IfSome, Result, Ok, Err}
+use Rattle.a2_bus.specs.Memory.{Memory}
 use Rattle.a2_desk.specs.Desks.{Files, Saves}
 use Rattle.a2_machine.specs.declared.Cause.{Cause}
 use Rattle.a2_run.specs.declared.fault.RunFault.{RunFault}
@@ -14,3 +15,8 @@ SavesInto source keys limit free image old new (Ok cause) =
     IfSome old (λ _. (output : List ℕ) × IsMemoryOf ram_lines source keys limit free cause output × Saves image output old new)
 SavesInto source keys limit free image old new (Err (Source fault)) = IsRefused source fault × (new ≡ old)
 SavesInto source keys limit free image old new (Err _) = new ≡ old
+
+-- the same of a machine's memory
+abbrev pub SavesMemory : Memory → List ℕ → Files → Files → Result (Unit {0}) RunFault → Type 0
+SavesMemory memory image old new (Ok _) = IfSome old (λ _. Saves image (ram_lines memory) old new)
+SavesMemory memory image old new (Err _) = new ≡ old

@@ -39,6 +39,8 @@ Options of a run, and of run alone, before or behind F:
   --save IMAGE  all of RAM behind the run goes into this file, as object
                 lines, whole or not at all; a2x mon IMAGE begins with it
   --last N      the last N steps go to standard error, as trace writes them
+  --keys-at N:K the keys K are typed when N steps are made, as 1200:HI\r;
+                may stand several times, in any order
 
 Alone before F stands
 

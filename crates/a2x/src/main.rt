@@ -26,6 +26,7 @@ mod terminal;
 mod tests;
 mod tools;
 mod tracing;
+mod typing;
 mod words;
 
 use a2_desk::HostDesk;

@@ -7,6 +7,7 @@ use crate::asked::{held_in, order_in, program_in, span_in, steps_in, tell_span};
 use crate::program::{spares_input, text_of};
 use crate::table::Word;
 use crate::tools::{complain, run, told};
+use crate::typing::{add_strokes, run_typed};
 use crate::words::Order;
 use a2_asm::Program;
 use a2_bus::Keys;
@@ -18,10 +19,11 @@ use a2_options::{Found, Kind, Row};
 use a2_run::{RunFault, status};
 use a2_stream::{Input, Output};
 use a2_trace::{Choice, trace_source};
+use a2_typed::Strokes;
 use std::alloc::Global;
 
 // The options of `run`, of which those of each run are left.
-static RUN_OPTIONS: [Row; 5] = [
+static RUN_OPTIONS: [Row; 6] = [
     Row {
         name: "--mem",
         kind: Kind::Value,
@@ -32,6 +34,10 @@ static RUN_OPTIONS: [Row; 5] = [
     },
     Row {
         name: "--last",
+        kind: Kind::Value,
+    },
+    Row {
+        name: "--keys-at",
         kind: Kind::Value,
     },
     Row {
@@ -64,15 +70,17 @@ fn part_in<E: Output>(
     }
 }
 
-// What is asked for behind a run.
+/// What is asked for of a run, and behind it.
 #[derive(Drop)]
-struct Behind<'a> {
-    parts: Vec<Part>,
-    image: Option<&'a str>,
-    last: Option<u32>,
+pub struct Behind<'a> {
+    pub parts: Vec<Part>,
+    pub image: Option<&'a str>,
+    pub last: Option<u32>,
+    /// The keys that are typed behind steps.
+    pub strokes: Strokes,
 }
 
-// What the options of a run ask for behind it; or the status, where a fault is told.
+// What the options of a run ask for; or the status, where a fault is told.
 fn behind_of<'a, E: Output>(
     alloc: Global,
     source: &[u8],
@@ -85,6 +93,7 @@ fn behind_of<'a, E: Output>(
         parts: Vec::new(alloc),
         image: None,
         last: None,
+        strokes: Strokes::new(alloc),
     };
     if found.is_empty() {
         return Ok(asked);
@@ -93,6 +102,7 @@ fn behind_of<'a, E: Output>(
     for option in found {
         match option.name {
             "--save" => asked.image = Some(option.value),
+            "--keys-at" => add_strokes(&mut asked.strokes, option, complaints)?,
             "--last" => asked.last = Some(steps_in(b"run", option, complaints)?),
             _ => {
                 let part = part_in(&program, option, complaints)?;
@@ -218,6 +228,9 @@ pub fn run_of<S: Shelf, D: Desk, R: Input, W: Output, E: Output>(
         desk,
         complaints,
     )?;
+    if !asked.strokes.as_slice().is_empty() {
+        return run_typed(alloc, source, &order, &asked, desk, output, complaints);
+    }
     let ended = run(alloc, source, &order, output, complaints);
     if ended != 0 && ended != 3 {
         return Err(ended);
