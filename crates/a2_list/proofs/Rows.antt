@@ -1,5 +1,5 @@
 -- The rows of a listing, one after another.
-use Rattle.std.proofs.Common.{◌≡◌, ℕ, zero, suc, ◌+◌, ◌-◌, ◌<◌, min, List, [], ◌∷◌, ◌++◌, length, map, drop, get_or, slice_get, option_map, Option, Some, None, refl, sym, ap, ◌∙◌, arith}
+use Rattle.std.proofs.Common.{◌≡◌, ℕ, zero, suc, ◌+◌, ◌-◌, ◌<◌, min, List, [], ◌∷◌, ◌++◌, length, map, drop, get_or, slice_get, option_map, Option, Some, None, Bool, refl, sym, ap, ◌∙◌, arith}
 use Rattle.std.proofs.lemmas.List.{length-map, get_or-map, drop_more}
 use Rattle.std.proofs.lemmas.Option.{get_or_from_slice_get, slice_get-map, slice_get_within}
 use Rattle.std.specs.Borrow.{Bor}
@@ -23,18 +23,18 @@ more-next image a n (suc left) byte h some =
     rw (h, one) refl
 
 -- the rows from a line on
-pub rows-next : (image : ℕ → Option ℕ) (statements : List Statement) (n i : ℕ) (items : List (Bor (List ℕ))) (d : Bor (List ℕ)) (own : Option Statement) (later : List Statement)
+pub rows-next : (cycles : Bool) (image : ℕ → Option ℕ) (statements : List Statement) (n i : ℕ) (items : List (Bor (List ℕ))) (d : Bor (List ℕ)) (own : Option Statement) (later : List Statement)
     → own ≡ statement_of_line n statements → later ≡ behind_line n statements → i < length items
-    → listing_rows image statements n (drop i (map (λ x. x.now) items))
-    ≡ rows_of_line image own n (get_or items i d).now ++ listing_rows image later (n + 1) (drop (i + 1) (map (λ x. x.now) items))
-rows-next image statements n i items d own later is_own is_later low =
+    → listing_rows cycles image statements n (drop i (map (λ x. x.now) items))
+    ≡ rows_of_line cycles image own n (get_or items i d).now ++ listing_rows cycles image later (n + 1) (drop (i + 1) (map (λ x. x.now) items))
+rows-next cycles image statements n i items d own later is_own is_later low =
     let now = λ (x : Bor (List ℕ)). x.now in
     let count = length-map items now in
     let rest = drop (i + 1) (map now items) in
-    ap (λ (texts : List (List ℕ)). listing_rows image statements n texts)
+    ap (λ (texts : List (List ℕ)). listing_rows cycles image statements n texts)
     (drop_more (map now items) i [] (omega (arith, count, low)) ∙ ap (λ (line : List ℕ). line ∷ rest) (get_or-map now items i d [] low))
-    ∙ ap (λ (o : Option Statement). rows_of_line image o n (get_or items i d).now ++ listing_rows image (behind_line n statements) (n + 1) rest) (sym is_own)
-    ∙ ap (λ (l : List Statement). rows_of_line image own n (get_or items i d).now ++ listing_rows image l (n + 1) rest) (sym is_later)
+    ∙ ap (λ (o : Option Statement). rows_of_line cycles image o n (get_or items i d).now ++ listing_rows cycles image (behind_line n statements) (n + 1) rest) (sym is_own)
+    ∙ ap (λ (l : List Statement). rows_of_line cycles image own n (get_or items i d).now ++ listing_rows cycles image l (n + 1) rest) (sym is_later)
 
 -- the entry at an index of a map, seen through another form of it
 pub entry-at : {X Y Z : Type 0} (see : X → Y) (f : Y → Z) (found : Option X) (x : X) (ys : List Y) (i : ℕ) → option_map see found ≡ slice_get ys i → found ≡ Some x

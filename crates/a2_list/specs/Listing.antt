@@ -1,20 +1,26 @@
--- What a listing shows: the lines of a source with the addresses and bytes of their statements, and the names with their
--- values. This project's profile.
-use Rattle.std.specs.Prelude.{◌≡◌, ℕ, zero, suc, ◌+◌, ◌-◌, ◌/◌, ◌==◌, min, List, [], ◌∷◌, ◌++◌, length, take, codes, Option, Some, None, is_some, if◌then◌else◌}
+-- What a listing shows: the lines of a source with the addresses and bytes of their statements, and where it is asked for the
+-- cycles of their instructions; and the names with their values, or with the lines that use them. This project's profile.
+use Rattle.std.specs.Prelude.{◌≡◌, ℕ, zero, suc, ◌+◌, ◌-◌, ◌/◌, ◌==◌, ◌||◌, min, Bool, true, false, List, [], ◌∷◌, ◌++◌, length, codes, Option, Some, None, is_some, if◌then◌else◌}
 use Rattle.std.specs.List.{concat, flat_map}
 use Rattle.std.specs.Fmt.{decimal}
 use Rattle.a2_text.specs.Digits.{hex_word}
 use Rattle.a2_text.specs.Lines.{lines}
 use Rattle.a2_hex.specs.Images.{held}
 use Rattle.a2_hex.specs.ObjectText.{after_blank, run}
+use Rattle.a2_opcode.specs.declared.Instr.{Instr}
+use Rattle.a2_opcode.specs.declared.Mode.{Mode}
+use Rattle.a2_opcode.specs.declared.Mode.TheVariants.{Relative}
+use Rattle.a2_opcode.specs.declared.Row.{Row}
+use Rattle.a2_opcode.specs.Table.{row}
+use Rattle.a2_syntax.specs.Bare.{BareLine}
+use Rattle.a2_syntax.specs.Sources.{IsSource}
 use Rattle.a2_asm.specs.declared.program.Statement.{Statement}
 use Rattle.a2_asm.specs.Assembled.{Assembled}
 use Rattle.a2_asm.specs.Values.{Names}
 use Rattle.a2_run.specs.Meaning.{IsProgramOf}
-
--- so many blanks, but at most 23
-abbrev pub blanks : ℕ → List ℕ
-blanks n = take n (codes "                       ")
+use Rattle.a2_list.specs.declared.listing.Shown.{Shown}
+use Rattle.a2_list.specs.Blanks.{blanks}
+use Rattle.a2_list.specs.NameTable.{AreInOrder, use_table}
 
 -- an address, `-`, and behind it the bytes from there upwards to the first gap, but at most n, as `0300-   A9 C1`
 unfoldable pub columns : (ℕ → Option ℕ) → ℕ → ℕ → List ℕ
@@ -29,13 +35,51 @@ first_columns byte_at (Some s) = columns byte_at s.addr (min s.length 3)
 abbrev pub before_text : List ℕ → List ℕ
 before_text text = if length text == 0 then [] else codes "  "
 
--- a row of these parts
-unfoldable pub row_of_parts : List ℕ → List ℕ → List ℕ → List ℕ → List ℕ → List ℕ
-row_of_parts front gap digits before text = concat (front ∷ gap ∷ digits ∷ before ∷ text ∷ codes "\n" ∷ [])
+abbrev pub is_branch : Mode → Bool
+is_branch Relative = true
+is_branch mode = false
 
--- the row of a line: the columns, the line's number, which ends at the 23rd place, and the line as it was written
-abbrev pub line_row : List ℕ → List ℕ → List ℕ → List ℕ
-line_row front digits text = row_of_parts front (blanks (23 - length front - length digits)) digits (before_text text) text
+-- the row of the opcode table of a statement that is an instruction
+abbrev pub row_of_instr : Option Instr → Option Row
+row_of_instr None = None
+row_of_instr (Some i) = row i.mnemonic i.mode
+
+abbrev pub row_in : Option Statement → Option Row
+row_in None = None
+row_in (Some s) = row_of_instr s.instr
+
+-- `+` where a row may take more cycles: one where an index comes into another page, one or two where a branch is taken. MCS6500
+-- Programming Manual, appendix B
+abbrev pub mark_of : Row → List ℕ
+mark_of r = if r.crosses || is_branch r.mode then codes "+" else []
+
+abbrev pub cycles_of : Option Row → List ℕ
+cycles_of None = []
+cycles_of (Some r) = decimal r.cycles ++ mark_of r
+
+-- the cell of a statement's cycles, which begins at the 19th place of a row, behind so many bytes; nothing where they are not asked for
+abbrev pub cycles_cell : Bool → ℕ → Option Statement → List ℕ
+cycles_cell false used statement = []
+cycles_cell true used statement = blanks (18 - used) ++ cycles_of (row_in statement)
+
+-- the place at which the number of a line ends
+abbrev pub number_end : Bool → ℕ
+number_end cycles = if cycles then 27 else 23
+
+-- a row of these parts
+unfoldable pub row_of_parts : List ℕ → List ℕ → List ℕ → List ℕ → List ℕ → List ℕ → List ℕ
+row_of_parts front cell gap digits before text = concat (front ∷ cell ∷ gap ∷ digits ∷ before ∷ text ∷ codes "\n" ∷ [])
+
+-- the row of a line: the columns, the line's number, which ends at a place, and the line as it was written
+abbrev pub line_row : ℕ → List ℕ → List ℕ → List ℕ → List ℕ → List ℕ
+line_row end front cell digits text =
+    row_of_parts front cell (blanks (end - length front - length cell - length digits)) digits (before_text text) text
+
+-- the row of a line with its statement
+abbrev pub first_row : Bool → (ℕ → Option ℕ) → Option Statement → ℕ → List ℕ → List ℕ
+first_row cycles byte_at statement n text =
+    let front = first_columns byte_at statement in
+    line_row (number_end cycles) front (cycles_cell cycles (length front) statement) (decimal n) text
 
 -- the row of bytes behind the first three of a statement
 unfoldable pub bytes_row : List ℕ → List ℕ
@@ -53,8 +97,8 @@ further_rows byte_at None = []
 further_rows byte_at (Some s) = more_rows byte_at s.addr s.length ((s.length - 1) / 3)
 
 -- all rows of the line of a number
-abbrev pub rows_of_line : (ℕ → Option ℕ) → Option Statement → ℕ → List ℕ → List ℕ
-rows_of_line byte_at statement n text = line_row (first_columns byte_at statement) (decimal n) text ++ further_rows byte_at statement
+abbrev pub rows_of_line : Bool → (ℕ → Option ℕ) → Option Statement → ℕ → List ℕ → List ℕ
+rows_of_line cycles byte_at statement n text = first_row cycles byte_at statement n text ++ further_rows byte_at statement
 
 -- the statement of a line, where these are its and those of later lines
 abbrev pub statement_of_line : ℕ → List Statement → Option Statement
@@ -67,10 +111,10 @@ behind_line n [] = []
 behind_line n (s ∷ others) = if s.line == n then others else s ∷ others
 
 -- the rows of lines, from the line of a number on
-abbrev pub listing_rows : (ℕ → Option ℕ) → List Statement → ℕ → List (List ℕ) → List ℕ
-listing_rows byte_at statements n [] = []
-listing_rows byte_at statements n (text ∷ texts) =
-    rows_of_line byte_at (statement_of_line n statements) n text ++ listing_rows byte_at (behind_line n statements) (n + 1) texts
+abbrev pub listing_rows : Bool → (ℕ → Option ℕ) → List Statement → ℕ → List (List ℕ) → List ℕ
+listing_rows cycles byte_at statements n [] = []
+listing_rows cycles byte_at statements n (text ∷ texts) =
+    rows_of_line cycles byte_at (statement_of_line n statements) n text ++ listing_rows cycles byte_at (behind_line n statements) (n + 1) texts
 
 -- the row of a name, as `FDED  COUT`
 unfoldable pub name_row : List ℕ → List ℕ → List ℕ
@@ -80,12 +124,21 @@ name_row digits name = concat (digits ∷ codes "  " ∷ name ∷ codes "\n" ∷
 abbrev pub name_rows : Names → List ℕ
 name_rows names = flat_map (λ entry. name_row (hex_word entry.1) entry.0) names
 
--- the rows of all lines, an empty line, and the names
-abbrev pub source_listing : Assembled → List (List ℕ) → List ℕ
-source_listing program texts = listing_rows (held program.image) program.statements 1 texts ++ (codes "\n" ++ name_rows program.names)
+-- the rows of all lines, and an empty line
+abbrev pub rows_and_gap : Bool → Assembled → List (List ℕ) → List ℕ
+rows_and_gap cycles program texts = listing_rows cycles (held program.image) program.statements 1 texts ++ codes "\n"
 
--- the listing of a text that is accepted
-pub record IsListing (text output : List ℕ) : Type 0 where
+-- the names of a text's program: in the order of the lines that define them; or in that of their bytes, with the lines of the
+-- source that use them
+abbrev pub IsTable : Bool → List ℕ → Names → List ℕ → Type 0
+IsTable false text names table = table ≡ name_rows names
+IsTable true text names table =
+    (source : List BareLine) × (order : List (List ℕ)) × IsSource text source × AreInOrder names order × (table ≡ use_table names source order)
+
+-- the listing of a text that is accepted: the rows of all lines, an empty line, and the names
+pub record IsListing (shown : Shown) (text output : List ℕ) : Type 0 where
   pub program : Assembled
   pub is_program : IsProgramOf text program
-  pub output_is : output ≡ source_listing program (lines text)
+  pub table : List ℕ
+  pub is_table : IsTable shown.uses text program.names table
+  pub output_is : output ≡ rows_and_gap shown.cycles program (lines text) ++ table

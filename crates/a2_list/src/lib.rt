@@ -1,8 +1,12 @@
 //! The listing of a source and its names.
 #![tactic(auto)]
 
+mod blanks;
+mod cycles;
 mod listing;
+mod name_table;
 mod told;
+mod uses;
 
-pub use listing::list_source;
+pub use listing::{Shown, list_source};
 pub use told::list_told;

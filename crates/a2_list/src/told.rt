@@ -7,7 +7,7 @@ ghost use Rattle.a2_list.specs.Listing.{IsListing};
 ghost use Rattle.a2_list.specs.Told as told;
 ghost use Rattle.a2_list.specs.Told.{IsTold, Tells};
 
-use crate::listing::list_lines;
+use crate::listing::{Shown, list_lines};
 use a2_run::RunFault;
 use a2_stream::{Output, put_all};
 use a2_syntax::Fault;
@@ -47,17 +47,18 @@ fn tell<E: Output>(fault: RunFault, line: Option<&[u8]>, complaints: &mut E)
     };
 }
 
-/// Writes to `output` the listing of `source`, as [`list_source`](crate::list_source) does. Why there is none is told to
+/// Writes to `output` the listing of `source`, as [`list_source`](crate::list_source) does, with what is `shown`. Why there is none is told to
 /// `complaints`: the text of the fault and LF, and behind a refusal of a line that line, as it was written, and LF. Where a write
 /// there fails, a front of this went out. Refused where the source is, where a write to `output` fails, and for want of memory.
 /// This project's profile.
 pub fn list_told<A: Allocator + Copy, W: Output, E: Output>(
     alloc: A,
     source: &[u8],
+    shown: Shown,
     output: &mut W,
     complaints: &mut E,
 ) -> Result<(), RunFault>
-    ensures meaning { Answers (OfSource (IsRefused source.now)) (λ _. IsListing source.now) (W.taker output.old) (W.taker output.new) result }
+    ensures meaning { Answers (OfSource (IsRefused source.now)) (λ _. IsListing shown source.now) (W.taker output.old) (W.taker output.new) result }
     ensures no_reader { is_read_fault result ≡ false }
     ensures told { IsTold source.now (E.taker complaints.old) (E.taker complaints.new) result }
 {
@@ -65,7 +66,7 @@ pub fn list_told<A: Allocator + Copy, W: Output, E: Output>(
         tell(RunFault::Memory, None, complaints);
         return Err(RunFault::Memory);
     };
-    let answer = list_lines(alloc, source, texts.as_slice(), output);
+    let answer = list_lines(alloc, source, texts.as_slice(), shown, output);
     if let Err(fault) = answer {
         tell(fault, line_of(texts.as_slice(), fault), complaints);
     }

@@ -20,8 +20,8 @@ run, before F:
               and 100,000 of a film
   --free      without the guard: code may begin anywhere, and be stored to
 
-run, trace and film have more, which a2x help run tells, and so on. N of
---format is short, for editors, or json; of test csv, json or junit. Alone
+run, list, trace and film have more, which a2x help run tells, and so on. N
+of --format is short, for editors, or json; of test csv, json or junit. Alone
 stands:
 
   --version   the version, and the commit that the program was packaged from
@@ -49,6 +49,18 @@ Alone before F stands
 
 P is $300, a name of F, a line of F as 12:, or one of these with a number
 behind it, as NAME+2.
+";
+
+// The options that `list` alone has.
+const LIST_OPTIONS: &[u8] = b"
+Before or behind F:
+
+  --cycles   the cycles of each instruction, by the opcode table; a + behind
+             them says that it may take more: one where an index comes into
+             another page, one or two where it is a branch that is taken
+  --names    in place of the names with their values a table of them, in the
+             order of the alphabet: the line that defines each, and those
+             that use it
 ";
 
 // The options that `trace` alone has.
@@ -140,6 +152,7 @@ fn own_options(tool: Tool) -> &'static [u8] {
     match tool {
         Tool::Film => FILM_OPTIONS,
         Tool::Run => RUN_OPTIONS,
+        Tool::List => LIST_OPTIONS,
         Tool::Trace => TRACE_OPTIONS,
         Tool::Fmt => FMT_OPTIONS,
         Tool::Play => PLAY_OPTIONS,

@@ -54,7 +54,7 @@ pub static WORDS: [Word; 13] = [
     },
     Word {
         name: "list",
-        arguments: "[F]",
+        arguments: "[options] [F]",
         runs: false,
         says: "lists F with addresses, bytes and names",
         tool: Tool::List,

@@ -13,7 +13,7 @@ use a2_desk::Desk;
 use a2_explain::{Course, explain_stop};
 use a2_film::{Chapter, Window, film_source};
 use a2_host::tell;
-use a2_list::list_told;
+use a2_list::{Shown, list_told};
 use a2_profile::profile_source;
 use a2_run::{Options, RunFault, fault_status, run_text, status};
 use a2_stream::{FromRead, Output, WriteFault, put_all};
@@ -49,16 +49,17 @@ pub fn written<E: Output>(answer: Result<(), WriteFault>, complaints: &mut E) ->
     }
 }
 
-/// Lists a source; behind its refusal the refused line is told.
+/// Lists a source, with what is `shown`; behind its refusal the refused line is told.
 pub fn list<W: Output, E: Output>(
     alloc: Global,
     source: &[u8],
+    shown: Shown,
     output: &mut W,
     complaints: &mut E,
 ) -> u8
     ensures { result ≤ 5 }
 {
-    match list_told(alloc, source, output, complaints) {
+    match list_told(alloc, source, shown, output, complaints) {
         Ok(()) => 0,
         Err(fault) => fault_status(&fault),
     }

@@ -9,5 +9,5 @@ abbrev pub invariant-loop-text : goal.invariant-loop-text
 invariant-loop-text g l = record {
   counted : l.number ≡ l.text-index + 1;
   left : IsLeft (g.W.Output.taker l.fn.writer) (g.W.Output.taker l.writer)
-      (listing_rows (held l.image) l.statements 1 (map (λ x. x.now) l.texts)) (listing_rows (held l.image) l.rest l.number (drop l.text-index (map (λ x. x.now) l.texts)));
+      (listing_rows l.cycles (held l.image) l.statements 1 (map (λ x. x.now) l.texts)) (listing_rows l.cycles (held l.image) l.rest l.number (drop l.text-index (map (λ x. x.now) l.texts)));
 }

@@ -1,0 +1,59 @@
+//! The cycles of an instruction.
+
+ghost use Rattle.std.specs.Prelude.{◌≡◌, ◌+◌, ◌≤◌, ◌++◌, length, Some};
+ghost use Rattle.arrayvec.specs.ArrayVec.{array_vec_len};
+ghost use Rattle.a2_list.specs.Listing as listing;
+
+use crate::blanks::blanks;
+use a2_asm::Statement;
+use a2_opcode::{Mode, Row, row_for};
+use a2_text::decimal;
+use arrayvec::ArrayVec;
+
+/// Blanks, a number and a mark.
+pub(crate) type Cell = ArrayVec<u8, 64>;
+
+// Appends bytes that fit.
+fn append(cell: &mut Cell, bytes: &[u8])
+    requires { array_vec_len cell.old + length bytes.now ≤ 64 }
+    ensures bytes { cell.new.items ≡ cell.old.items ++ bytes.now }
+    ensures length { array_vec_len cell.new ≡ array_vec_len cell.old + length bytes.now }
+{
+    cell.try_extend_from_slice(bytes).unwrap();
+}
+
+// What marks the cycles of a row, of which there may be more.
+fn mark_of(row: Row) -> &'static [u8]
+    ensures mark { result.now ≡ listing.mark_of row }
+    ensures short { length result.now ≤ 1 }
+{
+    if row.crosses || matches!(row.mode, Mode::Relative) {
+        b"+"
+    } else {
+        b""
+    }
+}
+
+// The opcode's row of a statement that is an instruction.
+fn row_in(statement: Option<Statement>) -> Option<Row>
+    ensures { result ≡ listing.row_in statement }
+{
+    let instr = statement?.instr?;
+    row_for(instr.mnemonic, instr.mode)
+}
+
+/// The cell of a statement's cycles, where it is asked for, behind so many bytes of its row.
+pub(crate) fn cycles_cell(shown: bool, used: usize, statement: Option<Statement>) -> Cell
+    ensures { result.items ≡ listing.cycles_cell shown used statement }
+{
+    let mut cell = Cell::new();
+    if !shown {
+        return cell;
+    }
+    append(&mut cell, blanks(18usize.saturating_sub(used)));
+    if let Some(row) = row_in(statement) {
+        append(&mut cell, decimal(u64::from(row.cycles)).as_slice());
+        append(&mut cell, mark_of(row));
+    }
+    cell
+}

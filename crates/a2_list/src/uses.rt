@@ -1,0 +1,106 @@
+//! Where the names of a source are defined, and where they are used.
+
+ghost use Rattle.std.specs.Prelude.{◌≡◌, ◌<◌, length, MatchOption, IfSome, Some, None};
+ghost use Rattle.std.specs.List.{list_any, position};
+ghost use Rattle.a2_asm.specs.Modes.{expr_of as expr_in};
+ghost use Rattle.a2_list.specs.Uses as uses;
+
+use a2_syntax::{Body, Expr, Line, Name, Operand, Term};
+use std::alloc::Allocator;
+
+// Whether a term is a name.
+fn is_named<A: Allocator>(name: &str, term: &Term<A>) -> bool
+    ensures { result ≡ uses.is_named name.now term.now }
+{
+    match term {
+        Term::Named(other) => other.get() == name,
+        _ => false,
+    }
+}
+
+// Whether a name stands in an expression.
+fn is_in<A: Allocator>(name: &str, e: &Expr<A>) -> bool
+    ensures { result ≡ uses.is_in name.now e.now }
+{
+    e.terms.get().iter().any(|t| is_named(name, &t.term))
+}
+
+// The expression of an operand, if it has one.
+fn expr_of<A: Allocator>(operand: &Operand<A>) -> Option<&Expr<A>>
+    ensures { MatchOption result (expr_in operand.now ≡ None) (λ e. expr_in operand.now ≡ Some e.now) }
+{
+    match operand {
+        Operand::Nothing | Operand::Accumulator => None,
+        Operand::Immediate(e)
+        | Operand::Plain(e)
+        | Operand::WithX(e)
+        | Operand::WithY(e)
+        | Operand::InParenthesesX(e)
+        | Operand::ParenthesesY(e)
+        | Operand::InParentheses(e) => Some(e),
+    }
+}
+
+// Whether a name stands in an operand.
+fn is_in_operand<A: Allocator>(name: &str, operand: &Operand<A>) -> bool
+    ensures { result ≡ uses.is_in_operand name.now operand.now }
+{
+    match expr_of(operand) {
+        Some(e) => is_in(name, e),
+        None => false,
+    }
+}
+
+// Whether a name stands in one of some expressions.
+fn is_in_any<A: Allocator>(name: &str, es: &[Expr<A>]) -> bool
+    ensures { result ≡ list_any (uses.is_in name.now) es.now }
+{
+    es.iter().any(|e| is_in(name, e))
+}
+
+/// Whether a line uses a name.
+pub(crate) fn is_used_in<A: Allocator>(name: &str, line: &Line<A>) -> bool
+    ensures { result ≡ uses.is_used_in name.now line.now }
+{
+    match &line.body {
+        Body::Empty | Body::Asc(_) => false,
+        Body::Instr(_, operand) => is_in_operand(name, operand),
+        Body::Org(e) | Body::Equ(e) | Body::Ds(e) => is_in(name, e),
+        Body::Dfb(es) | Body::Dw(es) => is_in_any(name, es.get()),
+    }
+}
+
+/// Whether one of some lines uses a name.
+pub(crate) fn is_used<A: Allocator>(name: &str, lines: &[Line<A>]) -> bool
+    ensures { result ≡ list_any (uses.is_used_in name.now) lines.now }
+{
+    lines.iter().any(|line| is_used_in(name, line))
+}
+
+// Whether a name is a label.
+fn is_label<A: Allocator>(name: &str, label: &Option<Name<A>>) -> bool
+    ensures { result ≡ uses.is_label name.now label.now }
+{
+    match label {
+        Some(label) => label.get() == name,
+        None => false,
+    }
+}
+
+// The index of the first line with a name as its label.
+fn label_at<A: Allocator>(name: &str, lines: &[Line<A>]) -> Option<usize>
+    ensures index { result ≡ position (λ line. uses.is_label name.now line.label) lines.now }
+    ensures within { IfSome result (λ index. index < length lines.now) }
+{
+    lines.iter().position(|line| is_label(name, &line.label))
+}
+
+/// The number of the first line with a name as its label, or 0.
+pub(crate) fn definition<A: Allocator>(name: &str, lines: &[Line<A>]) -> usize
+    ensures { result ≡ uses.definition name.now lines.now }
+{
+    match label_at(name, lines) {
+        Some(index) => index + 1,
+        None => 0,
+    }
+}

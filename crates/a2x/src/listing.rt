@@ -1,0 +1,75 @@
+//! The word `list`: what its words ask for.
+
+ghost use Rattle.std.specs.Prelude.{◌≡◌, ◌≤◌, codes, IfOk, IfErr};
+ghost use Rattle.std.specs.List.{list_any};
+ghost use Rattle.std.specs.Str.{bytes_eq};
+
+use crate::asked::held_in;
+use crate::named::file_in;
+use crate::program::{behind, refused, text_of};
+use crate::table::Word;
+use crate::tools::list;
+use a2_host::Shelf;
+use a2_list::Shown;
+use a2_options::{Found, Kind, Row};
+use a2_stream::{Input, Output};
+use std::alloc::Global;
+
+// The options of `list`, and what stands before a file whose name begins with `-`.
+static LIST_OPTIONS: [Row; 3] = [
+    Row {
+        name: "--cycles",
+        kind: Kind::Flag,
+    },
+    Row {
+        name: "--names",
+        kind: Kind::Flag,
+    },
+    Row {
+        name: "--",
+        kind: Kind::End,
+    },
+];
+
+// Whether an option was found.
+fn has(found: &[Found<'_>], name: &str) -> bool
+    ensures { result ≡ list_any (λ option. bytes_eq option.name.now name.now) found.now }
+{
+    found.iter().any(|option| option.name == name)
+}
+
+// What a listing shows, by its options.
+fn shown_by(found: &[Found<'_>]) -> Shown
+    ensures cycles { result.cycles ≡ list_any (λ option. bytes_eq option.name.now (codes "--cycles")) found.now }
+    ensures uses { result.uses ≡ list_any (λ option. bytes_eq option.name.now (codes "--names")) found.now }
+{
+    Shown {
+        cycles: has(found, "--cycles"),
+        uses: has(found, "--names"),
+    }
+}
+
+/// Lists the source that the words name, as their options say. The status is 1 where the source is refused, 2 where the words are,
+/// 4 where the file does not open or a read or a write fails, and 5 for want of memory, each told on `complaints`.
+pub fn list_of<S: Shelf, R: Input, W: Output, E: Output>(
+    alloc: Global,
+    word: &Word,
+    words: &[String],
+    shelf: &mut S,
+    input: &mut R,
+    output: &mut W,
+    complaints: &mut E,
+) -> Result<u8, u8>
+    ensures done { IfOk result (λ status. status ≤ 5) }
+    ensures refused { IfErr result (λ status. status ≤ 5) }
+{
+    let held = held_in(alloc, word, &LIST_OPTIONS, words, complaints)?;
+    let others = held.others.as_slice();
+    let file = match file_in(others) {
+        Ok(file) => file,
+        Err(fault) => return Err(refused(word, behind(others), fault, complaints)),
+    };
+    let text = text_of(alloc, file, shelf, input, complaints)?;
+    let shown = shown_by(held.found.as_slice());
+    Ok(list(alloc, text.as_slice(), shown, output, complaints))
+}
