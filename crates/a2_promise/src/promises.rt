@@ -1,0 +1,386 @@
+//! The promises of a source text.
+
+use crate::expr::Expr;
+use crate::fault::{ReadFault, Refusal};
+use crate::parsing::expression;
+use crate::reader::Reader;
+use crate::reading::Class;
+use crate::words::LOOSEST;
+use a2_asm::Program;
+use a2_text::{behind_blanks, front_len, is_blank};
+use std::alloc::{AllocError, Global};
+
+/// The most levels of an expression.
+const MOST_LEVELS: u8 = 200;
+
+/// A fact that is promised, or that is wanted at the entry: the number of its line, its text, and what it says.
+#[derive(Drop)]
+pub struct Clause<'a> {
+    pub line: usize,
+    pub text: &'a [u8],
+    pub expr: Expr,
+}
+
+/// The addresses from one up to another, both among them.
+#[derive(Clone, Copy)]
+pub struct Range {
+    pub first: u16,
+    pub last: u16,
+}
+
+/// What may be other behind a routine than before: registers, and bytes. Flags always may.
+#[derive(Drop)]
+pub struct Changes {
+    pub a: bool,
+    pub x: bool,
+    pub y: bool,
+    pub ranges: Vec<Range>,
+}
+
+/// What a routine promises.
+#[derive(Drop)]
+pub struct Promise<'a> {
+    /// Its label.
+    pub name: &'a [u8],
+    /// The number of the label's line.
+    pub line: usize,
+    /// Where it is entered.
+    pub address: u16,
+    pub wanted: Vec<Clause<'a>>,
+    pub promised: Vec<Clause<'a>>,
+    pub changes: Changes,
+}
+
+/// A promise, or why lines are none.
+#[derive(Drop)]
+pub enum Found<'a> {
+    Promise(Promise<'a>),
+    /// Why, and the label that the lines stand before, empty where there is none.
+    Refused(Refusal, &'a [u8]),
+}
+
+// The lines before a label.
+#[derive(Drop)]
+struct Block<'a> {
+    /// The number of its first line; 0 where there is none yet.
+    first: usize,
+    wanted: Vec<Clause<'a>>,
+    promised: Vec<Clause<'a>>,
+    changes: Changes,
+    refused: Option<Refusal>,
+    /// Whether a line says what holds within a routine, and none what it promises.
+    is_within: bool,
+}
+
+// No lines yet.
+fn new_block<'a>(alloc: Global) -> Block<'a> {
+    Block {
+        first: 0,
+        wanted: Vec::new(alloc),
+        promised: Vec::new(alloc),
+        changes: Changes {
+            a: false,
+            x: false,
+            y: false,
+            ranges: Vec::new(alloc),
+        },
+        refused: None,
+        is_within: true,
+    }
+}
+
+// What a piece of a line says that holds, and nothing behind it.
+fn whole_fact<'a>(reader: &mut Reader<'a, '_>) -> Result<(), ReadFault<'a>> {
+    expression(reader, LOOSEST, MOST_LEVELS)?.fact()?;
+    ended(reader)
+}
+
+// Nothing stands behind what was read.
+fn ended<'a>(reader: &Reader<'a, '_>) -> Result<(), ReadFault<'a>> {
+    if reader.next().class == Class::End {
+        Ok(())
+    } else {
+        reader.refuse("this can't stand here: and, or, iff, a comparison or the line's end may")
+    }
+}
+
+// Lets bytes change.
+fn push_range(changes: &mut Changes, range: Range) -> Result<(), AllocError> {
+    Ok(changes.ranges.push(range)?)
+}
+
+// Takes what may change: a register, or bytes from one address to another.
+fn take_change<'a>(
+    reader: &mut Reader<'a, '_>,
+    changes: &mut Changes,
+) -> Result<(), ReadFault<'a>> {
+    if reader.took(b"A") {
+        changes.a = true;
+    } else if reader.took(b"X") {
+        changes.x = true;
+    } else if reader.took(b"Y") {
+        changes.y = true;
+    } else if reader.took(b"S") {
+        return reader.refuse(
+            "S is as it should be where a routine returns: it is not among what changes",
+        );
+    } else if !took_flag(reader) {
+        let first = reader.address()?;
+        let last = if reader.took(b"..") {
+            reader.address()?
+        } else {
+            first
+        };
+        if last < first {
+            return reader.refuse("the last address is below the first");
+        }
+        push_range(changes, Range { first, last })?;
+    }
+    Ok(())
+}
+
+// Takes a flag, if one stands next.
+fn took_flag(reader: &mut Reader) -> bool {
+    for flag in [b"C", b"Z", b"N", b"V", b"D", b"I"] {
+        if reader.took(flag) {
+            return true;
+        }
+    }
+    false
+}
+
+// Takes all that may change, with commas between.
+fn take_changes<'a>(
+    reader: &mut Reader<'a, '_>,
+    changes: &mut Changes,
+) -> Result<(), ReadFault<'a>> {
+    if reader.took(b"nothing") {
+        return ended(reader);
+    }
+    for _ in 0..=reader.rest.len() {
+        take_change(reader, changes)?;
+        if !reader.took(b",") {
+            return ended(reader);
+        }
+    }
+    Ok(())
+}
+
+// What a line of a promise begins with.
+#[derive(Clone, Copy)]
+enum Verb {
+    Requires,
+    Ensures,
+    Changes,
+    Invariant,
+    Decreases,
+    Note,
+}
+
+// The verb of this name.
+fn verb_named(word: &[u8]) -> Option<Verb> {
+    let verbs: [(&str, Verb); 6] = [
+        ("requires", Verb::Requires),
+        ("ensures", Verb::Ensures),
+        ("changes", Verb::Changes),
+        ("invariant", Verb::Invariant),
+        ("decreases", Verb::Decreases),
+        ("note", Verb::Note),
+    ];
+    for (name, verb) in verbs.iter() {
+        if name.as_bytes() == word {
+            return Some(*verb);
+        }
+    }
+    None
+}
+
+const VERBS: &str =
+    "a line of a promise begins with requires, ensures, changes, invariant, decreases or note";
+
+impl<'a> Block<'a> {
+    // Takes up a line of this number.
+    fn take(&mut self, reader: &mut Reader<'a, '_>, line: usize) -> Result<(), ReadFault<'a>> {
+        let Some(verb) = verb_named(reader.next().text) else {
+            return reader.refuse(VERBS);
+        };
+        reader.take();
+        let text = behind_blanks(reader.rest);
+        match verb {
+            Verb::Requires => {
+                self.is_within = false;
+                push_fact(reader, &mut self.wanted, line, text)
+            }
+            Verb::Ensures => {
+                self.is_within = false;
+                push_fact(reader, &mut self.promised, line, text)
+            }
+            Verb::Changes => {
+                self.is_within = false;
+                take_changes(reader, &mut self.changes)
+            }
+            Verb::Decreases => {
+                expression(reader, LOOSEST, MOST_LEVELS)?.number()?;
+                ended(reader)
+            }
+            Verb::Invariant | Verb::Note => whole_fact(reader),
+        }
+    }
+}
+
+// Reads a fact as a clause more.
+fn push_fact<'a>(
+    reader: &mut Reader<'a, '_>,
+    clauses: &mut Vec<Clause<'a>>,
+    line: usize,
+    text: &'a [u8],
+) -> Result<(), ReadFault<'a>> {
+    whole_fact(reader)?;
+    let expr = reader.expr()?;
+    push_clause(clauses, Clause { line, text, expr })?;
+    Ok(())
+}
+
+// One clause more.
+fn push_clause<'a>(clauses: &mut Vec<Clause<'a>>, clause: Clause<'a>) -> Result<(), AllocError> {
+    Ok(clauses.push(clause)?)
+}
+
+// What stands behind `;:`, if a line begins so.
+fn promise_in(line: &[u8]) -> Option<&[u8]> {
+    match behind_blanks(line) {
+        [b';', b':', rest @ ..] => Some(rest),
+        _ => None,
+    }
+}
+
+// Whether a line is blank or a comment.
+fn is_silent(line: &[u8]) -> bool {
+    matches!(behind_blanks(line), [] | [b';', ..]) || matches!(line, [b'*', ..])
+}
+
+// The label of a line, empty where it has none.
+fn label_of(line: &[u8]) -> &[u8] {
+    let (label, _) = line.split_at(front_len(line, |c| !is_blank(c)));
+    label
+}
+
+// The column, from 1, of a part of a line that goes up to its end.
+fn column_of(line: &[u8], rest: &[u8]) -> usize {
+    line.len()
+        .saturating_sub(behind_blanks(rest).len())
+        .saturating_add(1)
+}
+
+// Takes up a line of a promise, or keeps why it is none, if it is the first.
+fn take_line<'a>(
+    alloc: Global,
+    block: &mut Block<'a>,
+    program: &Program<Global>,
+    whole: &'a [u8],
+    line: usize,
+    rest: &'a [u8],
+) -> Result<(), AllocError> {
+    if block.first == 0 {
+        block.first = line;
+    }
+    let mut reader = Reader::new(alloc, rest, program);
+    match block.take(&mut reader, line) {
+        Ok(()) => Ok(()),
+        Err(ReadFault::Memory) => Err(AllocError),
+        Err(ReadFault::Says(says, at)) => {
+            if block.refused.is_none() {
+                block.refused = Some(Refusal {
+                    line,
+                    column: column_of(whole, at),
+                    says,
+                });
+            }
+            Ok(())
+        }
+    }
+}
+
+// The address of a label at which an instruction begins, or why there is none.
+fn entry_of(program: &Program<Global>, label: &[u8]) -> Result<u16, &'static str> {
+    let named = match std::str::from_utf8(label) {
+        Ok(name) => program.name(name),
+        Err(_) => None,
+    };
+    match named {
+        None => Err("a promise stands before the line of a label"),
+        Some(address) => match program.instr_at(address) {
+            Some(_) => Ok(address),
+            None => Err(
+                "a promise stands before a routine, and no instruction begins at this label",
+            ),
+        },
+    }
+}
+
+// What lines before the label of a line of this number are.
+fn found_of<'a>(
+    program: &Program<Global>,
+    block: Block<'a>,
+    name: &'a [u8],
+    line: usize,
+) -> Found<'a> {
+    if let Some(refusal) = block.refused {
+        return Found::Refused(refusal, name);
+    }
+    match entry_of(program, name) {
+        Err(says) => Found::Refused(
+            Refusal {
+                line: block.first,
+                column: 1,
+                says,
+            },
+            name,
+        ),
+        Ok(address) => Found::Promise(Promise {
+            name,
+            line,
+            address,
+            wanted: block.wanted,
+            promised: block.promised,
+            changes: block.changes,
+        }),
+    }
+}
+
+// Adds what lines before a line are, unless they say only what holds within a routine.
+fn close<'a>(
+    found: &mut Vec<Found<'a>>,
+    program: &Program<Global>,
+    block: Block<'a>,
+    name: &'a [u8],
+    line: usize,
+) -> Result<(), AllocError> {
+    if block.first == 0 || (block.is_within && block.refused.is_none()) {
+        return Ok(());
+    }
+    Ok(found.push(found_of(program, block, name, line))?)
+}
+
+/// The promises of a source's lines, whose program is this one, in their order: lines that begin with `;:`, each with `requires`,
+/// `ensures`, `changes`, `invariant`, `decreases` or `note` behind it, before the line of a label; comments and blank lines may
+/// stand between. Lines that say only what holds within a routine are read, and are no promise. Where a line can't be read, or
+/// no routine has the label, it is said instead. This project's profile. Refused only for want of memory.
+pub fn promises_of<'a>(
+    alloc: Global,
+    lines: &[&'a [u8]],
+    program: &Program<Global>,
+) -> Result<Vec<Found<'a>>, AllocError> {
+    let mut found = Vec::new(alloc);
+    let mut block = new_block(alloc);
+    for (index, line) in lines.iter().enumerate() {
+        if let Some(rest) = promise_in(*line) {
+            take_line(alloc, &mut block, program, *line, index + 1, rest)?;
+        } else if !is_silent(*line) {
+            let closed = std::mem::replace(&mut block, new_block(alloc));
+            close(&mut found, program, closed, label_of(*line), index + 1)?;
+        }
+    }
+    close(&mut found, program, block, b"", lines.len())?;
+    Ok(found)
+}

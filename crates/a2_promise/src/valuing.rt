@@ -1,0 +1,316 @@
+//! What an expression is, of a state where a routine is entered and one that it leaves.
+
+ghost use Rattle.std.specs.Prelude.{◌≡◌, pos, slice_set, bit_and, bit_or, bit_xor};
+ghost use Rattle.a2_promise.specs.Values as values;
+ghost use Rattle.a2_promise.specs.Values.{moment_of, value_of};
+ghost use Rattle.a2_promise.specs.declared.expr.Operation.TheVariants.{Over, Modulo};
+
+use crate::expr::{Atom, Expr, Function, Operation};
+use a2_bus::{AddressSpace, Bus};
+use a2_cpu::Regs;
+use std::alloc::Allocator;
+
+/// A state that promises speak of: registers, RAM, and the cycles and steps since the entry.
+#[derive(Clone, Copy)]
+pub struct Sight<'a, A: Allocator> {
+    pub regs: Regs,
+    pub space: &'a AddressSpace<A>,
+    pub cycles: u32,
+    pub steps: u32,
+}
+
+/// The numbers that names stand for which an expression counts, four at most.
+pub type Bounds = [i64; 4];
+
+// 1 for what holds, else 0.
+fn digit(holds: bool) -> i64
+    ensures { result ≡ values.digit holds }
+{
+    if holds { 1 } else { 0 }
+}
+
+// What the processor holds, and what a run took.
+fn held<A: Allocator>(atom: Atom, sight: &Sight<A>) -> i64
+    ensures { result ≡ values.held atom (moment_of sight.now) }
+{
+    let regs = sight.regs;
+    match atom {
+        Atom::A => i64::from(regs.a),
+        Atom::X => i64::from(regs.x),
+        Atom::Y => i64::from(regs.y),
+        Atom::S => i64::from(regs.s),
+        Atom::Carry => digit(regs.p.carry()),
+        Atom::Zero => digit(regs.p.zero()),
+        Atom::Negative => digit(regs.p.negative()),
+        Atom::Overflow => digit(regs.p.overflow()),
+        Atom::Decimal => digit(regs.p.decimal()),
+        Atom::Interrupt => digit(regs.p.interrupt()),
+        Atom::Cycles => i64::from(sight.cycles),
+        Atom::Steps => i64::from(sight.steps),
+    }
+}
+
+// A number from 0 to 65,535.
+fn word_in(number: i64) -> Option<u16>
+    ensures { result ≡ values.word_in number }
+{
+    if number < 0 || 65535 < number {
+        None
+    } else {
+        Some(number as u16)
+    }
+}
+
+// The byte at an address.
+fn byte_at<A: Allocator>(space: &AddressSpace<A>, address: Option<u16>) -> Option<i64>
+    ensures { result ≡ values.byte_at space.now.bytes address }
+{
+    match space.peek(address?) {
+        Some(byte) => Some(i64::from(byte)),
+        None => None,
+    }
+}
+
+// The two bytes from an address on as a number, the low one first.
+fn word_at<A: Allocator>(space: &AddressSpace<A>, address: Option<u16>) -> Option<i64>
+    ensures { result ≡ values.word_at space.now.bytes address }
+{
+    let address = address?;
+    match (space.peek(address), space.peek(address.wrapping_add(1))) {
+        (Some(low), Some(high)) => Some(i64::from(low) + 256 * i64::from(high)),
+        _ => None,
+    }
+}
+
+// A byte as a number from -128 to 127.
+fn signed(byte: Option<u16>) -> Option<i64>
+    ensures { result ≡ values.signed byte }
+{
+    match byte? {
+        byte @ 0..128 => Some(i64::from(byte)),
+        byte @ 128..256 => Some(i64::from(byte) - 256),
+        _ => None,
+    }
+}
+
+// What a function makes of a number.
+fn made<A: Allocator>(function: Function, space: &AddressSpace<A>, number: i64) -> Option<i64>
+    ensures { result ≡ values.made function space.now.bytes number }
+{
+    match function {
+        Function::Byte => byte_at(space, word_in(number)),
+        Function::Word => word_at(space, word_in(number)),
+        Function::Signed => signed(word_in(number)),
+        Function::Abs => {
+            if number < 0 {
+                number.checked_neg()
+            } else {
+                Some(number)
+            }
+        }
+    }
+}
+
+// Their bits that both have.
+fn bit_and(left: Option<u16>, right: Option<u16>) -> Option<i64>
+    ensures { result ≡ values.bitwise bit_and left right }
+{
+    let (left, right) = (left?, right?);
+    Some(i64::from(left & right))
+}
+
+// Their bits that one has at least.
+fn bit_or(left: Option<u16>, right: Option<u16>) -> Option<i64>
+    ensures { result ≡ values.bitwise bit_or left right }
+{
+    let (left, right) = (left?, right?);
+    Some(i64::from(left | right))
+}
+
+// Their bits that one has alone.
+fn bit_xor(left: Option<u16>, right: Option<u16>) -> Option<i64>
+    ensures { result ≡ values.bitwise bit_xor left right }
+{
+    let (left, right) = (left?, right?);
+    Some(i64::from(left ^ right))
+}
+
+// A bit, 0 to 15, of a number.
+fn bit_of(place: Option<u16>, number: Option<u16>) -> Option<i64>
+    ensures { result ≡ values.bit_of place number }
+{
+    let (place, number) = (place?, number?);
+    if place < 16 {
+        Some(i64::from((number >> place) % 2))
+    } else {
+        None
+    }
+}
+
+// A quotient, downwards.
+fn quotient(number: i64, divisor: i64) -> Option<i64>
+    ensures { result ≡ values.operated Over number divisor }
+{
+    if 0 < divisor {
+        Some(number.div_euclid(divisor))
+    } else {
+        None
+    }
+}
+
+// What is left of it.
+fn remainder(number: i64, divisor: i64) -> Option<i64>
+    ensures { result ≡ values.operated Modulo number divisor }
+{
+    if 0 < divisor {
+        Some(number.rem_euclid(divisor))
+    } else {
+        None
+    }
+}
+
+// What an operation makes of two numbers.
+fn operated(operation: Operation, left: i64, right: i64) -> Option<i64>
+    ensures { result ≡ values.operated operation left right }
+{
+    match operation {
+        Operation::Plus => left.checked_add(right),
+        Operation::Minus => left.checked_sub(right),
+        Operation::Times => left.checked_mul(right),
+        Operation::Over => quotient(left, right),
+        Operation::Modulo => remainder(left, right),
+        Operation::BitAnd => bit_and(word_in(left), word_in(right)),
+        Operation::BitOr => bit_or(word_in(left), word_in(right)),
+        Operation::BitXor => bit_xor(word_in(left), word_in(right)),
+        Operation::Min => Some(if right < left { right } else { left }),
+        Operation::Max => Some(if left < right { right } else { left }),
+        Operation::Bit => bit_of(word_in(left), word_in(right)),
+        Operation::Equal => Some(digit(left <= right && right <= left)),
+        Operation::Less => Some(digit(left < right)),
+        Operation::AtMost => Some(digit(left <= right)),
+    }
+}
+
+// What an operation makes of two numbers, where both are there.
+fn operated_on(operation: Operation, left: Option<i64>, right: Option<i64>) -> Option<i64>
+    ensures { result ≡ values.operated_on operation left right }
+{
+    operated(operation, left?, right?)
+}
+
+// How many numbers there are below one, none where they are more than 65,535.
+fn count_of(number: Option<i64>) -> Option<u16>
+    ensures { result ≡ values.count_of number }
+{
+    let number = number?;
+    if number < 0 { Some(0) } else { word_in(number) }
+}
+
+// Whether a number is 0.
+fn is_zero(number: i64) -> bool
+    ensures { result ≡ values.is_zero number }
+{
+    number <= 0 && 0 <= number
+}
+
+// One of two by what is chosen by.
+fn chosen(by: Option<i64>, one: Option<i64>, other: Option<i64>) -> Option<i64>
+    ensures { result ≡ values.chosen by one other }
+{
+    if is_zero(by?) { other } else { one }
+}
+
+// The same numbers of names, but this one.
+fn with_bound(names: Bounds, name: u8, number: u16) -> Bounds
+    ensures { result ≡ slice_set names name (pos number) }
+{
+    let mut names = names;
+    let place = usize::from(name);
+    if place < names.len() {
+        names[place] = i64::from(number);
+    }
+    names
+}
+
+// Whether an expression holds at each number below one.
+#[cycle(value)]
+fn each_below<A: Allocator>(
+    name: u8,
+    count: u16,
+    body: &Expr,
+    entry: &Sight<A>,
+    exit: &Sight<A>,
+    names: Bounds,
+) -> Option<i64>
+    ensures { result ≡ values.each_below count
+        (λ k. value_of body.now (moment_of entry.now) (moment_of exit.now) (slice_set names name (pos k))) }
+{
+    let mut holds = Some(1);
+    for number in 0..count {
+        let here = value(body, entry, exit, with_bound(names, name, number));
+        holds = chosen(holds, here, Some(0));
+    }
+    holds
+}
+
+// The sum of an expression at each number below one.
+#[cycle(value)]
+fn sum_below<A: Allocator>(
+    name: u8,
+    count: u16,
+    body: &Expr,
+    entry: &Sight<A>,
+    exit: &Sight<A>,
+    names: Bounds,
+) -> Option<i64>
+    ensures { result ≡ values.sum_below count
+        (λ k. value_of body.now (moment_of entry.now) (moment_of exit.now) (slice_set names name (pos k))) }
+{
+    let mut sum = Some(0);
+    for number in 0..count {
+        let here = value(body, entry, exit, with_bound(names, name, number));
+        sum = operated_on(Operation::Plus, sum, here);
+    }
+    sum
+}
+
+/// What an expression is, of the state where a routine was entered and one that it left, where these are the numbers that names stand
+/// for. None where a part of it that counts is none: a quotient by what is not above 0, bits of what is not from 0 to 65,535, a byte
+/// that is not in RAM, or a number of 2^63 or more. This project's profile.
+#[cycle(value)]
+pub fn value<A: Allocator>(
+    expr: &Expr,
+    entry: &Sight<A>,
+    exit: &Sight<A>,
+    names: Bounds,
+) -> Option<i64>
+    ensures { result ≡ value_of expr.now (moment_of entry.now) (moment_of exit.now) names }
+{
+    match expr {
+        Expr::Number(number) => Some(*number),
+        Expr::Held(atom) => Some(held(*atom, exit)),
+        Expr::Bound(name) => names.get(usize::from(*name)).copied(),
+        Expr::Old(within) => value(within, entry, entry, names),
+        Expr::Of(function, of) => made(*function, exit.space, value(of, entry, exit, names)?),
+        Expr::Pair(operation, left, right) => operated_on(
+            *operation,
+            value(left, entry, exit, names),
+            value(right, entry, exit, names),
+        ),
+        Expr::Choice(by, yes, no) => {
+            if is_zero(value(by, entry, exit, names)?) {
+                value(no, entry, exit, names)
+            } else {
+                value(yes, entry, exit, names)
+            }
+        }
+        Expr::Each(name, count, body) => {
+            let count = count_of(value(count, entry, exit, names))?;
+            each_below(*name, count, body, entry, exit, names)
+        }
+        Expr::Sum(name, count, body) => {
+            let count = count_of(value(count, entry, exit, names))?;
+            sum_below(*name, count, body, entry, exit, names)
+        }
+    }
+}
