@@ -1,0 +1,153 @@
+//! Whether a run kept a promise.
+
+ghost use Rattle.std.specs.Prelude.{◌≡◌};
+ghost use Rattle.a2_promise.specs.Values.{moment_of};
+ghost use Rattle.a2_trial.specs.Judging as judging;
+
+use crate::ground::{Door, Exit, Ground};
+use crate::inputs::{Input, may_change};
+use a2_bus::Bus;
+use a2_cpu::Regs;
+use a2_promise::{Bounds, Changes, Clause, Expr, Operation, Promise, Sight, value};
+use std::alloc::Global;
+
+/// What of a promise does not hold.
+#[derive(Clone, Copy)]
+pub enum Broken {
+    /// The routine leaves by this door.
+    Left(Door),
+    /// The clause of this index; and what stands at the left and the right of what decides it, where it compares.
+    Clause(usize, Option<(i64, i64)>),
+    /// The clause of this index has no value.
+    NoValue(usize),
+    /// A register that does not stand behind `changes`, its byte before, and behind.
+    Register(Input, u8, u8),
+    /// A byte that does not.
+    Byte(u16, u8, u8),
+}
+
+// The topmost byte of the stack that is the routine's own.
+const STACK_TOP: u16 = 0x01FD;
+
+// No name stands for a number outside of what counts it.
+const NO_NAMES: Bounds = [0; 4];
+
+// Whether a fact holds.
+fn holds(value: Option<i64>) -> bool
+    ensures { result ≡ judging.holds value }
+{
+    match value {
+        Some(number) => !(number <= 0 && 0 <= number),
+        None => false,
+    }
+}
+
+/// Whether all clauses hold of a state where a routine is entered and one that it leaves.
+pub(crate) fn all_hold(clauses: &[Clause], entry: &Sight<Global>, exit: &Sight<Global>) -> bool
+    ensures { result ≡ judging.all_hold clauses.now (moment_of entry.now) (moment_of exit.now) }
+{
+    clauses
+        .iter()
+        .all(|clause| holds(value(&clause.expr, entry, exit, NO_NAMES)))
+}
+
+// Whether an expression is a number as it stands.
+fn is_number(expr: &Expr) -> bool {
+    matches!(expr, Expr::Number(_))
+}
+
+// What a fact compares that decides it: of two that both have to hold the first that does not.
+fn sides(expr: &Expr, entry: &Sight<Global>, exit: &Sight<Global>) -> Option<(i64, i64)> {
+    match expr {
+        Expr::Pair(Operation::Equal | Operation::Less | Operation::AtMost, left, right) => {
+            let left = value(left, entry, exit, NO_NAMES)?;
+            Some((left, value(right, entry, exit, NO_NAMES)?))
+        }
+        Expr::Choice(by, one, other) => {
+            if value(by, entry, exit, NO_NAMES)? != 0 {
+                sides(one, entry, exit)
+            } else if is_number(other) {
+                sides(by, entry, exit)
+            } else {
+                sides(other, entry, exit)
+            }
+        }
+        _ => None,
+    }
+}
+
+// The first clause that does not hold.
+fn broken_clause(clauses: &[Clause], entry: &Sight<Global>, exit: &Sight<Global>) -> Broken {
+    for (index, clause) in clauses.iter().enumerate() {
+        match value(&clause.expr, entry, exit, NO_NAMES) {
+            None => return Broken::NoValue(index),
+            Some(0) => return Broken::Clause(index, sides(&clause.expr, entry, exit)),
+            Some(_) => {}
+        }
+    }
+    Broken::NoValue(clauses.len())
+}
+
+// A register that is other than before, and may not be.
+fn broken_register(changes: &Changes, before: &Regs, behind: &Regs) -> Option<Broken> {
+    let registers = [
+        (Input::A, changes.a, before.a, behind.a),
+        (Input::X, changes.x, before.x, behind.x),
+        (Input::Y, changes.y, before.y, behind.y),
+    ];
+    for (register, may, before, behind) in registers {
+        if !may && before != behind {
+            return Some(Broken::Register(register, before, behind));
+        }
+    }
+    None
+}
+
+// A byte that is other than before, and may not be; the stack below the entry's S is the routine's own.
+fn broken_byte(changes: &Changes, ground: &Ground) -> Option<Broken> {
+    for address in ground.stored.as_slice() {
+        let address = *address;
+        let is_own = 0x0100 <= address && address <= STACK_TOP;
+        if is_own || may_change(changes, address) {
+            continue;
+        }
+        if let (Some(before), Some(now)) = (ground.before.peek(address), ground.now.peek(address))
+            && before != now
+        {
+            return Some(Broken::Byte(address, before, now));
+        }
+    }
+    None
+}
+
+/// What of a promise does not hold of a run from these registers that ended so.
+pub(crate) fn broken_by(
+    promise: &Promise,
+    ground: &Ground,
+    regs: Regs,
+    exit: &Exit,
+) -> Option<Broken> {
+    if exit.door != Door::Returned {
+        return Some(Broken::Left(exit.door));
+    }
+    let entry = Sight {
+        regs,
+        space: &ground.before,
+        cycles: 0,
+        steps: 0,
+    };
+    let behind = Sight {
+        regs: exit.regs,
+        space: &ground.now,
+        cycles: exit.cycles,
+        steps: exit.steps,
+    };
+    let promised = promise.promised.as_slice();
+    if !all_hold(promised, &entry, &behind) {
+        return Some(broken_clause(promised, &entry, &behind));
+    }
+    if let Some(broken) = broken_register(&promise.changes, &regs, &exit.regs) {
+        return Some(broken);
+    }
+    broken_byte(&promise.changes, ground)
+}

@@ -1,0 +1,352 @@
+//! What is told of promises.
+
+use crate::ground::{Door, Traced};
+use crate::inputs::Input;
+use crate::judge::Broken;
+use crate::trial::{Failure, LEAST_TRIED, Verdict};
+use a2_asm::Program;
+use a2_cpu::Regs;
+use a2_promise::{Clause, Promise, Refusal};
+use a2_stream::{Output, WriteFault, put_all};
+use a2_text::{behind_blanks, decimal, hex_pair, hex_word};
+use std::alloc::Global;
+
+// Writes a number, with a comma before each three digits.
+fn put_grouped<W: Output>(number: u64, output: &mut W) -> Result<(), WriteFault> {
+    let digits = decimal(number);
+    let count = digits.len();
+    for (index, digit) in digits.as_slice().iter().enumerate() {
+        let left = count.saturating_sub(index);
+        if index > 0 && left % 3 == 0 {
+            put_all(&[b","], output)?;
+        }
+        put_all(&[&[*digit]], output)?;
+    }
+    Ok(())
+}
+
+// Writes a number that may be below 0.
+fn put_signed<W: Output>(number: i64, output: &mut W) -> Result<(), WriteFault> {
+    if number < 0 {
+        put_all(&[b"-"], output)?;
+    }
+    let digits = decimal(number.unsigned_abs());
+    put_all(&[digits.as_slice()], output)
+}
+
+// Writes an address: in page 0 with two digits.
+fn put_address<W: Output>(address: u16, output: &mut W) -> Result<(), WriteFault> {
+    if address < 256 {
+        put_all(&[b"$", &hex_pair((address % 256) as u8)], output)
+    } else {
+        put_all(&[b"$", &hex_word(address)], output)
+    }
+}
+
+// Writes what an input is called.
+fn put_input<W: Output>(input: Input, output: &mut W) -> Result<(), WriteFault> {
+    match input {
+        Input::A => put_all(&[b"A"], output),
+        Input::X => put_all(&[b"X"], output),
+        Input::Y => put_all(&[b"Y"], output),
+        Input::Carry => put_all(&[b"C"], output),
+        Input::Zero => put_all(&[b"Z"], output),
+        Input::Negative => put_all(&[b"N"], output),
+        Input::Overflow => put_all(&[b"V"], output),
+        Input::Interrupt => put_all(&[b"I"], output),
+        Input::Byte(address) => put_address(address, output),
+    }
+}
+
+// Writes the inputs that a promise names.
+fn put_inputs<W: Output>(inputs: &[Input], output: &mut W) -> Result<(), WriteFault> {
+    for (index, input) in inputs.iter().enumerate() {
+        let before: &[u8] = if index == 0 { b" of " } else { b", " };
+        put_all(&[before], output)?;
+        put_input(*input, output)?;
+    }
+    Ok(())
+}
+
+// Writes that a promise held which names nothing at the entry.
+fn put_held_anywhere<W: Output>(output: &mut W) -> Result<(), WriteFault> {
+    put_all(&[b"held in "], output)?;
+    put_grouped(LEAST_TRIED, output)?;
+    put_all(&[b" states: it names nothing at its entry\n"], output)
+}
+
+// Writes in how many states a promise held.
+fn put_held<W: Output>(
+    inputs: &[Input],
+    kept: u64,
+    tried: u64,
+    total: u64,
+    output: &mut W,
+) -> Result<(), WriteFault> {
+    if inputs.is_empty() {
+        return put_held_anywhere(output);
+    }
+    let all: &[u8] = if tried == total {
+        b"held in all "
+    } else {
+        b"held in "
+    };
+    put_all(&[all], output)?;
+    put_grouped(kept, output)?;
+    put_all(&[b" states"], output)?;
+    put_inputs(inputs, output)?;
+    if kept != tried {
+        put_all(&[b" that it requires, of "], output)?;
+        put_grouped(tried, output)?;
+        put_all(&[b" tried"], output)?;
+    }
+    if tried != total {
+        put_all(&[b"; there are "], output)?;
+        put_total(total, output)?;
+    }
+    put_all(&[b"\n"], output)
+}
+
+// Writes how many states there are.
+fn put_total<W: Output>(total: u64, output: &mut W) -> Result<(), WriteFault> {
+    if total == u64::MAX {
+        put_all(&[b"more than 18 quintillion"], output)
+    } else {
+        put_grouped(total, output)
+    }
+}
+
+// Writes the number of a line and a text that stands in it.
+fn put_line<W: Output>(line: usize, text: &[u8], output: &mut W) -> Result<(), WriteFault> {
+    put_all(
+        &[
+            b"line ",
+            decimal(line as u64).as_slice(),
+            b": ",
+            text,
+            b"\n",
+        ],
+        output,
+    )
+}
+
+// Writes the clause of an index.
+fn put_clause<W: Output>(
+    clauses: &[Clause],
+    index: usize,
+    output: &mut W,
+) -> Result<(), WriteFault> {
+    match clauses.get(index) {
+        Some(clause) => put_line(clause.line, clause.text, output),
+        None => put_all(&[b"\n"], output),
+    }
+}
+
+// Writes how a routine leaves.
+fn put_door<W: Output>(door: Door, output: &mut W) -> Result<(), WriteFault> {
+    match door {
+        Door::Returned => put_all(&[b"it returns"], output),
+        Door::Stack => put_all(
+            &[b"it returns with another S than its caller left it"],
+            output,
+        ),
+        Door::Elsewhere(address) => {
+            put_all(&[b"it goes to "], output)?;
+            put_address(address, output)?;
+            put_all(&[b", where no instruction of the source begins"], output)
+        }
+        Door::Above(address) => {
+            put_all(&[b"it goes to "], output)?;
+            put_address(address, output)?;
+            put_all(&[b", above RAM: no service is tried yet"], output)
+        }
+        Door::Code(address) => {
+            put_all(&[b"it would store at "], output)?;
+            put_address(address, output)?;
+            put_all(&[b", where its own code stands"], output)
+        }
+        Door::Device(address) => {
+            put_all(&[b"it would store at "], output)?;
+            put_address(address, output)?;
+            put_all(&[b", above RAM"], output)
+        }
+        Door::Brk => put_all(&[b"it comes to BRK"], output),
+        Door::Decimal => put_all(&[b"it comes to ADC or SBC with D set"], output),
+        Door::Endless => put_all(&[b"it does not return within 1,000,000 steps"], output),
+    }
+}
+
+// Writes what has changed and may not.
+fn put_change<W: Output>(
+    input: Input,
+    before: u8,
+    behind: u8,
+    output: &mut W,
+) -> Result<(), WriteFault> {
+    put_input(input, output)?;
+    put_all(
+        &[
+            b" does not stand behind changes, and is ",
+            decimal(u64::from(behind)).as_slice(),
+            b", before ",
+            decimal(u64::from(before)).as_slice(),
+            b"\n",
+        ],
+        output,
+    )
+}
+
+// Writes what of a promise does not hold.
+fn put_broken<W: Output>(
+    promise: &Promise,
+    broken: Broken,
+    output: &mut W,
+) -> Result<(), WriteFault> {
+    let clauses = promise.promised.as_slice();
+    match broken {
+        Broken::Left(door) => {
+            put_door(door, output)?;
+            put_all(&[b"\n"], output)
+        }
+        Broken::Clause(index, sides) => {
+            put_clause(clauses, index, output)?;
+            if let Some((left, right)) = sides {
+                put_all(&[b"  compared are "], output)?;
+                put_signed(left, output)?;
+                put_all(&[b" and "], output)?;
+                put_signed(right, output)?;
+                put_all(&[b"\n"], output)?;
+            }
+            Ok(())
+        }
+        Broken::NoValue(index) => {
+            put_all(&[b"no value is there of "], output)?;
+            put_clause(clauses, index, output)
+        }
+        Broken::Register(register, before, behind) => {
+            put_change(register, before, behind, output)
+        }
+        Broken::Byte(address, before, behind) => {
+            put_change(Input::Byte(address), before, behind, output)
+        }
+    }
+}
+
+// Writes the state in which a promise does not hold: what it names, and else what is not 0.
+fn put_state<W: Output>(failure: &Failure, output: &mut W) -> Result<(), WriteFault> {
+    put_all(&[b"  entered with"], output)?;
+    for (index, (input, value)) in failure.inputs.iter().zip(&failure.values).enumerate() {
+        if index < failure.named || *value != 0 {
+            put_all(&[b" "], output)?;
+            put_input(*input, output)?;
+            put_all(&[b"=", decimal(u64::from(*value)).as_slice()], output)?;
+        }
+    }
+    put_all(&[b", and 0 in other registers and flags\n"], output)
+}
+
+// The number of the line of the instruction at an address; 0 where there is none.
+fn line_at(program: &Program<Global>, address: u16) -> usize {
+    for statement in program.statements() {
+        if statement.addr == address && statement.instr.is_some() {
+            return usize::from(statement.line);
+        }
+    }
+    0
+}
+
+// The text of the line of a number, without the blanks before it.
+fn text_of<'a>(lines: &[&'a [u8]], number: usize) -> &'a [u8] {
+    match lines.get(number.saturating_sub(1)) {
+        Some(line) => behind_blanks(*line),
+        None => b"",
+    }
+}
+
+// Writes registers, and the carry.
+fn put_registers<W: Output>(regs: Regs, output: &mut W) -> Result<(), WriteFault> {
+    let (a, x, y) = (hex_pair(regs.a), hex_pair(regs.x), hex_pair(regs.y));
+    put_all(&[b"  A=", &a, b" X=", &x, b" Y=", &y], output)?;
+    if regs.p.carry() {
+        put_all(&[b" C=1  "], output)
+    } else {
+        put_all(&[b" C=0  "], output)
+    }
+}
+
+// Writes a step: the registers behind it, its line, and what stands there.
+fn put_step<W: Output>(
+    program: &Program<Global>,
+    lines: &[&[u8]],
+    step: &Traced,
+    output: &mut W,
+) -> Result<(), WriteFault> {
+    let number = line_at(program, step.address);
+    put_registers(step.regs, output)?;
+    put_line(number, text_of(lines, number), output)
+}
+
+// Writes what is told of a state in which a promise does not hold.
+fn put_failure<W: Output>(
+    program: &Program<Global>,
+    lines: &[&[u8]],
+    promise: &Promise,
+    failure: &Failure,
+    output: &mut W,
+) -> Result<(), WriteFault> {
+    put_all(&[b"FAILS: "], output)?;
+    put_broken(promise, failure.broken, output)?;
+    put_state(failure, output)?;
+    put_all(&[b"  the last steps:\n"], output)?;
+    for step in &failure.last {
+        put_step(program, lines, step, output)?;
+    }
+    Ok(())
+}
+
+/// Writes what is found of a promise of a source with these lines.
+pub fn put_verdict<W: Output>(
+    program: &Program<Global>,
+    lines: &[&[u8]],
+    promise: &Promise,
+    verdict: &Verdict,
+    output: &mut W,
+) -> Result<(), WriteFault> {
+    put_all(&[promise.name, b": "], output)?;
+    match verdict {
+        Verdict::Held {
+            inputs,
+            named,
+            kept,
+            tried,
+            total,
+        } => {
+            let shown = &inputs.as_slice()[..(*named).min(inputs.len())];
+            put_held(shown, *kept, *tried, *total, output)
+        }
+        Verdict::Fails(failure) => put_failure(program, lines, promise, failure, output),
+        Verdict::NoState(tried) => {
+            put_all(&[b"FAILS: none of "], output)?;
+            put_grouped(*tried, output)?;
+            put_all(
+                &[b" states is as it requires, so it promises nothing\n"],
+                output,
+            )
+        }
+    }
+}
+
+/// Writes why lines before a label are no promise.
+pub fn put_refusal<W: Output>(
+    name: &[u8],
+    refusal: &Refusal,
+    output: &mut W,
+) -> Result<(), WriteFault> {
+    if !name.is_empty() {
+        put_all(&[name, b": "], output)?;
+    }
+    let (line, column) = (decimal(refusal.line as u64), decimal(refusal.column as u64));
+    put_all(&[b"REFUSED: line ", line.as_slice()], output)?;
+    put_all(&[b", column ", column.as_slice(), b": "], output)?;
+    put_all(&[refusal.says.as_bytes(), b"\n"], output)
+}
