@@ -111,6 +111,20 @@ Before F:
   --colours C lo-res in full colours, in those of 256, or none
 ";
 
+// The option that promises alone have.
+const PROMISE_OPTIONS: &[u8] = b"
+A promise stands in lines that begin with ;: before a label of F:
+
+  ;: requires $10 <= 100 and $11 <= 100
+  ;: ensures  A = old $10 + old $11
+  ;: changes  A
+
+Before F:
+
+  --states N  all states of what a promise names are tried where these are at
+              most N, else N of them; without it 16777216, and else 1000000
+";
+
 // The options that old texts alone have.
 const IMPORT_OPTIONS: &[u8] = b"
 F is an old text, which goes out as a source. What changed in it, and what
@@ -157,6 +171,7 @@ fn own_options(tool: Tool) -> &'static [u8] {
         Tool::Fmt => FMT_OPTIONS,
         Tool::Play => PLAY_OPTIONS,
         Tool::Import => IMPORT_OPTIONS,
+        Tool::Promise => PROMISE_OPTIONS,
         _ => b"",
     }
 }

@@ -18,6 +18,7 @@ pub enum Tool {
     Mon,
     Play,
     Profile,
+    Promise,
     Run,
     Test,
     Trace,
@@ -37,7 +38,7 @@ pub struct Word {
 }
 
 /// All words, in the order of the page of help.
-pub static WORDS: [Word; 13] = [
+pub static WORDS: [Word; 14] = [
     Word {
         name: "run",
         arguments: "[options] [F]",
@@ -100,6 +101,13 @@ pub static WORDS: [Word; 13] = [
         runs: false,
         says: "judges solutions by the cases of WANT",
         tool: Tool::Test,
+    },
+    Word {
+        name: "promise",
+        arguments: "[--states N] F",
+        runs: false,
+        says: "tries what routines of F promise in comments",
+        tool: Tool::Promise,
     },
     Word {
         name: "mon",
