@@ -20,9 +20,9 @@ run, before F:
               and 100,000 of a film
   --free      without the guard: code may begin anywhere, and be stored to
 
-run, list, trace and film have more, which a2x help run tells, and so on. N
-of --format is short, for editors, or json; of test csv, json or junit. Alone
-stands:
+run, list, trace, profile and film have more, which a2x help run tells, and
+so on. N of --format is short, for editors, or json; of test csv, json or
+junit. Alone stands:
 
   --version   the version, and the commit that the program was packaged from
 
@@ -78,6 +78,15 @@ P is $300, a name of F, or either with a number behind it, as NAME+2; P..P
 may be one place alone.
 ";
 
+// The options that `profile` alone has.
+const PROFILE_OPTIONS: &[u8] = b"
+Options of a run, and of profile alone, before or behind F:
+
+  --by line      a row for each line of F; so it is without this option
+  --by routine   a row for each routine that a JSR entered: how often, its own
+                 steps and cycles, and those with what it calls
+";
+
 // The options that a film alone has.
 const FILM_OPTIONS: &[u8] = b"
 Options of a run, and of a film alone, before F:
@@ -125,6 +134,15 @@ Before F:
               most N, else N of them; without it 16777216, and else 1000000
 ";
 
+// The options that the debugger alone has.
+const DEBUG_OPTIONS: &[u8] = b"
+Options of a run, and of the debugger alone, before F:
+
+  --tui       panes of source, registers, stack, memory and screen, drawn
+              again behind each line, at a terminal of 80 columns of 24
+              rows or more: a2x-debug --tui F
+";
+
 // The options that old texts alone have.
 const IMPORT_OPTIONS: &[u8] = b"
 F is an old text, which goes out as a source. What changed in it, and what
@@ -168,8 +186,10 @@ fn own_options(tool: Tool) -> &'static [u8] {
         Tool::Run => RUN_OPTIONS,
         Tool::List => LIST_OPTIONS,
         Tool::Trace => TRACE_OPTIONS,
+        Tool::Profile => PROFILE_OPTIONS,
         Tool::Fmt => FMT_OPTIONS,
         Tool::Play => PLAY_OPTIONS,
+        Tool::Debug => DEBUG_OPTIONS,
         Tool::Import => IMPORT_OPTIONS,
         Tool::Promise => PROMISE_OPTIONS,
         _ => b"",

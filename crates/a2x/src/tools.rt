@@ -7,6 +7,7 @@ ghost use Rattle.a2_run.specs.Texts.{run_fault_text};
 
 use crate::film::{FilmOrder, film_into};
 use crate::notes::tell_source_notes;
+use crate::profiling::Counting;
 use crate::words::Order;
 use a2_check::{Format, TellFault, put_refusals, refusals_of};
 use a2_desk::Desk;
@@ -14,7 +15,7 @@ use a2_explain::{Course, explain_stop};
 use a2_film::{Chapter, Window, film_source};
 use a2_host::tell;
 use a2_list::{Shown, list_told};
-use a2_profile::profile_source;
+use a2_profile::{profile_source, profile_source_routines};
 use a2_run::{Options, RunFault, fault_status, run_text, status};
 use a2_stream::{FromRead, Output, WriteFault, put_all};
 use a2_syntax::Fault;
@@ -131,17 +132,22 @@ pub fn trace<W: Output, E: Output>(
     status(&answer)
 }
 
-/// Profiles the run of a source.
+/// Profiles the run of a source, by its lines or by its routines.
 pub fn profile<W: Output, E: Output>(
     alloc: Global,
     source: &[u8],
     order: &Order,
+    counting: Counting,
     output: &mut W,
     complaints: &mut E,
 ) -> u8
     ensures { result ≤ 5 }
 {
-    let answer = profile_source(alloc, source, &order.keys, order.limit, order.free, output);
+    let (keys, limit, free) = (&order.keys, order.limit, order.free);
+    let answer = match counting {
+        Counting::Lines => profile_source(alloc, source, keys, limit, free, output),
+        Counting::Routines => profile_source_routines(alloc, source, keys, limit, free, output),
+    };
     if let Err(fault) = answer {
         complain(fault, complaints);
     }
