@@ -22,7 +22,7 @@ fn put_digits<W: Output>(row: &[u8], column: &[u8], writer: &mut W) -> Result<()
 // Moves the terminal's cursor to a cell.
 fn put_place<W: Output>(row: u8, column: u8, writer: &mut W) -> Result<(), WriteFault>
     requires row { row < 24 }
-    requires column { column < 40 }
+    requires column { column < 80 }
     ensures { SendsOrBreaks (W.taker writer.old) (W.taker writer.new) result
         (written.place_text (decimal_of (row + 1)) (decimal_of (column + 1))) }
 {
@@ -43,9 +43,9 @@ fn is_kept(before: &Option<Shot>, row: u8, column: u8, tile: Tile) -> bool
     }
 }
 
-// Writes a place and what it shows.
+/// Writes a place and what it shows.
 #[tactic(auto, using(a2_stream::proofs::Joined::broke_off, a2_stream::proofs::Joined::went_on))]
-fn put_placed<W: Output>(
+pub(crate) fn put_placed<W: Output>(
     row: u8,
     column: u8,
     tile: Tile,
@@ -53,7 +53,7 @@ fn put_placed<W: Output>(
     writer: &mut W,
 ) -> Result<(), WriteFault>
     requires row { row < 24 }
-    requires column { column < 40 }
+    requires column { column < 80 }
     ensures { SendsOrBreaks (W.taker writer.old) (W.taker writer.new) result
         (written.place_text (decimal_of (row + 1)) (decimal_of (column + 1)) ++ written.tile_text colours tile) }
 {

@@ -3,10 +3,12 @@
 
 mod changes;
 mod colours;
+mod frame;
 mod shot;
 mod tiles;
 
 pub use changes::put_changes;
 pub use colours::{Colours, put_tile};
+pub use frame::{Frame, put_frame};
 pub use shot::Shot;
 pub use tiles::{Tile, tile_of};

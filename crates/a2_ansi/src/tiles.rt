@@ -10,7 +10,7 @@ use a2_page::{Attribute, Half, Switches, attribute_of, block, glyph};
 /// What a cell of the terminal shows.
 #[derive(Clone, Copy, Debug, PartialEq, Eq)]
 pub enum Tile {
-    /// A character by its ASCII code, from $20 to $5F, white on black.
+    /// A character by its ASCII code, from $20 to $7E, white on black; of the Apple's screen up to $5F.
     Letter(u8),
     /// The same, black on white.
     Inverse(u8),

@@ -2,8 +2,10 @@
 
 ghost use Rattle.std.specs.Prelude.{◌≤◌};
 
+use crate::play::colours_named;
 use crate::terminal::ended;
 use crate::tools::told;
+use a2_ansi::Colours;
 use a2_edit::{Console, Editor, Typist};
 use a2_run::RunFault;
 use a2_stream::{Input, Output};
@@ -12,11 +14,12 @@ use a2_text::number_in;
 use std::alloc::Global;
 use std::cell::Cell;
 
-/// The size of a terminal that gives each byte as it is typed.
+/// A terminal that gives each byte as it is typed: its size and its colours.
 #[derive(Clone, Copy)]
-pub struct Size {
+pub struct Terminal {
     pub rows: u16,
     pub columns: u16,
+    pub colours: Colours,
 }
 
 /// How the lines of a session are typed: a prompt before each, and, where the terminal gives each byte, in how many columns of a
@@ -28,25 +31,36 @@ pub struct Lines<'a> {
     pub by_clear: Option<&'static [u8]>,
 }
 
-// The size that a word spells, as `24x80`.
-fn size_of(word: &[u8]) -> Option<Size> {
-    let middle = word.iter().position(|c| *c == b'x')?;
-    let rows = number_in(10, 5, &word[..middle])?;
-    let columns = number_in(10, 5, &word[middle + 1..])?;
-    Some(Size { rows, columns })
+// The terminal that a word spells, as `24x80x256`.
+fn terminal_of(word: &str) -> Option<Terminal> {
+    let (rows, behind) = word.split_once('x')?;
+    let (columns, colours) = behind.split_once('x')?;
+    Some(Terminal {
+        rows: number_in(10, 5, rows.as_bytes())?,
+        columns: number_in(10, 5, columns.as_bytes())?,
+        colours: colours_named(colours)?,
+    })
 }
 
-/// The terminal that words tell of, and words without that: `--raw` and its size, which stand right behind the first. (a2x-play
+/// The terminal that words tell of, and words without that: `--raw` and what it is, which stand right behind the first. (a2x-play
 /// gives them.) The first word says what is done.
-pub fn sized(words: &[String]) -> (Option<Size>, &[String]) {
+pub fn terminal_in(words: &[String]) -> (Option<Terminal>, &[String]) {
     match words {
         [_, raw, rest @ ..] if raw.as_str() == "--raw" => match rest {
-            [size, ..] if size_of(size.as_str().as_bytes()).is_some() => {
-                (size_of(size.as_str().as_bytes()), rest)
+            [word, ..] if terminal_of(word.as_str()).is_some() => {
+                (terminal_of(word.as_str()), rest)
             }
             _ => (None, words),
         },
         _ => (None, words),
+    }
+}
+
+/// The columns in which lines are edited, where they are.
+pub fn columns_of(terminal: Option<Terminal>) -> Option<Cell<usize>> {
+    match terminal {
+        Some(terminal) => Some(Cell::new(usize::from(terminal.columns))),
+        None => None,
     }
 }
 
@@ -76,6 +90,11 @@ pub fn talked<P: Partner, R: Input, W: Output, E: Output>(
         columns,
         by_clear: lines.by_clear,
     };
-    let answer = talk(partner, lines.prompt, &mut Typist::new(console, editor), output);
+    let answer = talk(
+        partner,
+        lines.prompt,
+        &mut Typist::new(console, editor),
+        output,
+    );
     ended(answer, complaints)
 }

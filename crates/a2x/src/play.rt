@@ -93,8 +93,8 @@ fn pace_named(word: &str) -> Option<Pace>
     }
 }
 
-// The colours that a word names.
-fn colours_named(word: &str) -> Option<Colours>
+/// The colours that a word names.
+pub fn colours_named(word: &str) -> Option<Colours>
     ensures some { IfSome result (λ colours. AreColours word.now colours) }
     ensures only { IfSome result (λ colours. (other : DeclaredColours) → AreColours word.now other → other ≡ colours) }
     ensures none { IfNone result ((colours : DeclaredColours) → AreColours word.now colours → ⊥) }

@@ -2,7 +2,7 @@
 
 ghost use Rattle.std.specs.Prelude.{◌≤◌};
 
-use crate::lines::{Lines, Size, talked};
+use crate::lines::{Lines, Terminal, columns_of, talked};
 use crate::tools::told;
 use a2_run::RunFault;
 use a2_stream::{Input, Output};
@@ -10,7 +10,6 @@ use a2_syntax::Fault;
 use a2_talk::TalkFault;
 use a2_terminal::Monitor;
 use std::alloc::Global;
-use std::cell::Cell;
 
 /// The status of a session that ended.
 pub fn ended<E: Output>(answer: Result<(), TalkFault>, complaints: &mut E) -> u8
@@ -37,29 +36,21 @@ fn prompt_where(prompts: bool) -> &'static [u8] {
     if prompts { b"*" } else { b"" }
 }
 
-/// The columns in which lines are edited, where they are.
-pub fn columns_of(size: Option<Size>) -> Option<Cell<usize>> {
-    match size {
-        Some(size) => Some(Cell::new(usize::from(size.columns))),
-        None => None,
-    }
-}
-
 /// Answers the Monitor lines of `input` on `output`, each before the next is read, up to its end or `quit`. What `text`
-/// holds, object lines or a source, is loaded first. `prompts` says whether a prompt stands before each line, and `size` which
-/// terminal gives each byte as it is typed, so that lines are edited. The status is 1 where the source is refused, 4 where a read or a write fails, and 5 for want of memory, each told on `complaints`.
+/// holds, object lines or a source, is loaded first. `prompts` says whether a prompt stands before each line, and `terminal` which
+/// one gives each byte as it is typed, so that lines are edited. The status is 1 where the source is refused, 4 where a read or a write fails, and 5 for want of memory, each told on `complaints`.
 pub fn mon<R: Input, W: Output, E: Output>(
     alloc: Global,
     text: Option<&[u8]>,
     prompts: bool,
-    size: Option<Size>,
+    terminal: Option<Terminal>,
     input: &mut R,
     output: &mut W,
     complaints: &mut E,
 ) -> u8
     ensures { result ≤ 5 }
 {
-    let columns = columns_of(size);
+    let columns = columns_of(terminal);
     let lines = Lines {
         prompt: prompt_where(prompts),
         columns: columns.as_ref(),
