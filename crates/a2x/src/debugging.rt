@@ -3,7 +3,7 @@
 ghost use Rattle.std.specs.Prelude.{◌≤◌, IfOk, IfErr};
 
 use crate::asked::{held_in, order_in};
-use crate::lines::{Lines, Terminal, columns_of, talked, terminal_in};
+use crate::lines::{Lines, Prompt, Terminal, columns_of, talked, terminal_in};
 use crate::named::is_input;
 use crate::program::{tell, tell_lines_come, text_of};
 use crate::table::Word;
@@ -37,11 +37,6 @@ static DEBUG_OPTIONS: [Row; 3] = [
 const ROWS: u16 = 24;
 
 const COLUMNS: u16 = 80;
-
-// What stands before each line.
-fn prompt_where(prompts: bool) -> &'static [u8] {
-    if prompts { b"(a2x) " } else { b"" }
-}
 
 // Where panes can be drawn, if the terminal has room for them.
 fn wall_of(terminal: Option<Terminal>, columns: Option<&Cell<usize>>) -> Option<Wall<'_>> {
@@ -109,9 +104,13 @@ fn debug<R: Input, W: Output, E: Output>(
         return 2;
     }
     let lines = Lines {
-        prompt: prompt_where(prompts),
+        prompt: if prompts {
+            Prompt::Debugger
+        } else {
+            Prompt::Nothing
+        },
         columns: columns.as_ref(),
-        by_clear: if wall.is_some() { Some(b"panes") } else { None },
+        has_panes: wall.is_some(),
     };
     match Inspector::new(alloc, source, &order.keys, order.free, order.limit) {
         Ok(inspector) => debug_in(

@@ -22,13 +22,35 @@ pub struct Terminal {
     pub colours: Colours,
 }
 
+/// What stands before each line of a session.
+#[derive(Clone, Copy)]
+pub enum Prompt {
+    Nothing,
+    Monitor,
+    Debugger,
+}
+
 /// How the lines of a session are typed: a prompt before each, and, where the terminal gives each byte, in how many columns of a
-/// row they are edited, and which line Ctrl-L gives.
+/// row they are edited, and whether Ctrl-L gives the line `panes`.
 #[derive(Clone, Copy)]
 pub struct Lines<'a> {
-    pub prompt: &'static [u8],
+    pub prompt: Prompt,
     pub columns: Option<&'a Cell<usize>>,
-    pub by_clear: Option<&'static [u8]>,
+    pub has_panes: bool,
+}
+
+// The bytes of a prompt.
+fn prompt_text(prompt: Prompt) -> &'static [u8] {
+    match prompt {
+        Prompt::Nothing => b"",
+        Prompt::Monitor => b"*",
+        Prompt::Debugger => b"(a2x) ",
+    }
+}
+
+// The line that Ctrl-L gives, if it gives one.
+fn line_by_clear(has_panes: bool) -> Option<&'static [u8]> {
+    if has_panes { Some(b"panes") } else { None }
 }
 
 // The terminal that a word spells, as `24x80x256`.
@@ -76,8 +98,9 @@ pub fn talked<P: Partner, R: Input, W: Output, E: Output>(
 ) -> u8
     ensures { result ≤ 5 }
 {
+    let prompt = prompt_text(lines.prompt);
     let Some(columns) = lines.columns else {
-        let answer = talk(partner, lines.prompt, input, output);
+        let answer = talk(partner, prompt, input, output);
         return ended(answer, complaints);
     };
     let Ok(editor) = Editor::new(alloc) else {
@@ -86,15 +109,10 @@ pub fn talked<P: Partner, R: Input, W: Output, E: Output>(
     let console = Console {
         reader: input,
         echo: complaints,
-        prompt: lines.prompt,
+        prompt,
         columns,
-        by_clear: lines.by_clear,
+        by_clear: line_by_clear(lines.has_panes),
     };
-    let answer = talk(
-        partner,
-        lines.prompt,
-        &mut Typist::new(console, editor),
-        output,
-    );
+    let answer = talk(partner, prompt, &mut Typist::new(console, editor), output);
     ended(answer, complaints)
 }

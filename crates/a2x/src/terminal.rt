@@ -2,7 +2,7 @@
 
 ghost use Rattle.std.specs.Prelude.{◌≤◌};
 
-use crate::lines::{Lines, Terminal, columns_of, talked};
+use crate::lines::{Lines, Prompt, Terminal, columns_of, talked};
 use crate::tools::told;
 use a2_run::RunFault;
 use a2_stream::{Input, Output};
@@ -31,11 +31,6 @@ fn monitor_with(alloc: Global, text: Option<&[u8]>) -> Result<Monitor, RunFault>
     }
 }
 
-// What stands before each line.
-fn prompt_where(prompts: bool) -> &'static [u8] {
-    if prompts { b"*" } else { b"" }
-}
-
 /// Answers the Monitor lines of `input` on `output`, each before the next is read, up to its end or `quit`. What `text`
 /// holds, object lines or a source, is loaded first. `prompts` says whether a prompt stands before each line, and `terminal` which
 /// one gives each byte as it is typed, so that lines are edited. The status is 1 where the source is refused, 4 where a read or a write fails, and 5 for want of memory, each told on `complaints`.
@@ -52,9 +47,13 @@ pub fn mon<R: Input, W: Output, E: Output>(
 {
     let columns = columns_of(terminal);
     let lines = Lines {
-        prompt: prompt_where(prompts),
+        prompt: if prompts {
+            Prompt::Monitor
+        } else {
+            Prompt::Nothing
+        },
         columns: columns.as_ref(),
-        by_clear: None,
+        has_panes: false,
     };
     match monitor_with(alloc, text) {
         Ok(mut monitor) => talked(alloc, &mut monitor, lines, input, output, complaints),
