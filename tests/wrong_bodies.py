@@ -52,8 +52,7 @@ class Toolchain:
                 # (of a path its last word counts)
                 words = [a for a, b in zip(it.block.trait, [*it.block.trait[1:], ""]) if a.isidentifier() and b != ":" and a not in it.block.generics]
                 it.path = [*module, "".join([owner, *words]), it.name]
-            # (one that calls itself is in a circle too, and needs no attribute that says so)
-            it.in_cycle = it.in_cycle or Path(crate.folder, "proofs", *it.path[:-1], f"+{it.name}").is_dir()
+            it.circle = circle_of(it, crate)
         return source.functions
 
     def check(self, crate, faults, functions, kept):
@@ -66,19 +65,17 @@ class Toolchain:
             for part in self.lib.PARTS:
                 if os.path.isdir(f"{crate.folder}/{part}"):
                     shutil.copytree(f"{crate.folder}/{part}", f"{room}/{part}")
+            proved = {it.circle for it in edited}
+            left = [it for it in functions if it not in edited and it.has_body and (it.circle is None or it.circle not in proved)]
             for path, text in together(crate, faults).items():
                 Path(room, path).write_bytes(text)
             for it in faults:
                 if it.number:
                     copy_proof(crate, it.functions[0].path, it.paths()[0], Path(room, "proofs"))
-            for it in functions:
-                # (a circle of calls has one proof)
-                if it not in edited and it.has_body and not it.in_cycle:
-                    leave_open(crate, it.path, Path(room, "proofs"))
-            for it in faults:
-                if not any(function.in_cycle for function in it.functions):
-                    for path in it.paths():
-                        ask_for_no_proof(Path(room, "proofs", *path))
+            for it in left:
+                leave_open(crate, it.circle or it.path, Path(room, "proofs"))
+            for path in [it.circle or path for fault in faults for it, path in zip(fault.functions, fault.paths())]:
+                ask_for_no_proof(Path(room, "proofs", *path))
             more = [word for it in paths for word in ("--only", "::".join(it))]
             keeping = ["--incremental", kept] if kept else []
             words = [*crate.words(["--jobs", "1"], keeps=False), *keeping, "--allow-holes", "--progress", *more]
@@ -93,16 +90,32 @@ class Toolchain:
             return ran.returncode, "".join(said), seconds
 
 
+def circle_of(function, crate):
+    """The path of the proof of the circle of calls that a function is in, whose functions have one proof, if it is in one."""
+    text = Path(crate.folder, function.file).read_bytes()
+    named = re.search(rb"#\[cycle\((\w+)\)\]", text[function.first : function.opens])
+    path = (*function.path[:-1], f"+{named[1].decode() if named else function.name}")
+    # (one that calls itself needs no attribute that says so)
+    return path if named or calls_itself(function) or Path(crate.folder, "proofs", *path).is_dir() else None
+
+
+def calls_itself(function):
+    words, call = ["", "", "", *function.body], [function.name, "("]
+    before = [words[at - 3 : at] for at in range(3, len(words)) if words[at : at + 2] == call]
+    if function.block:
+        return any(it[1:] == ["self", "."] or it == ["Self", ":", ":"] for it in before)
+    return any(it[-1] not in (".", ":") for it in before)
+
+
 def leave_open(crate, path, proofs):
-    """Puts a hole in the place of a function's proof."""
+    """Puts a hole in the place of the proof of a function, or of a circle of calls."""
     folder = proofs.joinpath(*path)
     folder.mkdir(parents=True, exist_ok=True)
     for name in ("Answers", "Invariants"):
         (folder / f"{name}.antt").unlink(missing_ok=True)
     proof, name = ".".join(["Rattle", crate.name, "proofs", *path]), f"{path[-1]}_spec"
-    (folder / "Proof.antt").write_text(
-        f"use {proof}.Statement as stated\npub {name} : {{M : Type 1}} → stated.statement M\n{name} = ?\n"
-    )
+    stated = proof if path[-1].startswith("+") else f"{proof}.Statement"
+    (folder / "Proof.antt").write_text(f"use {stated} as stated\npub {name} : {{M : Type 1}} → stated.statement M\n{name} = ?\n")
 
 
 def ask_for_no_proof(folder):
@@ -151,7 +164,7 @@ class Fault:
             self.functions = [it for it in functions if it in inside]
         self.definitions = {it[0] for it in self.changes if it[0].startswith("specs/")}
         self.stands_on = stands_on(crate, self.functions) if self.definitions else None
-        self.can_be_copied = not named and len(self.functions) == 1 and not self.functions[0].in_trait and not self.functions[0].in_cycle
+        self.can_be_copied = not named and len(self.functions) == 1 and not self.functions[0].in_trait and not self.functions[0].circle
 
     def paths(self):
         """The check's names of its functions, or of the copy, below the crate."""
@@ -238,7 +251,7 @@ def stands_on(crate, functions):
 def rounds_of(faults):
     """Parts faults into rounds in which no function has two but by copies, no two are of functions that call one another in a circle,
     and none is of a definition that another fault's function may rest on."""
-    places = lambda fault: {"a circle" if it.in_cycle else it for it in fault.functions}
+    places = lambda fault: {it.circle or it for it in fault.functions}
     rounds = []
     for fault in sorted(faults, key=lambda it: it.can_be_copied):
         shared = [it for it in rounds if all(are_apart(fault, other) and are_apart(other, fault) for other in it)]
