@@ -1,9 +1,11 @@
 -- What contracts see of a board: its bus, and the picture that it keeps of the screen. This project's profile.
-use Rattle.std.specs.Prelude.{ℕ, Bool, ◌&&◌, nat_le, if◌then◌else◌}
+use Rattle.std.specs.Prelude.{ℕ, Bool, if◌then◌else◌}
+use Rattle.a2_text.specs.Bytes.{is_between}
 use Rattle.a2_page.specs.Grid.{Grid}
 use Rattle.a2_page.specs.Kept.{KeptPicture, IsStale, with_row_marked, after_switch}
 use Rattle.a2_page.specs.Picture.{shown_page}
 use Rattle.a2_bus.specs.BusState.{BusState}
+use Rattle.a2_bus.specs.Locations as at
 use Rattle.a2_bus.specs.View.{memory_of}
 
 pub record BoardState : Type 0 where
@@ -18,9 +20,9 @@ page_shown bus = let memory = memory_of bus in shown_page memory.devices.switche
 abbrev pub IsMarked : BusState → KeptPicture → ℕ → Type 0
 IsMarked bus picture row = IsStale picture (page_shown bus) row
 
--- the address of a display switch
+-- the address of a display switch: they stand in a row
 abbrev pub is_switch : ℕ → Bool
-is_switch address = nat_le 0xC050 address && nat_le address 0xC057
+is_switch address = is_between at.txtclr at.hires address
 
 -- the picture after a read or a write of an address
 abbrev pub picture_after_read : ℕ → KeptPicture → KeptPicture

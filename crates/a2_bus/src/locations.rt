@@ -1,5 +1,35 @@
-//! The Monitor's locations, by the manual's names. Apple II Reference Manual (1979), the text window and the Monitor's
-//! special locations.
+//! Locations by the manual's names. Apple II Reference Manual (1979): the keyboard and the switches on pages 6, 12 and 79, the
+//! text window and the Monitor's special locations.
+
+/// The keyboard: a read gives the first waiting key with bit 7 set, or else the last key taken.
+pub const KBD: u16 = 0xC000;
+
+/// The keyboard's strobe: an access takes the first waiting key.
+pub const KBDSTRB: u16 = 0xC010;
+
+/// The switch to graphics, the first of the display switches.
+pub const TXTCLR: u16 = 0xC050;
+
+/// The switch to text.
+pub const TXTSET: u16 = 0xC051;
+
+/// The switch to graphics, or text, alone.
+pub const MIXCLR: u16 = 0xC052;
+
+/// The switch to graphics with four rows of text.
+pub const MIXSET: u16 = 0xC053;
+
+/// The switch to page 1.
+pub const LOWSCR: u16 = 0xC054;
+
+/// The switch to page 2.
+pub const HISCR: u16 = 0xC055;
+
+/// The switch to low resolution.
+pub const LORES: u16 = 0xC056;
+
+/// The switch to high resolution, the last of the display switches.
+pub const HIRES: u16 = 0xC057;
 
 /// The window's first column.
 pub const WNDLFT: u16 = 0x20;

@@ -9,9 +9,11 @@ ghost use Rattle.a2_bus.specs.PowerOn.{first_byte, first_devices, start_memory};
 ghost use Rattle.a2_hex.specs.Images.{held};
 ghost use Rattle.a2_page.specs.Grid.{with_part};
 ghost use Rattle.a2_page.specs.Picture.{page_grid};
+ghost use Rattle.a2_bus.specs.Memory.{ram_end};
 
 use crate::Bus;
 use crate::keys::{Keys, KeysFull};
+use crate::locations::{HIRES, HISCR, KBD, KBDSTRB, LORES, LOWSCR, MIXCLR, MIXSET, TXTCLR, TXTSET};
 use crate::start::{put_first_bytes, put_image};
 use crate::zeros::zeroed;
 use a2_hex::{Image, RAM_END};
@@ -19,28 +21,6 @@ use a2_page::{Switches, View};
 use arrayvec::ArrayVec;
 use std::alloc::{AllocError, Allocator, Global};
 use std::marker::Model;
-
-// The keyboard, and what clears its strobe.
-const KBD: u16 = 0xC000;
-
-const KBDSTRB: u16 = 0xC010;
-
-// The display switches.
-pub const TXTCLR: u16 = 0xC050;
-
-const TXTSET: u16 = 0xC051;
-
-const MIXCLR: u16 = 0xC052;
-
-const MIXSET: u16 = 0xC053;
-
-const LOWSCR: u16 = 0xC054;
-
-const HISCR: u16 = 0xC055;
-
-const LORES: u16 = 0xC056;
-
-pub const HIRES: u16 = 0xC057;
 
 // How many bytes of RAM are copied at once.
 const PIECE: usize = 3072;
@@ -67,6 +47,7 @@ pub struct AddressSpace<A: Allocator = Global> {
 impl<A: Allocator> Model for AddressSpace<A> {
     ghost use Rattle.std.specs.Prelude.{◌≡◌, ◌<◌, length, ℕ, All};
     ghost use Rattle.a2_bus.specs.BusState.{BusState};
+    ghost use Rattle.a2_bus.specs.Memory.{ram_end};
 
     ghost Value = { BusState };
 
@@ -75,7 +56,7 @@ impl<A: Allocator> Model for AddressSpace<A> {
       devices = record { switches = b.switches; keys = b.keys.items; last_key = b.last_key };
     } };
 
-    ghost invariant = { λ b. (length b.ram.items ≡ 49152) × All (λ k. k < 128) b.keys.items };
+    ghost invariant = { λ b. (length b.ram.items ≡ ram_end) × All (λ k. k < 128) b.keys.items };
 }
 
 impl<A: Allocator> AddressSpace<A> {
@@ -88,9 +69,9 @@ impl<A: Allocator> AddressSpace<A> {
     /// memory.
     pub fn new(alloc: A) -> Result<AddressSpace<A>, AllocError>
         ensures memory { IfOk result (λ b. memory_of b ≡ start_memory (λ _. None) []) }
-        ensures bytes { IfOk result (λ b. (a : ℕ) → a < 49152 → slice_index b.bytes a ≡ first_byte a) }
+        ensures bytes { IfOk result (λ b. (a : ℕ) → a < ram_end → slice_index b.bytes a ≡ first_byte a) }
         ensures devices { IfOk result (λ b. b.devices ≡ first_devices []) }
-        ensures size { IfOk result (λ b. length b.bytes ≡ 49152) }
+        ensures size { IfOk result (λ b. length b.bytes ≡ ram_end) }
     {
         let mut ram = zeroed(alloc, usize::from(RAM_END))?;
         put_first_bytes(&mut ram);
@@ -106,9 +87,9 @@ impl<A: Allocator> AddressSpace<A> {
     /// byte, or the start's where it has none. No key waits and none was taken. This project's profile.
     pub fn load<C: Allocator>(&mut self, image: &Image<C>)
         ensures memory { memory_of self.new ≡ start_memory (held image.now) [] }
-        ensures bytes { (a : ℕ) → a < 49152 → slice_index self.new.bytes a ≡ unwrap_or (held image.now a) (first_byte a) }
+        ensures bytes { (a : ℕ) → a < ram_end → slice_index self.new.bytes a ≡ unwrap_or (held image.now a) (first_byte a) }
         ensures devices { self.new.devices ≡ first_devices [] }
-        ensures size { length self.new.bytes ≡ 49152 }
+        ensures size { length self.new.bytes ≡ ram_end }
     {
         put_image(&mut self.ram, image);
         self.keys.clear();
@@ -136,6 +117,16 @@ impl<A: Allocator> AddressSpace<A> {
         typed.map_err(|_| KeysFull)
     }
 
+    /// Takes the first waiting key, as an access of the keyboard's strobe at $C010 does; where none waits nothing changes. Apple II
+    /// Reference Manual (1979), page 6.
+    pub fn take_key(&mut self)
+        ensures { self.new ≡ record self.old { devices = key_taken self.old.devices } }
+    {
+        if !self.keys.is_empty() {
+            self.last_key = self.keys.remove(0);
+        }
+    }
+
     /// Makes this space equal to `other` in all that contracts see of it: RAM, keys, the last key taken and switches.
     pub fn copy_from<C: Allocator>(&mut self, other: &AddressSpace<C>)
         ensures { self.new ≡ other.now }
@@ -151,12 +142,12 @@ impl<A: Allocator> AddressSpace<A> {
     /// Moves `count` bytes of RAM, those from the address `from` on, to `to` and on; no other byte changes. Both ranges
     /// lie below $C000, and may overlap.
     pub fn move_bytes(&mut self, from: u16, to: u16, count: u16)
-        requires from { from + count ≤ 49152 }
-        requires to { to + count ≤ 49152 }
+        requires from { from + count ≤ ram_end }
+        requires to { to + count ≤ ram_end }
         ensures moved { self.new ≡ record self.old {
           bytes = with_part self.old.bytes to (slice_range self.old.bytes from (from + count));
         } }
-        ensures size { length self.old.bytes ≡ 49152 }
+        ensures size { length self.old.bytes ≡ ram_end }
     {
         let first = usize::from(from);
         let end = first + usize::from(count);
@@ -166,9 +157,9 @@ impl<A: Allocator> AddressSpace<A> {
     /// Makes `count` bytes of RAM, those from `address` on, all of them `byte`; no other byte changes. The range lies
     /// below $C000.
     pub fn fill_bytes(&mut self, address: u16, count: u16, byte: u8)
-        requires { address + count ≤ 49152 }
+        requires { address + count ≤ ram_end }
         ensures filled { self.new ≡ record self.old { bytes = with_part self.old.bytes address (replicate count byte) } }
-        ensures size { length self.old.bytes ≡ 49152 }
+        ensures size { length self.old.bytes ≡ ram_end }
     {
         let first = usize::from(address);
         let end = first + usize::from(count);
@@ -180,7 +171,7 @@ impl<A: Allocator> AddressSpace<A> {
         ensures* writes_back { sem 𝓛 (follows (the_row A.row A.Allocator) (Array byte 0)
             self.entry.ghost_name result.ghost_name (with_bytes self.old)) }
         ensures bytes { result.now ≡ self.old.bytes }
-        ensures size { length self.old.bytes ≡ 49152 }
+        ensures size { length self.old.bytes ≡ ram_end }
     {
         self.ram.as_mut_slice()
     }
@@ -211,15 +202,6 @@ impl<A: Allocator> AddressSpace<A> {
         }
     }
 
-    // Takes the first waiting key.
-    fn take(&mut self)
-        ensures { self.new ≡ record self.old { devices = key_taken self.old.devices } }
-    {
-        if !self.keys.is_empty() {
-            self.last_key = self.keys.remove(0);
-        }
-    }
-
     // What any access of an address above RAM does.
     #[cold]
     #[inline(never)]
@@ -227,7 +209,7 @@ impl<A: Allocator> AddressSpace<A> {
         ensures { self.new ≡ record self.old { devices = after_access self.old.devices address } }
     {
         match address {
-            KBDSTRB => self.take(),
+            KBDSTRB => self.take_key(),
             TXTCLR => self.switches.text = false,
             TXTSET => self.switches.text = true,
             MIXCLR => self.switches.mixed = false,
@@ -256,8 +238,8 @@ impl<A: Allocator> AddressSpace<A> {
 // Makes RAM the bytes of another. Piece by piece: a C library moves large pieces in a way that is slower where both ends
 // stand in a cache near by.
 fn copy_ram(ram: &mut [u8], other: &[u8])
-    requires ram { length ram.old ≡ 49152 }
-    requires other { length other.now ≡ 49152 }
+    requires ram { length ram.old ≡ ram_end }
+    requires other { length other.now ≡ ram_end }
     ensures { ram.new ≡ other.now }
 {
     for piece in 0..usize::from(RAM_END) / PIECE {
@@ -292,7 +274,7 @@ impl<A: Allocator> Bus for AddressSpace<A> {
     fn read(&mut self, address: u16) -> u8
         ensures value { result ≡ board_access.byte_at self.old address }
         ensures left { self.new ≡ board_access.after_read self.old address }
-        ensures size { length self.old.bytes ≡ 49152 }
+        ensures size { length self.old.bytes ≡ ram_end }
     {
         // Shows the prover how long RAM is before the access.
         let _ = &self.ram;
@@ -306,7 +288,7 @@ impl<A: Allocator> Bus for AddressSpace<A> {
     #[inline(always)]
     fn write(&mut self, address: u16, byte: u8)
         ensures left { self.new ≡ board_access.after_write self.old address byte }
-        ensures size { length self.old.bytes ≡ 49152 }
+        ensures size { length self.old.bytes ≡ ram_end }
     {
         // Shows the prover how long RAM is before the access.
         let _ = &self.ram;
@@ -321,7 +303,7 @@ impl<A: Allocator> Bus for AddressSpace<A> {
     fn peek(&self, address: u16) -> Option<u8>
         ensures value { result ≡ slice_get self.now.bytes address }
         ensures room { 512 ≤ length self.now.bytes }
-        ensures size { length self.now.bytes ≡ 49152 }
+        ensures size { length self.now.bytes ≡ ram_end }
     {
         if address < RAM_END {
             Some(self.ram[address as usize])

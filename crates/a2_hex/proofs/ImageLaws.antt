@@ -3,17 +3,17 @@ use Rattle.std.proofs.Common.{◌≡◌, ℕ, ◌<◌, Option, Some, None, inl, 
 use Rattle.std.specs.Prelude.{IfSome}
 use Rattle.std.proofs.lemmas.Bool.{cases_lt, cases_eq}
 use Rattle.std.proofs.lemmas.List.{get_or_past, get_or-set_same, get_or-set_other, set_past, get_or-replicate, length-replicate}
-use Rattle.a2_hex.specs.Images.{Cells, held, IsImage}
+use Rattle.a2_hex.specs.Images.{Cells, held, IsImage, ram_end}
 
 -- the bytes in cells
 abbrev pub HasBytes : Cells → Type 0
 HasBytes cells = (a : ℕ) → IfSome (held cells a) (λ byte. byte < 256)
 
-both : (o : Option ℕ) (a : ℕ) → IfSome o (λ byte. byte < 256) → a < 49152 → IfSome o (λ byte. (a < 49152) × (byte < 256))
+both : (o : Option ℕ) (a : ℕ) → IfSome o (λ byte. byte < 256) → a < ram_end → IfSome o (λ byte. (a < ram_end) × (byte < 256))
 both None a h lt = tt
 both (Some byte) a h lt = (lt, h)
 
-pub cells-image : (cells : Cells) → length cells ≡ 49152 → HasBytes cells → IsImage (held cells)
+pub cells-image : (cells : Cells) → length cells ≡ ram_end → HasBytes cells → IsImage (held cells)
 cells-image cells n h a = elim (cases_lt a (length cells)) [
   | inl lt ↦ both (held cells a) a (h a) (omega arith)
   | inr ge ↦ rw (get_or_past cells a None ge) tt

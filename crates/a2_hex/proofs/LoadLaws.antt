@@ -12,7 +12,7 @@ use Rattle.a2_text.specs.Refusals.{◌otherwise◌}
 use Rattle.a2_text.specs.Words.{words}
 use Rattle.a2_hex.specs.declared.fault.HexFault.{HexFault}
 use Rattle.a2_hex.specs.declared.fault.HexFault.TheVariants.{Digit, NoAddress, Outside, Memory}
-use Rattle.a2_hex.specs.Images.{no_bytes, put, overlaid}
+use Rattle.a2_hex.specs.Images.{no_bytes, put, overlaid, ram_end}
 use Rattle.a2_hex.specs.ObjectLines.{Store, store_of, Loaded, lies_outside, after_bytes, after_store_line, after_line, after_lines, image_of, ◌>>=◌}
 
 -- the bytes behind a first one
@@ -28,20 +28,20 @@ pub counted : (o : Option (List ℕ)) (count : ℕ) → option_map length o ≡ 
 counted None count h = cc
 counted (Some xs) count h = (xs, refl, same_Some (length xs) count h)
 
-pub inside : (at count : ℕ) → count ≤ 49152 - at → lies_outside at count ≡ false
+pub inside : (at count : ℕ) → count ≤ ram_end - at → lies_outside at count ≡ false
 inside at count h = elim (cases_lt 0 count) [
-  | inl some ↦ and_right (ltb 0 count) (ltb 49152 (at + count)) (le-ltb 49152 (at + count) (omega arith))
-  | inr none ↦ and_left (ltb 0 count) (ltb 49152 (at + count)) (le-ltb 0 count none)
+  | inl some ↦ and_right (ltb 0 count) (ltb ram_end (at + count)) (le-ltb ram_end (at + count) (omega arith))
+  | inr none ↦ and_left (ltb 0 count) (ltb ram_end (at + count)) (le-ltb 0 count none)
 ]
 
-pub outside : (at count : ℕ) → 49152 - at < count → lies_outside at count ≡ true
-outside at count h = and_from (ltb 0 count) (ltb 49152 (at + count)) (lt-ltb 0 count (omega arith)) (lt-ltb 49152 (at + count) (omega arith))
+pub outside : (at count : ℕ) → ram_end - at < count → lies_outside at count ≡ true
+outside at count h = and_from (ltb 0 count) (ltb ram_end (at + count)) (lt-ltb 0 count (omega arith)) (lt-ltb ram_end (at + count) (omega arith))
 
 -- where there is a byte, the first address is below the end of RAM
-pub room_for : (at count : ℕ) → lies_outside at count ≡ false → 0 < count → at + count ≤ 49152
-room_for at count h some = elim (and_cases (ltb 0 count) (ltb 49152 (at + count)) h) [
+pub room_for : (at count : ℕ) → lies_outside at count ≡ false → 0 < count → at + count ≤ ram_end
+room_for at count h some = elim (and_cases (ltb 0 count) (ltb ram_end (at + count)) h) [
   | inl none ↦ absurd (omega (arith, ltb-false 0 count none))
-  | inr fits ↦ ltb-false 49152 (at + count) fits
+  | inr fits ↦ ltb-false ram_end (at + count) fits
 ]
 
 -- the line by the parts that were read
@@ -97,7 +97,7 @@ pub lines-refused : (n : ℕ) (before : Loaded) (fault : HexFault) (line : List 
 lines-refused n before fault line rest h = ap (λ (r : Result Loaded HexFault). r >>= (λ l. after_lines (n + 1) l rest)) h
 
 -- the bytes that are left are a byte and others, so the next address is below the end of RAM
-pub next-below : (at all next : ℕ) (left others : List ℕ) (byte : ℕ) → lies_outside at all ≡ false → left ≡ byte ∷ others → next + length left ≡ at + all → at ≤ next → next < 49152
+pub next-below : (at all next : ℕ) (left others : List ℕ) (byte : ℕ) → lies_outside at all ≡ false → left ≡ byte ∷ others → next + length left ≡ at + all → at ≤ next → next < ram_end
 next-below at all next left others byte h is sums le =
     let one : length (byte ∷ others) ≡ length others + 1 = omega arith in
     let n : length left ≡ length others + 1 = ap length is ∙ one in

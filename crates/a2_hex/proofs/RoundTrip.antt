@@ -4,7 +4,7 @@ use Rattle.std.proofs.Common.{◌≡◌, ℕ, zero, suc, ◌+◌, ◌-◌, ◌%�
 use Rattle.std.specs.Prelude.{IfSome, is_some}
 use Rattle.std.proofs.lemmas.Bool.{cases_Bool, cases_lt, cases_eq, cond-true, cond-false, eq-eqb, ne_eqb, eqb-false, and_parts, and_cases, or_parts, not-false, false≢true}
 use Rattle.a2_hex.specs.declared.fault.HexFault.{HexFault}
-use Rattle.a2_hex.specs.Images.{no_bytes, put, overlaid, IsImage}
+use Rattle.a2_hex.specs.Images.{no_bytes, put, overlaid, IsImage, ram_end}
 use Rattle.a2_hex.specs.ObjectText.{spaced, to_gap, run, begins_line, line_at, lines_below, text_of_lines, object_text}
 use Rattle.a2_hex.specs.ObjectLines.{Loaded, after_line, after_lines, image_of, ◌>>=◌}
 use Rattle.a2_hex.proofs.LoadLaws.{IsStore, inside, after-stored, image-loaded}
@@ -20,8 +20,8 @@ cases_byte : (o : Option ℕ) → (o ≡ None) ⊎ (is_some o ≡ true)
 cases_byte None = inl refl
 cases_byte (Some byte) = inr refl
 
-byte-inside : (image : ℕ → Option ℕ) (a byte : ℕ) → IsImage image → image a ≡ Some byte → (a < 49152) × (byte < 256)
-byte-inside image a byte h is = (let P : Option ℕ → Type 0 = λ o. IfSome o (λ byte. (a < 49152) × (byte < 256)) in subst P is (h a))
+byte-inside : (image : ℕ → Option ℕ) (a byte : ℕ) → IsImage image → image a ≡ Some byte → (a < ram_end) × (byte < 256)
+byte-inside image a byte h is = (let P : Option ℕ → Type 0 = λ o. IfSome o (λ byte. (a < ram_end) × (byte < 256)) in subst P is (h a))
 
 -- a run has bytes of the image
 run-bytes : (image : ℕ → Option ℕ) (a n : ℕ) → IsImage image → AreBytes (run image a n)
@@ -33,7 +33,7 @@ run-bytes image a (suc n) h = elim (cases_byte (image a)) [
       rw is ((byte-inside image a byte h is).1, run-bytes image (a + 1) n h)
 ]
 
-run-inside : (image : ℕ → Option ℕ) (a n : ℕ) → IsImage image → 0 < length (run image a n) → a + length (run image a n) ≤ 49152
+run-inside : (image : ℕ → Option ℕ) (a n : ℕ) → IsImage image → 0 < length (run image a n) → a + length (run image a n) ≤ ram_end
 run-inside image a zero h some = absurd (omega arith)
 run-inside image a (suc n) h some = elim (cases_byte (image a)) [
   | inl none ↦ (let e : length (run image a (suc n)) ≡ 0 = ap length (run-none image a (suc n) none) in absurd (omega arith))
@@ -229,7 +229,7 @@ plain-below image (suc n) = ArePlain-append (lines_below image n) _ (plain-below
     last false = tt
 
 -- the loaded map is the image
-loaded-is : (image : ℕ → Option ℕ) (n : ℕ) → IsImage image → 49152 ≤ n → (l : LoadedBelow image n) → l.after.image ≡ image
+loaded-is : (image : ℕ → Option ℕ) (n : ℕ) → IsImage image → ram_end ≤ n → (l : LoadedBelow image n) → l.after.image ≡ image
 loaded-is image n h le l = fun_ext (λ x. elim (cases_byte (image x)) [
   | inl none ↦ elim (l.only x) [ inl e ↦ e ∙ sym none | inr e ↦ e ]
   | inr some ↦
@@ -240,7 +240,7 @@ loaded-is image n h le l = fun_ext (λ x. elim (cases_byte (image x)) [
       l.all x t (omega arith)
 ])
 
-text-loads : (image : ℕ → Option ℕ) (n : ℕ) → IsImage image → 49152 ≤ n → image_of (text_of_lines (lines_below image n)) ≡ Ok image
+text-loads : (image : ℕ → Option ℕ) (n : ℕ) → IsImage image → ram_end ≤ n → image_of (text_of_lines (lines_below image n)) ≡ Ok image
 text-loads image n h le =
     let l = loads-below image n h in
     image-loaded (text_of_lines (lines_below image n)) l.after (ap (after_lines 1 (record { image = no_bytes; next = None })) (lines-text (lines_below image n) (plain-below image n)) ∙ l.is)
@@ -248,4 +248,4 @@ text-loads image n h le =
 
 pub written-loads : (image : ℕ → Option ℕ) → IsImage image → image_of (object_text image) ≡ Ok image
 unfolding object_text
-written-loads image h = text-loads image 49152 h (omega arith)
+written-loads image h = text-loads image ram_end h (omega arith)

@@ -7,6 +7,7 @@ use Rattle.a2_stream.specs.Stream.{Taker, Sends, Breaks, SendsOrBreaks}
 use Rattle.a2_stream.proofs.Joined.{Sends-nil, Sends-then, Breaks-then, broke_off, went_on}
 use Rattle.a2_text.specs.Digits.{hex_pair, hex_word}
 use Rattle.a2_hex.specs.ObjectText.{after_blank, spaced, run, begins_line, line_at, lines_below, text_of_lines, object_text}
+use Rattle.a2_hex.specs.Images.{ram_end}
 
 -- the run from an address on
 pub run-none : (image : ℕ → Option ℕ) (a n : ℕ) → image a ≡ None → run image a n ≡ []
@@ -67,14 +68,14 @@ below-front image n (suc k) =
     let next : n + suc k ≡ suc (n + k) = omega arith in
     (others ++ last, rw next (ap (λ (l : List (List ℕ)). l ++ last) is ∙ append_assoc (lines_below image n) others last))
 
-pub object_text-front : (image : ℕ → Option ℕ) (n : ℕ) → n ≤ 49152 → (rest : List ℕ) × (text_of_lines (lines_below image n) ++ rest ≡ object_text image)
+pub object_text-front : (image : ℕ → Option ℕ) (n : ℕ) → n ≤ ram_end → (rest : List ℕ) × (text_of_lines (lines_below image n) ++ rest ≡ object_text image)
 unfolding object_text
 object_text-front image n le =
-    let (others, is) = below-front image n (49152 - n) in
-    let end : n + (49152 - n) ≡ 49152 = omega arith in
+    let (others, is) = below-front image n (ram_end - n) in
+    let end : n + (ram_end - n) ≡ ram_end = omega arith in
     (text_of_lines others, sym (flat_map-append (λ (line : List ℕ). line ++ 10 ∷ []) (lines_below image n) others) ∙ ap text_of_lines (sym is) ∙ ap (λ (k : ℕ). text_of_lines (lines_below image k)) end)
 
-pub object_text-is : (image : ℕ → Option ℕ) (n : ℕ) → n ≡ 49152 → text_of_lines (lines_below image n) ≡ object_text image
+pub object_text-is : (image : ℕ → Option ℕ) (n : ℕ) → n ≡ ram_end → text_of_lines (lines_below image n) ≡ object_text image
 unfolding object_text
 object_text-is image n h = ap (λ (k : ℕ). text_of_lines (lines_below image k)) h
 
@@ -132,17 +133,17 @@ gathered-more old mid new image a piece slice line after h (sent, out, joined) i
 
 -- what was gathered broke off
 pub gathered-broke : {T E : Type 0} (r : Result T E) (old mid new : Taker) (image : ℕ → Option ℕ) (a : ℕ) (piece : List ℕ) → IsErr r → IsGathered old mid image a piece
-    → Breaks mid new piece → a < 49152 → SendsOrBreaks old new r (object_text image)
+    → Breaks mid new piece → a < ram_end → SendsOrBreaks old new r (object_text image)
 gathered-broke r old mid new image a piece err h broke lt =
     let (rest, all) = object_text-front image a (omega (arith, lt)) in
     subst (SendsOrBreaks old new r) (ap (λ (l : List ℕ). l ++ rest) h.joined ∙ all)
     (broke_off old new r (h.sent ++ piece) rest err (Breaks-then old mid new h.sent piece h.out broke))
 
 -- the last of them
-pub gathered-all : {T E : Type 0} (r : Result T E) (old mid new : Taker) (image : ℕ → Option ℕ) (n end : ℕ) (piece slice : List ℕ) → ((a : ℕ) → end ≤ a → image a ≡ None) → end ≤ n → end ≤ 49152 → IsGathered old mid image n piece
+pub gathered-all : {T E : Type 0} (r : Result T E) (old mid new : Taker) (image : ℕ → Option ℕ) (n end : ℕ) (piece slice : List ℕ) → ((a : ℕ) → end ≤ a → image a ≡ None) → end ≤ n → end ≤ ram_end → IsGathered old mid image n piece
     → slice ≡ piece → SendsOrBreaks mid new r slice → SendsOrBreaks old new r (object_text image)
 gathered-all r old mid new image n end piece slice none behind le h is last =
-    subst (SendsOrBreaks old new r) (h.joined ∙ ap text_of_lines (same n behind ∙ sym (same 49152 le)) ∙ object_text-is image 49152 refl)
+    subst (SendsOrBreaks old new r) (h.joined ∙ ap text_of_lines (same n behind ∙ sym (same ram_end le)) ∙ object_text-is image ram_end refl)
     (went_on old mid new r h.sent piece h.out (subst (SendsOrBreaks mid new r) is last))
   where
     same : (k : ℕ) → end ≤ k → lines_below image k ≡ lines_below image end

@@ -1,6 +1,10 @@
 -- Bytes at addresses of RAM, which ends at $C000 (Apple II Reference Manual 1979, chapter 4).
 use Rattle.std.specs.Prelude.{◌≡◌, ◌⊎◌, ℕ, ◌+◌, ◌<◌, ◌≤◌, ◌==◌, List, [], ◌∷◌, Option, Some, None, IfSome, slice_index_or, if◌then◌else◌}
 
+-- the end of RAM: the first address that is none of it
+abbrev pub ram_end : ℕ
+ram_end = 0xC000
+
 -- an image's cells: the byte at each address, where there is one
 abbrev pub Cells : Type 0
 Cells = List (Option ℕ)
@@ -28,4 +32,4 @@ overlaid image at (byte ∷ bytes) = overlaid (put image at byte) (at + 1) bytes
 
 -- a map of bytes to addresses of RAM
 abbrev pub IsImage : (ℕ → Option ℕ) → Type 0
-IsImage image = (a : ℕ) → IfSome (image a) (λ byte. (a < 49152) × (byte < 256))
+IsImage image = (a : ℕ) → IfSome (image a) (λ byte. (a < ram_end) × (byte < 256))

@@ -7,7 +7,7 @@ use Rattle.a2_text.specs.Lines.{lines}
 use Rattle.a2_text.specs.Refusals.{◌otherwise◌}
 use Rattle.a2_text.specs.Signs.{sign}
 use Rattle.a2_text.specs.Words.{behind_blanks, words}
-use Rattle.a2_hex.specs.Images.{no_bytes, overlaid}
+use Rattle.a2_hex.specs.Images.{no_bytes, overlaid, ram_end}
 use Rattle.a2_hex.specs.declared.fault.HexFault.{HexFault}
 use Rattle.a2_hex.specs.declared.fault.HexFault.TheVariants.{Digit, NoAddress, Outside}
 
@@ -67,7 +67,7 @@ pub record Loaded : Type 0 where
 
 -- whether one of some bytes would lie at or above $C000
 abbrev pub lies_outside : ℕ → ℕ → Bool
-lies_outside at count = nat_lt 0 count && nat_lt 49152 (at + count)
+lies_outside at count = nat_lt 0 count && nat_lt ram_end (at + count)
 
 -- bytes go to the addresses from this one upwards, and the next address is the one behind them
 abbrev pub after_bytes : ℕ → (ℕ → Option ℕ) → Option ℕ → List ℕ → Result Loaded HexFault

@@ -3,6 +3,7 @@ use Rattle.std.specs.Prelude.{ℕ, zero, suc, ◌+◌, ◌-◌, ◌%◌, ◌==�
 use Rattle.std.specs.List.{flat_map}
 use Rattle.a2_text.specs.Digits.{hex_pair, hex_word}
 use Rattle.a2_text.specs.Signs.{sign}
+use Rattle.a2_hex.specs.Images.{ram_end}
 
 -- a blank, and a byte of two digits
 abbrev pub after_blank : ℕ → List ℕ
@@ -42,4 +43,4 @@ text_of_lines lines = flat_map (λ line. line ++ 10 ∷ []) lines
 
 -- the object lines of an image of RAM
 unfoldable pub object_text : (ℕ → Option ℕ) → List ℕ
-object_text image = text_of_lines (lines_below image 49152)
+object_text image = text_of_lines (lines_below image ram_end)

@@ -1,7 +1,7 @@
 //! Bytes at addresses of RAM.
 
 ghost use Rattle.std.specs.Prelude.{◌≡◌, ◌<◌, ◌≤◌, ℕ, None, IfOk, OnErr, length, slice_index, unwrap_or, replicate, vec_len};
-ghost use Rattle.a2_hex.specs.Images.{held, put, IsImage, IsWithin};
+ghost use Rattle.a2_hex.specs.Images.{held, put, IsImage, IsWithin, ram_end};
 
 use crate::fault::HexFault;
 use std::alloc::{AllocError, Allocator, Global};
@@ -24,17 +24,17 @@ pub struct Image<A: Allocator = Global> {
 impl<A: Allocator> Model for Image<A> {
     ghost use Rattle.std.specs.Prelude.{◌≡◌, ◌<◌, ◌≤◌, ℕ, length, IfSome};
     ghost use Rattle.std.specs.Box.{boxed_slice_items, boxed_slice_len};
-    ghost use Rattle.a2_hex.specs.Images.{Cells, held, IsWithin};
+    ghost use Rattle.a2_hex.specs.Images.{Cells, held, IsWithin, ram_end};
 
     ghost Value = { Cells };
 
     ghost view = { λ image. boxed_slice_items image.cells };
 
     ghost invariant = { λ image.
-        (length (boxed_slice_items image.cells) ≡ 49152)
+        (length (boxed_slice_items image.cells) ≡ ram_end)
         × ((a : ℕ) → IfSome (held (boxed_slice_items image.cells) a) (λ byte. byte < 256))
         × IsWithin (boxed_slice_items image.cells) image.start image.end
-        × (image.end ≤ 49152) × (boxed_slice_len image.cells ≡ 49152) };
+        × (image.end ≤ ram_end) × (boxed_slice_len image.cells ≡ ram_end) };
 }
 
 impl<A: Allocator> Image<A> {
@@ -67,7 +67,7 @@ impl<A: Allocator> Image<A> {
     // From the first of these addresses up to the second lies what is held.
     pub(crate) fn bounds(&self) -> (u16, u16)
         ensures within { IsWithin self.now result.0 result.1 }
-        ensures end { result.1 ≤ 49152 }
+        ensures end { result.1 ≤ ram_end }
     {
         (self.start, self.end)
     }
@@ -75,7 +75,7 @@ impl<A: Allocator> Image<A> {
     /// Puts `byte` at `address`, which is below $C000, in place of any that was there, and leaves all other addresses as
     /// they were.
     pub fn set(&mut self, address: u16, byte: u8)
-        requires { address < 49152 }
+        requires { address < ram_end }
         ensures { (a : ℕ) → held self.new a ≡ put (held self.old) address byte a }
     {
         self.cells[usize::from(address)] = Some(byte);
@@ -86,9 +86,9 @@ impl<A: Allocator> Image<A> {
     /// Lays the image over `ram`, the 49,152 bytes from address 0 on: at each address where the image has a byte `ram`
     /// takes it, and elsewhere it keeps its own.
     pub fn lay_over(&self, ram: &mut [u8])
-        requires { length ram.old ≡ 49152 }
-        ensures size { length ram.new ≡ 49152 }
-        ensures laid { (a : ℕ) → a < 49152 → slice_index ram.new a ≡ unwrap_or (held self.now a) (slice_index ram.old a) }
+        requires { length ram.old ≡ ram_end }
+        ensures size { length ram.new ≡ ram_end }
+        ensures laid { (a : ℕ) → a < ram_end → slice_index ram.new a ≡ unwrap_or (held self.now a) (slice_index ram.old a) }
     {
         lay_cells(self.cells.as_slice(), self.start, self.end, ram);
     }
@@ -96,19 +96,19 @@ impl<A: Allocator> Image<A> {
 
 // A cell without a byte for each address of RAM.
 fn no_cells<A: Allocator>(alloc: A) -> Result<Vec<Option<u8>, A>, AllocError>
-    ensures cells { IfOk result (λ cells. cells.items ≡ replicate 49152 None) }
-    ensures len { IfOk result (λ cells. vec_len cells ≡ 49152) }
+    ensures cells { IfOk result (λ cells. cells.items ≡ replicate ram_end None) }
+    ensures len { IfOk result (λ cells. vec_len cells ≡ ram_end) }
 {
     vec![in alloc; None; usize::from(RAM_END)]
 }
 
 // Lays over RAM the bytes of cells that have none but from `start` up to `end`.
 fn lay_cells(cells: &[Option<u8>], start: u16, end: u16, ram: &mut [u8])
-    requires cells { length cells.now ≡ 49152 }
+    requires cells { length cells.now ≡ ram_end }
     requires within { IsWithin cells.now start end }
-    requires end { end ≤ 49152 }
-    requires size { length ram.old ≡ 49152 }
-    ensures size { length ram.new ≡ 49152 }
+    requires end { end ≤ ram_end }
+    requires size { length ram.old ≡ ram_end }
+    ensures size { length ram.new ≡ ram_end }
     ensures laid { (a : ℕ) → slice_index ram.new a ≡ unwrap_or (held cells.now a) (slice_index ram.old a) }
 {
     for address in start..end {

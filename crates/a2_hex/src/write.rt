@@ -4,7 +4,7 @@ ghost use Rattle.std.specs.Prelude.{◌≡◌, ◌<◌, ◌+◌, ◌*◌, ◌≤
 ghost use Rattle.std.specs.List.{flat_map};
 ghost use Rattle.arrayvec.specs.ArrayVec.{array_vec_len};
 ghost use Rattle.a2_stream.specs.Stream.{SendsOrBreaks};
-ghost use Rattle.a2_hex.specs.Images.{held, IsImage};
+ghost use Rattle.a2_hex.specs.Images.{held, IsImage, ram_end};
 ghost use Rattle.a2_hex.specs.ObjectText as text;
 ghost use Rattle.a2_hex.specs.ObjectLines.{image_of};
 ghost use Rattle.a2_hex.specs.Gathering.{Gathers};
@@ -65,7 +65,7 @@ fn append_run<A: Allocator>(
 
 // The line that begins at an address with this byte, and its line feed.
 fn line_at<A: Allocator>(image: &Image<A>, address: u16, first: u8) -> ArrayVec<u8, LINE_LEN>
-    requires inside { address < 49152 }
+    requires inside { address < ram_end }
     requires first { held image.now address ≡ Some first }
     ensures { result.items ≡ text.line_at (held image.now) address ++ 10 ∷ [] }
 {

@@ -5,7 +5,7 @@ use Rattle.std.proofs.lemmas.List.{ext_get_or, places, get_or-set_same, get_or-s
 use Rattle.std.proofs.lemmas.Slice.{drop-put_mid}
 use borrow.Rule.Slice.PartMut.{put_mid}
 use Rattle.a2_page.specs.declared.Page.{Page}
-use Rattle.a2_page.specs.Cells.{Cell, cell_at}
+use Rattle.a2_page.specs.Cells.{Cell, cell_at, row_offset}
 use Rattle.a2_page.specs.Grid.{Grid, IsGrid, byte_in}
 use Rattle.a2_page.specs.Kept.{KeptPicture, IsStale, is_row_marked}
 use Rattle.a2_page.specs.Picture.{page_grid}
@@ -31,7 +31,7 @@ laid_behind bytes cells start place fits forty le =
     at_drop xs = grind (arith, places)
 
 -- a page with a row of another's in place of its own
-pub row_taken : (bytes cells : List ℕ) (row start : ℕ) → row < 24 → length bytes ≡ 1024 → length cells ≡ 40 → start ≡ 128 * (row % 8) + 40 * (row / 8)
+pub row_taken : (bytes cells : List ℕ) (row start : ℕ) → row < 24 → length bytes ≡ 1024 → length cells ≡ 40 → start ≡ row_offset row
     → page_grid (put_mid start 40 bytes cells) ≡ slice_set (page_grid bytes) row cells
 row_taken bytes cells row start row_ok size forty at = page_grid_is (put_mid start 40 bytes cells) grid is_grid (λ r c r_ok c_ok. same r c r_ok c_ok (same_or_not r row))
   where
@@ -52,17 +52,17 @@ row_taken bytes cells row start row_ok size forty at = page_grid_is (put_mid sta
     is_grid : IsGrid grid
     is_grid = record { height = length-set (page_grid bytes) row cells ∙ g.height; width = λ r r_ok. wide r r_ok (same_or_not r row) }
 
-    apart : (r c : ℕ) → r < 24 → c < 40 → r ≢ row → (128 * (r % 8) + 40 * (r / 8) + c < start) ⊎ (start + 40 ≤ 128 * (r % 8) + 40 * (r / 8) + c)
+    apart : (r c : ℕ) → r < 24 → c < 40 → r ≢ row → (row_offset r + c < start) ⊎ (start + 40 ≤ row_offset r + c)
     apart r c r_ok c_ok other = grind (arith, at, row_ok)
 
-    beside : (r c : ℕ) → (128 * (r % 8) + 40 * (r / 8) + c < start) ⊎ (start + 40 ≤ 128 * (r % 8) + 40 * (r / 8) + c)
-        → slice_index (put_mid start 40 bytes cells) (128 * (r % 8) + 40 * (r / 8) + c) ≡ slice_index bytes (128 * (r % 8) + 40 * (r / 8) + c)
-    beside r c (inl lt) = laid_beside bytes cells start (128 * (r % 8) + 40 * (r / 8) + c) (omega (arith, size, at, row_ok)) forty lt
-    beside r c (inr le) = laid_behind bytes cells start (128 * (r % 8) + 40 * (r / 8) + c) (omega (arith, size, at, row_ok)) forty le
+    beside : (r c : ℕ) → (row_offset r + c < start) ⊎ (start + 40 ≤ row_offset r + c)
+        → slice_index (put_mid start 40 bytes cells) (row_offset r + c) ≡ slice_index bytes (row_offset r + c)
+    beside r c (inl lt) = laid_beside bytes cells start (row_offset r + c) (omega (arith, size, at, row_ok)) forty lt
+    beside r c (inr le) = laid_behind bytes cells start (row_offset r + c) (omega (arith, size, at, row_ok)) forty le
 
-    same : (r c : ℕ) → r < 24 → c < 40 → (r ≡ row) ⊎ (r ≢ row) → slice_index (put_mid start 40 bytes cells) (128 * (r % 8) + 40 * (r / 8) + c) ≡ byte_in grid r c
+    same : (r c : ℕ) → r < 24 → c < 40 → (r ≡ row) ⊎ (r ≢ row) → slice_index (put_mid start 40 bytes cells) (row_offset r + c) ≡ byte_in grid r c
     same r c r_ok c_ok (inl is) =
-        subst (λ k. slice_index (put_mid start 40 bytes cells) (128 * (k % 8) + 40 * (k / 8) + c) ≡ byte_in grid k c) (sym is)
+        subst (λ k. slice_index (put_mid start 40 bytes cells) (row_offset k + c) ≡ byte_in grid k c) (sym is)
         (ap (λ from. slice_index (put_mid start 40 bytes cells) (from + c)) (sym at)
         ∙ laid_inside bytes cells start c (omega (arith, size, at, row_ok)) forty c_ok
         ∙ sym (ap (λ xs. slice_index xs c) (get_or-set_same (page_grid bytes) row cells [] row_in)))

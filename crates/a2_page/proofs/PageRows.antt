@@ -5,7 +5,7 @@ use Rattle.std.proofs.lemmas.List.{ext_get_or, places, drop_more, drop_all, get_
 use Rattle.std.proofs.lemmas.Simd.{map-map}
 use Rattle.a2_page.specs.declared.Half.TheVariants.{Above, Below}
 use Rattle.a2_page.specs.declared.Page.{Page}
-use Rattle.a2_page.specs.Cells.{numbers_from, base_of, address_of}
+use Rattle.a2_page.specs.Cells.{numbers_from, base_of, address_of, row_offset}
 use Rattle.a2_page.specs.Grid.{Grid, IsGrid, byte_in}
 use Rattle.a2_page.specs.Text.{row_line, lines_of, block_lines, block, block_digit}
 use Rattle.a2_page.specs.Picture.{page_grid}
@@ -15,20 +15,20 @@ use Rattle.a2_page.proofs.Parts.{same_cells, grid_of-row, grid_of-byte, grid_of-
 
 -- the byte of a cell among the page's bytes
 abbrev byte_at : List ℕ → ℕ → ℕ → ℕ
-byte_at bytes row column = slice_index bytes (128 * (row % 8) + 40 * (row / 8) + column)
+byte_at bytes row column = slice_index bytes (row_offset row + column)
 
 pub page_grid-is_grid : (bytes : List ℕ) → IsGrid (page_grid bytes)
 unfolding page_grid
 page_grid-is_grid bytes = grid_of-is_grid (byte_at bytes)
 
 pub page_grid-byte : (bytes : List ℕ) (row column : ℕ) → row < 24 → column < 40
-    → byte_in (page_grid bytes) row column ≡ slice_index bytes (128 * (row % 8) + 40 * (row / 8) + column)
+    → byte_in (page_grid bytes) row column ≡ slice_index bytes (row_offset row + column)
 unfolding page_grid
 page_grid-byte bytes row column row_ok column_ok = grid_of-byte (byte_at bytes) row column row_ok column_ok
 
 -- a grid with these bytes in its cells is the page's
 pub page_grid_is : (bytes : List ℕ) (grid : Grid) → IsGrid grid
-    → ((row column : ℕ) → row < 24 → column < 40 → slice_index bytes (128 * (row % 8) + 40 * (row / 8) + column) ≡ byte_in grid row column)
+    → ((row column : ℕ) → row < 24 → column < 40 → slice_index bytes (row_offset row + column) ≡ byte_in grid row column)
     → page_grid bytes ≡ grid
 page_grid_is bytes grid g same =
     same_cells (page_grid bytes) grid (page_grid-is_grid bytes) g
@@ -41,12 +41,12 @@ pub page_grid-of_memory : (memory : List ℕ) (page : Page) (grid : Grid) → Is
 page_grid-of_memory memory page grid g fits same =
     page_grid_is (slice_range memory (base_of page) (base_of page + 1024)) grid g
     (λ row column row_ok column_ok.
-    range-at memory (base_of page) (base_of page + 1024) (128 * (row % 8) + 40 * (row / 8) + column) (address_of page row column) 0 fits
+    range-at memory (base_of page) (base_of page + 1024) (row_offset row + column) (address_of page row column) 0 fits
     (omega arith) (omega arith)
     ∙ same row column row_ok column_ok)
 
 page_grid-row : (bytes : List ℕ) (row : ℕ) → row < 24
-    → slice_index_or (page_grid bytes) row [] ≡ map (λ column. slice_index bytes (128 * (row % 8) + 40 * (row / 8) + column)) (numbers_from 0 40)
+    → slice_index_or (page_grid bytes) row [] ≡ map (λ column. slice_index bytes (row_offset row + column)) (numbers_from 0 40)
 unfolding page_grid
 page_grid-row bytes row row_ok = grid_of-row (byte_at bytes) row row_ok
 
@@ -63,7 +63,7 @@ range_is bytes start fits =
     long = grind (arith, places)
 
 -- a row's bytes stand together
-pub row_is : (bytes : List ℕ) (row start : ℕ) → row < 24 → length bytes ≡ 1024 → start ≡ 128 * (row % 8) + 40 * (row / 8)
+pub row_is : (bytes : List ℕ) (row start : ℕ) → row < 24 → length bytes ≡ 1024 → start ≡ row_offset row
     → slice_range bytes start (start + 40) ≡ slice_index_or (page_grid bytes) row []
 row_is bytes row start row_ok size e =
     range_is bytes start (omega arith)

@@ -1,14 +1,15 @@
 -- What a screen shows of the two text pages, as the switches say. Apple II Reference Manual (1979), pages 12 to 20;
 -- the lines are this project's profile, and one of them stands for the hi-res picture.
-use Rattle.std.specs.Prelude.{ℕ, ◌+◌, ◌*◌, ◌/◌, ◌%◌, List, [], ◌++◌, slice_index, take, drop, codes, if◌then◌else◌}
+use Rattle.std.specs.Prelude.{ℕ, ◌+◌, List, [], ◌++◌, slice_index, take, drop, codes, if◌then◌else◌}
 use Rattle.a2_page.specs.declared.Switches.{Switches}
 use Rattle.a2_page.specs.declared.View.{View}
+use Rattle.a2_page.specs.Cells.{row_offset}
 use Rattle.a2_page.specs.Grid.{Grid, grid_of}
 use Rattle.a2_page.specs.Text.{text_lines, block_lines, attribute_lines}
 
 -- the rows of a page's 1,024 bytes: a row begins as far behind the first byte as its address behind the page's start
 unfoldable pub page_grid : List ℕ → Grid
-page_grid bytes = grid_of (λ row column. slice_index bytes (128 * (row % 8) + 40 * (row / 8) + column))
+page_grid bytes = grid_of (λ row column. slice_index bytes (row_offset row + column))
 
 -- the page that is shown
 abbrev pub shown_page : Switches → Grid → Grid → Grid

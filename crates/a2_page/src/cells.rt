@@ -1,14 +1,14 @@
 //! The cells of the text pages and their addresses.
 
 ghost use Rattle.std.specs.Prelude.{◌≡◌, ◌+◌, ◌*◌, ◌/◌, ◌%◌, ◌<◌, option_map};
-ghost use Rattle.a2_page.specs.Cells.{address_of, base_of, cell_at, FindsEachCell, FindsOnlyCells};
+ghost use Rattle.a2_page.specs.Cells.{address_of, base_of, cell_at, row_offset as row_offset_of, FindsEachCell, FindsOnlyCells};
 
 use crate::Page;
 
 // How far behind its page's start a row begins.
 pub(crate) fn row_offset(row: u8) -> u16
     requires { row < 24 }
-    ensures { result ≡ 128 * (row % 8) + 40 * (row / 8) }
+    ensures { result ≡ row_offset_of row }
 {
     128 * u16::from(row % 8) + 40 * u16::from(row / 8)
 }

@@ -1,31 +1,20 @@
 -- A board's accesses, as changes of the memory that it holds.
-use Rattle.std.specs.Prelude.{◌≡◌, ℕ, ◌<◌, if◌then◌else◌, length, slice_get, unwrap_or}
+use Rattle.std.specs.Prelude.{◌≡◌, ℕ, ◌<◌, length, slice_get, unwrap_or}
 use Rattle.std.proofs.Common.{ap, ◌∙◌, arith}
 use Rattle.std.proofs.lemmas.Option.{unwrap_or-slice_get}
-use Rattle.std.proofs.lemmas.Bool.{le-ltb}
 use Rattle.a2_bus.specs.BusState.{BusState, board_access}
-use Rattle.a2_bus.specs.Devices.{after_access}
 use Rattle.a2_bus.specs.Lawful.{board_lawful}
-use Rattle.a2_bus.specs.Memory.{ram_byte, with_ram}
+use Rattle.a2_bus.specs.Memory.{ram_byte, with_ram, ram_end}
 use Rattle.a2_bus.specs.View.{memory_of}
-use Rattle.a2_bus.proofs.Viewing.{byte_seen, store_seen, take_seen}
-use Rattle.a2_services.specs.Services.{with_key_taken}
+use Rattle.a2_bus.proofs.Viewing.{byte_seen, store_seen}
 
 -- the byte that a look at RAM gives
-pub looked_at : (bus : BusState) (a : ℕ) → length bus.bytes ≡ 49152 → a < 49152
+pub looked_at : (bus : BusState) (a : ℕ) → length bus.bytes ≡ ram_end → a < ram_end
     → unwrap_or (slice_get bus.bytes a) 0 ≡ ram_byte (memory_of bus) a
 looked_at bus a size low = unwrap_or-slice_get bus.bytes a 0 ∙ byte_seen bus a size low
 
 -- what a write to RAM leaves
-pub written_to : (bus : BusState) (a byte : ℕ) → length bus.bytes ≡ 49152 → a < 49152
+pub written_to : (bus : BusState) (a byte : ℕ) → length bus.bytes ≡ ram_end → a < ram_end
     → memory_of (board_access.after_write bus a byte) ≡ with_ram (memory_of bus) a byte
 written_to bus a byte size low =
     ap memory_of (board_lawful.ram_write bus a byte (omega (arith, size, low))) ∙ store_seen bus a byte size low
-
--- what a read of the strobe leaves
-pub strobe_read : (bus : BusState) → length bus.bytes ≡ 49152 → memory_of (board_access.after_read bus 0xC010) ≡ with_key_taken (memory_of bus)
-unfolding board_access
-strobe_read bus size =
-    ap (λ v. memory_of (let x : BusState = if v then bus else record bus { devices = after_access bus.devices 0xC010 } in x))
-    (le-ltb 0xC010 (length bus.bytes) (omega (arith, size)))
-    ∙ take_seen bus

@@ -2,13 +2,14 @@
 use Rattle.std.specs.Prelude.{◌≡◌, ◌⊎◌, ℕ, ◌+◌, ◌/◌, ◌%◌, ◌<◌, ◌≤◌, List, [], ◌∷◌, Bool, true, false, ◌||◌, length, refl}
 use Rattle.std.proofs.Common.{ap, ◌∙◌, arith, true≢false}
 use Rattle.std.proofs.lemmas.Bool.Decides.{nat_tests}
+use Rattle.a2_text.specs.Bytes.{is_between}
 use Rattle.a2_page.specs.Grid.{cleared}
 use Rattle.a2_bus.specs.Memory.{Memory, ram_byte}
 use Rattle.a2_services.specs.declared.Service.{Service}
 use Rattle.a2_services.specs.declared.Service.TheVariants.{Cout, Cout1, Crout, Home, Prbyte, Prhex, Setinv, Setnorm, Vtab, Clreol, Clreop, Rdkey, Keyin, Getln, Wait, Setcol, Plot, Hline, Vline, Scrn, Clrscr}
 use Rattle.a2_services.specs.World.{World}
 use Rattle.a2_services.specs.Put.{window_of, with_cursor_column, with_cursor_row, prompt_character, with_page1, after_put}
-use Rattle.a2_services.specs.Services.{reach, output_reach, is_within, Reading, line_read, with_key_taken, back, effect, output, with_memory, with_a, with_x, digit_byte, served}
+use Rattle.a2_services.specs.Services.{reach, output_reach, Reading, line_read, with_key_taken, back, effect, output, with_memory, with_a, with_x, digit_byte, served}
 use Rattle.a2_services.specs.Reading.{reading}
 use Rattle.a2_services.proofs.Lines.{ram_devices, put_devices}
 use Rattle.a2_services.proofs.Reaching.{IsOutside, outside_of, page1-kept, column-kept, row-kept, put-kept, base-kept, line_read-kept, returned-kept, output-kept}
@@ -59,12 +60,12 @@ effect-kept Keyin world b h = go world.memory.devices.keys
     go [] = refl
     go (key ∷ rest) = returned-kept (with_a (0x80 + key) (with_memory (with_key_taken world.memory) world)) b
 effect-kept Getln world b h =
-    let o : IsOutside b = outside_of b (or-left (output_reach b) (is_within 0x200 0x2FF b) h) in
+    let o : IsOutside b = outside_of b (or-left (output_reach b) (is_between 0x200 0x2FF b) h) in
     let memory = world.memory in
     let start : Reading = record { memory = after_put (prompt_character memory) memory; len = 0 } in
     let line = line_read memory.devices.keys start in
     returned-kept (with_x line.len (output line.memory world)) b ∙ base-kept b o line.memory
-    ∙ line_read-kept b o (away (or-right (output_reach b) (is_within 0x200 0x2FF b) h)) (ram_byte memory b) memory.devices.keys start
+    ∙ line_read-kept b o (away (or-right (output_reach b) (is_between 0x200 0x2FF b) h)) (ram_byte memory b) memory.devices.keys start
     (record { same = put-kept b o (prompt_character memory) memory; short = omega arith })
   where
     or-left : (x y : Bool) → x || y ≡ false → x ≡ false
@@ -75,7 +76,7 @@ effect-kept Getln world b h =
     or-right true y h = absurd (true≢false h)
     or-right false y h = h
 
-    away : is_within 0x200 0x2FF b ≡ false → (b < 0x200) ⊎ (0x300 ≤ b)
+    away : is_between 0x200 0x2FF b ≡ false → (b < 0x200) ⊎ (0x300 ≤ b)
     away h = grind (arith, nat_tests, h)
 effect-kept Wait world b h = returned-kept (with_a 0 world) b
 effect-kept Setcol world b h = setcol-kept world b h

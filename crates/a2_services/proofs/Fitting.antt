@@ -3,7 +3,7 @@ use Rattle.std.specs.Prelude.{◌≡◌, ◌≢◌, ℕ, ◌+◌, ◌-◌, ◌<�
 use Rattle.std.proofs.Common.{sym, ap, ◌∙◌, subst, arith, inl}
 use Rattle.std.proofs.lemmas.Bool.Decides.{nat_tests}
 use Rattle.a2_page.specs.Cells.{cell_at}
-use Rattle.a2_page.specs.Grid.{Grid, Window, with_byte}
+use Rattle.a2_page.specs.Grid.{Grid, Window, with_byte, blank}
 use Rattle.a2_page.specs.Window.{IsWindow}
 use Rattle.a2_cpu.specs.Arithmetic.{by_digits}
 use Rattle.a2_bus.specs.Devices.{Devices}
@@ -156,11 +156,11 @@ put_unmasked_fits byte m h =
     either CursorFits (byte == 0x8D) _ _ (λ _. return_fits m h.line)
     (λ _. either CursorFits (byte == 0x8A) _ _ (λ _. line_feed_fits m h)
     (λ _. either CursorFits (byte == 0x88) _ _ (λ _. backspace_fits m h)
-    (λ _. either CursorFits (nat_le 0x80 byte && nat_lt byte 0xA0) _ _ (λ _. h) (λ _. character_fits byte m h))))
+    (λ _. either CursorFits (nat_le 0x80 byte && nat_lt byte blank) _ _ (λ _. h) (λ _. character_fits byte m h))))
 
 pub put_fits : (byte : ℕ) (m : Memory) → CursorFits m → CursorFits (after_put byte m)
 unfolding after_put
-put_fits byte m h = put_unmasked_fits (if nat_le 0xA0 byte then by_digits 8 ◌&&◌ byte (inverse_mask m) else byte) m h
+put_fits byte m h = put_unmasked_fits (if nat_le blank byte then by_digits 8 ◌&&◌ byte (inverse_mask m) else byte) m h
 
 -- the cursor at the window's top left, whatever stood there
 pub home_line : (m : Memory) (page : Grid) → IsWindow (window_of m)

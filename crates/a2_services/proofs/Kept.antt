@@ -4,7 +4,7 @@ use Rattle.std.proofs.Common.{◌∙◌, arith}
 use Rattle.std.proofs.lemmas.Bool.Decides.{nat_tests}
 use Rattle.a2_page.specs.declared.Page.TheVariants.{One}
 use Rattle.a2_page.specs.Cells.{row_start}
-use Rattle.a2_page.specs.Grid.{with_row_part}
+use Rattle.a2_page.specs.Grid.{with_row_part, blank}
 use Rattle.a2_bus.specs.Memory.{Memory, ram_byte, with_ram}
 use Rattle.a2_bus.proofs.Frame.{ram_byte-with_ram, ram_byte-page1}
 use Rattle.a2_services.specs.Put.{window_of, cursor_row, cursor_column, screen_column, with_base_address}
@@ -38,4 +38,4 @@ off_base-kept b off m =
 pub off_page-cleared : (b : ℕ) → IsOffPage b → (m : Memory) → ram_byte (cleared_to_end m) b ≡ ram_byte m b
 unfolding cleared_to_end
 off_page-cleared b off m =
-    ram_byte-page1 m (with_row_part m.page1 (cursor_row m) (screen_column m) (replicate ((window_of m).width - cursor_column m) 0xA0)) b off
+    ram_byte-page1 m (with_row_part m.page1 (cursor_row m) (screen_column m) (replicate ((window_of m).width - cursor_column m) blank)) b off

@@ -10,7 +10,7 @@ use Rattle.a2_bus.specs.Devices.{Devices, key_taken}
 use Rattle.a2_bus.specs.Memory.{Memory, with_ram}
 use Rattle.a2_bus.proofs.Agreement.{written, devices-with_grid}
 use Rattle.a2_services.specs.Put.{after_line_feed, after_return, after_backspace, after_character, after_put_unmasked, after_put, prompt_character, inverse_mask, with_cursor_row, with_cursor_column, window_of, cursor_row, cursor_column, screen_column, with_page1}
-use Rattle.a2_page.specs.Grid.{with_byte}
+use Rattle.a2_page.specs.Grid.{with_byte, blank}
 use Rattle.a2_services.specs.Services.{Reading, byte_of_key, after_byte, after_cancel, after_prompt, line_read, with_key_taken, cleared_to_end, lacks_keys, effect, back, with_a, with_memory}
 use Rattle.a2_services.specs.World.{World}
 use Rattle.a2_services.specs.declared.Service.TheVariants.{Keyin}
@@ -71,14 +71,14 @@ put_unmasked_holds byte m =
     either m.devices (byte == 0x8D) _ _ (holds m.devices _ (return_devices m))
     (either m.devices (byte == 0x8A) _ _ (line_feed_holds m)
     (either m.devices (byte == 0x88) _ _ (backspace_holds m)
-    (either m.devices (nat_le 0x80 byte && nat_lt byte 0xA0) _ _ (holds m.devices m refl) (character_holds byte m))))
+    (either m.devices (nat_le 0x80 byte && nat_lt byte blank) _ _ (holds m.devices m refl) (character_holds byte m))))
 
 put_unmasked_devices : (byte : ℕ) (m : Memory) → (after_put_unmasked byte m).devices ≡ m.devices
 put_unmasked_devices byte m = (put_unmasked_holds byte m).is
 
 pub put_devices : (byte : ℕ) (m : Memory) → (after_put byte m).devices ≡ m.devices
 unfolding after_put
-put_devices byte m = put_unmasked_devices (if nat_le 0xA0 byte then by_digits 8 ◌&&◌ byte (inverse_mask m) else byte) m
+put_devices byte m = put_unmasked_devices (if nat_le blank byte then by_digits 8 ◌&&◌ byte (inverse_mask m) else byte) m
 
 prompt_devices : (m : Memory) → (after_prompt m).devices ≡ m.devices
 prompt_devices m = put_devices (prompt_character m) (after_put 0x8D m) ∙ put_devices 0x8D m

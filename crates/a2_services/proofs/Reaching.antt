@@ -2,7 +2,7 @@
 use Rattle.std.specs.Prelude.{◌≡◌, ◌≢◌, ◌⊎◌, ℕ, zero, suc, ◌+◌, ◌-◌, ◌<◌, ◌≤◌, List, [], ◌∷◌, Bool, true, false, ◌&&◌, ◌==◌, nat_lt, nat_le, if◌then◌else◌, refl}
 use Rattle.std.proofs.Common.{◌∙◌, arith, inl, inr}
 use Rattle.std.proofs.lemmas.Bool.Decides.{nat_tests}
-use Rattle.a2_page.specs.Grid.{Grid, scrolled, with_byte}
+use Rattle.a2_page.specs.Grid.{Grid, scrolled, with_byte, blank}
 use Rattle.a2_cpu.specs.Arithmetic.{by_digits}
 use Rattle.a2_bus.specs.Memory.{Memory, ram_byte, with_ram, memory_access}
 use Rattle.a2_bus.proofs.Frame.{ram_byte-with_ram, ram_byte-page1, changed_by_writes}
@@ -80,17 +80,17 @@ module _ (b : ℕ) (outside : IsOutside b) where
   unfolding after_put_unmasked
   put_unmasked-kept byte m =
       let was = ram_byte m b in
-      let last = if nat_le 0x80 byte && nat_lt byte 0xA0 then m else after_character byte m in
+      let last = if nat_le 0x80 byte && nat_lt byte blank then m else after_character byte m in
       let back = if byte == 0x88 then after_backspace m else last in
       let feed = if byte == 0x8A then after_line_feed m else back in
       either (byte == 0x8D) (after_return m) feed b was (return-kept m)
       (either (byte == 0x8A) (after_line_feed m) back b was (line_feed-kept m)
       (either (byte == 0x88) (after_backspace m) last b was (backspace-kept m)
-      (either (nat_le 0x80 byte && nat_lt byte 0xA0) m (after_character byte m) b was refl (character-kept byte m))))
+      (either (nat_le 0x80 byte && nat_lt byte blank) m (after_character byte m) b was refl (character-kept byte m))))
 
   pub put-kept : (byte : ℕ) (m : Memory) → ram_byte (after_put byte m) b ≡ ram_byte m b
   unfolding after_put
-  put-kept byte m = put_unmasked-kept (if nat_le 0xA0 byte then by_digits 8 ◌&&◌ byte (inverse_mask m) else byte) m
+  put-kept byte m = put_unmasked-kept (if nat_le blank byte then by_digits 8 ◌&&◌ byte (inverse_mask m) else byte) m
 
   pub base-kept : (m : Memory) → ram_byte (with_base_address m) b ≡ ram_byte m b
   base-kept m = off_base-kept b (record { low = outside.base_low; high = outside.base_high }) m

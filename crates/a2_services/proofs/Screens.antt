@@ -2,7 +2,7 @@
 use Rattle.std.specs.Prelude.{◌≡◌, ◌⊎◌, ℕ, zero, suc, ◌+◌, ◌<◌, ◌≤◌, List, [], ◌∷◌, ◌++◌, length, slice_index, slice_index_or, slice_range, take, replicate, refl}
 use Rattle.std.proofs.Common.{sym, ap, ◌∙◌, subst, arith, inl, inr, get_or}
 use Rattle.std.proofs.lemmas.List.{length-replicate, get_or-replicate, get_or_past, take_more, take_all, length-take-le, ext_get_or}
-use Rattle.a2_page.specs.Grid.{Grid, IsGrid, Window, with_byte, with_row_part, with_part, blank_part, scrolled, cleared}
+use Rattle.a2_page.specs.Grid.{Grid, IsGrid, Window, with_byte, with_row_part, with_part, blank_part, scrolled, cleared, blank}
 use Rattle.a2_page.specs.Window.{IsWindow}
 use Rattle.a2_page.proofs.Parts.{spliced-none, spliced-whole, spliced-more, spliced-length, with_row_part-more, with_row_part-none, range-at, range_long, IsDone, done_first, done_more, done_all, scrolled-in, scrolled-last, scrolled-out, scrolled-height, cleared-in, cleared-out, cleared-height}
 use Rattle.a2_page.specs.declared.Page.TheVariants.{One}
@@ -149,12 +149,12 @@ scroll_more w m n k row w_is g_is h low lt step =
 
 pub scroll_all : (w : Window) (m n k : Memory) (row : ℕ) → IsWindow w → IsGrid m.page1
     → Turning (scrolled w m.page1) m n w.top row → row + 1 ≡ w.bottom
-    → k ≡ with_page1 (with_row_part n.page1 row w.left (replicate w.width 0xA0)) n
+    → k ≡ with_page1 (with_row_part n.page1 row w.left (replicate w.width blank)) n
     → k ≡ with_page1 (scrolled w m.page1) m
 scroll_all w m n k row w_is g_is h e step =
     turned (scrolled w m.page1) m k w.top (row + 1)
     (turning_more (scrolled w m.page1) m n k w.top row w.left (blank_part w) h (omega (arith, e, w_is.height)) (omega (arith, e, w_is.bottom))
-    (omega (arith, length-replicate {A = ℕ} w.width 0xA0, w_is.right))
+    (omega (arith, length-replicate {A = ℕ} w.width blank, w_is.right))
     (scrolled-last w m.page1 row w_is g_is.height e) step)
     (scrolled-height w m.page1 w_is g_is.height)
     (λ r outside. scrolled-out w m.page1 w_is g_is.height r (wider r outside))
@@ -165,11 +165,11 @@ scroll_all w m n k row w_is g_is h e step =
 
 pub clear_more : (w : Window) (m n k : Memory) (row : ℕ) → IsWindow w → IsGrid m.page1
     → Turning (cleared w m.page1) m n w.top row → w.top ≤ row → row < w.bottom
-    → k ≡ with_page1 (with_row_part n.page1 row w.left (replicate w.width 0xA0)) n
+    → k ≡ with_page1 (with_row_part n.page1 row w.left (replicate w.width blank)) n
     → Turning (cleared w m.page1) m k w.top (row + 1)
 clear_more w m n k row w_is g_is h low lt step =
     turning_more (cleared w m.page1) m n k w.top row w.left (blank_part w) h low (omega (arith, lt, w_is.bottom))
-    (omega (arith, length-replicate {A = ℕ} w.width 0xA0, w_is.right))
+    (omega (arith, length-replicate {A = ℕ} w.width blank, w_is.right))
     (cleared-in w m.page1 row w_is g_is.height low lt) step
 
 pub clear_all : (w : Window) (m n : Memory) (row : ℕ) → IsWindow w → IsGrid m.page1

@@ -18,9 +18,6 @@ cancel = 0x98
 abbrev pub backslash : ℕ
 backslash = 0xDC
 
-abbrev pub blank : ℕ
-blank = 0xA0
-
 abbrev pub return_key : ℕ
 return_key = 0x0D
 

@@ -4,7 +4,7 @@
 use Rattle.std.specs.Prelude.{ℕ, ◌+◌, ◌-◌, ◌/◌, ◌%◌, ◌&&◌, ◌==◌, nat_lt, nat_le, if◌then◌else◌}
 use Rattle.a2_page.specs.declared.Page.TheVariants.{One}
 use Rattle.a2_page.specs.Cells.{row_start}
-use Rattle.a2_page.specs.Grid.{Grid, Window, scrolled, with_byte}
+use Rattle.a2_page.specs.Grid.{Grid, Window, blank, scrolled, with_byte}
 use Rattle.a2_bus.specs.Locations as at
 use Rattle.a2_bus.specs.Memory.{Memory, ram_byte, with_ram}
 use Rattle.a2_cpu.specs.Arithmetic.{by_digits}
@@ -79,13 +79,13 @@ after_put_unmasked byte memory =
     if byte == carriage_return then after_return memory
     else if byte == line_feed then after_line_feed memory
     else if byte == backspace then after_backspace memory
-    else if nat_le 0x80 byte && nat_lt byte 0xA0 then memory
+    else if nat_le 0x80 byte && nat_lt byte blank then memory
     else after_character byte memory
 
--- a byte is put, under the mask if it is $A0 or more; what the mask makes of it decides what is done
+-- a byte is put, under the mask if it is a blank or more; what the mask makes of it decides what is done
 unfoldable pub after_put : ℕ → Memory → Memory
 after_put byte memory =
-    after_put_unmasked (if nat_le 0xA0 byte then by_digits 8 ◌&&◌ byte (inverse_mask memory) else byte) memory
+    after_put_unmasked (if nat_le blank byte then by_digits 8 ◌&&◌ byte (inverse_mask memory) else byte) memory
 
 -- BASL and BASH hold the address of the window's left edge in the cursor's row
 unfoldable pub with_base_address : Memory → Memory

@@ -3,7 +3,8 @@
 -- this project's profile.
 use Rattle.std.specs.Prelude.{ℕ, zero, suc, ◌+◌, ◌-◌, ◌*◌, ◌/◌, ◌%◌, Bool, true, false, not, ◌&&◌, ◌||◌, List, [], ◌∷◌, ◌==◌, nat_lt, nat_le, if◌then◌else◌, Option, find, replicate}
 use Rattle.std.specs.List.{list_any}
-use Rattle.a2_page.specs.Grid.{cleared, byte_in, with_row_part}
+use Rattle.a2_text.specs.Bytes.{is_between}
+use Rattle.a2_page.specs.Grid.{blank, cleared, byte_in, with_row_part}
 use Rattle.a2_page.specs.Text.{blocks_of}
 use Rattle.a2_bus.specs.Devices.{key_taken}
 use Rattle.a2_bus.specs.Locations as at
@@ -19,7 +20,7 @@ use Rattle.a2_services.specs.declared.rows.Reach.TheVariants as reaches
 use Rattle.a2_services.specs.declared.rows.Takes.{Takes}
 use Rattle.a2_services.specs.declared.rows.Takes.TheVariants as span
 use Rattle.a2_services.specs.Rows.{service_row, services}
-use Rattle.a2_services.specs.Bytes.{carriage_return, backspace, cancel, backslash, blank, return_key, right_arrow_key}
+use Rattle.a2_services.specs.Bytes.{carriage_return, backspace, cancel, backslash, return_key, right_arrow_key}
 use Rattle.a2_services.specs.World.{World}
 use Rattle.a2_services.specs.Blocks.{painted, painted_across, painted_down, span_of, black}
 use Rattle.a2_services.specs.Put.{window_of, cursor_column, cursor_row, with_cursor_column, with_cursor_row, screen_column, prompt_character, with_page1, after_put, after_put_unmasked, with_base_address}
@@ -78,26 +79,23 @@ lacks_keys service memory = is_without (service_row service).needs memory.device
 abbrev pub line_buffer : ℕ
 line_buffer = 0x200
 
-abbrev pub is_within : ℕ → ℕ → ℕ → Bool
-is_within first last address = nat_le first address && nat_le address last
-
 -- BASL and BASH
 abbrev pub base_reach : ℕ → Bool
-base_reach address = is_within at.basl at.bash address
+base_reach address = is_between at.basl at.bash address
 
 -- page 1, the bytes between its rows too
 abbrev pub page_reach : ℕ → Bool
-page_reach address = is_within 0x400 0x7FF address
+page_reach address = is_between 0x400 0x7FF address
 
 -- CH, CV, BASL, BASH and page 1
 abbrev pub output_reach : ℕ → Bool
-output_reach address = is_within at.ch at.cv address || base_reach address || page_reach address
+output_reach address = is_between at.ch at.cv address || base_reach address || page_reach address
 
 -- the address is in the reach
 abbrev pub is_reached : Reach → ℕ → Bool
 is_reached reaches.Nowhere address = false
 is_reached reaches.Screen address = output_reach address
-is_reached reaches.ScreenAndLine address = output_reach address || is_within line_buffer 0x2FF address
+is_reached reaches.ScreenAndLine address = output_reach address || is_between line_buffer 0x2FF address
 is_reached reaches.Mask address = address == at.invflg
 is_reached reaches.Base address = base_reach address
 is_reached reaches.Page address = page_reach address

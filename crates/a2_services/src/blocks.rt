@@ -1,7 +1,7 @@
 //! The services that draw and look at lo-res blocks.
 
 ghost use Rattle.std.specs.Prelude.{◌≡◌, ◌<◌, ℕ, length, true};
-ghost use Rattle.a2_bus.specs.Memory.{with_ram};
+ghost use Rattle.a2_bus.specs.Memory.{with_ram, ram_end};
 ghost use Rattle.a2_bus.specs.View.{memory_of};
 ghost use Rattle.a2_cpu.specs.Live.{live_registers};
 ghost use Rattle.a2_services.specs.declared.Service.TheVariants.{Setcol, Plot, Hline, Vline, Scrn, Clrscr};
@@ -21,7 +21,7 @@ use std::alloc::Allocator;
 pub(crate) fn setcol<A: Allocator>(live: &mut Live, space: &mut AddressSpace<A>)
     ensures left { IsLeft Setcol (live_registers live.old) space.old (live_registers live.new) space.new }
     ensures cycles { live.new.cycles ≡ live.old.cycles }
-    ensures size { length space.new.bytes ≡ 49152 }
+    ensures size { length space.new.bytes ≡ ram_end }
 {
     store(space, COLOR, 17 * (live.a % 16));
     return_from(live, space);
@@ -32,7 +32,7 @@ pub(crate) fn plot<A: Allocator>(live: &mut Live, space: &mut AddressSpace<A>)
     requires { fits_of Plot (live_registers live.old) (memory_of space.old) ≡ true }
     ensures left { IsLeft Plot (live_registers live.old) space.old (live_registers live.new) space.new }
     ensures cycles { live.new.cycles ≡ live.old.cycles }
-    ensures size { length space.new.bytes ≡ 49152 }
+    ensures size { length space.new.bytes ≡ ram_end }
 {
     paint(space, live.a, live.y);
     return_from(live, space);
@@ -42,7 +42,7 @@ pub(crate) fn hline<A: Allocator>(live: &mut Live, space: &mut AddressSpace<A>)
     requires { fits_of Hline (live_registers live.old) (memory_of space.old) ≡ true }
     ensures left { IsLeft Hline (live_registers live.old) space.old (live_registers live.new) space.new }
     ensures cycles { live.new.cycles ≡ live.old.cycles }
-    ensures size { length space.new.bytes ≡ 49152 }
+    ensures size { length space.new.bytes ≡ ram_end }
 {
     let end = load(space, H2).max(live.y) + 1;
     for column in live.y..end {
@@ -55,7 +55,7 @@ pub(crate) fn vline<A: Allocator>(live: &mut Live, space: &mut AddressSpace<A>)
     requires { fits_of Vline (live_registers live.old) (memory_of space.old) ≡ true }
     ensures left { IsLeft Vline (live_registers live.old) space.old (live_registers live.new) space.new }
     ensures cycles { live.new.cycles ≡ live.old.cycles }
-    ensures size { length space.new.bytes ≡ 49152 }
+    ensures size { length space.new.bytes ≡ ram_end }
 {
     let end = load(space, V2).max(live.a) + 1;
     for row in live.a..end {
@@ -68,7 +68,7 @@ pub(crate) fn scrn<A: Allocator>(live: &mut Live, space: &AddressSpace<A>)
     requires { fits_of Scrn (live_registers live.old) (memory_of space.now) ≡ true }
     ensures left { IsLeft Scrn (live_registers live.old) space.now (live_registers live.new) space.now }
     ensures cycles { live.new.cycles ≡ live.old.cycles }
-    ensures size { length space.now.bytes ≡ 49152 }
+    ensures size { length space.now.bytes ≡ ram_end }
 {
     live.a = block(cell(space, live.a / 2, live.y), half_of(live.a));
     return_from(live, space);
@@ -77,7 +77,7 @@ pub(crate) fn scrn<A: Allocator>(live: &mut Live, space: &AddressSpace<A>)
 pub(crate) fn clrscr<A: Allocator>(live: &mut Live, space: &mut AddressSpace<A>)
     ensures left { IsLeft Clrscr (live_registers live.old) space.old (live_registers live.new) space.new }
     ensures cycles { live.new.cycles ≡ live.old.cycles }
-    ensures size { length space.new.bytes ≡ 49152 }
+    ensures size { length space.new.bytes ≡ ram_end }
 {
     for row in 0..BLOCK_ROWS / 2 {
         black_row(space, row);

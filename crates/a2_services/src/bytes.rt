@@ -11,8 +11,6 @@ pub(crate) const CANCEL: u8 = 0x98;
 
 pub(crate) const BACKSLASH: u8 = 0xDC;
 
-pub(crate) const BLANK: u8 = 0xA0;
-
 pub(crate) const RETURN_KEY: u8 = 0x0D;
 
 pub(crate) const RIGHT_ARROW_KEY: u8 = 0x15;

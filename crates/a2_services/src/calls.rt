@@ -2,7 +2,7 @@
 
 ghost use Rattle.std.specs.Prelude.{◌≡◌, ◌<◌, ◌≤◌, ◌+◌, ℕ, true, false, length};
 ghost use Rattle.a2_page.specs.Window.{IsWindow};
-ghost use Rattle.a2_bus.specs.Memory.{memory_access};
+ghost use Rattle.a2_bus.specs.Memory.{memory_access, ram_end};
 ghost use Rattle.a2_bus.specs.View.{memory_of};
 ghost use Rattle.a2_cpu.specs.Instruction.{returned};
 ghost use Rattle.a2_cpu.specs.Live.{live_registers};
@@ -104,7 +104,7 @@ fn serve<A: Allocator>(service: Service, live: &mut Live, space: &mut AddressSpa
     requires keyed { lacks_keys_of service (memory_of space.old) ≡ false }
     ensures served { IsServed service (live_registers live.old) space.old (live_registers live.new) space.new result }
     ensures cycles { live.new.cycles ≡ live.old.cycles }
-    ensures size { length space.new.bytes ≡ 49152 }
+    ensures size { length space.new.bytes ≡ ram_end }
 {
     let cycles = cycles_of(row_of(service).takes, live);
     act(service, live, space);
@@ -142,7 +142,7 @@ fn act<A: Allocator>(service: Service, live: &mut Live, space: &mut AddressSpace
     requires keyed { lacks_keys_of service (memory_of space.old) ≡ false }
     ensures left { IsLeft service (live_registers live.old) space.old (live_registers live.new) space.new }
     ensures cycles { live.new.cycles ≡ live.old.cycles }
-    ensures size { length space.new.bytes ≡ 49152 }
+    ensures size { length space.new.bytes ≡ ram_end }
 {
     match service {
         Service::Cout => cout(live, space),
@@ -173,7 +173,7 @@ fn cout1<A: Allocator>(live: &mut Live, space: &mut AddressSpace<A>)
     requires { CursorFits (memory_of space.old) }
     ensures left { IsLeft Cout1 (live_registers live.old) space.old (live_registers live.new) space.new }
     ensures cycles { live.new.cycles ≡ live.old.cycles }
-    ensures size { length space.new.bytes ≡ 49152 }
+    ensures size { length space.new.bytes ≡ ram_end }
 {
     put(space, live.a);
     end_output(live, space);
@@ -183,7 +183,7 @@ fn home<A: Allocator>(live: &mut Live, space: &mut AddressSpace<A>)
     requires { IsWindow (window_of (memory_of space.old)) }
     ensures left { IsLeft Home (live_registers live.old) space.old (live_registers live.new) space.new }
     ensures cycles { live.new.cycles ≡ live.old.cycles }
-    ensures size { length space.new.bytes ≡ 49152 }
+    ensures size { length space.new.bytes ≡ ram_end }
 {
     let edges = window(space);
     clear(space, edges);
@@ -196,7 +196,7 @@ fn prbyte<A: Allocator>(live: &mut Live, space: &mut AddressSpace<A>)
     requires { CursorFits (memory_of space.old) }
     ensures left { IsLeft Prbyte (live_registers live.old) space.old (live_registers live.new) space.new }
     ensures cycles { live.new.cycles ≡ live.old.cycles }
-    ensures size { length space.new.bytes ≡ 49152 }
+    ensures size { length space.new.bytes ≡ ram_end }
 {
     put(space, digit_byte(live.a / 16));
     put(space, digit_byte(live.a % 16));
@@ -207,7 +207,7 @@ fn prhex<A: Allocator>(live: &mut Live, space: &mut AddressSpace<A>)
     requires { CursorFits (memory_of space.old) }
     ensures left { IsLeft Prhex (live_registers live.old) space.old (live_registers live.new) space.new }
     ensures cycles { live.new.cycles ≡ live.old.cycles }
-    ensures size { length space.new.bytes ≡ 49152 }
+    ensures size { length space.new.bytes ≡ ram_end }
 {
     put(space, digit_byte(live.a % 16));
     end_output(live, space);
@@ -229,7 +229,7 @@ fn keyin<A: Allocator>(live: &mut Live, space: &mut AddressSpace<A>)
     requires { lacks_keys_of Keyin (memory_of space.old) ≡ false }
     ensures left { IsLeft Keyin (live_registers live.old) space.old (live_registers live.new) space.new }
     ensures cycles { live.new.cycles ≡ live.old.cycles }
-    ensures size { length space.new.bytes ≡ 49152 }
+    ensures size { length space.new.bytes ≡ ram_end }
 {
     let key = space.waiting()[0];
     take_key(space);
@@ -240,7 +240,7 @@ fn keyin<A: Allocator>(live: &mut Live, space: &mut AddressSpace<A>)
 fn wait<A: Allocator>(live: &mut Live, space: &AddressSpace<A>)
     ensures left { IsLeft Wait (live_registers live.old) space.now (live_registers live.new) space.now }
     ensures cycles { live.new.cycles ≡ live.old.cycles }
-    ensures size { length space.now.bytes ≡ 49152 }
+    ensures size { length space.now.bytes ≡ ram_end }
 {
     live.a = 0;
     return_from(live, space);
@@ -250,7 +250,7 @@ fn getln<A: Allocator>(live: &mut Live, space: &mut AddressSpace<A>)
     requires { CursorFits (memory_of space.old) }
     ensures left { IsLeft Getln (live_registers live.old) space.old (live_registers live.new) space.new }
     ensures cycles { live.new.cycles ≡ live.old.cycles }
-    ensures size { length space.new.bytes ≡ 49152 }
+    ensures size { length space.new.bytes ≡ ram_end }
 {
     let mark = load(space, PROMPT);
     put(space, mark);

@@ -1,7 +1,7 @@
 //! The services that edit the screen without putting a byte.
 
 ghost use Rattle.std.specs.Prelude.{◌≡◌, ℕ, length};
-ghost use Rattle.a2_bus.specs.Memory.{with_ram};
+ghost use Rattle.a2_bus.specs.Memory.{with_ram, ram_end};
 ghost use Rattle.a2_bus.specs.View.{memory_of};
 ghost use Rattle.a2_cpu.specs.Live.{live_registers};
 ghost use Rattle.a2_services.specs.declared.Service.TheVariants.{Setinv, Setnorm, Vtab, Clreol, Clreop};
@@ -26,7 +26,7 @@ const NORMAL: u8 = 0xFF;
 pub(crate) fn setinv<A: Allocator>(live: &mut Live, space: &mut AddressSpace<A>)
     ensures left { IsLeft Setinv (live_registers live.old) space.old (live_registers live.new) space.new }
     ensures cycles { live.new.cycles ≡ live.old.cycles }
-    ensures size { length space.new.bytes ≡ 49152 }
+    ensures size { length space.new.bytes ≡ ram_end }
 {
     store(space, INVFLG, INVERSE);
     return_from(live, space);
@@ -35,7 +35,7 @@ pub(crate) fn setinv<A: Allocator>(live: &mut Live, space: &mut AddressSpace<A>)
 pub(crate) fn setnorm<A: Allocator>(live: &mut Live, space: &mut AddressSpace<A>)
     ensures left { IsLeft Setnorm (live_registers live.old) space.old (live_registers live.new) space.new }
     ensures cycles { live.new.cycles ≡ live.old.cycles }
-    ensures size { length space.new.bytes ≡ 49152 }
+    ensures size { length space.new.bytes ≡ ram_end }
 {
     store(space, INVFLG, NORMAL);
     return_from(live, space);
@@ -45,7 +45,7 @@ pub(crate) fn vtab<A: Allocator>(live: &mut Live, space: &mut AddressSpace<A>)
     requires { CursorFits (memory_of space.old) }
     ensures left { IsLeft Vtab (live_registers live.old) space.old (live_registers live.new) space.new }
     ensures cycles { live.new.cycles ≡ live.old.cycles }
-    ensures size { length space.new.bytes ≡ 49152 }
+    ensures size { length space.new.bytes ≡ ram_end }
 {
     end_output(live, space);
 }
@@ -54,7 +54,7 @@ pub(crate) fn clreol<A: Allocator>(live: &mut Live, space: &mut AddressSpace<A>)
     requires { CursorFits (memory_of space.old) }
     ensures left { IsLeft Clreol (live_registers live.old) space.old (live_registers live.new) space.new }
     ensures cycles { live.new.cycles ≡ live.old.cycles }
-    ensures size { length space.new.bytes ≡ 49152 }
+    ensures size { length space.new.bytes ≡ ram_end }
 {
     clear_to_end(space);
     return_from(live, space);
@@ -64,7 +64,7 @@ pub(crate) fn clreop<A: Allocator>(live: &mut Live, space: &mut AddressSpace<A>)
     requires { CursorFits (memory_of space.old) }
     ensures left { IsLeft Clreop (live_registers live.old) space.old (live_registers live.new) space.new }
     ensures cycles { live.new.cycles ≡ live.old.cycles }
-    ensures size { length space.new.bytes ≡ 49152 }
+    ensures size { length space.new.bytes ≡ ram_end }
 {
     clear_to_end(space);
     clear_below(space);

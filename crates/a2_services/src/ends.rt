@@ -1,7 +1,7 @@
 //! How services end.
 
 ghost use Rattle.std.specs.Prelude.{◌≡◌, ℕ, length};
-ghost use Rattle.a2_bus.specs.Memory.{memory_access};
+ghost use Rattle.a2_bus.specs.Memory.{memory_access, ram_end};
 ghost use Rattle.a2_bus.specs.View.{memory_of};
 ghost use Rattle.a2_cpu.specs.Instruction.{returned};
 ghost use Rattle.a2_cpu.specs.Live.{live_registers};
@@ -24,7 +24,7 @@ pub(crate) fn end_output<A: Allocator>(live: &mut Live, space: &mut AddressSpace
         (cycles : ℕ) → world_of (live_registers live.new) space.new cycles
         ≡ returned memory_access (with_memory memory (world_of (live_registers live.old) space.old cycles)) }
     ensures cycles { live.new.cycles ≡ live.old.cycles }
-    ensures size { length space.new.bytes ≡ 49152 }
+    ensures size { length space.new.bytes ≡ ram_end }
 {
     set_base(space);
     return_from(live, space);
@@ -36,7 +36,7 @@ pub(crate) fn return_from<A: Allocator>(live: &mut Live, space: &AddressSpace<A>
     ensures returned { (cycles : ℕ) → world_of (live_registers live.new) space.now cycles
         ≡ returned memory_access (world_of (live_registers live.old) space.now cycles) }
     ensures cycles { live.new.cycles ≡ live.old.cycles }
-    ensures size { length space.now.bytes ≡ 49152 }
+    ensures size { length space.now.bytes ≡ ram_end }
 {
     live.s = live.s.wrapping_add(1);
     let low = load(space, 0x100 + u16::from(live.s));

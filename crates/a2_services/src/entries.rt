@@ -1,7 +1,8 @@
 //! Where services are called, and where they may store.
 
 ghost use Rattle.std.specs.Prelude.{◌≡◌};
-ghost use Rattle.a2_services.specs.Services.{service_at as service_at_of, reach as reach_of, output_reach as output_reach_of, base_reach as base_reach_of, page_reach as page_reach_of, is_within, line_buffer};
+ghost use Rattle.a2_text.specs.Bytes.{is_between};
+ghost use Rattle.a2_services.specs.Services.{service_at as service_at_of, reach as reach_of, output_reach as output_reach_of, base_reach as base_reach_of, page_reach as page_reach_of, line_buffer};
 
 use crate::locations::{LINE_BUFFER, LINE_BUFFER_LAST, PAGE1, PAGE1_LAST};
 use crate::rows::{Reach, row_of};
@@ -85,7 +86,7 @@ fn page_reach(address: u16) -> bool
 
 // The line that GETLN reads.
 fn line_reach(address: u16) -> bool
-    ensures { result ≡ is_within line_buffer 0x2FF address }
+    ensures { result ≡ is_between line_buffer 0x2FF address }
 {
     matches!(address, LINE_BUFFER..=LINE_BUFFER_LAST)
 }

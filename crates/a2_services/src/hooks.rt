@@ -1,6 +1,7 @@
 //! The hooks: steps that go on where two bytes of page 0 say.
 
 ghost use Rattle.std.specs.Prelude.{◌≡◌, ◌+◌, ◌<◌, ℕ, length};
+ghost use Rattle.a2_bus.specs.Memory.{ram_end};
 ghost use Rattle.a2_cpu.specs.Live.{live_registers};
 ghost use Rattle.a2_services.specs.declared.Service.TheVariants.{Cout, Crout, Rdkey};
 ghost use Rattle.a2_services.specs.World.{world_of};
@@ -18,7 +19,7 @@ use std::alloc::Allocator;
 pub(crate) fn cout<A: Allocator>(live: &mut Live, space: &AddressSpace<A>)
     ensures left { IsLeft Cout (live_registers live.old) space.now (live_registers live.new) space.now }
     ensures cycles { live.new.cycles ≡ live.old.cycles }
-    ensures size { length space.now.bytes ≡ 49152 }
+    ensures size { length space.now.bytes ≡ ram_end }
 {
     go_through(CSW, live, space);
 }
@@ -27,7 +28,7 @@ pub(crate) fn cout<A: Allocator>(live: &mut Live, space: &AddressSpace<A>)
 pub(crate) fn crout<A: Allocator>(live: &mut Live, space: &AddressSpace<A>)
     ensures left { IsLeft Crout (live_registers live.old) space.now (live_registers live.new) space.now }
     ensures cycles { live.new.cycles ≡ live.old.cycles }
-    ensures size { length space.now.bytes ≡ 49152 }
+    ensures size { length space.now.bytes ≡ ram_end }
 {
     live.a = RETURN;
     go_through(CSW, live, space);
@@ -37,7 +38,7 @@ pub(crate) fn crout<A: Allocator>(live: &mut Live, space: &AddressSpace<A>)
 pub(crate) fn rdkey<A: Allocator>(live: &mut Live, space: &AddressSpace<A>)
     ensures left { IsLeft Rdkey (live_registers live.old) space.now (live_registers live.new) space.now }
     ensures cycles { live.new.cycles ≡ live.old.cycles }
-    ensures size { length space.now.bytes ≡ 49152 }
+    ensures size { length space.now.bytes ≡ ram_end }
 {
     go_through(KSW, live, space);
 }
@@ -45,11 +46,11 @@ pub(crate) fn rdkey<A: Allocator>(live: &mut Live, space: &AddressSpace<A>)
 // PC becomes the word at a hook.
 #[inline(always)]
 fn go_through<A: Allocator>(hook: u16, live: &mut Live, space: &AddressSpace<A>)
-    requires { hook + 1 < 49152 }
+    requires { hook + 1 < ram_end }
     ensures gone { (cycles : ℕ) → world_of (live_registers live.new) space.now cycles
         ≡ through hook (world_of (live_registers live.old) space.now cycles) }
     ensures cycles { live.new.cycles ≡ live.old.cycles }
-    ensures size { length space.now.bytes ≡ 49152 }
+    ensures size { length space.now.bytes ≡ ram_end }
 {
     live.pc = u16::from_le_bytes([load(space, hook), load(space, hook + 1)]);
 }

@@ -10,12 +10,9 @@ use crate::bytes::{BACKSLASH, BACKSPACE, CANCEL, RETURN, RIGHT_ARROW_KEY};
 use crate::locations::LINE_BUFFER;
 use crate::put::{put, put_unmasked};
 use crate::screen::{blank_part, cell, load, store, window};
+use a2_bus::AddressSpace;
 use a2_bus::locations::{CH, CV, PROMPT};
-use a2_bus::{AddressSpace, Bus};
 use std::alloc::Allocator;
-
-// An access of it takes the first waiting key.
-const KEYBOARD_STROBE: u16 = 0xC010;
 
 // The first of some keys.
 fn first(keys: &[u8]) -> Option<u8>
@@ -38,7 +35,7 @@ pub(crate) fn first_key<A: Allocator>(space: &AddressSpace<A>) -> Option<u8>
 pub(crate) fn take_key<A: Allocator>(space: &mut AddressSpace<A>)
     ensures { memory_of space.new ≡ with_key_taken (memory_of space.old) }
 {
-    let _ = space.read(KEYBOARD_STROBE);
+    space.take_key();
 }
 
 // The byte that a key stands for.

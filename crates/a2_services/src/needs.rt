@@ -2,6 +2,7 @@
 
 ghost use Rattle.std.specs.Prelude.{◌≡◌, length, not};
 ghost use Rattle.a2_bus.specs.View.{memory_of};
+ghost use Rattle.a2_bus.specs.Memory.{ram_end};
 ghost use Rattle.a2_cpu.specs.Live.{live_registers};
 ghost use Rattle.a2_services.specs.declared.Service.TheVariants.{Keyin};
 ghost use Rattle.a2_services.specs.Called.{service_refusal, refused};
@@ -34,7 +35,7 @@ pub fn refusal<A: Allocator>(
     space: &AddressSpace<A>,
 ) -> Option<Served>
     ensures answer { result ≡ service_refusal service (live_registers live.now) (memory_of space.now) }
-    ensures size { length space.now.bytes ≡ 49152 }
+    ensures size { length space.now.bytes ≡ ram_end }
 {
     refusal_for(row_of(service).needs, live, space)
 }
@@ -48,7 +49,7 @@ pub(crate) fn refusal_for<A: Allocator>(
 ) -> Option<Served>
     ensures answer { let memory = memory_of space.now in
         result ≡ refused (lies_right needs (live_registers live.now) memory) (is_without needs memory.devices.keys) }
-    ensures size { length space.now.bytes ≡ 49152 }
+    ensures size { length space.now.bytes ≡ ram_end }
 {
     if !fits(needs, live, space) {
         Some(Served::Window)
@@ -63,7 +64,7 @@ pub(crate) fn refusal_for<A: Allocator>(
 #[inline(always)]
 fn fits<A: Allocator>(needs: Needs, live: &Live, space: &AddressSpace<A>) -> bool
     ensures answer { result ≡ lies_right needs (live_registers live.now) (memory_of space.now) }
-    ensures size { length space.now.bytes ≡ 49152 }
+    ensures size { length space.now.bytes ≡ ram_end }
 {
     // For the prover alone: a read tells how long RAM is.
     let _ = space.peek(H2);
@@ -89,7 +90,7 @@ fn block_fits(live: &Live) -> bool
 #[inline(always)]
 fn window_fits<A: Allocator>(space: &AddressSpace<A>) -> bool
     ensures answer { result ≡ window_fits_of (memory_of space.now) }
-    ensures size { length space.now.bytes ≡ 49152 }
+    ensures size { length space.now.bytes ≡ ram_end }
 {
     let edges = window(space);
     1 <= edges.width

@@ -11,7 +11,7 @@ use crate::bytes::{BACKSPACE, LINE_FEED, RETURN};
 use crate::screen::{load, scroll, set_cell, store, window};
 use a2_bus::AddressSpace;
 use a2_bus::locations::{BASH, BASL, CH, CV, INVFLG};
-use a2_page::{Page, address};
+use a2_page::{BLANK, Page, address};
 use std::alloc::Allocator;
 
 // The cursor goes down, or at the window's bottom the window scrolls.
@@ -85,7 +85,7 @@ pub(crate) fn put_unmasked<A: Allocator>(space: &mut AddressSpace<A>, byte: u8)
         RETURN => return_line(space),
         LINE_FEED => feed(space),
         BACKSPACE => back(space),
-        0x80..0xA0 => {}
+        0x80..BLANK => {}
         _ => show(space, byte),
     }
 }
@@ -97,7 +97,7 @@ fn masked(byte: u8, mask: u8) -> u8
     byte & mask
 }
 
-/// A byte from $A0 on is put under the mask.
+/// A byte from a blank on is put under the mask.
 #[tactic(auto, unfolding(crate::specs::Put::after_put))]
 pub(crate) fn put<A: Allocator>(space: &mut AddressSpace<A>, byte: u8)
     requires { CursorFits (memory_of space.old) }
@@ -105,7 +105,7 @@ pub(crate) fn put<A: Allocator>(space: &mut AddressSpace<A>, byte: u8)
     ensures fits { CursorFits (memory_of space.new) }
 {
     let mask = load(space, INVFLG);
-    let byte = if byte >= 0xA0 {
+    let byte = if byte >= BLANK {
         masked(byte, mask)
     } else {
         byte

@@ -1,19 +1,17 @@
 //! RAM, the cells of page 1, and the window.
 
 ghost use Rattle.std.specs.Prelude.{◌≡◌, ◌<◌, ◌≤◌, ◌+◌, ◌*◌, ◌%◌, ◌/◌, ℕ, slice_range, slice_index_or, length, replicate, []};
-ghost use Rattle.a2_page.specs.Grid.{byte_in, with_byte, with_row_part, scrolled, cleared};
+ghost use Rattle.a2_page.specs.Grid.{blank, byte_in, with_byte, with_row_part, scrolled, cleared};
 ghost use Rattle.a2_page.specs.Window.{IsWindow};
-ghost use Rattle.a2_bus.specs.Memory.{ram_byte, with_ram};
+ghost use Rattle.a2_bus.specs.Memory.{ram_byte, with_ram, ram_end};
 ghost use Rattle.a2_bus.specs.View.{memory_of};
-ghost use Rattle.a2_services.specs.Bytes.{blank};
 ghost use Rattle.a2_services.specs.Put.{window_of, with_page1};
 ghost use Rattle.a2_services.specs.Fits.{window_at};
 
-use crate::bytes::BLANK;
 use crate::locations::COLUMNS;
 use a2_bus::locations::{WNDBTM, WNDLFT, WNDTOP, WNDWDTH};
 use a2_bus::{AddressSpace, Bus};
-use a2_page::{Page, address};
+use a2_page::{BLANK, Page, address};
 use std::alloc::Allocator;
 
 /// The window's edges: its first column, how many columns it has, its first row, and the row below its last.
@@ -28,9 +26,9 @@ pub(crate) struct Edges {
 /// The byte at an address of RAM.
 #[inline(always)]
 pub(crate) fn load<A: Allocator>(space: &AddressSpace<A>, address: u16) -> u8
-    requires { address < 49152 }
+    requires { address < ram_end }
     ensures byte { result ≡ ram_byte (memory_of space.now) address }
-    ensures size { length space.now.bytes ≡ 49152 }
+    ensures size { length space.now.bytes ≡ ram_end }
 {
     space.peek(address).unwrap_or(0)
 }
@@ -38,7 +36,7 @@ pub(crate) fn load<A: Allocator>(space: &AddressSpace<A>, address: u16) -> u8
 /// The byte at an address of RAM becomes another.
 #[inline(always)]
 pub(crate) fn store<A: Allocator>(space: &mut AddressSpace<A>, address: u16, byte: u8)
-    requires { address < 49152 }
+    requires { address < ram_end }
     ensures { memory_of space.new ≡ with_ram (memory_of space.old) address byte }
 {
     space.write(address, byte);
@@ -67,7 +65,7 @@ pub(crate) fn set_cell<A: Allocator>(space: &mut AddressSpace<A>, row: u8, colum
 #[inline(always)]
 pub(crate) fn window<A: Allocator>(space: &AddressSpace<A>) -> Edges
     ensures edges { window_at result ≡ window_of (memory_of space.now) }
-    ensures size { length space.now.bytes ≡ 49152 }
+    ensures size { length space.now.bytes ≡ ram_end }
 {
     Edges {
         left: load(space, WNDLFT),

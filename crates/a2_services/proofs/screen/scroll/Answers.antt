@@ -1,7 +1,7 @@
 use Rattle.std.proofs.Common.{◌≡◌, ◌∙◌, ◌-◌, ap, arith, replicate}
 use Rattle.a2_bus.specs.View.{memory_of}
 use Rattle.a2_bus.proofs.Viewing.{page1_is_grid}
-use Rattle.a2_page.specs.Grid.{scrolled, with_row_part}
+use Rattle.a2_page.specs.Grid.{scrolled, with_row_part, blank}
 use Rattle.a2_services.specs.Fits.{window_at}
 use Rattle.a2_services.specs.Put.{with_page1}
 use Rattle.a2_services.proofs.Screens.{turning_first, scroll_more, scroll_all}
@@ -23,4 +23,4 @@ returns g c =
     let e : c.args.edges.bottom - 1 ≡ c.loop-row.row = omega arith in
     scroll_all (window_at c.args.edges) (memory_of c.args.space.now) n (memory_of c.blank_part.new.space) c.loop-row.row c.requires
     (page1_is_grid c.args.space.now) c.loop-row.invariant (omega arith)
-    (c.blank_part.ensures ∙ ap (λ row. with_page1 (with_row_part n.page1 row c.args.edges.left (replicate c.args.edges.width 0xA0)) n) e)
+    (c.blank_part.ensures ∙ ap (λ row. with_page1 (with_row_part n.page1 row c.args.edges.left (replicate c.args.edges.width blank)) n) e)
