@@ -49,6 +49,7 @@ pub(crate) struct Found {
 }
 
 // The byte after an opcode.
+#[inline(always)]
 fn byte<B: Bus>(bus: &B, pc: u16) -> Option<u8>
     ensures { result ≡ operand_byte_at (slice_get (B.state bus.now).bytes) pc }
 {
@@ -56,6 +57,7 @@ fn byte<B: Bus>(bus: &B, pc: u16) -> Option<u8>
 }
 
 // The two bytes after an opcode, low one first.
+#[inline(always)]
 fn word<B: Bus>(bus: &B, pc: u16) -> Option<u16>
     ensures { result ≡ word_at (slice_get (B.state bus.now).bytes) pc }
 {
@@ -65,6 +67,7 @@ fn word<B: Bus>(bus: &B, pc: u16) -> Option<u16>
 }
 
 // Whether a place is in another page than an address.
+#[inline(always)]
 fn crosses(base: u16, place: Place) -> bool
     ensures { result ≡ crosses_page base (place_for place) }
 {
@@ -95,20 +98,24 @@ impl<'a, B: Bus> Bytes for Shown<'a, B> {
 
     ghost AreThere = { λ shown. Unit {0} };
 
+    #[inline(always)]
     fn byte(&self) -> u8 {
         self.byte
     }
 
+    #[inline(always)]
     fn word(&self) -> u16 {
         self.word
     }
 
+    #[inline(always)]
     fn low_byte(&self, address: u8) -> u8 {
         self.bus.peek(u16::from(address)).unwrap_or(0)
     }
 }
 
 // An operand at an address.
+#[inline(always)]
 fn at_address<P: AtAddress, S: Bytes>(live: &Live, bytes: &S) -> Operand
     requires { S.AreThere bytes.now }
     ensures place { place_for result.place ≡ place_of S.access (S.memory bytes.now) (live_registers live.now) P.mode
@@ -124,6 +131,7 @@ fn at_address<P: AtAddress, S: Bytes>(live: &Live, bytes: &S) -> Operand
 }
 
 // The same of a mode with a byte behind its opcode, if that is there.
+#[inline(always)]
 fn by_byte<P: AtAddress, B: Bus>(live: &Live, bus: &B) -> Option<Operand>
     ensures { operand_for result
         ≡ option_map (λ byte. operand_of B.access (B.state bus.now) (live_registers live.now) P.mode
@@ -135,6 +143,7 @@ fn by_byte<P: AtAddress, B: Bus>(live: &Live, bus: &B) -> Option<Operand>
 }
 
 // And of one with a word.
+#[inline(always)]
 fn by_word<P: AtAddress, B: Bus>(live: &Live, bus: &B) -> Option<Operand>
     ensures { operand_for result
         ≡ option_map (λ word. operand_of B.access (B.state bus.now) (live_registers live.now) P.mode
@@ -146,6 +155,7 @@ fn by_word<P: AtAddress, B: Bus>(live: &Live, bus: &B) -> Option<Operand>
 }
 
 // An operand that is there.
+#[inline(always)]
 fn with_base(place: Place, base: u16) -> Option<Operand>
     ensures { result ≡ Rattle.std.specs.Prelude.Some (record { place = place; base = base }) }
 {
@@ -153,6 +163,7 @@ fn with_base(place: Place, base: u16) -> Option<Operand>
 }
 
 /// The operand of a mode at PC, if all bytes of the instruction are there.
+#[inline(always)]
 #[tactic(auto, unfolding(crate::specs::Code::operand_at, crate::specs::Code::value_at))]
 fn locate<B: Bus>(mode: Mode, live: &Live, bus: &B) -> Option<Operand>
     ensures { operand_for result
@@ -185,6 +196,7 @@ fn locate<B: Bus>(mode: Mode, live: &Live, bus: &B) -> Option<Operand>
 }
 
 /// The instruction at PC, or why there is none: the bus shows not all of its bytes, or its opcode is undocumented.
+#[inline(always)]
 pub(crate) fn find<B: Bus>(live: &Live, bus: &B) -> Result<Found, GuardedStep>
     ensures few { IfOk result (λ found. found.cycles < 512) }
     ensures found { found_for result

@@ -15,6 +15,7 @@ use a2_bus::Bus;
 use a2_opcode::Mnemonic;
 
 // Whether one of a mnemonic's stores is at a protected address.
+#[inline(always)]
 fn stores_at_protected<G: Protection>(
     mnemonic: Mnemonic,
     place: Place,
@@ -33,6 +34,7 @@ fn stores_at_protected<G: Protection>(
 }
 
 /// Why a mnemonic is refused, if it is.
+#[inline(always)]
 #[tactic(auto, unfolding(crate::specs::Code::refused_at, crate::specs::BusStep::refusal_of, crate::specs::Code::acting_stores))]
 pub(crate) fn refusal<G: Protection>(
     mnemonic: Mnemonic,

@@ -17,8 +17,8 @@ ghost use Rattle.a2_machine.specs.Start.{called_at};
 ghost use Rattle.a2_machine.specs.State.{world_of_state, code_of, cause_of, most_steps, steps_left, IsStep, IsMachineRun, IsRunTo, after_print};
 ghost use Rattle.a2_machine.specs.declared.Stop.TheVariants.{Cause as StopCause, Breakpoint};
 
-use crate::step::cause_at;
-use crate::steps::make_steps;
+use crate::step::{Outcome, cause_at};
+use crate::steps::{make_one_step, make_steps};
 use crate::watch::Watch;
 use crate::{Cause, Stop};
 use a2_asm::Program;
@@ -321,10 +321,16 @@ impl<A: Allocator> Machine<A> {
         ensures made { IfNone result (IsStep self.old self.new) }
         ensures stuck { IfSome result (λ _. self.new ≡ self.old) }
     {
+        keeps_count(self.made);
         if self.steps < MOST_STEPS {
-            return match self.make(1, &NoBreakpoints) {
-                Some(stop) => Some(cause_in(stop)),
-                None => None,
+            return match make_one_step(&mut self.regs, self.board.space_mut(), &self.watch) {
+                Outcome::Made(cycles) => {
+                    self.cycles += u64::from(cycles);
+                    self.steps += 1;
+                    self.made = self.made.saturating_add(1);
+                    None
+                }
+                Outcome::Stuck(cause) => Some(cause),
             };
         }
         match self.stop() {
