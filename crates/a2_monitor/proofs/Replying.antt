@@ -5,7 +5,6 @@ use Rattle.std.proofs.Common.{◌≡◌, ℕ, ◌+◌, ◌-◌, min, List, [], �
 use Rattle.std.proofs.lemmas.Bool.{false≢true}
 use Rattle.a2_machine.specs.ByteRun.{bytes}
 use Rattle.a2_machine.specs.Meaning.{End}
-use Rattle.a2_machine.specs.Output.{register_line, cause_line}
 use Rattle.a2_machine.specs.Start.{called_at}
 use Rattle.a2_machine.specs.State.{most_steps}
 use Rattle.a2_machine.proofs.RunFrom.{run_from}
@@ -13,7 +12,7 @@ use Rattle.a2_machine.proofs.Runs.{run-is_end, end-unique}
 use Rattle.a2_monitor.specs.declared.fault.MonFault.{MonFault}
 use Rattle.a2_monitor.specs.declared.fault.MonFault.TheVariants as fault
 use Rattle.a2_monitor.specs.Commands.{Command, command_of, nothing, examines, stores, moves, verifies, lists, goes}
-use Rattle.a2_monitor.specs.Sittings.{Sitting, CommandDoes, IsFreeRun, command_refusal, sitting_with, examined, differences, listed, with_stored_bytes, moved}
+use Rattle.a2_monitor.specs.Sittings.{Sitting, CommandDoes, end_lines, command_refusal, sitting_with, examined, differences, listed, with_stored_bytes, moved}
 use Rattle.a2_monitor.specs.Answers.{IsAnswered, line_refusal}
 use Rattle.a2_monitor.specs.Replies.{IsReply}
 use Rattle.a2_monitor.specs.Texts.{monitor_fault_text}
@@ -31,9 +30,9 @@ answered (verifies to range) old = (differences old.world.memory range to, old, 
 answered (lists at) old = (listed old.world.memory at 20, old, (refl, refl))
 answered (goes at) old =
     let end : End = run_from (bytes None) (called_at at old.world) 0 (min 1_000_000 (most_steps - old.steps)) in (
-      register_line end.world.registers (old.steps + end.steps) end.world.cycles ++ cause_line end.cause,
+      end_lines end.world (old.steps + end.steps) end.cause,
       record { world = end.world; steps = old.steps + end.steps; next = old.next },
-      record { end = end; runs = run-is_end (bytes None) (called_at at old.world) (min 1_000_000 (most_steps - old.steps)); left = refl; lines = refl },
+      (end.cause, record { end = end; runs = run-is_end (bytes None) (called_at at old.world) (min 1_000_000 (most_steps - old.steps)); left = refl; cause_is = refl }, refl),
     )
 
 turned_down : (line : List ℕ) (old : Sitting) (why : MonFault) → line_refusal line old ≡ Some why → IsReply line old (monitor_fault_text why ++ codes "\n") old
@@ -61,12 +60,21 @@ Same text words new other = (text ≡ words) × (new ≡ other)
 both : (text words t : List ℕ) (new other s : Sitting) → text ≡ t → words ≡ t → new ≡ s → other ≡ s → Same text words new other
 both text words t new other s a b c d = (a ∙ sym b, c ∙ sym d)
 
-one-run : (at : ℕ) (old new other : Sitting) (text words : List ℕ) → IsFreeRun at old text new → IsFreeRun at old words other → Same text words new other
-one-run at old new other text words a b =
+-- one end leaves one session
+abbrev left_by : Sitting → End → Sitting
+left_by old end = record { world = end.world; steps = old.steps + end.steps; next = old.next }
+
+abbrev told_by : Sitting → End → List ℕ
+told_by old end = end_lines end.world (old.steps + end.steps) end.cause
+
+one-run : (at : ℕ) (old new other : Sitting) (text words : List ℕ) → CommandDoes (goes at) old text new → CommandDoes (goes at) old words other
+    → Same text words new other
+one-run at old new other text words (cause, a, told) (why, b, said) =
     let same : a.end ≡ b.end = end-unique (bytes None) (called_at at old.world) (min 1_000_000 (most_steps - old.steps)) a.end b.end a.runs b.runs in
-    both text words _ new other _
-    (a.lines ∙ ap (λ (e : End). register_line e.world.registers (old.steps + e.steps) e.world.cycles ++ cause_line e.cause) same) b.lines
-    (a.left ∙ ap (λ (e : End). let s : Sitting = record { world = e.world; steps = old.steps + e.steps; next = old.next } in s) same) b.left
+    both text words (told_by old b.end) new other (left_by old b.end)
+    (told ∙ ap (λ (s : Sitting). end_lines s.world s.steps cause) a.left ∙ ap (λ c. end_lines a.end.world (old.steps + a.end.steps) c) a.cause_is ∙ ap (told_by old) same)
+    (said ∙ ap (λ (s : Sitting). end_lines s.world s.steps why) b.left ∙ ap (λ c. end_lines b.end.world (old.steps + b.end.steps) c) b.cause_is)
+    (a.left ∙ ap (left_by old) same) b.left
 
 one-answer : (command : Command) (old new other : Sitting) (text words : List ℕ) → CommandDoes command old text new → CommandDoes command old words other
     → Same text words new other

@@ -23,7 +23,7 @@ use Rattle.a2_run.specs.declared.fault.RunFault.{RunFault}
 use Rattle.a2_run.specs.declared.fault.RunFault.TheVariants.{Source, Script, Read, Write, Memory}
 use Rattle.a2_run.specs.Answers.{read_of, Answers}
 use Rattle.a2_run.specs.Meaning.{IsProgramOf, IsRefused}
-use Rattle.a2_run.specs.Replies.{RepliesTo, AreReplied}
+use Rattle.a2_run.specs.Replies.{AnswersEach, RepliesTo, AreReplied}
 use Rattle.a2_run.specs.Scripts.{script_fault}
 use Rattle.a2_run.specs.DebugScripts.{Meets, IsDebugText, IsDebugRefusal}
 use Rattle.a2_run.proofs.Fronts.{fronts, none≢some, program-front, refused-front}
@@ -35,16 +35,19 @@ use Rattle.a2_run.proofs.Reading.{Answers-wider}
 abbrev pub IsPast : Stored → Type 0
 IsPast s = NoneAbove s.count s.log
 
-pub text_of_line : (line : List ℕ) (old : Stored) → IsPast old → (text : List ℕ) × (new : Stored) × Meets line old text new
+text_of_line : (line : List ℕ) (old : Stored) → IsPast old → (text : List ℕ) × (new : Stored) × Meets line old text new
 text_of_line line old past = go (met line old past)
   where
     go : Met line old → (text : List ℕ) × (new : Stored) × Meets line old text new
     go (inl (text, new, is)) = (text, new, inl is)
     go (inr (why, down)) = (debug_fault_text why ++ codes "\n", old, inr (record { fault = why; refused = down; told = refl; kept = refl }))
 
-pub stays_past : (line : List ℕ) (old : Stored) (text : List ℕ) (new : Stored) → Meets line old text new → IsPast old → IsPast new
+stays_past : (line : List ℕ) (old : Stored) (text : List ℕ) (new : Stored) → Meets line old text new → IsPast old → IsPast new
 stays_past line old text new (inl is) past = answered_past line old text new is past
 stays_past line old text new (inr down) past = subst (λ (s : Stored). IsPast s) (sym down.kept) past
+
+pub each_line : AnswersEach Meets IsPast
+each_line = record { text = text_of_line; stays = stays_past }
 
 pub line_done : (line : List ℕ) (old new : Stored) (a b : Taker) → DebugLineAnswers line old new a b (Ok tt) → RepliesTo Meets line old new a b (Ok tt)
 line_done line old new a b (text, is, sends) = (text, inl is, sends)

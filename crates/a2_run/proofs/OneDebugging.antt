@@ -17,7 +17,7 @@ use Rattle.a2_run.specs.Meaning.{IsProgramOf}
 use Rattle.a2_run.specs.DebugScripts.{Meets}
 use Rattle.a2_run.specs.Laws.{OneDebugRefusal, RefusedDebuggingHasNoOutput, EachDebuggingHasOutput, RefusedOrDebugged, OneDebugOutput}
 use Rattle.a2_run.proofs.Replying.{all_met, all_one}
-use Rattle.a2_run.proofs.DebugScripting.{IsPast, text_of_line, stays_past}
+use Rattle.a2_run.proofs.DebugScripting.{IsPast, each_line}
 use Rattle.a2_run.proofs.OneText.{alike, first-refusal-one, refused-no-program}
 use Rattle.a2_run.proofs.EachText.{refused-or-program}
 use Rattle.a2_run.proofs.Fronts.{none≢some}
@@ -44,7 +44,7 @@ one-debug-output source script output other a b =
 
 pub debugging-output : EachDebuggingHasOutput
 debugging-output source script program is fits =
-    let (output, are) = all_met Meets (codes ">") IsPast text_of_line stays_past (lines script) (begun program 0) tt in
+    let (output, are) = all_met Meets (codes ">") IsPast each_line (lines script) (begun program 0) tt in
     (output, record { program = program; is_program = is; fits = fits; answers = are })
 
 pub one-debug-refusal : OneDebugRefusal

@@ -14,6 +14,11 @@ AreReplied {S} Meets mark (line ∷ others) old output =
     (text : List ℕ) × (new : S) × (rest : List ℕ) × Meets line old text new × AreReplied Meets mark others new rest
     × (output ≡ echo mark line ++ (text ++ rest))
 
+-- where a fact holds of a state, each line has a text, and the fact holds of what the line leaves
+pub record AnswersEach {S : Type 0} (Meets : List ℕ → S → List ℕ → S → Type 0) (Holds : S → Type 0) : Type 0 where
+  pub text : (line : List ℕ) (old : S) → Holds old → (text : List ℕ) × (new : S) × Meets line old text new
+  pub stays : (line : List ℕ) (old : S) (text : List ℕ) (new : S) → Meets line old text new → Holds old → Holds new
+
 -- what a call for one line answers, and for several
 abbrev pub RepliesTo : {S : Type 0} → (List ℕ → S → List ℕ → S → Type 0) → List ℕ → S → S → Taker → Taker → Result (Unit {0}) WriteFault → Type 0
 RepliesTo Meets line old new before after answer = (text : List ℕ) × Meets line old text new × SendsOrBreaks before after answer text

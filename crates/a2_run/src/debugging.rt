@@ -1,12 +1,12 @@
 //! A source and a script of debugger lines in, the script's answers out.
 
-ghost use Rattle.std.specs.Prelude.{◌≡◌, false, IfOk, map, codes};
-ghost use Rattle.a2_debug.specs.Stored.{begun, NoneAbove};
+ghost use Rattle.std.specs.Prelude.{◌≡◌, false, IfOk};
+ghost use Rattle.a2_debug.specs.Stored.{begun};
 ghost use Rattle.a2_run.specs.Answers.{Answers, is_read_fault};
-ghost use Rattle.a2_run.specs.Replies.{RepliesTo, RepliesToAll};
-ghost use Rattle.a2_run.specs.DebugScripts.{IsDebugRefusal, IsDebugText, Meets};
+ghost use Rattle.a2_run.specs.DebugScripts.{IsDebugRefusal, IsDebugText};
 
 use crate::RunFault;
+use crate::answering::{Answering, answer_all};
 use crate::scripts::refusal;
 use crate::sources::program_of;
 use a2_asm::Program;
@@ -16,38 +16,28 @@ use a2_stream::{Output, WriteFault, put_all};
 use a2_syntax::lines;
 use std::alloc::{AllocError, Allocator};
 
-// Writes a line's answer or its refusal.
-fn answer<A: Allocator, W: Output>(
-    debugger: &mut Debugger<A>,
-    line: &[u8],
-    writer: &mut W,
-) -> Result<(), WriteFault>
-    ensures { RepliesTo Meets line.now debugger.old debugger.new (W.taker writer.old) (W.taker writer.new) result }
-{
-    let Err(fault) = debugger.line(line, writer) else {
-        return Ok(());
-    };
-    if fault == DebugFault::Write {
-        return Err(WriteFault);
-    }
-    put_all(&[fault.text().as_bytes(), b"\n"], writer)
-}
+impl<A: Allocator> Answering for Debugger<A> {
+    ghost use Rattle.a2_debug.specs.Stored.{Stored, NoneAbove};
+    ghost use Rattle.a2_run.specs.DebugScripts.{Meets};
 
-// Writes each line and its answer.
-fn answer_all<A: Allocator, W: Output>(
-    debugger: &mut Debugger<A>,
-    lines: &[&[u8]],
-    writer: &mut W,
-) -> Result<(), WriteFault>
+    ghost State = { Stored };
+
+    ghost state = { λ debugger. debugger };
+
+    ghost meets = { Meets };
+
     // No key was typed at a later count.
-    requires { NoneAbove debugger.old.count debugger.old.log }
-    ensures { RepliesToAll Meets (codes ">") (map (λ x. x.now) lines.now) debugger.old (W.taker writer.old) (W.taker writer.new) result }
-{
-    for line in lines {
-        put_all(&[b">", line, b"\n"], writer)?;
-        answer(debugger, line, writer)?;
+    ghost Holds = { λ debugger. NoneAbove debugger.count debugger.log };
+
+    fn answer<W: Output>(&mut self, line: &[u8], writer: &mut W) -> Result<(), WriteFault> {
+        let Err(fault) = self.line(line, writer) else {
+            return Ok(());
+        };
+        if fault == DebugFault::Write {
+            return Err(WriteFault);
+        }
+        put_all(&[fault.text().as_bytes(), b"\n"], writer)
     }
-    Ok(())
 }
 
 // A debugger of the program, at its start.
@@ -74,6 +64,6 @@ pub fn debug_script<A: Allocator + Copy, W: Output>(
         Err(fault) => return Err(refusal(fault)),
     };
     let mut debugger = opened(alloc, program)?;
-    answer_all(&mut debugger, lines.as_slice(), writer)?;
+    answer_all(&mut debugger, b">", lines.as_slice(), writer)?;
     Ok(())
 }

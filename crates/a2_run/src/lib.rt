@@ -2,6 +2,7 @@
 //! the answers out.
 #![tactic(auto)]
 
+mod answering;
 mod debugging;
 mod fault;
 mod gathered;

@@ -1,13 +1,12 @@
 //! A script of Monitor lines in, its answers out.
 
-ghost use Rattle.std.specs.Prelude.{◌≡◌, false, IfOk, map, codes};
+ghost use Rattle.std.specs.Prelude.{◌≡◌, false, IfOk};
 ghost use Rattle.a2_monitor.specs.Sittings.{sitting_of};
 ghost use Rattle.a2_run.specs.Answers.{Answers, OfScript, is_read_fault};
-ghost use Rattle.a2_monitor.specs.Replies.{IsReply};
-ghost use Rattle.a2_run.specs.Replies.{RepliesTo, RepliesToAll};
 ghost use Rattle.a2_run.specs.Scripts.{IsRefusedScript, IsMonText, script_fault, start_sitting};
 
 use crate::RunFault;
+use crate::answering::{Answering, answer_all};
 use a2_machine::Machine;
 use a2_monitor::{MonFault, Session};
 use a2_stream::{Output, WriteFault, put_all};
@@ -24,38 +23,27 @@ pub fn refusal(fault: Fault) -> RunFault
     }
 }
 
-// Does what a line says, and writes its answer or the text of its refusal.
-fn answer<A: Allocator, W: Output>(
-    session: &mut Session<A>,
-    line: &[u8],
-    writer: &mut W,
-) -> Result<(), WriteFault>
-    ensures { RepliesTo IsReply line.now (sitting_of session.old) (sitting_of session.new)
-        (W.taker writer.old) (W.taker writer.new) result }
-{
-    let Err(fault) = session.line(line, writer) else {
-        return Ok(());
-    };
-    if fault == MonFault::Write {
-        return Err(WriteFault);
-    }
-    put_all(&[fault.text().as_bytes(), b"\n"], writer)
-}
+impl<A: Allocator> Answering for Session<A> {
+    ghost use Rattle.a2_monitor.specs.Sittings.{Sitting, sitting_of};
+    ghost use Rattle.a2_monitor.specs.Replies.{IsReply};
 
-// Writes each line and its answer.
-fn answer_all<A: Allocator, W: Output>(
-    session: &mut Session<A>,
-    lines: &[&[u8]],
-    writer: &mut W,
-) -> Result<(), WriteFault>
-    ensures { RepliesToAll IsReply (codes "*") (map (λ x. x.now) lines.now) (sitting_of session.old)
-        (W.taker writer.old) (W.taker writer.new) result }
-{
-    for line in lines {
-        put_all(&[b"*", line, b"\n"], writer)?;
-        answer(session, line, writer)?;
+    ghost State = { Sitting };
+
+    ghost state = { sitting_of };
+
+    ghost meets = { IsReply };
+
+    ghost Holds = { λ _. Unit {0} };
+
+    fn answer<W: Output>(&mut self, line: &[u8], writer: &mut W) -> Result<(), WriteFault> {
+        let Err(fault) = self.line(line, writer) else {
+            return Ok(());
+        };
+        if fault == MonFault::Write {
+            return Err(WriteFault);
+        }
+        put_all(&[fault.text().as_bytes(), b"\n"], writer)
     }
-    Ok(())
 }
 
 // A session at its start.
@@ -81,6 +69,6 @@ pub fn answer_script<A: Allocator + Copy, W: Output>(
         Err(fault) => return Err(refusal(fault)),
     };
     let mut session = opened(alloc)?;
-    answer_all(&mut session, lines.as_slice(), writer)?;
+    answer_all(&mut session, b"*", lines.as_slice(), writer)?;
     Ok(())
 }

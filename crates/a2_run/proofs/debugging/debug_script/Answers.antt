@@ -1,7 +1,10 @@
 use Rattle.std.proofs.Common.{ℕ, List, map, ap, ◌∙◌}
 use Rattle.std.specs.Borrow.{Bor}
-use Rattle.a2_run.proofs.DebugScripting.{refused_script, script_broke}
+use Rattle.a2_run.proofs.DebugScripting.{each_line, refused_script, script_broke}
 use Rattle.a2_run.proofs.debugging.debug_script.Goals as goal
+
+pub answer_all-requires-clause-each : goal.answer_all-requires-clause-each
+answer_all-requires-clause-each g c = each_line
 
 pub returns-in-Err-clause-meaning : goal.returns-in-Err-clause-meaning
 returns-in-Err-clause-meaning g c =
