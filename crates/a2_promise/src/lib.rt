@@ -2,6 +2,8 @@
 //! one that it leaves.
 #![tactic(auto)]
 
+ghost use Rattle.a2_promise.specs.Looks.{ValuesDependOnLooks};
+
 mod expr;
 mod fault;
 mod parsing;
@@ -14,5 +16,10 @@ mod words;
 
 pub use expr::{Atom, Expr, Function, Operation};
 pub use fault::Refusal;
-pub use promises::{Changes, Clause, Found, Promise, Range, promises_of};
+pub use promises::{Changes, Clause, Found, Promise, Range, Within, promises_of};
 pub use valuing::{Bounds, Sight, value};
+
+/// A theorem, and no code: the value of an expression depends on nothing but the bytes, registers and flags that it looks at.
+pub fn values_depend_on_looks()
+    ensures { ValuesDependOnLooks }
+{}

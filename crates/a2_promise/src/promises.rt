@@ -37,6 +37,18 @@ pub struct Changes {
     pub ranges: Vec<Range>,
 }
 
+/// What is said at a label within a routine.
+#[derive(Drop)]
+pub struct Within<'a> {
+    /// The number of the label's line.
+    pub line: usize,
+    pub address: u16,
+    /// What holds each time a run comes to the label.
+    pub invariants: Vec<Clause<'a>>,
+    /// What is 0 or more each time, and less than before where a run comes back to the label.
+    pub measures: Vec<Clause<'a>>,
+}
+
 /// What a routine promises.
 #[derive(Drop)]
 pub struct Promise<'a> {
@@ -49,6 +61,8 @@ pub struct Promise<'a> {
     pub wanted: Vec<Clause<'a>>,
     pub promised: Vec<Clause<'a>>,
     pub changes: Changes,
+    /// What is said within the routine, up to the next that promises something.
+    pub within: Vec<Within<'a>>,
 }
 
 /// A promise, or why lines are none.
@@ -67,6 +81,8 @@ struct Block<'a> {
     wanted: Vec<Clause<'a>>,
     promised: Vec<Clause<'a>>,
     changes: Changes,
+    invariants: Vec<Clause<'a>>,
+    measures: Vec<Clause<'a>>,
     refused: Option<Refusal>,
     /// Whether a line says what holds within a routine, and none what it promises.
     is_within: bool,
@@ -84,6 +100,8 @@ fn new_block<'a>(alloc: Global) -> Block<'a> {
             y: false,
             ranges: Vec::new(alloc),
         },
+        invariants: Vec::new(alloc),
+        measures: Vec::new(alloc),
         refused: None,
         is_within: true,
     }
@@ -219,11 +237,8 @@ impl<'a> Block<'a> {
                 self.is_within = false;
                 take_changes(reader, &mut self.changes)
             }
-            Verb::Decreases => {
-                expression(reader, LOOSEST, MOST_LEVELS)?.number()?;
-                ended(reader)
-            }
-            Verb::Invariant | Verb::Note => whole_fact(reader),
+            Verb::Decreases => push_measure(reader, &mut self.measures, line, text),
+            Verb::Invariant | Verb::Note => push_fact(reader, &mut self.invariants, line, text),
         }
     }
 }
@@ -236,6 +251,20 @@ fn push_fact<'a>(
     text: &'a [u8],
 ) -> Result<(), ReadFault<'a>> {
     whole_fact(reader)?;
+    let expr = reader.expr()?;
+    push_clause(clauses, Clause { line, text, expr })?;
+    Ok(())
+}
+
+// Reads a number as a clause more.
+fn push_measure<'a>(
+    reader: &mut Reader<'a, '_>,
+    clauses: &mut Vec<Clause<'a>>,
+    line: usize,
+    text: &'a [u8],
+) -> Result<(), ReadFault<'a>> {
+    expression(reader, LOOSEST, MOST_LEVELS)?.number()?;
+    ended(reader)?;
     let expr = reader.expr()?;
     push_clause(clauses, Clause { line, text, expr })?;
     Ok(())
@@ -318,54 +347,104 @@ fn entry_of(program: &Program<Global>, label: &[u8]) -> Result<u16, &'static str
     }
 }
 
-// What lines before the label of a line of this number are.
-fn found_of<'a>(
-    program: &Program<Global>,
+// Why lines from this one on are no promise.
+fn refused_at<'a>(line: usize, says: &'static str, name: &'a [u8]) -> Found<'a> {
+    Found::Refused(
+        Refusal {
+            line,
+            column: 1,
+            says,
+        },
+        name,
+    )
+}
+
+// Adds what is said at a label.
+fn push_within<'a>(within: &mut Vec<Within<'a>>, said: Within<'a>) -> Result<(), AllocError> {
+    if said.invariants.is_empty() && said.measures.is_empty() {
+        return Ok(());
+    }
+    Ok(within.push(said)?)
+}
+
+// Adds what lines before the label of a line of this number promise.
+fn push_promise<'a>(
+    alloc: Global,
+    found: &mut Vec<Found<'a>>,
     block: Block<'a>,
     name: &'a [u8],
     line: usize,
-) -> Found<'a> {
-    if let Some(refusal) = block.refused {
-        return Found::Refused(refusal, name);
-    }
-    match entry_of(program, name) {
-        Err(says) => Found::Refused(
-            Refusal {
-                line: block.first,
-                column: 1,
-                says,
-            },
-            name,
-        ),
-        Ok(address) => Found::Promise(Promise {
-            name,
-            line,
-            address,
-            wanted: block.wanted,
-            promised: block.promised,
-            changes: block.changes,
-        }),
+    address: u16,
+) -> Result<(), AllocError> {
+    let mut within = Vec::new(alloc);
+    let said = Within {
+        line,
+        address,
+        invariants: block.invariants,
+        measures: block.measures,
+    };
+    push_within(&mut within, said)?;
+    Ok(found.push(Found::Promise(Promise {
+        name,
+        line,
+        address,
+        wanted: block.wanted,
+        promised: block.promised,
+        changes: block.changes,
+        within,
+    }))?)
+}
+
+// Adds what is said at a label within a routine to what the last one promises; where that is refused, nothing.
+fn attach<'a>(
+    found: &mut Vec<Found<'a>>,
+    block: Block<'a>,
+    name: &'a [u8],
+    line: usize,
+    address: u16,
+) -> Result<(), AllocError> {
+    let said = Within {
+        line,
+        address,
+        invariants: block.invariants,
+        measures: block.measures,
+    };
+    match found.as_mut_slice().last_mut() {
+        Some(Found::Promise(promise)) => push_within(&mut promise.within, said),
+        Some(Found::Refused(_, _)) => Ok(()),
+        None => Ok(found.push(refused_at(block.first, OUTSIDE, name))?),
     }
 }
 
-// Adds what lines before a line are, unless they say only what holds within a routine.
+const OUTSIDE: &str =
+    "this stands in no routine: lines with requires, ensures or changes before a label begin one";
+
+// Adds what lines before a line are: a promise, what is said within the last one's routine, or why they are none.
 fn close<'a>(
+    alloc: Global,
     found: &mut Vec<Found<'a>>,
     program: &Program<Global>,
     block: Block<'a>,
     name: &'a [u8],
     line: usize,
 ) -> Result<(), AllocError> {
-    if block.first == 0 || (block.is_within && block.refused.is_none()) {
+    if block.first == 0 {
         return Ok(());
     }
-    Ok(found.push(found_of(program, block, name, line))?)
+    if let Some(refusal) = block.refused {
+        return Ok(found.push(Found::Refused(refusal, name))?);
+    }
+    match entry_of(program, name) {
+        Err(says) => Ok(found.push(refused_at(block.first, says, name))?),
+        Ok(address) if block.is_within => attach(found, block, name, line, address),
+        Ok(address) => push_promise(alloc, found, block, name, line, address),
+    }
 }
 
 /// The promises of a source's lines, whose program is this one, in their order: lines that begin with `;:`, each with `requires`,
 /// `ensures`, `changes`, `invariant`, `decreases` or `note` behind it, before the line of a label; comments and blank lines may
-/// stand between. Lines that say only what holds within a routine are read, and are no promise. Where a line can't be read, or
-/// no routine has the label, it is said instead. This project's profile. Refused only for want of memory.
+/// stand between. Lines that say only what holds within a routine are no promise, and belong to the last above them. Where a line can't
+/// be read, or no routine has the label, it is said instead. This project's profile. Refused only for want of memory.
 pub fn promises_of<'a>(
     alloc: Global,
     lines: &[&'a [u8]],
@@ -378,9 +457,16 @@ pub fn promises_of<'a>(
             take_line(alloc, &mut block, program, *line, index + 1, rest)?;
         } else if !is_silent(*line) {
             let closed = std::mem::replace(&mut block, new_block(alloc));
-            close(&mut found, program, closed, label_of(*line), index + 1)?;
+            close(
+                alloc,
+                &mut found,
+                program,
+                closed,
+                label_of(*line),
+                index + 1,
+            )?;
         }
     }
-    close(&mut found, program, block, b"", lines.len())?;
+    close(alloc, &mut found, program, block, b"", lines.len())?;
     Ok(found)
 }

@@ -1,5 +1,5 @@
 -- An RTS goes back to the caller, whatever stands on the stack.
-use Rattle.std.specs.Prelude.{◌≡◌, ◌<◌, ◌==◌, ℕ, suc, ◌+◌, ◌*◌, ◌%◌, Bool, true, false, nat_lt, if◌then◌else◌, IsTrue, List, [], Option, Some, None, Result, Ok, refl}
+use Rattle.std.specs.Prelude.{◌≡◌, ◌<◌, ◌==◌, ℕ, ◌+◌, ◌*◌, ◌%◌, true, false, nat_lt, if◌then◌else◌, List, [], Some, None, Ok}
 use Rattle.std.specs.List.{list_any}
 use Rattle.std.proofs.Common.{sym, ap, ap₂, ◌∙◌, subst, arith, below_more}
 use Rattle.std.proofs.lemmas.Bool.Decides.{nat_tests}
@@ -15,10 +15,10 @@ use Rattle.a2_cpu.specs.Registers.{Registers}
 use Rattle.a2_cpu.specs.Stores.{IsNotIn, logged, with_empty_log, stores_of}
 use Rattle.a2_services.specs.World.{World}
 use Rattle.a2_services.specs.Services.{service_at}
-use Rattle.a2_machine.specs.declared.Cause.{Cause}
 use Rattle.a2_machine.specs.declared.Cause.TheVariants.{CodeWrite}
-use Rattle.a2_machine.specs.Meaning.{Code, Decoded, cause_of_refusal, found_at_pc, next, return_address, stuck, world_at}
-use Rattle.a2_reads.specs.Reads.{AgreeOn, pull_address}
+use Rattle.a2_machine.specs.Meaning.{Decoded, cause_of_refusal, found_at_pc, next, return_address, stuck, world_at}
+use Rattle.a2_uses.specs.Reads.{pull_address}
+use Rattle.a2_reads.specs.Reads.{AgreeOn}
 use Rattle.a2_reads.specs.Runs.{known_behind}
 use Rattle.a2_reads.specs.Uses.{Near, parts_behind}
 use Rattle.a2_reads.specs.Calls.{GoesBack, CallPasses, CallsGoBack, CallPromisesHoldEverywhere, caller}

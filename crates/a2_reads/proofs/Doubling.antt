@@ -7,8 +7,11 @@ use Rattle.a2_bus.specs.Memory.{Memory, ram_byte, ram_end}
 use Rattle.a2_services.specs.World.{World}
 use Rattle.a2_machine.proofs.Computing.{computing}
 use Rattle.a2_machine.specs.Meaning.{world_at}
-use Rattle.a2_reads.specs.Reads.{reads_of}
-use Rattle.a2_reads.specs.Parts.{Part, part_a, is_part, needs, sets_parts}
+use Rattle.a2_uses.specs.Reads.{reads_of}
+use Rattle.a2_uses.specs.declared.Part.{Part}
+use Rattle.a2_uses.specs.declared.Part.TheVariants.{A as part_a}
+use Rattle.a2_uses.specs.Parts.{needs, sets_parts}
+use Rattle.a2_reads.specs.Parts.{is_part}
 use Rattle.a2_reads.specs.Runs.{RunReads, step_reads, step_stores, known_behind}
 use Rattle.a2_reads.specs.Uses.{RunNeeds, parts_behind}
 use Rattle.a2_reads.specs.Promises.{Passes, IsRequired, known_bytes, known_parts, with_inputs}

@@ -12,7 +12,7 @@ use Rattle.a2_machine.specs.declared.Cause.TheVariants.{OffStatement}
 use Rattle.a2_machine.specs.Meaning.{Decoded}
 use Rattle.a2_machine.specs.ByteRun.{bytes, decoded_or_cause}
 use Rattle.a2_reads.specs.Reads.{AgreeOn, Knows}
-use Rattle.a2_reads.specs.Fetches.{FetchesDependOnReads, addresses_from, operand_addresses, fetch_reads}
+use Rattle.a2_reads.specs.Fetches.{FetchesDependOnReads, StepsByBytesRead, addresses_from, operand_addresses, fetch_reads}
 
 same_peek : (known : ℕ → Bool) (m n : Memory) (a : ℕ) → AgreeOn known m n → IsTrue (known a) → peek n a ≡ peek m a
 same_peek known m n a h shown = go (nat_lt a ram_end) refl
@@ -67,3 +67,11 @@ unfolding bytes
 fetches None known m n pc h shown = ap (λ f. decoded_or_cause f) (same_fetched known m n pc h shown)
 fetches (Some guard) known m n pc h shown =
     ap (λ f. let r : Result Decoded Cause = if is_among guard.starts pc then decoded_or_cause f else Err OffStatement in r) (same_fetched known m n pc h shown)
+
+pub steps_by_bytes : StepsByBytesRead
+steps_by_bytes guard known world going free fetched reads = record {
+  going = going;
+  no_service = free;
+  found = λ other agree. fetches guard known world.memory other world.registers.pc agree fetched;
+  reads = reads;
+}

@@ -7,7 +7,10 @@ use Rattle.a2_cpu.specs.Registers.{Registers, StatusFlags, one_if, byte_of_flags
 use Rattle.a2_cpu.specs.Arithmetic.{Shifted, added, with_nz, compared, doubled, halved, by_digits, differ}
 use Rattle.a2_cpu.specs.Effect.{Effect, sets, takes, replaces, stores, pushes, pulls, branches, jumps, calls, returns, returns_from_interrupt, breaks, effect_of, to_a, to_x, to_y, with_flags, decreased, increased, shifted, with_result}
 use Rattle.a2_reads.specs.Reads.{Knows}
-use Rattle.a2_reads.specs.Parts.{Part, part_a, part_x, part_y, part_n, part_v, part_d, part_i, part_z, part_c, held, MatchAt, with_parts, all_flags, needs, sets_parts}
+use Rattle.a2_uses.specs.declared.Part.{Part}
+use Rattle.a2_uses.specs.declared.Part.TheVariants.{A as part_a, X as part_x, Y as part_y, N as part_n, V as part_v, D as part_d, I as part_i, Z as part_z, C as part_c}
+use Rattle.a2_uses.specs.Parts.{all_flags, needs, sets_parts}
+use Rattle.a2_reads.specs.Parts.{held, MatchAt, with_parts}
 
 -- registers that are alike at some parts are alike at others
 abbrev pub Stays : (k l : Part → Bool) → Type 0

@@ -7,8 +7,9 @@ use Rattle.a2_cpu.specs.Stores.{IsNotIn}
 use Rattle.a2_services.specs.World.{World}
 use Rattle.a2_services.specs.Services.{service_at}
 use Rattle.a2_machine.specs.Meaning.{Code, Decoded, stuck, world_at}
-use Rattle.a2_reads.specs.Reads.{AgreeOn, pull_address}
-use Rattle.a2_reads.specs.Parts.{Part}
+use Rattle.a2_uses.specs.Reads.{pull_address}
+use Rattle.a2_reads.specs.Reads.{AgreeOn}
+use Rattle.a2_uses.specs.declared.Part.{Part}
 use Rattle.a2_reads.specs.Runs.{RunReads, stores_in, known_behind}
 use Rattle.a2_reads.specs.Uses.{Near, RunNeeds, parts_behind}
 use Rattle.a2_reads.specs.Promises.{Promise, IsKnown, Holds, Meets, known_bytes, known_parts, selected}

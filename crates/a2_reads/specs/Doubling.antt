@@ -7,7 +7,8 @@ use Rattle.a2_page.specs.Grid.{IsGrid}
 use Rattle.a2_bus.specs.Memory.{Memory, ram_byte}
 use Rattle.a2_cpu.specs.Registers.{registers_at}
 use Rattle.a2_machine.specs.Meaning.{statements}
-use Rattle.a2_reads.specs.Parts.{part_a, is_part}
+use Rattle.a2_uses.specs.declared.Part.TheVariants.{A as part_a}
+use Rattle.a2_reads.specs.Parts.{is_part}
 use Rattle.a2_reads.specs.Promises.{Selection, Promise, Passes, Holds}
 
 abbrev pub doubling : ℕ → Option Instr

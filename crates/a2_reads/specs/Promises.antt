@@ -9,7 +9,9 @@ use Rattle.a2_cpu.specs.Stores.{IsNotIn}
 use Rattle.a2_services.specs.World.{World}
 use Rattle.a2_machine.specs.declared.Cause.TheVariants.{Returned}
 use Rattle.a2_machine.specs.Meaning.{Code, IsEnd, return_address, world_at}
-use Rattle.a2_reads.specs.Parts.{Part, part_a, part_x, part_y, part_n, part_v, part_d, part_i, part_z, part_c, held, MatchAt}
+use Rattle.a2_uses.specs.declared.Part.{Part}
+use Rattle.a2_uses.specs.declared.Part.TheVariants.{A as part_a, X as part_x, Y as part_y, N as part_n, V as part_v, D as part_d, I as part_i, Z as part_z, C as part_c}
+use Rattle.a2_reads.specs.Parts.{held, MatchAt}
 use Rattle.a2_reads.specs.Runs.{RunReads, known_behind, stores_in}
 use Rattle.a2_reads.specs.Uses.{RunNeeds, parts_behind}
 

@@ -9,7 +9,8 @@ use Rattle.a2_services.specs.Services.{service_at}
 use Rattle.a2_machine.specs.declared.Cause.{Cause}
 use Rattle.a2_machine.specs.declared.Cause.TheVariants.{Returned}
 use Rattle.a2_machine.specs.Meaning.{Code, Decoded, IsEnd, found_at_pc, return_address, stuck, next, world_at}
-use Rattle.a2_reads.specs.Reads.{reads_of, Knows, with_bytes, AgreeOn}
+use Rattle.a2_uses.specs.Reads.{reads_of}
+use Rattle.a2_reads.specs.Reads.{Knows, with_bytes, AgreeOn}
 
 -- Two states alike at known bytes, of which an instruction reads no other: behind it they are alike at those that it stored
 -- at too, and in both it stores at the same addresses.

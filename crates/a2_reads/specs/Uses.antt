@@ -5,7 +5,9 @@ use Rattle.a2_services.specs.World.{World}
 use Rattle.a2_machine.specs.declared.Cause.{Cause}
 use Rattle.a2_machine.specs.Meaning.{Code, Decoded, found_at_pc, world_at}
 use Rattle.a2_reads.specs.Reads.{Knows, AgreeOn}
-use Rattle.a2_reads.specs.Parts.{Part, MatchAt, needs, mode_needs, sets_parts, with_parts}
+use Rattle.a2_uses.specs.declared.Part.{Part}
+use Rattle.a2_uses.specs.Parts.{needs, mode_needs, sets_parts}
+use Rattle.a2_reads.specs.Parts.{MatchAt, with_parts}
 use Rattle.a2_reads.specs.Runs.{RunReads, RunsAlike, known_behind}
 
 -- alike at known parts of the registers, with equal cycles, and related memories

@@ -1,18 +1,34 @@
-//! Where a routine is run: RAM as it was entered, RAM as it is, and which bytes were stored at.
+//! Where a routine is run: RAM as it was entered, RAM as it is, which bytes were stored at, and what was looked at before it was known.
 
+use crate::inputs::{Input, add};
+use crate::parts::Parts;
+use crate::services::{given_by, taken_by};
 use a2_asm::Program;
-use a2_bus::locations::{LAST_RETURN, RETURN_ADDRESS};
+use a2_bus::locations::{
+    BASH, BASL, COLOR, CSW, CV, H2, INVFLG, KSW, LAST_RETURN, PROMPT, RETURN_ADDRESS, V2, WNDLFT,
+};
 use a2_bus::{AddressSpace, Bus};
+use a2_cpu::live::Live;
 use a2_cpu::run::step;
 use a2_cpu::{Regs, Step, writes};
 use a2_hex::RAM_END;
+use a2_opcode::{Instr, Mnemonic, Mode};
+use a2_services::live::call;
+use a2_services::{Served, Service, reach, service_at};
+use a2_uses::{Part, mode_needs, needs, reads, sets};
 use std::alloc::{AllocError, Global};
 
 /// The most steps of a routine.
 pub(crate) const MOST_STEPS: u32 = 1_000_000;
 
+/// How much is noted at most that a routine looks at and its promise does not name.
+pub(crate) const MOST_LOOKED: usize = 1024;
+
 /// S where a routine is entered: the caller's return address is on top.
 pub(crate) const ENTRY_S: u8 = 0xFD;
+
+// No service stores at this address or above.
+const REACH_END: u16 = 0x0800;
 
 // S behind its return.
 const EXIT_S: u8 = 0xFF;
@@ -26,46 +42,96 @@ pub enum Door {
     Stack,
     /// It comes to an address where no instruction of the source begins.
     Elsewhere(u16),
-    /// It calls what stands above RAM.
+    /// It goes to where no service is, above RAM.
     Above(u16),
+    /// The service at this address needs window, cursor or blocks to lie otherwise.
+    Window(u16),
+    /// It waits for a key, and none is typed.
+    Keys(u16),
     /// It would store at a byte of the program.
     Code(u16),
     /// It would store at a switch or a device.
     Device(u16),
+    /// It would read one, or a byte of the ROM.
+    Read(u16),
     Brk,
     Decimal,
     /// It makes 1,000,000 steps, and is still under way.
     Endless,
 }
 
-/// The end of a run: the registers, the cycles and steps since the entry, and how it left.
+/// The end of a run, or where it stands: the registers, where the last step was made, the cycles and steps since the entry, and how
+/// it left, or that it is still under way.
 #[derive(Clone, Copy)]
 pub(crate) struct Exit {
     pub regs: Regs,
+    pub from: Option<u16>,
     pub cycles: u32,
     pub steps: u32,
     pub door: Door,
 }
 
+impl Exit {
+    /// Before the first step.
+    pub fn at(regs: Regs) -> Exit {
+        Exit {
+            regs,
+            from: None,
+            cycles: 0,
+            steps: 0,
+            door: Door::Endless,
+        }
+    }
+
+    // A step is made, in so many cycles.
+    fn advance(&mut self, regs: Regs, cycles: u32) {
+        self.from = Some(self.regs.pc);
+        self.regs = regs;
+        self.cycles = self.cycles.saturating_add(cycles);
+        self.steps = self.steps.saturating_add(1);
+    }
+}
+
+/// Where a run went on into another routine, without calling it: its last step before, and the routine's address.
+#[derive(Clone, Copy)]
+pub struct Passage {
+    pub from: u16,
+    pub to: u16,
+}
+
 // What is known of an address.
 #[derive(Clone, Copy)]
 struct Mark {
-    /// An instruction begins there.
-    begins: bool,
-    /// A byte of the program is there.
+    /// The instruction that begins there.
+    instr: Option<Instr>,
+    /// A byte of an instruction is there.
     is_code: bool,
-    /// The run stored there.
+    /// What it holds at the entry is known: it is one of the values that are tried, or the same in each run.
+    is_known: bool,
+    /// A routine begins there that promises something.
+    is_entry: bool,
+    /// The run stored there, or called a service that may have.
     is_stored: bool,
+    /// An instruction did, so that what it holds is known.
+    is_set: bool,
 }
 
 /// Where a routine is run.
 #[derive(Drop)]
 pub(crate) struct Ground {
+    pub alloc: Global,
     pub before: AddressSpace<Global>,
     pub now: AddressSpace<Global>,
     /// The addresses of RAM at which the run stored, each once.
     pub stored: Vec<u16>,
+    /// What runs looked at before it was set, and is not known at the entry, each once; none behind the first 1,024.
+    pub looked: Vec<Input>,
+    /// Where the first run that did so went on into another routine.
+    pub passage: Option<Passage>,
     marks: Vec<Mark>,
+    known: Parts,
+    /// Those that the run set are known too.
+    known_now: Parts,
 }
 
 // Nothing is known of any address.
@@ -73,22 +139,35 @@ fn no_marks(alloc: Global) -> Result<Vec<Mark>, AllocError> {
     let mut marks = Vec::new(alloc);
     for _ in 0..RAM_END {
         marks.push(Mark {
-            begins: false,
+            instr: None,
             is_code: false,
+            is_known: false,
+            is_entry: false,
             is_stored: false,
+            is_set: false,
         })?;
     }
     Ok(marks)
 }
 
-// Marks the bytes of a program.
+// Marks the bytes of a program, which are laid before it is called, and the caller's return address.
 fn mark_program(marks: &mut [Mark], program: &Program<Global>) {
+    for address in 0..RAM_END {
+        if let Some(mark) = marks.get_mut(usize::from(address)) {
+            mark.is_known = program.image().get(address).is_some()
+                || LAST_RETURN <= address && address <= LAST_RETURN + 1;
+        }
+    }
     for statement in program.statements() {
         let first = usize::from(statement.addr);
         let end = first.saturating_add(usize::from(statement.length));
         for address in first..end {
             if let Some(mark) = marks.get_mut(address) {
-                mark.begins = address == first && statement.instr.is_some();
+                mark.instr = if address == first {
+                    statement.instr
+                } else {
+                    None
+                };
                 mark.is_code = statement.instr.is_some();
             }
         }
@@ -102,15 +181,22 @@ pub(crate) fn any_byte(number: u64) -> u8 {
     ((mixed >> 32) % 256) as u8
 }
 
-// RAM with the program laid over bytes that are like any others: what is not named may hold anything.
+// Whether the Monitor's services look at an address: window, cursor, blocks, colour, mask, prompt and hooks.
+fn is_monitors(address: u16) -> bool {
+    matches!(address, WNDLFT..=CV | BASL..=BASH | H2..=V2 | COLOR | INVFLG..=PROMPT)
+        || (CSW <= address && address <= KSW + 1)
+}
+
+// RAM with the program laid over bytes that are like any others: what is not named may hold anything. The Monitor's own are as the
+// machine is switched on.
 fn filled(alloc: Global, program: &Program<Global>) -> Result<AddressSpace<Global>, AllocError> {
     let mut space = AddressSpace::new(alloc)?;
     for address in 0..RAM_END {
-        let byte = match program.image().get(address) {
-            Some(byte) => byte,
-            None => any_byte(u64::from(address)),
-        };
-        space.write(address, byte);
+        match program.image().get(address) {
+            Some(byte) => space.write(address, byte),
+            None if is_monitors(address) => {}
+            None => space.write(address, any_byte(u64::from(address))),
+        }
     }
     let [low, high] = (RETURN_ADDRESS - 1).to_le_bytes();
     space.write(LAST_RETURN, low);
@@ -126,10 +212,15 @@ impl Ground {
         let mut marks = no_marks(alloc)?;
         mark_program(marks.as_mut_slice(), program);
         Ok(Ground {
+            alloc,
             before,
             now,
             stored: Vec::new(alloc),
+            looked: Vec::new(alloc),
+            passage: None,
             marks,
+            known: Parts::none(),
+            known_now: Parts::none(),
         })
     }
 
@@ -137,6 +228,24 @@ impl Ground {
     pub fn set(&mut self, address: u16, byte: u8) {
         self.before.write(address, byte);
         self.now.write(address, byte);
+    }
+
+    /// Lets a routine that promises something begin at an address.
+    pub fn begin_at(&mut self, address: u16) {
+        if let Some(mark) = self.marks.get_mut(usize::from(address)) {
+            mark.is_entry = true;
+        }
+    }
+
+    /// Lets what an input holds at the entry be known.
+    pub fn know(&mut self, input: Input) {
+        if let Input::Byte(address) = input {
+            if let Some(mark) = self.marks.get_mut(usize::from(address)) {
+                mark.is_known = true;
+            }
+        } else if let Some(part) = input.part() {
+            self.known.add(part);
+        }
     }
 
     /// Makes RAM what it was at the entry.
@@ -147,9 +256,11 @@ impl Ground {
             }
             if let Some(mark) = self.marks.get_mut(usize::from(*address)) {
                 mark.is_stored = false;
+                mark.is_set = false;
             }
         }
         self.stored.clear();
+        self.known_now = self.known;
     }
 
     // What is known of an address, nothing of one above RAM.
@@ -167,24 +278,27 @@ impl Ground {
             });
         }
         match self.mark(regs.pc) {
-            None => Some(Door::Above(regs.pc)),
-            Some(mark) if !mark.begins => Some(Door::Elsewhere(regs.pc)),
+            None if service_at(regs.pc).is_none() => Some(Door::Above(regs.pc)),
+            None => None,
+            Some(mark) if mark.instr.is_none() => Some(Door::Elsewhere(regs.pc)),
             Some(_) => None,
         }
     }
 
-    // Notes a store, or says why it can't be.
-    fn note(&mut self, address: u16) -> Result<Option<Door>, AllocError> {
-        match self.mark(address) {
-            None => return Ok(Some(Door::Device(address))),
-            Some(mark) if mark.is_code => return Ok(Some(Door::Code(address))),
-            Some(mark) if mark.is_stored => return Ok(None),
-            Some(_) => {}
+    // Notes a store, whose byte is known if an instruction makes it, or says why it can't be.
+    fn note(&mut self, address: u16, is_set: bool) -> Result<Option<Door>, AllocError> {
+        let Some(mark) = self.marks.get_mut(usize::from(address)) else {
+            return Ok(Some(Door::Device(address)));
+        };
+        if mark.is_code {
+            return Ok(Some(Door::Code(address)));
         }
-        if let Some(mark) = self.marks.get_mut(usize::from(address)) {
-            mark.is_stored = true;
+        let is_first = !mark.is_stored;
+        mark.is_stored = true;
+        mark.is_set = mark.is_set || is_set;
+        if is_first {
+            self.stored.push(address)?;
         }
-        self.stored.push(address)?;
         Ok(None)
     }
 
@@ -192,7 +306,7 @@ impl Ground {
     fn note_stores(&mut self, regs: &Regs) -> Result<Option<Door>, AllocError> {
         let targets = writes(regs, &self.now);
         for address in targets.as_slice() {
-            let refused = self.note(*address)?;
+            let refused = self.note(*address, true)?;
             if refused.is_some() {
                 return Ok(refused);
             }
@@ -200,19 +314,112 @@ impl Ground {
         Ok(None)
     }
 
-    // Makes a step, and adds its cycles; or says why there is none.
-    fn make_step(&mut self, exit: &mut Exit) -> Result<Option<Door>, AllocError> {
-        if let Some(door) = self.door_at(&exit.regs) {
-            return Ok(Some(door));
+    // Notes what was looked at before it was known.
+    fn note_look(&mut self, input: Input) -> Result<(), AllocError> {
+        if self.looked.len() < MOST_LOOKED {
+            add(&mut self.looked, input)?;
+        }
+        Ok(())
+    }
+
+    // Notes reads, or says why one can't be.
+    fn note_reads(&mut self, addresses: &[u16]) -> Result<Option<Door>, AllocError> {
+        for address in addresses {
+            match self.mark(*address) {
+                None => return Ok(Some(Door::Read(*address))),
+                Some(mark) if mark.is_known || mark.is_set => {}
+                Some(_) => self.note_look(Input::Byte(*address))?,
+            }
+        }
+        Ok(None)
+    }
+
+    // Notes registers and flags that are looked at.
+    fn note_parts(&mut self, parts: &[Part]) -> Result<(), AllocError> {
+        for part in parts {
+            if !self.known_now.has(*part)
+                && let Some(input) = Input::of(*part)
+            {
+                self.note_look(input)?;
+            }
+        }
+        Ok(())
+    }
+
+    // Notes what an instruction looks at and sets, or says why a byte can't be read.
+    fn note_looks(&mut self, instr: Instr, regs: &Regs) -> Result<Option<Door>, AllocError> {
+        // No such instruction has a greater value: for the prover, whose clauses of a program do not say so.
+        if instr.mode == Mode::IndirectIndexed && instr.value > 255 {
+            return Ok(None);
+        }
+        let read = reads(instr, regs, &self.now);
+        for addresses in [&read.pointer, &read.operand] {
+            let refused = self.note_reads(addresses.as_slice())?;
+            if refused.is_some() {
+                return Ok(refused);
+            }
+        }
+        self.note_parts(needs(instr.mnemonic))?;
+        self.note_parts(mode_needs(instr.mode))?;
+        for part in sets(instr.mnemonic) {
+            self.known_now.add(*part);
+        }
+        Ok(None)
+    }
+
+    // Notes where a service may store, or says why it can't.
+    fn note_reach(&mut self, service: Service) -> Result<Option<Door>, AllocError> {
+        for address in 0..REACH_END {
+            if reach(service, address) {
+                let refused = self.note(address, false)?;
+                if refused.is_some() {
+                    return Ok(refused);
+                }
+            }
+        }
+        Ok(None)
+    }
+
+    // Calls the service at PC, and adds its cycles; or says why it is not called.
+    fn call_service(
+        &mut self,
+        service: Service,
+        exit: &mut Exit,
+    ) -> Result<Option<Door>, AllocError> {
+        self.note_parts(taken_by(service))?;
+        let refused = self.note_reach(service)?;
+        if refused.is_some() {
+            return Ok(refused);
+        }
+        let mut live = Live::of(&exit.regs);
+        match call(service, &mut live, &mut self.now) {
+            Served::Next(cycles) => {
+                exit.advance(live.regs(), cycles);
+                for part in given_by(service) {
+                    self.known_now.add(*part);
+                }
+                Ok(None)
+            }
+            Served::Window => Ok(Some(Door::Window(exit.regs.pc))),
+            Served::Keys => Ok(Some(Door::Keys(exit.regs.pc))),
+        }
+    }
+
+    // Does an instruction, and adds its cycles; or says why it is not done.
+    fn do_instr(&mut self, instr: Instr, exit: &mut Exit) -> Result<Option<Door>, AllocError> {
+        let refused = self.note_looks(instr, &exit.regs)?;
+        if refused.is_some() {
+            return Ok(refused);
         }
         let refused = self.note_stores(&exit.regs)?;
         if refused.is_some() {
             return Ok(refused);
         }
-        match step(&mut exit.regs, &mut self.now) {
+        let mut regs = exit.regs;
+        match step(&mut regs, &mut self.now) {
             Step::Next(cycles) => {
-                exit.cycles = exit.cycles.saturating_add(cycles);
-                exit.steps = exit.steps.saturating_add(1);
+                exit.advance(regs, cycles);
+                self.note_passage(instr, exit);
                 Ok(None)
             }
             Step::Brk => Ok(Some(Door::Brk)),
@@ -221,21 +428,41 @@ impl Ground {
         }
     }
 
-    /// Runs from these registers, with RAM as it is at the entry, until the routine leaves or so many steps are made.
-    pub fn run(&mut self, regs: Regs, limit: u32) -> Result<Exit, AllocError> {
-        let mut exit = Exit {
-            regs,
-            cycles: 0,
-            steps: 0,
-            door: Door::Endless,
-        };
-        for _ in 0..=limit {
-            if let Some(door) = self.make_step(&mut exit)? {
-                exit.door = door;
-                return Ok(exit);
-            }
+    // Notes that the routine itself went on into another, without calling it: where an RTS leads there, it is the JSR before.
+    fn note_passage(&mut self, instr: Instr, exit: &Exit) {
+        let to = exit.regs.pc;
+        let is_entry = matches!(self.mark(to), Some(Mark { is_entry: true, .. }));
+        if !is_entry || exit.regs.s != ENTRY_S || self.passage.is_some() {
+            return;
         }
-        Ok(exit)
+        self.passage = match (instr.mnemonic, exit.from) {
+            (Mnemonic::Jsr, _) | (_, None) => None,
+            (Mnemonic::Rts, Some(_)) => Some(Passage {
+                from: to.wrapping_sub(3),
+                to,
+            }),
+            (_, Some(from)) => Some(Passage { from, to }),
+        };
+    }
+
+    /// Makes a step, and adds its cycles; or says why there is none.
+    pub fn make_step(&mut self, exit: &mut Exit) -> Result<Option<Door>, AllocError> {
+        if let Some(door) = self.door_at(&exit.regs) {
+            return Ok(Some(door));
+        }
+        match (self.mark(exit.regs.pc), service_at(exit.regs.pc)) {
+            (
+                Some(
+                    Mark {
+                        instr: Some(instr),
+                        ..
+                    },
+                ),
+                _,
+            ) => self.do_instr(instr, exit),
+            (None, Some(service)) => self.call_service(service, exit),
+            _ => Ok(Some(Door::Elsewhere(exit.regs.pc))),
+        }
     }
 }
 
@@ -256,12 +483,7 @@ pub(crate) fn last_steps(
     regs: Regs,
     steps: u32,
 ) -> Result<Vec<Traced>, AllocError> {
-    let mut exit = Exit {
-        regs,
-        cycles: 0,
-        steps: 0,
-        door: Door::Endless,
-    };
+    let mut exit = Exit::at(regs);
     let mut told = Vec::new(alloc);
     for left in (0..steps).rev() {
         let address = exit.regs.pc;

@@ -1,6 +1,7 @@
 //! What a promise names at the entry of its routine.
 
 use a2_promise::{Atom, Changes, Expr, Function, Operation, Promise};
+use a2_uses::Part;
 use std::alloc::{AllocError, Global};
 
 /// What a state has at the entry: a register, a flag, or a byte of RAM.
@@ -37,18 +38,53 @@ impl Input {
             _ => 2,
         }
     }
+
+    /// The part of the registers that it is; none where it is a byte.
+    pub fn part(self) -> Option<Part> {
+        match self {
+            Input::A => Some(Part::A),
+            Input::X => Some(Part::X),
+            Input::Y => Some(Part::Y),
+            Input::Carry => Some(Part::C),
+            Input::Zero => Some(Part::Z),
+            Input::Negative => Some(Part::N),
+            Input::Overflow => Some(Part::V),
+            Input::Interrupt => Some(Part::I),
+            Input::Byte(_) => None,
+        }
+    }
+
+    /// That of a part of the registers; none of D, which is clear at the entry.
+    pub fn of(part: Part) -> Option<Input> {
+        match part {
+            Part::A => Some(Input::A),
+            Part::X => Some(Input::X),
+            Part::Y => Some(Input::Y),
+            Part::N => Some(Input::Negative),
+            Part::V => Some(Input::Overflow),
+            Part::I => Some(Input::Interrupt),
+            Part::Z => Some(Input::Zero),
+            Part::C => Some(Input::Carry),
+            Part::D => None,
+        }
+    }
 }
 
-/// The inputs of a promise: those that it names, and behind them the registers and flags that it does not.
+/// The inputs of a promise: those that it names, those that its routine looks at beside them, and behind them the registers and flags
+/// that are neither.
 #[derive(Drop)]
 pub(crate) struct Inputs {
     pub all: Vec<Input>,
     /// How many it names.
     pub named: usize,
+    /// How many it names or its routine looks at: all values of these are tried, or some.
+    pub varied: usize,
+    /// The bytes of the numbers that it names, which are tried among the first.
+    pub corners: Vec<u8>,
 }
 
-// Adds an input, unless it is among them.
-fn add(inputs: &mut Vec<Input>, input: Input) -> Result<(), AllocError> {
+/// Adds an input, unless it is among them.
+pub(crate) fn add(inputs: &mut Vec<Input>, input: Input) -> Result<(), AllocError> {
     for known in inputs.as_slice() {
         if *known == input {
             return Ok(());
@@ -100,26 +136,37 @@ struct Search<'a> {
     is_entry: bool,
 }
 
+// What expressions name: inputs, and the bytes of numbers.
+#[derive(Drop)]
+struct Named {
+    inputs: Vec<Input>,
+    corners: Vec<u8>,
+}
+
+// Adds the bytes of a number, the low one first, where it is one of two bytes.
+fn add_corners(named: &mut Named, number: i64) -> Result<(), AllocError> {
+    if 0 <= number && number < 65536 {
+        named.corners.push((number % 256) as u8)?;
+        named.corners.push((number / 256) as u8)?;
+    }
+    Ok(())
+}
+
 // Adds an input that an expression names, where it is one of the entry.
-fn add_named(inputs: &mut Vec<Input>, input: Input, search: Search) -> Result<(), AllocError> {
+fn add_named(named: &mut Named, input: Input, search: Search) -> Result<(), AllocError> {
     if search.is_entry || is_kept(search.changes, input) {
-        add(inputs, input)
+        add(&mut named.inputs, input)
     } else {
         Ok(())
     }
 }
 
 // Adds so many bytes from an address on.
-fn add_bytes(
-    inputs: &mut Vec<Input>,
-    address: i64,
-    count: u8,
-    search: Search,
-) -> Result<(), AllocError> {
+fn add_bytes(named: &mut Named, address: i64, count: u8, search: Search) -> Result<(), AllocError> {
     for further in 0..count {
         let place = address.saturating_add(i64::from(further));
         if 0 <= place && place < 0xC000 {
-            add_named(inputs, Input::Byte(place as u16), search)?;
+            add_named(named, Input::Byte(place as u16), search)?;
         }
     }
     Ok(())
@@ -128,25 +175,26 @@ fn add_bytes(
 // Adds what a function names of an expression.
 #[cycle(search)]
 fn search_of(
-    inputs: &mut Vec<Input>,
+    named: &mut Named,
     function: Function,
     of: &Expr,
     search: Search,
 ) -> Result<(), AllocError> {
     match (function, of) {
-        (Function::Byte, Expr::Number(address)) => add_bytes(inputs, *address, 1, search),
-        (Function::Word, Expr::Number(address)) => add_bytes(inputs, *address, 2, search),
-        _ => search_in(inputs, of, search),
+        (Function::Byte, Expr::Number(address)) => add_bytes(named, *address, 1, search),
+        (Function::Word, Expr::Number(address)) => add_bytes(named, *address, 2, search),
+        _ => search_in(named, of, search),
     }
 }
 
 // Adds what an expression names of the entry.
 #[cycle(search)]
-fn search_in(inputs: &mut Vec<Input>, expr: &Expr, search: Search) -> Result<(), AllocError> {
+fn search_in(named: &mut Named, expr: &Expr, search: Search) -> Result<(), AllocError> {
     match expr {
-        Expr::Number(_) | Expr::Bound(_) => Ok(()),
+        Expr::Number(number) => add_corners(named, *number),
+        Expr::Bound(_) => Ok(()),
         Expr::Held(atom) => match input_of(*atom) {
-            Some(input) => add_named(inputs, input, search),
+            Some(input) => add_named(named, input, search),
             None => Ok(()),
         },
         Expr::Old(within) => {
@@ -154,17 +202,17 @@ fn search_in(inputs: &mut Vec<Input>, expr: &Expr, search: Search) -> Result<(),
                 changes: search.changes,
                 is_entry: true,
             };
-            search_in(inputs, within, entry)
+            search_in(named, within, entry)
         }
-        Expr::Of(function, of) => search_of(inputs, *function, of, search),
+        Expr::Of(function, of) => search_of(named, *function, of, search),
         Expr::Pair(_, left, right) | Expr::Each(_, left, right) | Expr::Sum(_, left, right) => {
-            search_in(inputs, left, search)?;
-            search_in(inputs, right, search)
+            search_in(named, left, search)?;
+            search_in(named, right, search)
         }
         Expr::Choice(by, one, other) => {
-            search_in(inputs, by, search)?;
-            search_in(inputs, one, search)?;
-            search_in(inputs, other, search)
+            search_in(named, by, search)?;
+            search_in(named, one, search)?;
+            search_in(named, other, search)
         }
     }
 }
@@ -172,24 +220,49 @@ fn search_in(inputs: &mut Vec<Input>, expr: &Expr, search: Search) -> Result<(),
 /// The inputs of a promise.
 pub(crate) fn inputs_of(alloc: Global, promise: &Promise) -> Result<Inputs, AllocError> {
     let changes = &promise.changes;
-    let mut all = Vec::new(alloc);
+    let mut named = Named {
+        inputs: Vec::new(alloc),
+        corners: Vec::new(alloc),
+    };
     for clause in promise.wanted.as_slice() {
         let search = Search {
             changes,
             is_entry: true,
         };
-        search_in(&mut all, &clause.expr, search)?;
+        search_in(&mut named, &clause.expr, search)?;
     }
     for clause in promise.promised.as_slice() {
         let search = Search {
             changes,
             is_entry: false,
         };
-        search_in(&mut all, &clause.expr, search)?;
+        search_in(&mut named, &clause.expr, search)?;
     }
-    let named = all.len();
+    let count = named.inputs.len();
+    with_rest(named.inputs, count, named.corners)
+}
+
+// Inputs that are varied, of which a promise names so many, with the registers and flags behind them that are not.
+fn with_rest(varied: Vec<Input>, named: usize, corners: Vec<u8>) -> Result<Inputs, AllocError> {
+    let mut all = varied;
+    let varied = all.len();
     for register in REGISTERS {
         add(&mut all, register)?;
     }
-    Ok(Inputs { all, named })
+    Ok(Inputs {
+        all,
+        named,
+        varied,
+        corners,
+    })
+}
+
+/// The same inputs, and those varied too that a routine looks at.
+pub(crate) fn with_looked(inputs: Inputs, looked: &[Input]) -> Result<Inputs, AllocError> {
+    let mut varied = inputs.all;
+    varied.truncate(inputs.varied);
+    for input in looked {
+        add(&mut varied, *input)?;
+    }
+    with_rest(varied, inputs.named, inputs.corners)
 }

@@ -11,6 +11,19 @@ use a2_cpu::Regs;
 use a2_promise::{Bounds, Changes, Clause, Expr, Operation, Promise, Sight, value};
 use std::alloc::Global;
 
+/// Why what a line says is not so where a run comes to its label.
+#[derive(Clone, Copy)]
+pub enum Unmet {
+    /// The fact does not hold; and what stands at the left and the right of what decides it, where it compares.
+    Fact(Option<(i64, i64)>),
+    /// It has no value.
+    NoValue,
+    /// The measure is below 0.
+    BelowZero(i64),
+    /// It is not less than before where the run comes back: what it was, and what it is.
+    NotLess(i64, i64),
+}
+
 /// What of a promise does not hold.
 #[derive(Clone, Copy)]
 pub enum Broken {
@@ -20,6 +33,8 @@ pub enum Broken {
     Clause(usize, Option<(i64, i64)>),
     /// The clause of this index has no value.
     NoValue(usize),
+    /// What this line says is not so where a run comes to its label.
+    Within(usize, Unmet),
     /// A register that does not stand behind `changes`, its byte before, and behind.
     Register(Input, u8, u8),
     /// A byte that does not.
@@ -29,8 +44,8 @@ pub enum Broken {
 // The topmost byte of the stack that is the routine's own.
 const STACK_TOP: u16 = 0x01FD;
 
-// No name stands for a number outside of what counts it.
-const NO_NAMES: Bounds = [0; 4];
+/// No name stands for a number outside of what counts it.
+pub(crate) const NO_NAMES: Bounds = [0; 4];
 
 // Whether a fact holds.
 fn holds(value: Option<i64>) -> bool
@@ -56,8 +71,12 @@ fn is_number(expr: &Expr) -> bool {
     matches!(expr, Expr::Number(_))
 }
 
-// What a fact compares that decides it: of two that both have to hold the first that does not.
-fn sides(expr: &Expr, entry: &Sight<Global>, exit: &Sight<Global>) -> Option<(i64, i64)> {
+/// What a fact compares that decides it: of two that both have to hold the first that does not.
+pub(crate) fn sides(
+    expr: &Expr,
+    entry: &Sight<Global>,
+    exit: &Sight<Global>,
+) -> Option<(i64, i64)> {
     match expr {
         Expr::Pair(Operation::Equal | Operation::Less | Operation::AtMost, left, right) => {
             let left = value(left, entry, exit, NO_NAMES)?;

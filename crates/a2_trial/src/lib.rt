@@ -4,11 +4,14 @@
 mod ground;
 mod inputs;
 mod judge;
+mod parts;
 mod report;
+mod services;
 mod trial;
+mod within;
 
-pub use ground::{Door, Traced};
+pub use ground::{Door, Passage, Traced};
 pub use inputs::Input;
-pub use judge::Broken;
+pub use judge::{Broken, Unmet};
 pub use report::{put_refusal, put_verdict};
 pub use trial::{Failure, Trials, Verdict, try_promise};

@@ -1,11 +1,12 @@
 //! What is told of promises.
 
-use crate::ground::{Door, Traced};
+use crate::ground::{Door, Passage, Traced};
 use crate::inputs::Input;
-use crate::judge::Broken;
+use crate::judge::{Broken, Unmet};
 use crate::trial::{Failure, LEAST_TRIED, Verdict};
 use a2_asm::Program;
 use a2_cpu::Regs;
+use a2_hex::RAM_END;
 use a2_promise::{Clause, Promise, Refusal};
 use a2_stream::{Output, WriteFault, put_all};
 use a2_text::{behind_blanks, decimal, hex_pair, hex_word};
@@ -58,21 +59,31 @@ fn put_input<W: Output>(input: Input, output: &mut W) -> Result<(), WriteFault> 
     }
 }
 
-// Writes the inputs that a promise names.
+// How many inputs are told.
+const MOST_TOLD: usize = 8;
+
+// Writes inputs, and how many more there are than are told.
 fn put_inputs<W: Output>(inputs: &[Input], output: &mut W) -> Result<(), WriteFault> {
-    for (index, input) in inputs.iter().enumerate() {
+    for (index, input) in inputs.iter().take(MOST_TOLD).enumerate() {
         let before: &[u8] = if index == 0 { b" of " } else { b", " };
         put_all(&[before], output)?;
         put_input(*input, output)?;
     }
+    let more = inputs.len().saturating_sub(MOST_TOLD);
+    if more > 0 {
+        put_all(
+            &[b" and ", decimal(more as u64).as_slice(), b" more"],
+            output,
+        )?;
+    }
     Ok(())
 }
 
-// Writes that a promise held which names nothing at the entry.
+// Writes that a promise held of a routine that looks at nothing at the entry.
 fn put_held_anywhere<W: Output>(output: &mut W) -> Result<(), WriteFault> {
     put_all(&[b"held in "], output)?;
     put_grouped(LEAST_TRIED, output)?;
-    put_all(&[b" states: it names nothing at its entry\n"], output)
+    put_all(&[b" states: it looks at nothing at its entry\n"], output)
 }
 
 // Writes in how many states a promise held.
@@ -158,7 +169,20 @@ fn put_door<W: Output>(door: Door, output: &mut W) -> Result<(), WriteFault> {
         Door::Above(address) => {
             put_all(&[b"it goes to "], output)?;
             put_address(address, output)?;
-            put_all(&[b", above RAM: no service is tried yet"], output)
+            put_all(&[b", above RAM, where no service is"], output)
+        }
+        Door::Window(address) => {
+            put_all(
+                &[b"window, cursor or block lie otherwise than the service at "],
+                output,
+            )?;
+            put_address(address, output)?;
+            put_all(&[b" needs: require what is left open"], output)
+        }
+        Door::Keys(address) => {
+            put_all(&[b"the service at "], output)?;
+            put_address(address, output)?;
+            put_all(&[b" waits for a key, and none is typed"], output)
         }
         Door::Code(address) => {
             put_all(&[b"it would store at "], output)?;
@@ -169,6 +193,14 @@ fn put_door<W: Output>(door: Door, output: &mut W) -> Result<(), WriteFault> {
             put_all(&[b"it would store at "], output)?;
             put_address(address, output)?;
             put_all(&[b", above RAM"], output)
+        }
+        Door::Read(address) => {
+            put_all(&[b"it would read "], output)?;
+            put_address(address, output)?;
+            put_all(
+                &[b", above RAM: what stands there is no part of a state"],
+                output,
+            )
         }
         Door::Brk => put_all(&[b"it comes to BRK"], output),
         Door::Decimal => put_all(&[b"it comes to ADC or SBC with D set"], output),
@@ -196,6 +228,70 @@ fn put_change<W: Output>(
     )
 }
 
+// What a comparison that decides compares.
+fn put_sides<W: Output>(sides: Option<(i64, i64)>, output: &mut W) -> Result<(), WriteFault> {
+    if let Some((left, right)) = sides {
+        put_all(&[b"  compared are "], output)?;
+        put_signed(left, output)?;
+        put_all(&[b" and "], output)?;
+        put_signed(right, output)?;
+        put_all(&[b"\n"], output)?;
+    }
+    Ok(())
+}
+
+// The text of the clause of a line, of several.
+fn text_in<'a>(clauses: &[Clause<'a>], line: usize) -> Option<&'a [u8]> {
+    for clause in clauses {
+        if clause.line == line {
+            return Some(clause.text);
+        }
+    }
+    None
+}
+
+// What a line within a routine says.
+fn said_at<'a>(promise: &Promise<'a>, line: usize) -> &'a [u8] {
+    for within in &promise.within {
+        if let Some(text) = text_in(within.invariants.as_slice(), line) {
+            return text;
+        }
+        if let Some(text) = text_in(within.measures.as_slice(), line) {
+            return text;
+        }
+    }
+    b""
+}
+
+// Writes what does not hold where a run comes to a label: what the line says, and why it is not so.
+fn put_within<W: Output>(
+    unmet: Unmet,
+    line: usize,
+    says: &[u8],
+    output: &mut W,
+) -> Result<(), WriteFault> {
+    if let Unmet::NoValue = unmet {
+        put_all(&[b"no value is there of "], output)?;
+    }
+    put_line(line, says, output)?;
+    match unmet {
+        Unmet::NoValue => Ok(()),
+        Unmet::Fact(sides) => put_sides(sides, output),
+        Unmet::BelowZero(number) => {
+            put_all(&[b"  it is below 0: "], output)?;
+            put_signed(number, output)?;
+            put_all(&[b"\n"], output)
+        }
+        Unmet::NotLess(before, number) => {
+            put_all(&[b"  it does not get less: it is "], output)?;
+            put_signed(number, output)?;
+            put_all(&[b", before "], output)?;
+            put_signed(before, output)?;
+            put_all(&[b"\n"], output)
+        }
+    }
+}
+
 // Writes what of a promise does not hold.
 fn put_broken<W: Output>(
     promise: &Promise,
@@ -210,19 +306,13 @@ fn put_broken<W: Output>(
         }
         Broken::Clause(index, sides) => {
             put_clause(clauses, index, output)?;
-            if let Some((left, right)) = sides {
-                put_all(&[b"  compared are "], output)?;
-                put_signed(left, output)?;
-                put_all(&[b" and "], output)?;
-                put_signed(right, output)?;
-                put_all(&[b"\n"], output)?;
-            }
-            Ok(())
+            put_sides(sides, output)
         }
         Broken::NoValue(index) => {
             put_all(&[b"no value is there of "], output)?;
             put_clause(clauses, index, output)
         }
+        Broken::Within(line, unmet) => put_within(unmet, line, said_at(promise, line), output),
         Broken::Register(register, before, behind) => {
             put_change(register, before, behind, output)
         }
@@ -234,15 +324,22 @@ fn put_broken<W: Output>(
 
 // Writes the state in which a promise does not hold: what it names, and else what is not 0.
 fn put_state<W: Output>(failure: &Failure, output: &mut W) -> Result<(), WriteFault> {
+    let mut is_any = false;
     put_all(&[b"  entered with"], output)?;
     for (index, (input, value)) in failure.inputs.iter().zip(&failure.values).enumerate() {
         if index < failure.named || *value != 0 {
             put_all(&[b" "], output)?;
             put_input(*input, output)?;
             put_all(&[b"=", decimal(u64::from(*value)).as_slice()], output)?;
+            is_any = true;
         }
     }
-    put_all(&[b", and 0 in other registers and flags\n"], output)
+    let rest: &[u8] = if is_any {
+        b", and 0 in other registers and flags\n"
+    } else {
+        b" 0 in all registers and flags\n"
+    };
+    put_all(&[rest], output)
 }
 
 // The number of the line of the instruction at an address; 0 where there is none.
@@ -281,8 +378,14 @@ fn put_step<W: Output>(
     step: &Traced,
     output: &mut W,
 ) -> Result<(), WriteFault> {
-    let number = line_at(program, step.address);
     put_registers(step.regs, output)?;
+    if step.address >= RAM_END {
+        return put_all(
+            &[b"the service at $", &hex_word(step.address), b"\n"],
+            output,
+        );
+    }
+    let number = line_at(program, step.address);
     put_line(number, text_of(lines, number), output)
 }
 
@@ -304,6 +407,34 @@ fn put_failure<W: Output>(
     Ok(())
 }
 
+// Writes where a routine goes on into another.
+fn put_passage<W: Output>(
+    program: &Program<Global>,
+    passage: Option<Passage>,
+    output: &mut W,
+) -> Result<(), WriteFault> {
+    let Some(Passage { from, to }) = passage else {
+        return Ok(());
+    };
+    let (from, to) = (
+        decimal(line_at(program, from) as u64),
+        decimal(line_at(program, to) as u64),
+    );
+    put_all(
+        &[
+            b"  line ",
+            from.as_slice(),
+            b" goes on into the routine of line ",
+            to.as_slice(),
+        ],
+        output,
+    )?;
+    put_all(
+        &[b", which it does not call: RTS ends a routine, JSR calls one\n"],
+        output,
+    )
+}
+
 /// Writes what is found of a promise of a source with these lines.
 pub fn put_verdict<W: Output>(
     program: &Program<Global>,
@@ -316,15 +447,20 @@ pub fn put_verdict<W: Output>(
     match verdict {
         Verdict::Held {
             inputs,
-            named,
+            varied,
             kept,
             tried,
             total,
+            passage,
         } => {
-            let shown = &inputs.as_slice()[..(*named).min(inputs.len())];
-            put_held(shown, *kept, *tried, *total, output)
+            let shown = &inputs.as_slice()[..(*varied).min(inputs.len())];
+            put_held(shown, *kept, *tried, *total, output)?;
+            put_passage(program, *passage, output)
         }
-        Verdict::Fails(failure) => put_failure(program, lines, promise, failure, output),
+        Verdict::Fails(failure) => {
+            put_failure(program, lines, promise, failure, output)?;
+            put_passage(program, failure.passage, output)
+        }
         Verdict::NoState(tried) => {
             put_all(&[b"FAILS: none of "], output)?;
             put_grouped(*tried, output)?;

@@ -1,12 +1,15 @@
 //! A routine entered in many states.
 
-use crate::ground::{ENTRY_S, Exit, Ground, MOST_STEPS, Traced, any_byte, last_steps};
-use crate::inputs::{Input, Inputs, inputs_of};
+use crate::ground::{
+    ENTRY_S, Exit, Ground, MOST_LOOKED, MOST_STEPS, Passage, Traced, any_byte, last_steps,
+};
+use crate::inputs::{Input, Inputs, inputs_of, with_looked};
 use crate::judge::{Broken, all_hold, broken_by};
+use crate::within::{Tally, broken_within};
 use a2_asm::Program;
 use a2_cpu::{Regs, Status};
 use a2_opcode::Mode;
-use a2_promise::{Promise, Sight};
+use a2_promise::{Found, Promise, Sight};
 use std::alloc::{AllocError, Global};
 
 /// How many states are tried.
@@ -27,6 +30,7 @@ pub struct Failure {
     /// The value of each.
     pub values: Vec<u8>,
     pub broken: Broken,
+    pub passage: Option<Passage>,
     /// The registers behind the last step.
     pub regs: Regs,
     pub last: Vec<Traced>,
@@ -35,13 +39,15 @@ pub struct Failure {
 /// What is found of a promise.
 #[derive(Drop)]
 pub enum Verdict {
-    /// It held in so many states that it admits, of so many tried, of so many that there are of these inputs.
+    /// It held in so many states that it admits, of so many tried, of so many that there are of the first of these inputs: those that
+    /// it names, and those that its routine looks at.
     Held {
         inputs: Vec<Input>,
-        named: usize,
+        varied: usize,
         kept: u64,
         tried: u64,
         total: u64,
+        passage: Option<Passage>,
     },
     /// It does not hold in a state.
     Fails(Failure),
@@ -99,6 +105,27 @@ fn enter(ground: &mut Ground, inputs: &[Input], values: &[u8]) {
     }
 }
 
+// Runs a routine from these registers, with RAM as it is at the entry, until it leaves, or what is said at a label within it is not
+// so; and what of the promise does not hold.
+fn run(
+    ground: &mut Ground,
+    promise: &Promise,
+    regs: Regs,
+) -> Result<(Exit, Option<Broken>), AllocError> {
+    let mut tally = Tally::new(ground.alloc, promise)?;
+    let mut exit = Exit::at(regs);
+    for _ in 0..=MOST_STEPS {
+        if let Some(broken) = broken_within(promise, ground, &mut tally, regs, &exit) {
+            return Ok((exit, Some(broken)));
+        }
+        if let Some(door) = ground.make_step(&mut exit)? {
+            exit.door = door;
+            break;
+        }
+    }
+    Ok((exit, broken_by(promise, ground, regs, &exit)))
+}
+
 // Tries a state.
 fn try_state(
     ground: &mut Ground,
@@ -117,10 +144,9 @@ fn try_state(
     if !all_hold(promise.wanted.as_slice(), &entry, &entry) {
         return Ok(Tried::LeftOut);
     }
-    let exit = ground.run(regs, MOST_STEPS)?;
-    match broken_by(promise, ground, regs, &exit) {
-        Some(broken) => Ok(Tried::Broken(broken, exit, regs)),
-        None => Ok(Tried::Kept),
+    match run(ground, promise, regs)? {
+        (exit, Some(broken)) => Ok(Tried::Broken(broken, exit, regs)),
+        (_, None) => Ok(Tried::Kept),
     }
 }
 
@@ -133,10 +159,15 @@ fn total_of(inputs: &[Input]) -> u64 {
     total
 }
 
-// The values that are tried first: bounds, and the numbers of the program with their neighbours.
-fn corners_of(alloc: Global, program: &Program<Global>) -> Result<Vec<u8>, AllocError> {
+// The values that are tried first: bounds, the bytes of the numbers of a promise, and the numbers of its program with their neighbours.
+fn corners_of(
+    alloc: Global,
+    program: &Program<Global>,
+    promised: &[u8],
+) -> Result<Vec<u8>, AllocError> {
     let mut corners = Vec::new(alloc);
     corners.extend_from_slice(&[0u8, 1, 127, 128, 254, 255])?;
+    corners.extend_from_slice(promised)?;
     for statement in program.statements() {
         if let Some(instr) = statement.instr
             && instr.mode == Mode::Immediate
@@ -165,13 +196,13 @@ fn any_value(corners: &[u8], number: u64, index: usize) -> u8 {
     }
 }
 
-// Makes values those of the state of a number: in their order where all are tried, and else like any others. Those that the promise does
-// not name always are.
+// Makes values those of the state of a number: in their order where all are tried, and else like any others. Those that are not varied
+// always are.
 fn put_values(values: &mut Vec<u8>, inputs: &Inputs, corners: &[u8], number: u64, is_all: bool) {
     let mut rest = number;
     for (index, input) in inputs.all.iter().enumerate() {
         let among = input.values().max(1);
-        let value = if is_all && index < inputs.named {
+        let value = if is_all && index < inputs.varied {
             let digit = rest % among;
             rest /= among;
             (digit % 256) as u8
@@ -193,23 +224,37 @@ fn first_values(alloc: Global, inputs: &Inputs) -> Result<Vec<u8>, AllocError> {
     Ok(values)
 }
 
-// Lets one value of a state that breaks the promise be the least with which it does.
+// Whether a state breaks the promise with this value of the input of an index; the state has it then.
+fn breaks_with(
+    ground: &mut Ground,
+    promise: &Promise,
+    inputs: &Inputs,
+    values: &mut Vec<u8>,
+    index: usize,
+    value: u8,
+) -> Result<bool, AllocError> {
+    if let Some(place) = values.get_mut(index) {
+        *place = value;
+    }
+    let tried = try_state(ground, promise, inputs.all.as_slice(), values.as_slice())?;
+    Ok(matches!(tried, Tried::Broken(_, _, _)))
+}
+
+// Lets one value of a state that breaks the promise be 0, if it does then, or else one of these, if it does with it.
 fn lessen(
     ground: &mut Ground,
     promise: &Promise,
     inputs: &Inputs,
     values: &mut Vec<u8>,
     index: usize,
+    is_short: bool,
 ) -> Result<(), AllocError> {
     let Some(greatest) = values.get(index).copied() else {
         return Ok(());
     };
-    for less in 0..greatest {
-        if let Some(place) = values.get_mut(index) {
-            *place = less;
-        }
-        let tried = try_state(ground, promise, inputs.all.as_slice(), values.as_slice())?;
-        if let Tried::Broken(_, _, _) = tried {
+    let tried = if is_short { greatest } else { 1.min(greatest) };
+    for less in 0..tried {
+        if breaks_with(ground, promise, inputs, values, index, less)? {
             return Ok(());
         }
     }
@@ -222,6 +267,9 @@ fn lessen(
 // A run of more steps is told as it was found: a lesser state would be looked for too long.
 const MOST_LESSENED: u32 = 20_000;
 
+// With more steps of a run for each input no value but 0 is looked for in place of another.
+const MOST_LESSENED_BY_ONE: u64 = 200_000;
+
 // What is told of a state that breaks the promise behind so many steps, once its values are lessened.
 fn failure_of(
     alloc: Global,
@@ -233,8 +281,10 @@ fn failure_of(
 ) -> Result<Verdict, AllocError> {
     let mut values = values;
     if steps <= MOST_LESSENED {
+        let is_short = u64::from(steps).saturating_mul(inputs.all.len() as u64)
+            <= MOST_LESSENED_BY_ONE;
         for index in (0..inputs.all.len()).rev() {
-            lessen(ground, promise, &inputs, &mut values, index)?;
+            lessen(ground, promise, &inputs, &mut values, index, is_short)?;
         }
     }
     let tried = try_state(ground, promise, inputs.all.as_slice(), values.as_slice())?;
@@ -248,6 +298,7 @@ fn failure_of(
         named: inputs.named,
         values,
         broken,
+        passage: ground.passage,
         regs: exit.regs,
         last,
     }))
@@ -256,45 +307,92 @@ fn failure_of(
 /// How many states there are at least, so that what is not named is tried in several ways.
 pub(crate) const LEAST_TRIED: u64 = 4096;
 
-/// Tries a promise of a program.
-pub fn try_promise(
+// What comes of trying states of inputs.
+#[derive(Drop)]
+enum Round {
+    Done(Verdict),
+    /// A run looked at what is not among those of them that are varied.
+    Looked(Inputs),
+}
+
+// Tries states of inputs, up to one that breaks the promise, or a run that looks at what is not varied.
+fn try_inputs(
     alloc: Global,
-    program: &Program<Global>,
+    ground: &mut Ground,
     promise: &Promise,
+    inputs: Inputs,
+    corners: &[u8],
     trials: Trials,
-) -> Result<Verdict, AllocError> {
-    let inputs = inputs_of(alloc, promise)?;
-    let corners = corners_of(alloc, program)?;
-    let mut ground = Ground::new(alloc, program)?;
+) -> Result<Round, AllocError> {
     let mut values = first_values(alloc, &inputs)?;
-    let total = total_of(&inputs.all[..inputs.named.min(inputs.all.len())]);
+    let total = total_of(&inputs.all[..inputs.varied.min(inputs.all.len())]);
     let is_all = total <= trials.all;
     let states = if is_all { total } else { trials.some };
+    let looked = ground.looked.len();
     let mut kept: u64 = 0;
     for number in 0..states.max(LEAST_TRIED) {
-        put_values(&mut values, &inputs, corners.as_slice(), number, is_all);
-        match try_state(
-            &mut ground,
-            promise,
-            inputs.all.as_slice(),
-            values.as_slice(),
-        )? {
+        put_values(&mut values, &inputs, corners, number, is_all);
+        match try_state(ground, promise, inputs.all.as_slice(), values.as_slice())? {
             Tried::LeftOut => {}
             Tried::Kept if number < states => kept = kept.saturating_add(1),
             Tried::Kept => {}
             Tried::Broken(_, exit, _) => {
-                return failure_of(alloc, &mut ground, promise, inputs, values, exit.steps);
+                let failure = failure_of(alloc, ground, promise, inputs, values, exit.steps)?;
+                return Ok(Round::Done(failure));
             }
+        }
+        if ground.looked.len() != looked {
+            return Ok(Round::Looked(inputs));
         }
     }
     if kept == 0 {
-        return Ok(Verdict::NoState(states));
+        return Ok(Round::Done(Verdict::NoState(states)));
     }
-    Ok(Verdict::Held {
+    Ok(Round::Done(Verdict::Held {
         inputs: inputs.all,
-        named: inputs.named,
+        varied: inputs.varied,
         kept,
         tried: states,
         total,
-    })
+        passage: ground.passage,
+    }))
+}
+
+/// Tries a promise of a program, one of those that are found in its source: its routine is entered in states of what the promise names and of what the routine looks at before it
+/// sets it, which is noted as it runs; bytes that the program lays are as it lays them, unless the promise names them.
+pub fn try_promise(
+    alloc: Global,
+    program: &Program<Global>,
+    found: &[Found],
+    promise: &Promise,
+    trials: Trials,
+) -> Result<Verdict, AllocError> {
+    let mut ground = Ground::new(alloc, program)?;
+    for other in found {
+        if let Found::Promise(other) = other
+            && other.address != promise.address
+        {
+            ground.begin_at(other.address);
+        }
+    }
+    let mut inputs = inputs_of(alloc, promise)?;
+    let corners = corners_of(alloc, program, inputs.corners.as_slice())?;
+    // Each round but the last finds one more thing at least that is looked at, and so many are noted.
+    for _ in 0..=MOST_LOOKED {
+        for input in inputs.all.as_slice().iter().take(inputs.varied) {
+            ground.know(*input);
+        }
+        match try_inputs(
+            alloc,
+            &mut ground,
+            promise,
+            inputs,
+            corners.as_slice(),
+            trials,
+        )? {
+            Round::Done(verdict) => return Ok(verdict),
+            Round::Looked(before) => inputs = with_looked(before, ground.looked.as_slice())?,
+        }
+    }
+    Ok(Verdict::NoState(0))
 }

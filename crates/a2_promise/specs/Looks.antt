@@ -1,0 +1,73 @@
+-- What the value of an expression looks at, and that it depends on nothing else. This project's own.
+use Rattle.std.specs.Prelude.{◌≡◌, ◌<◌, ℕ, ◌+◌, ◌%◌, ℤ, pos, Bool, true, false, IsTrue, List, Option, Some, None, slice_get, slice_set}
+use Rattle.a2_promise.specs.declared.expr.Atom.{Atom}
+use Rattle.a2_promise.specs.declared.expr.Expr.{Expr}
+use Rattle.a2_promise.specs.declared.expr.Expr.TheVariants.{Number, Held, Bound, Old', Of', Pair', Choice', Each', Sum'}
+use Rattle.a2_promise.specs.declared.expr.Function.{Function}
+use Rattle.a2_promise.specs.declared.expr.Function.TheVariants as function
+use Rattle.a2_promise.specs.Values.{Moment, held, word_in, is_zero, count_of, value_of}
+
+-- what is known of a state
+pub record Known : Type 0 where
+  pub bytes : ℕ → Bool
+  pub atoms : Atom → Bool
+
+-- two states have the same there
+pub record AgreeAt (known : Known) (m n : Moment) : Type 0 where
+  pub bytes : (a : ℕ) → IsTrue (known.bytes a) → slice_get m.bytes a ≡ slice_get n.bytes a
+  pub atoms : (atom : Atom) → IsTrue (known.atoms atom) → held atom m ≡ held atom n
+
+-- a byte is known, and two
+abbrev pub KnowsByte : Known → Option ℕ → Type 0
+KnowsByte known None = Unit {0}
+KnowsByte known (Some a) = IsTrue (known.bytes a)
+
+abbrev pub KnowsWord : Known → Option ℕ → Type 0
+KnowsWord known None = Unit {0}
+KnowsWord known (Some a) = IsTrue (known.bytes a) × IsTrue (known.bytes ((a + 1) % 65536))
+
+-- what a function looks at is known
+abbrev pub KnowsMade : Function → Known → Option ℤ → Type 0
+KnowsMade function.Byte known (Some x) = KnowsByte known (word_in x)
+KnowsMade function.Word known (Some x) = KnowsWord known (word_in x)
+KnowsMade _ known _ = Unit {0}
+
+-- of one of two that is chosen by a number; where there is none, neither
+abbrev pub OfBoth : Bool → Type 0 → Type 0 → Type 0
+OfBoth true one other = other
+OfBoth false one other = one
+
+abbrev pub OfChosen : Option ℤ → Type 0 → Type 0 → Type 0
+OfChosen None one other = Unit {0}
+OfChosen (Some x) one other = OfBoth (is_zero x) one other
+
+abbrev pub IsBelow : ℕ → Option ℕ → Type 0
+IsBelow k None = ⊥
+IsBelow k (Some n) = k < n
+
+-- all that the value of an expression looks at is known, of the state at the entry and of that at the exit
+abbrev pub Knows : Expr → Known → Known → Moment → Moment → List ℤ → Type 0
+Knows (Number n) before behind entry exit names = Unit {0}
+Knows (Held atom) before behind entry exit names = IsTrue (behind.atoms atom)
+Knows (Bound name) before behind entry exit names = Unit {0}
+Knows (Old' p e) before behind entry exit names = Knows e before before entry entry names
+Knows (Of' f p e) before behind entry exit names =
+    Knows e before behind entry exit names × KnowsMade f behind (value_of e entry exit names)
+Knows (Pair' op p x q y) before behind entry exit names =
+    Knows x before behind entry exit names × Knows y before behind entry exit names
+Knows (Choice' p c q x r y) before behind entry exit names =
+    Knows c before behind entry exit names
+    × OfChosen (value_of c entry exit names) (Knows x before behind entry exit names) (Knows y before behind entry exit names)
+Knows (Each' name p n q e) before behind entry exit names =
+    Knows n before behind entry exit names
+    × ((k : ℕ) → IsBelow k (count_of (value_of n entry exit names)) → Knows e before behind entry exit (slice_set names name (pos k)))
+Knows (Sum' name p n q e) before behind entry exit names =
+    Knows n before behind entry exit names
+    × ((k : ℕ) → IsBelow k (count_of (value_of n entry exit names)) → Knows e before behind entry exit (slice_set names name (pos k)))
+
+-- so of two pairs of states that agree at what an expression looks at it has the same value
+abbrev pub ValuesDependOnLooks : Type 0
+ValuesDependOnLooks =
+    (e : Expr) (before behind : Known) (entry exit other_entry other_exit : Moment) (names : List ℤ)
+    → AgreeAt before entry other_entry → AgreeAt behind exit other_exit → Knows e before behind entry exit names
+    → value_of e entry exit names ≡ value_of e other_entry other_exit names

@@ -1,0 +1,3 @@
+pub mod Reads
+pub mod Parts
+pub mod Few
