@@ -1,6 +1,6 @@
 -- The first refusal of a text, of all that are told.
-use Rattle.std.proofs.Common.{◌≡◌, ℕ, zero, suc, ◌+◌, ◌-◌, ◌<◌, ◌≤◌, List, [], ◌∷◌, ◌++◌, length, map, take, drop, get_or, Some, refl, sym, ap, ◌∙◌, subst, inl, inr, arith, ◌⊎◌, add-one}
-use Rattle.std.specs.List.{All, Contains}
+use Rattle.std.proofs.Common.{◌≡◌, ℕ, zero, suc, ◌+◌, ◌-◌, ◌<◌, ◌≤◌, List, [], ◌∷◌, ◌++◌, length, map, take, drop, get_or, Some, sym, ap, ◌∙◌, subst, inl, inr, arith, ◌⊎◌, add-one}
+use Rattle.std.specs.List.{All}
 use Rattle.std.specs.List.Sorted.{IsStrictlyIncreasing}
 use Rattle.std.proofs.lemmas.List.{take-append-drop, drop_more, length-take-le}
 use Rattle.std.proofs.lemmas.List.Elements.{All-head, All-from_get_or, All-contains}
@@ -11,7 +11,7 @@ use Rattle.a2_syntax.specs.Sources.{AreLines, FirstUnread, IsSource, IsTextRefus
 use Rattle.a2_syntax.specs.declared.fault.Fault.{Fault}
 use Rattle.a2_syntax.specs.declared.fault.Fault.TheVariants.{Syntax}
 use Rattle.a2_asm.specs.Refusals.{IsLayoutRefusal}
-use Rattle.a2_check.specs.Unread.{IsRead, IsUnread, AreUnread}
+use Rattle.a2_check.specs.Unread.{IsUnread, AreUnread}
 use Rattle.a2_check.specs.Refusals.{AreRefusals}
 
 read-front : (texts : List (List ℕ)) (i : ℕ) → i ≤ length texts → ((k : ℕ) → k < i → (line : BareLine) × IsLine (get_or texts k []) line) → (read : List BareLine) × AreLines (take i texts) read

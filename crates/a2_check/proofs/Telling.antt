@@ -1,6 +1,5 @@
 -- Where a text is refused by its grammar, a line of it is not in the grammar.
-use Rattle.std.proofs.Common.{◌≡◌, ℕ, suc, ◌+◌, ◌-◌, ◌<◌, List, [], ◌∷◌, ◌++◌, length, map, get_or, Bor, Some, None, sym, ap, ◌∙◌, subst, inl, inr, arith, ◌⊎◌, length-append}
-use Rattle.std.specs.List.{Contains}
+use Rattle.std.proofs.Common.{◌≡◌, ℕ, suc, ◌+◌, ◌-◌, ◌<◌, List, [], ◌∷◌, ◌++◌, length, map, get_or, Bor, Some, None, sym, ap, ◌∙◌, subst, inl, inr, arith, length-append}
 use Rattle.std.proofs.Math.Seq.{get_or-append_seam}
 use Rattle.a2_text.specs.Lines.{lines}
 use Rattle.a2_syntax.specs.Bare.{BareLine}
@@ -9,7 +8,10 @@ use Rattle.a2_syntax.specs.Limits.{size_refusal}
 use Rattle.a2_syntax.specs.Sources.{FirstUnread, IsTextRefusal}
 use Rattle.a2_syntax.specs.declared.fault.Fault.{Fault}
 use Rattle.a2_syntax.specs.declared.fault.Fault.TheVariants.{Syntax}
-use Rattle.a2_check.specs.Unread.{IsNumber, IsRead, AreUnread}
+use Rattle.a2_asm.specs.Refusals.{IsLayoutRefusal}
+use Rattle.a2_asm.specs.Every.{AreLayoutRefusals}
+use Rattle.a2_asm.proofs.MadeLaws.{refused-no-program}
+use Rattle.a2_check.specs.Unread.{AreUnread}
 use Rattle.a2_check.specs.Refusals.{AreOfText}
 
 -- the first line that is not read has its number among them
@@ -31,3 +33,8 @@ of-grammar text texts faults e fits (fault, inr (_, n, is, first)) (numbers, sho
     let P : List (List ℕ) → Type 0 = λ x. AreUnread x numbers in
     let among = subst P e all in
     inr (fits, (numbers, shown, first-among (lines text) n numbers first among, among))
+
+-- something is told of lines that are refused
+pub told-some : (source : List BareLine) (fault : Fault) (told : List Fault) → IsLayoutRefusal source fault → AreLayoutRefusals source told → 0 < length told
+told-some source fault told refused (inl (none, program, is)) = absurd (refused-no-program source fault program refused is)
+told-some source fault told refused (inr (first, layout, _, _, e)) = omega (arith, ap length e)

@@ -8,7 +8,10 @@ use Rattle.a2_syntax.specs.Sources.{IsSource}
 use Rattle.a2_syntax.specs.declared.fault.Fault.{Fault}
 use Rattle.a2_syntax.specs.declared.fault.Fault.TheVariants.{Syntax}
 use Rattle.a2_asm.specs.Every.{AreLayoutRefusals}
+use Rattle.a2_asm.specs.Programs.{IsProgram}
 use Rattle.a2_check.specs.Unread.{AreUnread}
+use Rattle.a2_check.specs.declared.verdict.Verdict.{Verdict}
+use Rattle.a2_check.specs.declared.verdict.Verdict.TheVariants.{Accepted, Refused}
 
 -- lines that are not in the grammar, all of them
 abbrev pub AreOfGrammar : List (List ℕ) → List Fault → Type 0
@@ -23,3 +26,8 @@ AreOfText text faults =
 -- all that is told of a text
 abbrev pub AreRefusals : List ℕ → List Fault → Type 0
 AreRefusals text faults = AreOfText text faults ⊎ ((source : List BareLine) × IsSource text source × AreLayoutRefusals source faults)
+
+-- what a text is found to be: lines that make a program; or refused, once at least
+abbrev pub IsVerdict : {A : Type 0} → List ℕ → Verdict A → Type 0
+IsVerdict text (Accepted source program) = IsSource text source × IsProgram source program
+IsVerdict text (Refused faults) = AreRefusals text faults.items × (0 < length faults.items)

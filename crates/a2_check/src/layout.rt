@@ -1,11 +1,12 @@
 //! What is told of a refusal of a source whose lines are all in the grammar.
 
-use crate::line::{Parts, before, parts_of};
+use crate::line::{Parts, parts_of};
 use crate::mistake::Sentence;
-use crate::names::{definition, is_hexadecimal, missing, nearest};
+use crate::names::{Labels, is_hexadecimal};
 use crate::operand::word_at;
-use crate::probe::{in_the_way, value};
+use crate::probe::{in_the_way, word_of_line};
 use crate::told::{Telling, Told, filled};
+use a2_asm::Program;
 use a2_opcode::{Mnemonic, Mode, row_for};
 use a2_syntax::{Body, Fault, Line, Operand};
 use std::alloc::{AllocError, Allocator};
@@ -15,14 +16,16 @@ use std::alloc::{AllocError, Allocator};
 pub(crate) struct Place<'a, A: Allocator> {
     /// The lines as they were written.
     pub texts: &'a [&'a [u8]],
-    /// What they say.
-    pub lines: &'a [Line<A>],
+    /// Their labels.
+    pub labels: &'a Labels<A>,
     /// The index of the line.
     pub index: usize,
     /// Its parts.
     pub parts: Parts<'a>,
     /// What it says.
     pub body: &'a Body<A>,
+    /// The program of the source with refused values as words, where that is accepted.
+    pub values: Option<&'a Program<A>>,
 }
 
 impl<'a> Parts<'a> {
@@ -52,15 +55,6 @@ impl<'a> Parts<'a> {
         Telling::new(at, word.len(), what, mend).with_word(word)
     }
 
-    // The expression of the operand, as it was written.
-    fn expression(self) -> &'a [u8] {
-        let rest = match self.operand {
-            [b'#' | b'(', rest @ ..] => rest,
-            rest => rest,
-        };
-        before(before(rest, b','), b')')
-    }
-
     // A branch over so many bytes, which are too many.
     fn of_distance(self, far: u16, is_behind: bool) -> Telling<'a> {
         let what: Sentence = if is_behind {
@@ -88,23 +82,26 @@ impl<'a, A: Allocator + Copy> Place<'a, A> {
     pub(crate) fn of(
         texts: &'a [&'a [u8]],
         lines: &'a [Line<A>],
+        labels: &'a Labels<A>,
+        values: Option<&'a Program<A>>,
         number: u16,
     ) -> Option<Place<'a, A>> {
         let index = usize::from(number).checked_sub(1)?;
         let line = lines.get(index)?;
         Some(Place {
             texts,
-            lines,
+            labels,
             index,
             parts: parts_of(texts.get(index)?),
             body: &line.body,
+            values,
         })
     }
 
     // A label of an earlier line.
     fn duplicate(&self) -> Telling<'a> {
         let first = match str::from_utf8(self.parts.label) {
-            Ok(name) => definition(self.lines, name).unwrap_or(0),
+            Ok(name) => self.labels.line_of(name).unwrap_or(0),
             Err(_) => 0,
         };
         Telling {
@@ -118,12 +115,12 @@ impl<'a, A: Allocator + Copy> Place<'a, A> {
 
     // A name that no line defines.
     fn unknown(&self, alloc: A) -> Result<Telling<'a>, AllocError> {
-        let Some(name) = missing(self.lines, self.body) else {
+        let Some(name) = self.labels.missing(usize::MAX, self.body) else {
             return Ok(
                 self.parts.at_operand(b"a name is defined nowhere", b"define it by a label or EQU"),
             );
         };
-        let near = nearest(alloc, self.lines, name)?;
+        let near = self.labels.nearest(alloc, name)?;
         let mend: Sentence = if near.is_some() {
             b"write ~"
         } else if is_hexadecimal(name) {
@@ -139,9 +136,8 @@ impl<'a, A: Allocator + Copy> Place<'a, A> {
 
     // A name that a later line defines.
     fn forward(&self) -> Telling<'a> {
-        let (earlier, _) = self.lines.split_at(self.index.min(self.lines.len()));
-        let name = missing(earlier, self.body).unwrap_or("");
-        let line = definition(self.lines, name).unwrap_or(self.index);
+        let name = self.labels.missing(self.index, self.body).unwrap_or("");
+        let line = self.labels.line_of(name).unwrap_or(self.index);
         Telling {
             number: number_of(line),
             ..self.parts.at_name(
@@ -152,20 +148,18 @@ impl<'a, A: Allocator + Copy> Place<'a, A> {
         }
     }
 
-    // A value out of range.
-    fn range(&self, alloc: A) -> Result<Telling<'a>, AllocError> {
-        let (most, mend) = limits(self.body);
-        let found = match self.body {
-            Body::Instr(_, _) => value(
-                alloc,
-                self.texts,
-                self.index,
-                self.parts.label,
-                self.parts.expression(),
-            )?,
+    // The address of the line and its value, where that is known.
+    fn value(&self) -> Option<(u16, u16)> {
+        match (self.values, self.body) {
+            (Some(program), Body::Instr(_, _)) => word_of_line(program, self.index),
             _ => None,
-        };
-        Ok(match found {
+        }
+    }
+
+    // A value out of range.
+    fn range(&self) -> Telling<'a> {
+        let (most, mend) = limits(self.body);
+        match self.value() {
             Some((_, value)) => Telling {
                 number: value,
                 ..self
@@ -177,19 +171,12 @@ impl<'a, A: Allocator + Copy> Place<'a, A> {
                 .parts
                 .at_operand(b"the value is out of its range: @", mend)
                 .with_word(most),
-        })
+        }
     }
 
     // A branch that goes too far.
-    fn branch(&self, alloc: A) -> Result<Telling<'a>, AllocError> {
-        let found = value(
-            alloc,
-            self.texts,
-            self.index,
-            self.parts.label,
-            self.parts.expression(),
-        )?;
-        Ok(match found {
+    fn branch(&self) -> Telling<'a> {
+        match self.value() {
             Some((address, target)) => {
                 let (far, is_behind) = distance(address.wrapping_add(2), target);
                 self.parts.of_distance(far, is_behind)
@@ -198,7 +185,7 @@ impl<'a, A: Allocator + Copy> Place<'a, A> {
                 b"the branch goes too far: 128 bytes before the next instruction, 127 behind it",
                 OVER_A_JUMP,
             ),
-        })
+        }
     }
 
     // A byte where an earlier statement has one.
@@ -235,7 +222,7 @@ impl<'a, A: Allocator + Copy> Place<'a, A> {
                         .at_operand(b"there is no such form", b"look at its forms"),
                 )
             }
-            Fault::Branch(_) => self.branch(alloc),
+            Fault::Branch(_) => Ok(self.branch()),
             Fault::Outside(_) => Ok(
                 self.parts.at_operation(
                     b"a byte of the line would lie at or above $C000",
@@ -243,7 +230,7 @@ impl<'a, A: Allocator + Copy> Place<'a, A> {
                 ),
             ),
             Fault::Overlap(_) => self.overlap(alloc),
-            _ => self.range(alloc),
+            _ => Ok(self.range()),
         }
     }
 
@@ -324,53 +311,45 @@ fn limits<A: Allocator>(body: &Body<A>) -> (Sentence, Sentence) {
 // A form of an operand: the modes that are written so, and how it is written behind a mnemonic.
 #[derive(Clone, Copy)]
 struct Form {
-    modes: [Mode; 3],
+    modes: &'static [Mode],
     text: &'static [u8],
 }
 
 static FORMS: [Form; 9] = [
     Form {
-        modes: [Mode::Implied, Mode::Implied, Mode::Implied],
+        modes: &[Mode::Implied],
         text: b"",
     },
     Form {
-        modes: [Mode::Accumulator, Mode::Accumulator, Mode::Accumulator],
+        modes: &[Mode::Accumulator],
         text: b" A",
     },
     Form {
-        modes: [Mode::Immediate, Mode::Immediate, Mode::Immediate],
+        modes: &[Mode::Immediate],
         text: b" #e",
     },
     Form {
-        modes: [Mode::ZeroPage, Mode::Absolute, Mode::Relative],
+        modes: &[Mode::ZeroPage, Mode::Absolute, Mode::Relative],
         text: b" e",
     },
     Form {
-        modes: [Mode::ZeroPageX, Mode::AbsoluteX, Mode::AbsoluteX],
+        modes: &[Mode::ZeroPageX, Mode::AbsoluteX],
         text: b" e,X",
     },
     Form {
-        modes: [Mode::ZeroPageY, Mode::AbsoluteY, Mode::AbsoluteY],
+        modes: &[Mode::ZeroPageY, Mode::AbsoluteY],
         text: b" e,Y",
     },
     Form {
-        modes: [
-            Mode::IndexedIndirect,
-            Mode::IndexedIndirect,
-            Mode::IndexedIndirect,
-        ],
+        modes: &[Mode::IndexedIndirect],
         text: b" (e,X)",
     },
     Form {
-        modes: [
-            Mode::IndirectIndexed,
-            Mode::IndirectIndexed,
-            Mode::IndirectIndexed,
-        ],
+        modes: &[Mode::IndirectIndexed],
         text: b" (e),Y",
     },
     Form {
-        modes: [Mode::Indirect, Mode::Indirect, Mode::Indirect],
+        modes: &[Mode::Indirect],
         text: b" (e)",
     },
 ];
@@ -378,9 +357,8 @@ static FORMS: [Form; 9] = [
 impl Form {
     // Whether a mnemonic has it.
     fn is_of(self, mnemonic: Mnemonic) -> bool {
-        let [a, b, c] = self.modes;
-        row_for(mnemonic, a).is_some()
-            || row_for(mnemonic, b).is_some()
-            || row_for(mnemonic, c).is_some()
+        self.modes
+            .iter()
+            .any(|mode| row_for(mnemonic, *mode).is_some())
     }
 }

@@ -10,11 +10,11 @@ mod mistake;
 mod names;
 mod operand;
 mod probe;
-mod refusals;
 mod tell;
 mod told;
 mod unread;
+mod verdict;
 
 pub use laws::the_first_is_the_texts_refusal;
-pub use refusals::refusals_of;
 pub use tell::{Format, TellFault, put_refusals};
+pub use verdict::{Verdict, refusals_of, verdict_of};

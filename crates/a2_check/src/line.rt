@@ -19,6 +19,17 @@ pub(crate) struct Parts<'a> {
     pub operand_at: usize,
 }
 
+impl<'a> Parts<'a> {
+    /// The expression of the operand, as it was written.
+    pub(crate) fn expression(self) -> &'a [u8] {
+        let rest = match self.operand {
+            [b'#' | b'(', rest @ ..] => rest,
+            rest => rest,
+        };
+        before(before(rest, b','), b')')
+    }
+}
+
 // How long the operand at the front of a text is: up to a `;` outside quotes, without blanks at its end.
 fn operand_len(text: &[u8]) -> usize
     ensures { result ≤ length text.now }

@@ -2,32 +2,10 @@
 
 use crate::line::hex_and_rest;
 use a2_syntax::{Body, Expr, Line, Operand, Term};
+use indexmap::IndexMap;
 use std::alloc::{AllocError, Allocator};
+use std::hash::{BuildHasherDefault, FoldHasher};
 use strsim::generic_levenshtein;
-
-/// The index of the first line that defines a name.
-pub(crate) fn definition<A: Allocator>(lines: &[Line<A>], name: &str) -> Option<usize> {
-    for (i, line) in lines.iter().enumerate() {
-        if let Some(label) = &line.label {
-            if label.get() == name {
-                return Some(i);
-            }
-        }
-    }
-    None
-}
-
-// The first name of an expression that no line of these defines.
-fn missing_in_expr<'a, A: Allocator>(lines: &[Line<A>], e: &'a Expr<A>) -> Option<&'a str> {
-    for signed in e.terms.get() {
-        if let Term::Named(name) = &signed.term {
-            if definition(lines, name.get()).is_none() {
-                return Some(name.get());
-            }
-        }
-    }
-    None
-}
 
 // The expression of an operand.
 fn expr_of<A: Allocator>(operand: &Operand<A>) -> Option<&Expr<A>> {
@@ -43,24 +21,6 @@ fn expr_of<A: Allocator>(operand: &Operand<A>) -> Option<&Expr<A>> {
     }
 }
 
-/// The first name of a line that no line of these defines.
-pub(crate) fn missing<'a, A: Allocator>(lines: &[Line<A>], body: &'a Body<A>) -> Option<&'a str> {
-    match body {
-        Body::Empty | Body::Asc(_) => None,
-        Body::Org(e) | Body::Equ(e) | Body::Ds(e) => missing_in_expr(lines, e),
-        Body::Instr(_, operand) => missing_in_expr(lines, expr_of(operand)?),
-        Body::Dfb(es) | Body::Dw(es) => {
-            for e in es.get() {
-                let name = missing_in_expr(lines, e);
-                if name.is_some() {
-                    return name;
-                }
-            }
-            None
-        }
-    }
-}
-
 // How far a name is from another: 0 where capitals and small letters alone differ, and else 1 more than the number of letters
 // that are put in, left out or changed.
 fn distance<A: Allocator + Copy>(alloc: A, name: &[u8], other: &[u8]) -> Result<usize, AllocError> {
@@ -70,24 +30,93 @@ fn distance<A: Allocator + Copy>(alloc: A, name: &[u8], other: &[u8]) -> Result<
     Ok(generic_levenshtein(alloc, name, other)?.saturating_add(1))
 }
 
-/// The name that is nearest to one that is defined nowhere, where at most two letters differ, and fewer than it has.
-pub(crate) fn nearest<'a, A: Allocator + Copy>(
-    alloc: A,
-    lines: &'a [Line<A>],
-    name: &str,
-) -> Result<Option<&'a str>, AllocError> {
-    let mut nearest = None;
-    let mut least = name.len().min(3);
-    for line in lines {
-        if let Some(label) = &line.label {
-            let far = distance(alloc, name.as_bytes(), label.get().as_bytes())?;
-            if far < least || far == least && nearest.is_none() {
-                least = far;
-                nearest = Some(label.get());
+/// The labels of a source, each with the index of the first line that has it.
+#[derive(Drop)]
+pub(crate) struct Labels<A: Allocator> {
+    lines: IndexMap<String<A>, usize, BuildHasherDefault<FoldHasher>, A>,
+}
+
+impl<A: Allocator + Copy> Labels<A> {
+    /// Those of these lines. Refused only for want of memory.
+    pub(crate) fn of(alloc: A, lines: &[Line<A>]) -> Result<Labels<A>, AllocError> {
+        let mut labels = Labels {
+            lines: IndexMap::new(alloc),
+        };
+        for (i, line) in lines.iter().enumerate() {
+            if let Some(label) = &line.label {
+                labels.add(alloc, label.get(), i)?;
             }
         }
+        Ok(labels)
     }
-    Ok(nearest)
+
+    // Adds the label of the line at an index, where no earlier one has it.
+    fn add(&mut self, alloc: A, label: &str, index: usize) -> Result<(), AllocError> {
+        if self.line_of(label).is_none() {
+            self.lines.insert(String::from_str(alloc, label)?, index)?;
+        }
+        Ok(())
+    }
+
+    /// The index of the first line that has a label.
+    pub(crate) fn line_of(&self, label: &str) -> Option<usize> {
+        self.lines.get(label).copied()
+    }
+
+    // Whether a line before an index has a label.
+    fn is_before(&self, index: usize, label: &str) -> bool {
+        match self.line_of(label) {
+            Some(line) => line < index,
+            None => false,
+        }
+    }
+
+    // The first name of an expression that no line before an index has as its label.
+    fn missing_in<'a>(&self, index: usize, e: &'a Expr<A>) -> Option<&'a str> {
+        for signed in e.terms.get() {
+            if let Term::Named(name) = &signed.term {
+                if !self.is_before(index, name.get()) {
+                    return Some(name.get());
+                }
+            }
+        }
+        None
+    }
+
+    // The same of expressions.
+    fn missing_among<'a>(&self, index: usize, es: &'a [Expr<A>]) -> Option<&'a str> {
+        for e in es {
+            let name = self.missing_in(index, e);
+            if name.is_some() {
+                return name;
+            }
+        }
+        None
+    }
+
+    /// The first name in what a line says that no line before an index has as its label.
+    pub(crate) fn missing<'a>(&self, index: usize, body: &'a Body<A>) -> Option<&'a str> {
+        match body {
+            Body::Empty | Body::Asc(_) => None,
+            Body::Org(e) | Body::Equ(e) | Body::Ds(e) => self.missing_in(index, e),
+            Body::Instr(_, operand) => self.missing_in(index, expr_of(operand)?),
+            Body::Dfb(es) | Body::Dw(es) => self.missing_among(index, es.get()),
+        }
+    }
+
+    /// The label that is nearest to a name that is none, where at most two letters differ, and fewer than it has.
+    pub(crate) fn nearest(&self, alloc: A, name: &str) -> Result<Option<&str>, AllocError> {
+        let mut nearest = None;
+        let mut least = name.len().min(3);
+        for label in self.lines.keys() {
+            let far = distance(alloc, name.as_bytes(), label.as_str().as_bytes())?;
+            if far < least || far == least && nearest.is_none() {
+                least = far;
+                nearest = Some(label.as_str());
+            }
+        }
+        Ok(nearest)
+    }
 }
 
 /// Whether a name could be a hexadecimal number without its mark.

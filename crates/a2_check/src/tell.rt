@@ -4,8 +4,10 @@ use crate::finding::finding;
 use crate::layout::Place;
 use crate::line::parts_of;
 use crate::mistake::Sentence;
+use crate::names::Labels;
+use crate::probe::with_values;
 use crate::told::{Telling, Told, filled, shown};
-use a2_asm::refused;
+use a2_asm::{Program, refused};
 use a2_stream::{Output, WriteFault, put, put_all};
 use a2_syntax::{Fault, Line, Source, parse};
 use a2_text::{cut, decimal, hex_pair};
@@ -90,6 +92,10 @@ struct Checked<'a, A: Allocator> {
     texts: &'a [&'a [u8]],
     // What they say, where all of them are in the grammar; else none.
     lines: &'a [Line<A>],
+    // The labels of these.
+    labels: &'a Labels<A>,
+    // The program of the source with refused values as words, where that is accepted.
+    values: Option<&'a Program<A>>,
 }
 
 impl<'a, A: Allocator + Copy> Checked<'a, A> {
@@ -110,7 +116,13 @@ impl<'a, A: Allocator + Copy> Checked<'a, A> {
 
     // What is told of a refusal by the layout.
     fn told_of_layout(&self, alloc: A, fault: Fault) -> Result<Told<A>, AllocError> {
-        match Place::of(self.texts, self.lines, fault.line()) {
+        match Place::of(
+            self.texts,
+            self.lines,
+            self.labels,
+            self.values,
+            fault.line(),
+        ) {
             Some(place) => place.told(alloc, fault),
             None => filled(
                 alloc,
@@ -464,7 +476,7 @@ fn lines_in<A: Allocator>(parsed: &Option<Source<A>>) -> &[Line<A>] {
 }
 
 /// Writes what is told of each refusal of `source`, which is called `name`: its place, what is wrong and the mend, in this
-/// format. Checked where a write fails, and for want of memory. This project's profile.
+/// format. Refused where a write fails, and for want of memory. This project's profile.
 pub fn put_refusals<A: Allocator + Copy, W: Output>(
     alloc: A,
     name: &str,
@@ -473,13 +485,21 @@ pub fn put_refusals<A: Allocator + Copy, W: Output>(
     format: Format,
     writer: &mut W,
 ) -> Result<(), TellFault> {
+    if refusals.is_empty() {
+        return Ok(put_end(format, 0, writer)?);
+    }
     let texts = cut(alloc, source)?;
     let parsed = parsed(alloc, source)?;
+    let lines = lines_in(&parsed);
+    let labels = Labels::of(alloc, lines)?;
+    let program = with_values(alloc, texts.as_slice(), lines, refusals)?;
     let checked = Checked {
         name,
         source,
         texts: texts.as_slice(),
-        lines: lines_in(&parsed),
+        lines,
+        labels: &labels,
+        values: program.as_ref(),
     };
     put_each(alloc, &checked, refusals, format, writer)
 }

@@ -4,5 +4,6 @@
 mod lines;
 mod notes;
 mod statements;
+mod stores;
 
 pub use notes::{Kind, Note, notes_of};

@@ -3,7 +3,8 @@
 ghost use Rattle.std.specs.Prelude.{◌≡◌};
 ghost use Rattle.a2_notes.specs.Notes as notes;
 
-use a2_asm::{Program, Statement};
+use crate::stores::LowStores;
+use a2_asm::Program;
 use a2_opcode::{Mnemonic, Mode, row_for};
 use a2_syntax::{Body, Expr, Line, Operand, Part, Term};
 use a2_text::behind_blanks;
@@ -48,68 +49,43 @@ pub(crate) fn operation_in_label<A: Allocator>(line: &Line<A>) -> bool {
 }
 
 // The number that an expression is, where it is one alone, and one of a byte.
-fn number<A: Allocator>(e: &Expr<A>) -> Option<u16> {
+fn number<A: Allocator>(e: &Expr<A>) -> Option<u8> {
     match (e.part, e.terms.get()) {
         (Part::Whole, [signed]) if !signed.minus => match &signed.term {
-            Term::Number(n) if *n < 256 => Some(*n),
+            Term::Number(n) => u8::try_from(*n).ok(),
             _ => None,
         },
         _ => None,
     }
 }
 
-// The address in page 0 that a line reads by its number, where that could have been the number itself.
-fn read_by<A: Allocator>(line: &Line<A>) -> Option<u16> {
-    match &line.body {
-        Body::Instr(mnemonic, Operand::Plain(e)) if row_for(*mnemonic, Mode::Immediate).is_some() =>
-            number(e),
-        _ => None,
-    }
-}
-
-// Whether an instruction stores what it makes.
-fn stores(mnemonic: Mnemonic) -> bool {
-    matches!(
-        mnemonic,
-        Mnemonic::Sta
-            | Mnemonic::Stx
-            | Mnemonic::Sty
-            | Mnemonic::Inc
-            | Mnemonic::Dec
-            | Mnemonic::Asl
-            | Mnemonic::Lsr
-            | Mnemonic::Rol
-            | Mnemonic::Ror
-    )
-}
-
-// Whether a statement may store at an address below $0100.
-fn may_store(statement: &Statement, address: u16) -> bool {
-    let Some(instr) = statement.instr else {
-        return false;
+// The address below $0100 that a line reads by its number, where that could have been the number itself.
+fn read_by<A: Allocator>(line: &Line<A>) -> Option<u8> {
+    let Body::Instr(mnemonic, Operand::Plain(e)) = &line.body else {
+        return None;
     };
-    if !stores(instr.mnemonic) {
-        return false;
-    }
-    match instr.mode {
-        Mode::ZeroPage | Mode::Absolute => instr.value == address,
-        Mode::Implied | Mode::Accumulator => false,
-        _ => true,
-    }
+    let address = number(e)?;
+    row_for(*mnemonic, Mode::Immediate)
+        .is_some()
+        .then_some(address)
 }
 
 // Whether the Monitor keeps a byte at an address below $0100. Apple II Reference Manual (1979), its table of page 0.
-fn is_the_monitors(address: u16) -> bool {
+fn is_the_monitors(address: u8) -> bool {
     matches!(address, 0x20..=0x55)
 }
 
-/// Whether a line reads a byte in page 0 by its number where no instruction may store, the source has no byte, and the Monitor
+/// Whether a line reads a byte below $0100 by its number where no instruction may store, the source has no byte, and the Monitor
 /// keeps none.
-pub(crate) fn unwritten<A: Allocator>(line: &Line<A>, program: &Program<A>) -> bool {
+pub(crate) fn unwritten<A: Allocator>(
+    line: &Line<A>,
+    program: &Program<A>,
+    stores: &LowStores,
+) -> bool {
     let Some(address) = read_by(line) else {
         return false;
     };
     !is_the_monitors(address)
-        && program.image().get(address).is_none()
-        && !program.statements().iter().any(|s| may_store(s, address))
+        && program.image().get(u16::from(address)).is_none()
+        && !stores.may_reach(address)
 }

@@ -1,10 +1,10 @@
 //! The notes of a source.
 
 use crate::lines::{operation_in_label, sets_no_place, unwritten};
-use crate::statements::kind_of;
-use a2_asm::{Program, Statement, assemble, refused};
-use a2_syntax::{Line, parse};
-use a2_text::cut;
+use crate::statements::{Begins, kind_of, shows_plain};
+use crate::stores::LowStores;
+use a2_asm::{Program, Statement};
+use a2_syntax::Line;
 use std::alloc::{AllocError, Allocator};
 
 /// What a note is of. There are no other kinds.
@@ -20,6 +20,8 @@ pub enum Kind {
     RunsOut,
     /// An instruction jumps to itself.
     Circle,
+    /// A character with bit 7 clear goes to the screen.
+    Plain,
 }
 
 /// What is told of a line.
@@ -44,11 +46,15 @@ fn note_texts<A: Allocator>(notes: &mut Vec<Note, A>, texts: &[&[u8]]) -> Result
 }
 
 // What is told of a line by itself, in its program.
-fn kind_of_line<A: Allocator>(line: &Line<A>, program: &Program<A>) -> Option<Kind> {
+fn kind_of_line<A: Allocator>(
+    line: &Line<A>,
+    program: &Program<A>,
+    stores: &LowStores,
+) -> Option<Kind> {
     if operation_in_label(line) {
         return Some(Kind::Operation);
     }
-    if unwritten(line, program) {
+    if unwritten(line, program, stores) {
         return Some(Kind::Unwritten);
     }
     None
@@ -60,8 +66,9 @@ fn note_lines<A: Allocator>(
     lines: &[Line<A>],
     program: &Program<A>,
 ) -> Result<(), AllocError> {
+    let stores = LowStores::of(program.statements());
     for (i, line) in lines.iter().enumerate() {
-        if let Some(kind) = kind_of_line(line, program) {
+        if let Some(kind) = kind_of_line(line, program, &stores) {
             notes.push(Note {
                 line: i.saturating_add(1),
                 kind,
@@ -71,44 +78,50 @@ fn note_lines<A: Allocator>(
     Ok(())
 }
 
+// What is told of a statement of a line with this text, by what stands behind it and where instructions begin.
+fn kind_of_statement<A: Allocator>(
+    text: &[u8],
+    statement: &Statement,
+    behind: &[Statement],
+    begins: &Begins<A>,
+) -> Option<Kind> {
+    if shows_plain(text, statement, behind) {
+        return Some(Kind::Plain);
+    }
+    kind_of(begins, statement)
+}
+
 // Adds the notes of statements by where they lie.
 fn note_statements<A: Allocator>(
+    alloc: A,
     notes: &mut Vec<Note, A>,
+    texts: &[&[u8]],
     statements: &[Statement],
 ) -> Result<(), AllocError> {
-    for statement in statements {
-        if let Some(kind) = kind_of(statements, statement) {
-            notes.push(Note {
-                line: usize::from(statement.line),
-                kind,
-            })?;
+    let begins = Begins::of(alloc, statements)?;
+    for (i, statement) in statements.iter().enumerate() {
+        let behind = &statements[i + 1..];
+        let line = usize::from(statement.line);
+        let text = texts.get(line.saturating_sub(1)).copied().unwrap_or(b"");
+        if let Some(kind) = kind_of_statement(text, statement, behind, &begins) {
+            notes.push(Note { line, kind })?;
         }
     }
     Ok(())
 }
 
-/// The notes of a source text that is accepted: those of lines as they are spelt, those of lines by what they say, and those of
-/// statements by where they lie, each in the order of the lines. A text that is refused has none. Refused only for want of
-/// memory. This project's profile.
-pub fn notes_of<A: Allocator + Copy>(alloc: A, text: &[u8]) -> Result<Vec<Note, A>, AllocError> {
+/// The notes of a source that is accepted: `texts` are its lines as they are spelt, `lines` what they say, and `program` is what
+/// they make. Those of lines as they are spelt stand first, then those of lines by what they say, and then those of statements
+/// by where they lie, each in the order of the lines. Refused only for want of memory. This project's profile.
+pub fn notes_of<A: Allocator + Copy>(
+    alloc: A,
+    texts: &[&[u8]],
+    lines: &[Line<A>],
+    program: &Program<A>,
+) -> Result<Vec<Note, A>, AllocError> {
     let mut notes = Vec::new(alloc);
-    let source = match parse(alloc, text) {
-        Ok(source) => source,
-        Err(fault) => {
-            refused(fault)?;
-            return Ok(notes);
-        }
-    };
-    let program = match assemble(alloc, &source) {
-        Ok(program) => program,
-        Err(fault) => {
-            refused(fault)?;
-            return Ok(notes);
-        }
-    };
-    let texts = cut(alloc, text)?;
-    note_texts(&mut notes, texts.as_slice())?;
-    note_lines(&mut notes, source.lines(), &program)?;
-    note_statements(&mut notes, program.statements())?;
+    note_texts(&mut notes, texts)?;
+    note_lines(&mut notes, lines, program)?;
+    note_statements(alloc, &mut notes, texts, program.statements())?;
     Ok(notes)
 }

@@ -136,7 +136,7 @@ abbrev pub EndAlike : Code → Code → World → Type 0
 EndAlike code other start = (limit : ℕ) (end : End) → IsEnd code start limit end → IsEnd other start limit end
 
 -- a run that has made so many steps makes so many at least
-end-late : (code : Code) (start : World) (limit n : ℕ) (end : End) → IsEnd code start limit end → ((k : ℕ) → k < n → stuck code (world_at code start k) ≡ None) → n ≤ limit → n ≤ end.steps
+pub end-late : (code : Code) (start : World) (limit n : ℕ) (end : End) → IsEnd code start limit end → ((k : ℕ) → k < n → stuck code (world_at code start k) ≡ None) → n ≤ limit → n ≤ end.steps
 end-late code start limit n end is going within = go (split end.steps n)
   where
     split : (s n : ℕ) → (n ≤ s) ⊎ (s < n)

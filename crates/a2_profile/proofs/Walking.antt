@@ -37,7 +37,7 @@ abbrev pub frames_of : (ℕ → World) → ℕ → List Frame
 frames_of worlds n = base ∷ map (frame_of worlds) (entered worlds n)
 
 -- those within are above the stack pointer
-entered-within : (worlds : ℕ → World) (n : ℕ) → All (λ (e : Entry). is_within (worlds n) e ≡ true) (entered worlds n)
+pub entered-within : (worlds : ℕ → World) (n : ℕ) → All (λ (e : Entry). is_within (worlds n) e ≡ true) (entered worlds n)
 unfolding entered
 entered-within worlds zero = λ k d low. absurd (omega (arith, low))
 entered-within worlds (suc n) = filter_passes (is_within (worlds (suc n))) (with_call n (worlds n) (entered worlds n))
@@ -59,7 +59,7 @@ frames-low worlds n s frames is at few = subst (All (λ (f : Frame). s ≤ f.s))
         = ap (λ (f : Frame). f.s) (get_or-map (frame_of worlds) (entered worlds n) k e d within) in
         omega (arith, same, ltb-true (worlds n).registers.s (slice_index_or (entered worlds n) k e).s (entered-within worlds n k e within), at)
 
-map-filter : {X Y : Type 0} (g : X → Y) (p : X → Bool) (q : Y → Bool) → ((x : X) → q (g x) ≡ p x) → (xs : List X) → filter q (map g xs) ≡ map g (filter p xs)
+pub map-filter : {X Y : Type 0} (g : X → Y) (p : X → Bool) (q : Y → Bool) → ((x : X) → q (g x) ≡ p x) → (xs : List X) → filter q (map g xs) ≡ map g (filter p xs)
 map-filter g p q alike [] = refl
 map-filter g p q alike (x ∷ xs) =
     ap₂ (λ (b : Bool) (l : List _). if b then g x ∷ l else l) (alike x) (map-filter g p q alike xs) ∙ go (p x)
@@ -68,7 +68,7 @@ map-filter g p q alike (x ∷ xs) =
     go true = refl
     go false = refl
 
-map-push : {X Y : Type 0} (g : X → Y) (xs : List X) (x : X) → map g (xs ++ x ∷ []) ≡ map g xs ++ g x ∷ []
+pub map-push : {X Y : Type 0} (g : X → Y) (xs : List X) (x : X) → map g (xs ++ x ∷ []) ≡ map g xs ++ g x ∷ []
 map-push g [] x = refl
 map-push g (y ∷ xs) x = ap (λ (l : List _). g y ∷ l) (map-push g xs x)
 
@@ -236,7 +236,7 @@ walked code start d n limit walk cause h is = record {
 -- The profile of the program's run
 
 -- each routine was entered before
-entered-before : (worlds : ℕ → World) (n : ℕ) → All (λ (e : Entry). e.position < n) (entered worlds n)
+pub entered-before : (worlds : ℕ → World) (n : ℕ) → All (λ (e : Entry). e.position < n) (entered worlds n)
 unfolding entered
 entered-before worlds zero = λ k d low. absurd (omega (arith, low))
 entered-before worlds (suc n) = All-filter (is_within (worlds (suc n))) (λ (e : Entry). e.position < suc n) (with_call n (worlds n) (entered worlds n)) (called (is_call (worlds n)) (λ k d low. omega (arith, entered-before worlds n k d low)))
@@ -247,14 +247,14 @@ entered-before worlds (suc n) = All-filter (is_within (worlds (suc n))) (λ (e :
 
 -- Worlds that are the same up to a step
 
-entered-alike : (v w : ℕ → World) (n : ℕ) → ((k : ℕ) → k ≤ n → v k ≡ w k) → entered v n ≡ entered w n
+pub entered-alike : (v w : ℕ → World) (n : ℕ) → ((k : ℕ) → k ≤ n → v k ≡ w k) → entered v n ≡ entered w n
 unfolding entered
 entered-alike v w zero alike = refl
 entered-alike v w (suc n) alike =
     ap₂ (λ (a b : World). filter (is_within a) (with_call n b (entered v n))) (alike (suc n) (omega arith)) (alike n (omega arith))
     ∙ ap (λ (es : List Entry). filter (is_within (w (suc n))) (with_call n (w n) es)) (entered-alike v w n (λ k le. alike k (omega (arith, le))))
 
-map-alike : {X Y : Type 0} (f g : X → Y) (P : X → Type 0) → ((x : X) → P x → f x ≡ g x) → (xs : List X) → All P xs → map f xs ≡ map g xs
+pub map-alike : {X Y : Type 0} (f g : X → Y) (P : X → Type 0) → ((x : X) → P x → f x ≡ g x) → (xs : List X) → All P xs → map f xs ≡ map g xs
 map-alike f g P same [] all = refl
 map-alike f g P same (x ∷ xs) all =
     ap₂ (λ (y : _) (ys : List _). y ∷ ys) (same x (all 0 x (omega arith))) (map-alike f g P same xs (λ k d low. all (suc k) d (omega (arith, low))))

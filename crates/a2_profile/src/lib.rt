@@ -10,7 +10,7 @@ mod table;
 mod walk;
 
 pub use profile::{Count, Profile, ProfileFull};
-pub use routine_table::write_routines;
+pub use routine_table::{name_of, write_routines};
 pub use routines::profile_routines;
 pub use run::profile_run;
 pub use source::{profile_source, profile_source_routines};

@@ -115,8 +115,8 @@ fn put_itself<A: Allocator, W: Output>(
     )
 }
 
-// The first name that stands for an address, or nothing.
-fn name_of<A: Allocator>(names: &Names<A>, address: u16) -> &[u8]
+/// The first of these names that stands for an address, or nothing. This project's profile.
+pub fn name_of<A: Allocator>(names: &Names<A>, address: u16) -> &[u8]
     ensures { result.now ≡ table.name_of (entries names.now) address }
 {
     for index in 0..names.len() {

@@ -1,4 +1,6 @@
 pub mod Bytes
+pub mod Called
+pub mod Calls
 pub mod Choices
 pub mod Trace
 pub mod Traced

@@ -1,8 +1,10 @@
-//! The trace of a source's run: a line for each step that is chosen.
+//! The trace of a source's run: a line for each step that is chosen, or its routines as a tree.
 #![tactic(auto)]
 
+mod calls;
 mod choice;
 mod trace;
 
+pub use calls::trace_calls;
 pub use choice::Choice;
 pub use trace::trace_source;

@@ -40,7 +40,7 @@ fn append(front: &mut Front, bytes: &[u8])
 }
 
 // The name of a service in the Monitor.
-fn service_name(service: Service) -> &'static [u8]
+pub(crate) fn service_name(service: Service) -> &'static [u8]
     ensures name { result.now ≡ trace.service_name service }
     ensures short { length result.now ≤ 7 }
 {
@@ -128,7 +128,7 @@ fn put_step<A: Allocator, W: Output>(
 }
 
 // Writes the cause line, and answers the cause.
-fn put_end<W: Output>(cause: Cause, writer: &mut W) -> Result<Cause, WriteFault>
+pub(crate) fn put_end<W: Output>(cause: Cause, writer: &mut W) -> Result<Cause, WriteFault>
     ensures line { SendsOrBreaks (W.taker writer.old) (W.taker writer.new) result (cause_line cause) }
     ensures cause { IfOk result (λ told. told ≡ cause) }
 {

@@ -1,0 +1,396 @@
+//! The routines of a run as a tree.
+
+ghost use Rattle.std.specs.Prelude.{◌≡◌, ◌+◌, ◌<◌, ◌≤◌, ◌++◌, ◌∷◌, [], codes, false, filter, find, length, nat_lt, Some, None, IfOk, if◌then◌else◌};
+ghost use Rattle.arrayvec.specs.ArrayVec.{array_vec_len};
+ghost use Rattle.a2_stream.specs.Stream.{SendsOrBreaks};
+ghost use Rattle.a2_asm.specs.Entries.{entries};
+ghost use Rattle.a2_asm.specs.Programs.{begins_at as begins_at_of};
+ghost use Rattle.a2_machine.specs.Output.{cause_line};
+ghost use Rattle.a2_machine.specs.State.{code_of, world_of_state};
+ghost use Rattle.a2_run.specs.Answers.{Answers, OfSource, is_read_fault};
+ghost use Rattle.a2_run.specs.Meaning.{IsRefused};
+ghost use Rattle.a2_trace.specs.Called.{Draws, begun};
+ghost use Rattle.a2_trace.specs.Calls as tree;
+ghost use Rattle.a2_trace.specs.Calls.{IsCallTreeOf};
+
+use crate::trace::{put_end, service_name};
+use a2_asm::{Names, Program, Statement};
+use a2_bus::Keys;
+use a2_machine::{Cause, Machine};
+use a2_profile::name_of;
+use a2_routines::is_call;
+use a2_run::{RunFault, program_of, started};
+use a2_services::service_at;
+use a2_stream::{Output, WriteFault, put_all};
+use a2_text::{decimal, hex_word};
+use arrayvec::ArrayVec;
+use std::alloc::Allocator;
+
+// A routine that was entered and not left.
+#[derive(Clone, Copy, Default, Drop)]
+pub(crate) struct Visit {
+    // Where its JSR stands.
+    caller: u16,
+    // Where it begins.
+    begin: u16,
+    // The stack pointer before the JSR.
+    s: u8,
+    // The steps of the run when it began.
+    steps: u64,
+    // The cycles then.
+    cycles: u64,
+}
+
+// As many as there are stack pointers, each below that of the one around it.
+type Visits = ArrayVec<Visit, 256>;
+
+const BLANKS: &[u8] = b"                                                                ";
+
+// What stands before a row.
+fn indent(depth: usize) -> &'static [u8]
+    requires { depth ≤ 256 }
+    ensures { result.now ≡ tree.indent depth }
+{
+    &BLANKS[..(2 * depth).min(64)]
+}
+
+// The name of a routine, or nothing.
+fn routine_name<A: Allocator>(names: &Names<A>, address: u16) -> &[u8]
+    ensures { result.now ≡ tree.routine_name (entries names.now) address }
+{
+    let own = name_of(names, address);
+    if !own.is_empty() {
+        return own;
+    }
+    match service_at(address) {
+        Some(service) => service_name(service),
+        None => b"",
+    }
+}
+
+// What stands before a name.
+fn before_name(name: &[u8]) -> &'static [u8]
+    ensures { result.now ≡ tree.before_name name.now }
+{
+    if name.is_empty() { b"" } else { b" " }
+}
+
+// Writes these texts.
+#[tactic(auto, unfolding(crate::specs::Calls::routine_cells))]
+fn put_cells<'a, W: Output>(
+    blanks: &'a [u8],
+    word: &'a [u8],
+    address: &'a [u8],
+    gap: &'a [u8],
+    name: &'a [u8],
+    writer: &mut W,
+) -> Result<(), WriteFault>
+    ensures { SendsOrBreaks (W.taker writer.old) (W.taker writer.new) result (tree.routine_cells blanks.now word.now address.now gap.now name.now) }
+{
+    put_all(&[blanks, word, address, gap, name], writer)
+}
+
+// Writes a word, and a routine by its address and name.
+fn put_routine<A: Allocator, W: Output>(
+    word: &[u8],
+    names: &Names<A>,
+    depth: usize,
+    address: u16,
+    writer: &mut W,
+) -> Result<(), WriteFault>
+    requires { depth ≤ 256 }
+    ensures { SendsOrBreaks (W.taker writer.old) (W.taker writer.new) result (tree.routine_text word.now (entries names.now) depth address) }
+{
+    let name = routine_name(names, address);
+    put_cells(
+        indent(depth),
+        word,
+        &hex_word(address),
+        before_name(name),
+        name,
+        writer,
+    )
+}
+
+// Whether a statement is an instruction that begins at an address.
+fn begins_at(statement: &Statement, address: u16) -> bool
+    ensures { result ≡ begins_at_of address statement.now }
+{
+    statement.addr == address && statement.instr.is_some()
+}
+
+// The instruction that begins at an address.
+fn instruction_at(statements: &[Statement], address: u16) -> Option<Statement>
+    ensures { result ≡ find (begins_at_of address) statements.now }
+{
+    for statement in statements {
+        if begins_at(statement, address) {
+            return Some(*statement);
+        }
+    }
+    None
+}
+
+// Writes a word, digits, and the end of the row.
+#[tactic(auto, unfolding(crate::specs::Calls::from_text))]
+fn put_from<'a, W: Output>(
+    word: &'a [u8],
+    digits: &'a [u8],
+    writer: &mut W,
+) -> Result<(), WriteFault>
+    ensures { SendsOrBreaks (W.taker writer.old) (W.taker writer.new) result (tree.from_text word.now digits.now) }
+{
+    put_all(&[word, digits, b"\n"], writer)
+}
+
+// Writes where a JSR stands.
+fn put_caller<W: Output>(
+    statements: &[Statement],
+    address: u16,
+    writer: &mut W,
+) -> Result<(), WriteFault>
+    ensures { SendsOrBreaks (W.taker writer.old) (W.taker writer.new) result (tree.caller_text statements.now address) }
+{
+    match instruction_at(statements, address) {
+        Some(statement) => {
+            let line = decimal(u64::from(statement.line));
+            put_from(b" FROM LINE ", line.as_slice(), writer)
+        }
+        None => put_from(b" FROM ", &hex_word(address), writer),
+    }
+}
+
+// Writes the row of a routine that is entered.
+#[tactic(auto, using(a2_stream::proofs::Joined::broke_off, a2_stream::proofs::Joined::went_on))]
+fn put_entered<A: Allocator, W: Output>(
+    program: &Program<A>,
+    depth: usize,
+    visit: &Visit,
+    writer: &mut W,
+) -> Result<(), WriteFault>
+    requires { depth ≤ 256 }
+    ensures { SendsOrBreaks (W.taker writer.old) (W.taker writer.new) result (tree.entered_row program.now depth visit.now) }
+{
+    put_routine(b"CALL ", program.names(), depth, visit.begin, writer)?;
+    put_caller(program.statements(), visit.caller, writer)
+}
+
+// Writes steps and cycles.
+#[tactic(auto, unfolding(crate::specs::Calls::spent_text))]
+fn put_spent<W: Output>(steps: u64, cycles: u64, writer: &mut W) -> Result<(), WriteFault>
+    ensures { SendsOrBreaks (W.taker writer.old) (W.taker writer.new) result (tree.spent_text steps cycles) }
+{
+    let steps = decimal(steps);
+    let cycles = decimal(cycles);
+    put_all(
+        &[
+            b" STEPS=",
+            steps.as_slice(),
+            b" CYCLES=",
+            cycles.as_slice(),
+            b"\n",
+        ],
+        writer,
+    )
+}
+
+// Whether a routine goes on where the stack pointer is this; at the end of a run none does.
+fn is_within(s: Option<u8>, visit: &Visit) -> bool
+    ensures { result ≡ tree.is_within s visit.now }
+{
+    match s {
+        Some(s) => s < visit.s,
+        None => false,
+    }
+}
+
+// The word of the rows of those that do not.
+fn word_of(s: Option<u8>) -> &'static [u8]
+    ensures { result.now ≡ tree.word_of s }
+{
+    match s {
+        Some(_) => b"BACK ",
+        None => b"OPEN ",
+    }
+}
+
+// Writes the row of a routine that does not go on.
+#[tactic(auto, using(a2_stream::proofs::Joined::broke_off, a2_stream::proofs::Joined::went_on))]
+fn put_back<A: Allocator, B: Allocator, W: Output>(
+    s: Option<u8>,
+    program: &Program<B>,
+    machine: &Machine<A>,
+    depth: usize,
+    visit: &Visit,
+    writer: &mut W,
+) -> Result<(), WriteFault>
+    requires { depth ≤ 256 }
+    ensures { SendsOrBreaks (W.taker writer.old) (W.taker writer.new) result
+        (if tree.is_within s visit.now then [] else tree.spent_row (tree.word_of s) program.now machine.now.state.steps machine.now.state.cycles depth visit.now) }
+{
+    if is_within(s, visit) {
+        return Ok(());
+    }
+    put_routine(word_of(s), program.names(), depth, visit.begin, writer)?;
+    put_spent(
+        machine.steps().saturating_sub(visit.steps),
+        machine.cycles().saturating_sub(visit.cycles),
+        writer,
+    )
+}
+
+// Writes the rows of those routines that do not go on, the innermost first.
+fn put_left<A: Allocator, B: Allocator, W: Output>(
+    s: Option<u8>,
+    program: &Program<B>,
+    machine: &Machine<A>,
+    visits: &Visits,
+    writer: &mut W,
+) -> Result<(), WriteFault>
+    ensures { SendsOrBreaks (W.taker writer.old) (W.taker writer.new) result
+        (tree.left_rows s program.now machine.now.state.steps machine.now.state.cycles 0 visits.now.items) }
+{
+    let all = visits.as_slice();
+    for depth in (0..all.len()).rev() {
+        put_back(s, program, machine, depth, &all[depth], writer)?;
+    }
+    Ok(())
+}
+
+// Enters a routine where the last step of a machine was a JSR at an address, before which the stack pointer was this; its row.
+fn enter_where<A: Allocator, B: Allocator, W: Output>(
+    is_jsr: bool,
+    caller: u16,
+    s: u8,
+    program: &Program<B>,
+    machine: &Machine<A>,
+    visits: &mut Visits,
+    writer: &mut W,
+) -> Result<(), WriteFault>
+    requires { array_vec_len visits.old < 256 }
+    ensures row { SendsOrBreaks (W.taker writer.old) (W.taker writer.new) result
+        (if is_jsr then tree.entered_row program.now (array_vec_len visits.old) (begun caller s machine.now.state) else []) }
+    ensures visits { visits.new.items ≡ (if is_jsr then visits.old.items ++ begun caller s machine.now.state ∷ [] else visits.old.items) }
+{
+    if !is_jsr {
+        return Ok(());
+    }
+    let visit = Visit {
+        caller,
+        begin: machine.regs().pc,
+        s,
+        steps: machine.steps(),
+        cycles: machine.cycles(),
+    };
+    let depth = visits.len();
+    visits.push(visit);
+    put_entered(program, depth, &visit, writer)
+}
+
+// Leaves the routines that a machine's stack pointer is not below.
+fn leave<A: Allocator>(machine: &Machine<A>, visits: &mut Visits)
+    ensures { visits.new.items ≡ filter (λ v. nat_lt machine.now.state.regs.s v.s) visits.old.items }
+{
+    let s = machine.regs().s;
+    visits.retain(|visit| s < visit.s);
+}
+
+// Writes the rows of what the last step of a machine entered and left, and enters and leaves it.
+#[tactic(auto, using(a2_stream::proofs::Joined::broke_off, a2_stream::proofs::Joined::went_on))]
+fn put_step<A: Allocator, B: Allocator, W: Output>(
+    is_jsr: bool,
+    caller: u16,
+    s: u8,
+    program: &Program<B>,
+    machine: &Machine<A>,
+    visits: &mut Visits,
+    writer: &mut W,
+) -> Result<(), WriteFault>
+    requires { array_vec_len visits.old < 256 }
+    ensures rows { let d = machine.now.state in let now = begun caller s d in
+        SendsOrBreaks (W.taker writer.old) (W.taker writer.new) result
+        ((if is_jsr then tree.entered_row program.now (array_vec_len visits.old) now else [])
+        ++ tree.left_rows (Some d.regs.s) program.now d.steps d.cycles 0 (if is_jsr then visits.old.items ++ now ∷ [] else visits.old.items)) }
+    ensures visits { let d = machine.now.state in
+        IfOk result (λ _. visits.new.items ≡ filter (λ v. nat_lt d.regs.s v.s)
+        (if is_jsr then visits.old.items ++ begun caller s d ∷ [] else visits.old.items)) }
+{
+    enter_where(is_jsr, caller, s, program, machine, visits, writer)?;
+    put_left(Some(machine.regs().s), program, machine, visits, writer)?;
+    leave(machine, visits);
+    Ok(())
+}
+
+// Writes the rows of the routines that a run ended in, and the cause line, and answers the cause.
+#[tactic(auto, using(a2_stream::proofs::Joined::broke_off, a2_stream::proofs::Joined::went_on))]
+fn put_open<A: Allocator, B: Allocator, W: Output>(
+    cause: Cause,
+    program: &Program<B>,
+    machine: &Machine<A>,
+    visits: &Visits,
+    writer: &mut W,
+) -> Result<Cause, WriteFault>
+    ensures rows { let d = machine.now.state in
+        SendsOrBreaks (W.taker writer.old) (W.taker writer.new) result
+        (tree.left_rows None program.now d.steps d.cycles 0 visits.now.items ++ cause_line cause) }
+    ensures cause { IfOk result (λ told. told ≡ cause) }
+{
+    put_left(None, program, machine, visits, writer)?;
+    put_end(cause, writer)
+}
+
+// Makes the steps of a run from a machine's start, and writes its tree.
+fn draw_run<A: Allocator, B: Allocator, W: Output>(
+    machine: &mut Machine<A>,
+    limit: u32,
+    program: &Program<B>,
+    writer: &mut W,
+) -> Result<Cause, WriteFault>
+    requires { machine.old.state.steps ≡ 0 }
+    ensures { Draws program.now (code_of machine.old.state) (world_of_state machine.old.state) limit
+        (W.taker writer.old) (W.taker writer.new) result }
+{
+    let mut visits = Visits::new();
+    for _ in 0..limit {
+        let is_jsr = is_call(machine);
+        let before = machine.regs();
+        if let Some(cause) = machine.step() {
+            return put_open(cause, program, machine, &visits, writer);
+        }
+        put_step(
+            is_jsr,
+            before.pc,
+            before.s,
+            program,
+            machine,
+            &mut visits,
+            writer,
+        )?;
+    }
+    let cause = machine.run(0);
+    put_open(cause, program, machine, &visits, writer)
+}
+
+/// Assembles and runs a source with these keys waiting, and writes its routines as a tree: a row where a JSR enters one, with its
+/// address and name, and where the JSR stands; and a row where it is left, with the steps and cycles since, those of what it calls
+/// among them; at the end of the run such a row of each that was not left; then the cause line. Which routines there are
+/// [`a2_routines`] says; a service that is called is one. Each row is two blanks further right than that of the routine around it, up
+/// to 64. `limit` is the most steps, `free` runs without the guard. The cause is that of the run's end. Refused where the source is,
+/// where a write fails, and for want of memory. This project's profile.
+pub fn trace_calls<A: Allocator + Copy, W: Output>(
+    alloc: A,
+    source: &[u8],
+    keys: &Keys,
+    limit: u32,
+    free: bool,
+    writer: &mut W,
+) -> Result<Cause, RunFault>
+    ensures meaning { Answers (OfSource (IsRefused source.now)) (IsCallTreeOf source.now keys.now limit free)
+        (W.taker writer.old) (W.taker writer.new) result }
+    ensures no_reader { is_read_fault result ≡ false }
+{
+    let program = program_of(alloc, source)?;
+    let mut machine = started(alloc, &program, keys, free)?;
+    let cause = draw_run(&mut machine, limit, &program, writer)?;
+    Ok(cause)
+}
