@@ -2,7 +2,7 @@ pub mod Parts
 pub mod Reached
 pub mod Others
 pub mod Appending
-pub mod OneStep
+pub mod Storing
 pub mod Stepping
 pub mod Filming
 pub mod Following

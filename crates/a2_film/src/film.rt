@@ -19,7 +19,7 @@ use crate::chapters::Chapter;
 use crate::head::{put_chapters, put_opening, put_program, put_start};
 use crate::kept::{append_changes, keep_low, low_end};
 use crate::rows::{MOST_KEPT, Moment, Rows, append_listed, begin_row};
-use crate::steps::{make_step, stores_at_pc};
+use crate::stores::stores_at_pc;
 use a2_asm::Program;
 use a2_bus::Keys;
 use a2_film_page::{head, tail};
@@ -60,7 +60,7 @@ fn film_call<A: Allocator>(
     let end = low_end(service);
     keep_low(end, machine, ram);
     let page1 = *machine.view().page1;
-    if let Some(cause) = make_step(machine) {
+    if let Some(cause) = machine.step() {
         return Some(cause);
     }
     begin_row(rows, seen, machine);
@@ -84,7 +84,7 @@ fn film_instruction<A: Allocator>(
     // For the prover alone: all of RAM is there.
     let _ = machine.peek(0);
     let addresses = stores_at_pc(machine);
-    if let Some(cause) = make_step(machine) {
+    if let Some(cause) = machine.step() {
         return Some(cause);
     }
     begin_row(rows, seen, machine);
@@ -243,6 +243,7 @@ pub fn film_source<A: Allocator + Copy, W: Output>(
     let program = program_of(alloc, source)?;
     let texts = cut(alloc, source)?;
     let mut machine = started(alloc, &program, keys, free)?;
+    // (a run that ends before the window is filmed as it ends: its cause comes again behind the rows)
     let _ = go_on(&mut machine, window.from);
     let mut ram = blank_ram(alloc, usize::from(RAM_END))?;
     put_head(

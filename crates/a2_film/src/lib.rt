@@ -11,7 +11,7 @@ mod film;
 mod head;
 mod kept;
 mod rows;
-mod steps;
+mod stores;
 mod texts;
 
 pub use chapters::{Chapter, Place, ScriptFault, chapters_of};

@@ -11,7 +11,7 @@ use a2_stream::{Output, WriteFault, put};
 use a2_text::hex_pair;
 use arrayvec::ArrayVec;
 
-// The switches as a digit: 1 for text, 2 for mixed, 4 for page 2, 8 for high resolution.
+/// The switches as a digit: 1 for text, 2 for mixed, 4 for page 2, 8 for high resolution.
 pub fn switch_digit(switches: Switches) -> u8
     ensures value { result ≡ change.switch_digit switches }
     ensures digit { result < 16 }
@@ -22,7 +22,7 @@ pub fn switch_digit(switches: Switches) -> u8
         + 8 * u8::from(switches.hires)
 }
 
-// The hexadecimal digit of a number.
+/// The capital hexadecimal digit of a number below 16.
 pub fn hex_digit(number: u8) -> u8
     requires { number < 16 }
     ensures { result ≡ digit_of number }
@@ -61,7 +61,7 @@ fn put_plain<W: Output>(text: &[u8], writer: &mut W) -> Result<(), WriteFault>
     Ok(())
 }
 
-// Writes the digits of bytes.
+/// Writes the two capital hexadecimal digits of each byte.
 pub fn put_digits<W: Output>(bytes: &[u8], writer: &mut W) -> Result<(), WriteFault>
     ensures { SendsOrBreaks (W.taker writer.old) (W.taker writer.new) result (spelt.digits_of_bytes bytes.now) }
 {
@@ -71,7 +71,7 @@ pub fn put_digits<W: Output>(bytes: &[u8], writer: &mut W) -> Result<(), WriteFa
     Ok(())
 }
 
-// Writes a text as a plain one between two pieces.
+/// Writes `front`, any bytes of `text` as plain text, and `end`.
 #[tactic(auto, using(a2_stream::proofs::Joined::broke_off, a2_stream::proofs::Joined::went_on))]
 pub fn put_between<W: Output>(
     front: &[u8],

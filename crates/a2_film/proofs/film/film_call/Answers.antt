@@ -5,14 +5,14 @@ use Rattle.a2_film.proofs.Stepping.{row_of, service_row}
 use Rattle.a2_film.proofs.film.film_call.Goals as goal
 
 pub returns-in-Some-clause-step : goal.returns-in-Some-clause-step
-returns-in-Some-clause-step g c = (sym c.in-Some.is ∙ c.make_step.ensures.cause, c.in-Some.ensures.stuck, refl)
+returns-in-Some-clause-step g c = (sym c.in-Some.is ∙ c.step.ensures.cause, c.in-Some.ensures.stuck, refl)
 
 pub returns-clause-step : goal.returns-clause-step
 returns-clause-step g c = (
   c.in_default.ensures.cause,
   c.in_default.ensures.made,
   row_of _ _ _ _ _ _ _ c.push.ensures.items c.append_changes.ensures.stores c.begin_row.ensures.items
-      (service_row c.args.machine.now c.make_step.new.machine (seen_by c.args.seen.now) c.args.service c.keep_low.new.ram
+      (service_row c.args.machine.now c.step.new.self (seen_by c.args.seen.now) c.args.service c.keep_low.new.ram
       c.view.result.page1.now
       c.low_end-end.result c.requires.service c.in_default.ensures.made c.peek.ensures.size c.requires.seen
       c.low_end-end.ensures

@@ -1,7 +1,7 @@
 use Rattle.std.proofs.Common.{ap, sym}
 use Rattle.a2_cpu.specs.declared.Regs.{Regs}
-use Rattle.a2_film.proofs.OneStep.{no_byte-stores, no_row-stores, row-stores}
-use Rattle.a2_film.proofs.steps.may_store.Goals as goal
+use Rattle.a2_film.proofs.Storing.{no_byte-stores, no_row-stores, row-stores}
+use Rattle.a2_film.proofs.stores.may_store.Goals as goal
 
 pub returns-in_default : goal.returns-in_default
 returns-in_default g c = λ _.

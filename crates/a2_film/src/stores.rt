@@ -1,45 +1,18 @@
-//! One step of a machine, and where it stores.
+//! Where the instruction at PC stores.
 
-ghost use Rattle.std.specs.Prelude.{◌≡◌, ℕ, [], false, IfNone, IfSome};
+ghost use Rattle.std.specs.Prelude.{◌≡◌, ℕ, [], false};
 ghost use Rattle.a2_bus.specs.BusState.{board_access};
 ghost use Rattle.a2_cpu.specs.Code.{effect_stores};
 ghost use Rattle.a2_cpu.specs.Effect.{effect_of};
 ghost use Rattle.a2_cpu.specs.Place.{Place};
 ghost use Rattle.a2_cpu.specs.StepStores.{step_stores};
 ghost use Rattle.a2_cpu.specs.View.{before_step};
-ghost use Rattle.a2_machine.specs.State.{cause_of, IsStep};
 
-use a2_cpu::{Breakpoints, writes};
-use a2_machine::{Cause, Machine, Stop};
+use a2_cpu::writes;
+use a2_machine::Machine;
 use a2_opcode::{Mnemonic, row_of};
 use arrayvec::ArrayVec;
 use std::alloc::Allocator;
-
-// All addresses: a run to a breakpoint is then one step, with no burst begun behind it.
-struct Everywhere;
-
-impl Breakpoints for Everywhere {
-    ghost use Rattle.std.specs.Prelude.{true};
-
-    ghost is_breakpoint = { λ _ _. true };
-
-    #[inline(always)]
-    fn is_breakpoint(&self, _address: u16) -> bool {
-        true
-    }
-}
-
-/// Makes one step; or answers the cause that forbids it, and changes nothing.
-pub fn make_step<A: Allocator>(machine: &mut Machine<A>) -> Option<Cause>
-    ensures cause { result ≡ cause_of machine.old.state }
-    ensures made { IfNone result (IsStep machine.old machine.new) }
-    ensures stuck { IfSome result (λ _. machine.new ≡ machine.old) }
-{
-    match machine.run_to(1, &Everywhere) {
-        Stop::Breakpoint => None,
-        Stop::Cause(cause) => Some(cause),
-    }
-}
 
 // Whether instructions of this mnemonic store.
 #[tactic(auto, unfolding(a2_cpu::specs::Effect::effect_of))]

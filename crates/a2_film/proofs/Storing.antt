@@ -1,4 +1,4 @@
--- One step of a machine, and where it stores.
+-- What an opcode tells of stores.
 use Rattle.std.proofs.Common.{◌≡◌, ◌⊎◌, ℕ, ◌-◌, ◌<◌, List, [], Option, Some, None, true, false, refl, sym, ap, ◌∙◌}
 use Rattle.std.proofs.Common.{inl, inr, arith, true≢false, length, ◌+◌}
 use Rattle.a2_opcode.specs.declared.Row.{Row}
@@ -16,63 +16,7 @@ use Rattle.a2_cpu.specs.StepStores.{none_if, stores_at, step_stores}
 use Rattle.a2_cpu.specs.View.{before_step}
 use Rattle.a2_cpu.specs.declared.Regs.{Regs}
 use Rattle.a2_cpu.proofs.EffectStores.{stores_of-is}
-use Rattle.a2_machine.specs.declared.Cause.{Cause}
-use Rattle.a2_machine.specs.declared.Cause.TheVariants.{Limit}
-use Rattle.a2_machine.specs.declared.Stop.TheVariants as stop
-use Rattle.a2_machine.specs.Meaning.{stuck, world_at}
-use Rattle.a2_machine.specs.State.{Device, world_of_state, code_of, cause_of, most_steps, steps_left, raised_by, IsStep, IsRunTo}
 use Rattle.a2_machine.proofs.Outcomes.{fetched-world}
-use Rattle.a2_machine.proofs.Making.{cause_told, cause_none, cause_limit}
-
--- A run to a breakpoint, where each address is one
-
-pub one_step-made : (old new : Device) → IsRunTo (λ _. true) 1 old new stop.Breakpoint → (None ≡ cause_of old.state)
-    × IsStep old new
-unfolding world_at
-one_step-made old new run =
-    let (some, few, steps) = run.ends in
-    let one : new.state.steps - old.state.steps ≡ 1 = omega (arith, some, few) in
-    let low : old.state.steps < most_steps = omega (arith, some, few) in
-    let world = world_of_state old.state in (
-      cause_none old (steps.going 0 some) low,
-      record {
-        world = steps.reached ∙ ap (world_at (code_of old.state) world) one;
-        steps = omega (arith, steps.steps, one);
-        guard = steps.guard;
-        picture = steps.picture;
-        made = steps.made ∙ ap (raised_by old.made) one;
-      },
-    )
-
-pub one_step-stuck : (old new : Device) (cause : Cause) → IsRunTo (λ _. true) 1 old new (stop.Cause cause)
-    → (Some cause ≡ cause_of old.state) × (new ≡ old)
-one_step-stuck old new cause run = (why run.ends.end.cause, same)
-  where
-    split : (n : ℕ) → (n ≡ 0) ⊎ (0 < n)
-    split n = grind arith
-
-    none-made : (new.state.steps - old.state.steps ≡ 0) ⊎ (0 < new.state.steps - old.state.steps)
-        → new.state.steps - old.state.steps ≡ 0
-    none-made (inl none) = none
-    none-made (inr some) = absurd (true≢false (run.last some))
-
-    none : new.state.steps - old.state.steps ≡ 0
-    none = none-made (split (new.state.steps - old.state.steps))
-
-    same : new ≡ old
-    same = run.ends.none (omega (arith, none, run.ends.more))
-
-    here : stuck (code_of old.state) (world_of_state new.state) ≡ stuck (code_of old.state) (world_of_state old.state)
-    here = ap (λ (d : Device). stuck (code_of old.state) (world_of_state d.state)) same
-
-    why : (stuck (code_of old.state) (world_of_state new.state) ≡ Some cause)
-        ⊎ ((stuck (code_of old.state) (world_of_state new.state) ≡ None)
-        × (new.state.steps - old.state.steps ≡ steps_left 1 old.state) × (cause ≡ Limit)) → Some cause ≡ cause_of old.state
-    why (inl is) = cause_told old cause (sym here ∙ is)
-    why (inr (free, most, is)) =
-        ap Some is ∙ cause_limit old (sym here ∙ free) (omega (arith, none, most))
-
--- What an opcode tells of stores
 
 none_if-nothing : (why : Option Refusal) → none_if why [] ≡ []
 none_if-nothing (Some why) = refl
