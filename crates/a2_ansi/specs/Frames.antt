@@ -1,5 +1,5 @@
--- What is written of all that a terminal of 24 rows of 80 columns shows: the cells that changed. This project's profile.
-use Rattle.std.specs.Prelude.{ℕ, ◌+◌, ◌/◌, ◌%◌, Bool, false, List, [], ◌++◌, replicate, slice_index_or, if◌then◌else◌, Option, Some, None}
+-- What is written of all that a terminal shows, of at most 64 rows of 255 columns: the cells that changed. This project's profile.
+use Rattle.std.specs.Prelude.{ℕ, ◌+◌, ◌*◌, Bool, false, List, [], ◌++◌, replicate, slice_index_or, if◌then◌else◌, Option, Some, None}
 use Rattle.std.specs.List.{flat_map}
 use Rattle.std.specs.Fmt.{decimal}
 use Rattle.a2_page.specs.Cells.{numbers_from}
@@ -10,23 +10,26 @@ use Rattle.a2_ansi.specs.Tiles.{is_same}
 use Rattle.a2_ansi.specs.Written.{place_text, tile_text}
 
 abbrev pub blank : List Tile
-blank = replicate 1920 (Letter 0x20)
+blank = replicate 16_320 (Letter 0x20)
 
--- a cell by its number, row by row
-abbrev pub cell : List Tile → ℕ → Tile
-cell tiles at = slice_index_or tiles at (Letter 0x20)
+-- a cell by its row and column; a row has room for 255
+abbrev pub cell : List Tile → ℕ → ℕ → Tile
+cell tiles row column = slice_index_or tiles (255 * row + column) (Letter 0x20)
 
 -- a cell showed the same before
-abbrev pub is_kept : Option (List Tile) → ℕ → Tile → Bool
-is_kept None at tile = false
-is_kept (Some before) at tile = is_same (cell before at) tile
+abbrev pub is_kept : Option (List Tile) → ℕ → ℕ → Tile → Bool
+is_kept None row column tile = false
+is_kept (Some before) row column tile = is_same (cell before row column) tile
 
 -- a cell that changed: its place, and what it shows
-abbrev pub cell_text : Option (List Tile) → List Tile → Colours → ℕ → List ℕ
-cell_text before after colours at =
-    if is_kept before at (cell after at) then []
-    else place_text (decimal (at / 80 + 1)) (decimal (at % 80 + 1)) ++ tile_text colours (cell after at)
+abbrev pub cell_text : Option (List Tile) → List Tile → Colours → ℕ → ℕ → List ℕ
+cell_text before after colours row column =
+    if is_kept before row column (cell after row column) then []
+    else place_text (decimal (row + 1)) (decimal (column + 1)) ++ tile_text colours (cell after row column)
 
--- all of them
-unfoldable pub frame_text : Option (List Tile) → List Tile → Colours → List ℕ
-frame_text before after colours = flat_map (cell_text before after colours) (numbers_from 0 1920)
+-- those of a row, from the left, and of all rows, from the top
+unfoldable pub row_text : Option (List Tile) → List Tile → Colours → ℕ → ℕ → List ℕ
+row_text before after colours columns row = flat_map (cell_text before after colours row) (numbers_from 0 columns)
+
+unfoldable pub frame_text : Option (List Tile) → List Tile → Colours → ℕ → ℕ → List ℕ
+frame_text before after colours rows columns = flat_map (row_text before after colours columns) (numbers_from 0 rows)

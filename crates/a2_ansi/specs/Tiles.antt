@@ -1,5 +1,5 @@
 -- What a cell of the terminal shows. Apple II Reference Manual (1979), pages 12 to 18.
-use Rattle.std.specs.Prelude.{ℕ, Bool, true, false, nat_le, ◌==◌, ◌&&◌, if◌then◌else◌}
+use Rattle.std.specs.Prelude.{ℕ, Bool, false, nat_le, ◌==◌, ◌&&◌, if◌then◌else◌}
 use Rattle.a2_page.specs.declared.Switches.{Switches}
 use Rattle.a2_page.specs.declared.Half.TheVariants.{Above, Below}
 use Rattle.a2_page.specs.declared.Attribute.{Attribute}

@@ -21,8 +21,8 @@ fn put_digits<W: Output>(row: &[u8], column: &[u8], writer: &mut W) -> Result<()
 
 // Moves the terminal's cursor to a cell.
 fn put_place<W: Output>(row: u8, column: u8, writer: &mut W) -> Result<(), WriteFault>
-    requires row { row < 24 }
-    requires column { column < 80 }
+    requires row { row < 255 }
+    requires column { column < 255 }
     ensures { SendsOrBreaks (W.taker writer.old) (W.taker writer.new) result
         (written.place_text (decimal_of (row + 1)) (decimal_of (column + 1))) }
 {
@@ -52,8 +52,8 @@ pub(crate) fn put_placed<W: Output>(
     colours: Colours,
     writer: &mut W,
 ) -> Result<(), WriteFault>
-    requires row { row < 24 }
-    requires column { column < 80 }
+    requires row { row < 255 }
+    requires column { column < 255 }
     ensures { SendsOrBreaks (W.taker writer.old) (W.taker writer.new) result
         (written.place_text (decimal_of (row + 1)) (decimal_of (column + 1)) ++ written.tile_text colours tile) }
 {

@@ -9,6 +9,6 @@ mod tiles;
 
 pub use changes::put_changes;
 pub use colours::{Colours, put_tile};
-pub use frame::{Frame, put_frame};
+pub use frame::{Frame, MOST_COLUMNS, MOST_ROWS, put_frame};
 pub use shot::Shot;
 pub use tiles::{Tile, tile_of};

@@ -1,5 +1,5 @@
 -- What typed bytes make of a line and its history. This project's profile.
-use Rattle.std.specs.Prelude.{ℕ, ◌+◌, ◌-◌, ◌==◌, nat_lt, nat_le, List, [], length, take, if◌then◌else◌, Option, Some, None}
+use Rattle.std.specs.Prelude.{ℕ, ◌+◌, ◌-◌, ◌==◌, nat_lt, List, [], length, take, if◌then◌else◌, Option, Some, None}
 use Rattle.a2_edit.specs.declared.keys.Key.{Key}
 use Rattle.a2_edit.specs.declared.keys.Key.TheVariants as key
 use Rattle.a2_edit.specs.declared.keys.Sequence.{Sequence}

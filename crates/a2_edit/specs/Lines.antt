@@ -1,5 +1,5 @@
 -- A line that is edited, and what keys make of it. This project's profile.
-use Rattle.std.specs.Prelude.{ℕ, zero, suc, ◌+◌, ◌-◌, ◌==◌, nat_lt, nat_le, Bool, true, false, not, List, [], ◌++◌, length, take, drop, insert, remove, slice_index, if◌then◌else◌}
+use Rattle.std.specs.Prelude.{ℕ, zero, suc, ◌+◌, ◌==◌, nat_lt, Bool, true, false, not, List, [], ◌++◌, length, take, drop, insert, remove, slice_index, if◌then◌else◌}
 use Rattle.a2_text.specs.Bytes.{is_blank}
 
 -- a line, and how many of its bytes stand before the cursor

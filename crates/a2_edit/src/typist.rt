@@ -4,6 +4,7 @@ ghost use Rattle.std.specs.Prelude.{◌≡◌, ◌++◌, ◌∷◌, [], take};
 
 use crate::drawing::put_line;
 use crate::editor::{Act, Editor};
+use crate::keys::{Sequence, hear};
 use crate::line::MOST_BYTES;
 use a2_stream::{Input, Output, ReadFault, put};
 use arrayvec::ArrayVec;
@@ -11,6 +12,9 @@ use std::cell::Cell;
 
 /// A line and its end.
 type Given = ArrayVec<u8, 256>;
+
+/// Bytes of a terminal that were read together, and not looked at yet: as many as the longest key has.
+type Ahead = ArrayVec<u8, 8>;
 
 /// What makes a terminal's screen blank, and what rings its bell.
 const CLEAR: &[u8] = b"\x1B[H\x1B[2J";
@@ -30,14 +34,18 @@ pub struct Console<'a, R, E> {
     pub columns: &'a Cell<usize>,
     /// The line that Ctrl-L gives where none is begun; without it Ctrl-L draws all again.
     pub by_clear: Option<&'static [u8]>,
+    /// Whether what is typed next is a key, and begins no line, as whoever answers the lines says it: the bytes that the terminal gives
+    /// for the key are then given as a line, without what stands for a line's end. Without it all is lines.
+    pub keys: Option<&'a Cell<bool>>,
 }
 
 /// An input of lines that are edited at a terminal. A read gives a byte of the line that was ended by Return, or its line feed; one
-/// that finds none left waits for the next line. There are no more behind Ctrl-D on an empty line, and where the terminal
-/// gives none. A write that fails is not told: the line is read all the same.
+/// that finds none left shows the prompt, and waits for the next line. There are no more behind Ctrl-D on an empty line, and where the
+/// terminal gives none; a line feed is shown then. A write that fails is not told: the line is read all the same.
 #[derive(Drop)]
 pub struct Typist<'a, R, E> {
     console: Console<'a, R, E>,
+    ahead: Ahead,
     editor: Editor,
     given: Given,
     sent: usize,
@@ -96,17 +104,30 @@ fn follow<R, E: Output>(
     None
 }
 
+// The next byte that is typed, if there is one.
+fn typed_byte<R: Input>(reader: &mut R, ahead: &mut Ahead) -> Result<Option<u8>, ReadFault> {
+    if let Some(byte) = ahead.pop_at(0) {
+        return Ok(Some(byte));
+    }
+    let mut byte = [0u8; 1];
+    match reader.read(&mut byte)? {
+        0 => Ok(None),
+        _ => Ok(Some(byte[0])),
+    }
+}
+
 // The next line that is typed, if there is one.
 fn typed_line<R: Input, E: Output>(
     console: &mut Console<'_, R, E>,
+    ahead: &mut Ahead,
     editor: &mut Editor,
 ) -> Result<Option<Given>, ReadFault> {
+    draw(console, editor);
     for _ in 0..u64::MAX {
-        let mut byte = [0u8; 1];
-        if console.reader.read(&mut byte)? == 0 {
+        let Some(byte) = typed_byte(console.reader, ahead)? else {
             break;
-        }
-        let act = editor.press(byte[0]);
+        };
+        let act = editor.press(byte);
         if act == Act::Leave {
             break;
         }
@@ -115,7 +136,49 @@ fn typed_line<R: Input, E: Output>(
             return Ok(given);
         }
     }
+    let _ = put(b"\n", console.echo);
     Ok(None)
+}
+
+// Reads what the terminal gives at once, where nothing is left.
+fn look_ahead<R: Input>(reader: &mut R, ahead: &mut Ahead) -> Result<(), ReadFault> {
+    if ahead.is_empty() {
+        let mut bytes = [0u8; 8];
+        let count = reader.read(&mut bytes)?;
+        ahead.try_extend_from_slice(&bytes[..count]).unwrap();
+    }
+    Ok(())
+}
+
+// The bytes of the next key that is typed, as a line; none where there is none.
+fn typed_key<R: Input>(reader: &mut R, ahead: &mut Ahead) -> Result<Option<Given>, ReadFault> {
+    look_ahead(reader, ahead)?;
+    let mut given = Given::new();
+    let mut sequence = Sequence::Plain;
+    for _ in 0..ahead.len() {
+        let Some(byte) = ahead.pop_at(0) else {
+            break;
+        };
+        given.push(byte);
+        sequence = hear(sequence, byte).next;
+        if sequence == Sequence::Plain {
+            break;
+        }
+    }
+    match given.as_slice() {
+        [] => return Ok(None),
+        [b'\n'] => {}
+        _ => given.push(b'\n'),
+    }
+    Ok(Some(given))
+}
+
+// Whether what is typed next is a key.
+fn takes_keys(keys: Option<&Cell<bool>>) -> bool {
+    match keys {
+        Some(keys) => keys.get(),
+        None => false,
+    }
 }
 
 impl<'a, R: Input, E: Output> Typist<'a, R, E> {
@@ -123,6 +186,7 @@ impl<'a, R: Input, E: Output> Typist<'a, R, E> {
     pub fn new(console: Console<'a, R, E>, editor: Editor) -> Typist<'a, R, E> {
         Typist {
             console,
+            ahead: Ahead::new(),
             editor,
             given: Given::new(),
             sent: 0,
@@ -142,7 +206,12 @@ impl<R: Input, E: Output> Input for Typist<'_, R, E> {
             return Ok(0);
         };
         if self.sent >= self.given.len() {
-            match typed_line(&mut self.console, &mut self.editor) {
+            let typed = if takes_keys(self.console.keys) {
+                typed_key(self.console.reader, &mut self.ahead)
+            } else {
+                typed_line(&mut self.console, &mut self.ahead, &mut self.editor)
+            };
+            match typed {
                 Ok(Some(given)) => self.given = given,
                 Ok(None) => return Ok(0),
                 Err(fault) => {

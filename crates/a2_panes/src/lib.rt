@@ -2,7 +2,9 @@
 //! each line.
 #![tactic(auto)]
 
+mod layout;
 mod paint;
 mod panes;
 
+pub use layout::{LEAST_COLUMNS, LEAST_ROWS};
 pub use panes::{Panes, Wall};

@@ -1,35 +1,36 @@
 //! Panes over the whole terminal, behind each line that is answered.
 
-ghost use Rattle.std.specs.Prelude.{◌≡◌, ◌↔◌, true, List, ℕ};
+ghost use Rattle.std.specs.Prelude.{◌≡◌, ◌<◌, ◌↔◌, true, List, ℕ};
 ghost use Rattle.a2_stream.specs.Stream.{SendsOrBreaks};
 ghost use Rattle.a2_inspect.specs.Inspections.{IsAnswered};
 ghost use Rattle.a2_talk.specs.Turns.{RepliesTo};
 ghost use Rattle.a2_panes.specs.Panes.{IsPanes};
 
-use crate::paint::{LEFT, painted};
+use crate::layout::Layout;
+use crate::paint::painted;
 use a2_ansi::{Colours, Frame, put_frame};
 use a2_inspect::Inspector;
 use a2_places::span_of;
-use a2_stream::{Output, ToWrite, WriteFault, put};
+use a2_stream::{Output, ToWrite, WriteFault, put, put_all};
 use a2_talk::Partner;
-use a2_text::{capital, first_word};
+use a2_text::{capital, decimal, first_word};
 use std::alloc::Global;
 use std::cell::Cell;
 
-/// What puts a terminal's other screen up, what takes it down, and what makes room for a prompt in its row 23.
+/// What puts a terminal's other screen up, and what takes it down.
 const ENTER: &[u8] = b"\x1B[?1049h\x1B[2J";
 
 const LEAVE: &[u8] = b"\x1B[0m\x1B[?1049l\r\x1B[K";
 
-const PROMPT: &[u8] = b"\x1B[0m\x1B[24;1H\x1B[39X\x1B[23;1H\x1B[39X";
-
 const TOO_SMALL: &[u8] =
     b"panes want a terminal of 80 columns of 24 rows or more, begun by a2x-debug\n";
 
-/// Where panes are drawn: the columns in which lines are edited, how many those are without panes, and the terminal's colours.
+/// Where panes are drawn: the columns in which lines are edited, the terminal's rows and columns, and its colours. Of more than 64 rows or
+/// 255 columns the first are taken.
 #[derive(Clone, Copy)]
 pub struct Wall<'a> {
     pub columns: &'a Cell<usize>,
+    pub rows: usize,
     pub all: usize,
     pub colours: Colours,
 }
@@ -83,11 +84,28 @@ fn aim_of(inspector: &Inspector<'_>, line: &[u8]) -> Option<u16> {
     Some(span_of(inspector.program(), place)?.first)
 }
 
+// Makes the left of a row blank, and puts the terminal's cursor there.
+fn put_blank<W: Output>(layout: &Layout, row: u8, writer: &mut W) -> Result<(), WriteFault>
+    requires { row < 64 }
+{
+    put_all(
+        &[
+            b"\x1B[0m\x1B[",
+            decimal(u64::from(row + 1)).as_slice(),
+            b";1H\x1B[",
+            decimal(u64::from(layout.left())).as_slice(),
+            b"X",
+        ],
+        writer,
+    )
+}
+
 // What a frame makes of a terminal that shows another, with room for the prompt. Refused only for want of memory.
 fn drawn(
     alloc: Global,
     before: &Option<Frame>,
     frame: &Frame,
+    layout: &Layout,
     colours: Colours,
 ) -> Result<Vec<u8>, WriteFault> {
     let mut bytes = Vec::new(alloc);
@@ -95,8 +113,16 @@ fn drawn(
     if before.is_none() {
         put(ENTER, &mut writer)?;
     }
-    put_frame(before, frame, colours, &mut writer)?;
-    put(PROMPT, &mut writer)?;
+    put_frame(
+        before,
+        frame,
+        layout.rows(),
+        layout.columns(),
+        colours,
+        &mut writer,
+    )?;
+    put_blank(layout, layout.prompt() + 1, &mut writer)?;
+    put_blank(layout, layout.prompt(), &mut writer)?;
     Ok(bytes)
 }
 
@@ -132,8 +158,9 @@ impl<'a, 'b> Panes<'a, 'b> {
         let Some(wall) = self.wall else {
             return put(TOO_SMALL, writer);
         };
-        let frame = painted(&self.inspector, self.aim, answer);
-        match drawn(self.alloc, &self.frame, &frame, wall.colours) {
+        let layout = Layout::of(wall.rows, wall.all);
+        let frame = painted(&self.inspector, &layout, self.aim, answer);
+        match drawn(self.alloc, &self.frame, &frame, &layout, wall.colours) {
             Ok(bytes) => {
                 self.frame = Some(frame);
                 put(bytes.as_slice(), writer)
@@ -151,7 +178,8 @@ impl<'a, 'b> Panes<'a, 'b> {
             return self.leave(writer);
         }
         if let Some(wall) = self.wall {
-            wall.columns.set(usize::from(LEFT));
+            let layout = Layout::of(wall.rows, wall.all);
+            wall.columns.set(usize::from(layout.left()));
             self.is_up = true;
         }
         self.draw(b"panes, or Ctrl-L, takes these down", writer)

@@ -1,5 +1,4 @@
 pub mod Paces
 pub mod Played
-pub mod Strokes
 pub mod Records
 pub mod Replays

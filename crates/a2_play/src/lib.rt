@@ -10,7 +10,6 @@ mod player;
 mod record;
 mod session;
 mod spelling;
-mod strokes;
 
 pub use clock::Clock;
 pub use pace::{Pace, due};
@@ -18,7 +17,6 @@ pub use player::Player;
 pub use record::{Record, RecordFault, put_record, record_of};
 pub use session::{Session, play};
 pub use spelling::put_keys;
-pub use strokes::{Order, Stroke, first_stroke};
 
 /// Two plays of a program with the same keys, typed behind the same steps, stand at the same world behind as many steps: so a replay
 /// shows what the play did.

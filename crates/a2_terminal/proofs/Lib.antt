@@ -1,0 +1,4 @@
+pub mod Looks
+pub mod Runs
+pub mod Tells
+pub mod Waiting

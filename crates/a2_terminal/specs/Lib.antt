@@ -1,1 +1,5 @@
+pub mod Screens
+pub mod Presses
+pub mod Calls
 pub mod Monitors
+pub mod Waits

@@ -1,9 +1,9 @@
 -- What typed bytes say. This project's profile; the codes of keys: Apple II Reference Manual (1979), page 7.
 use Rattle.std.specs.Prelude.{ℕ, Bool, true, false, List, [], ◌∷◌, Option, Some, None, ◌<◌, ◌==◌, nat_le, ◌&&◌, ◌||◌, if◌then◌else◌}
 use Rattle.a2_text.specs.Bytes.{capital, is_between}
-use Rattle.a2_play.specs.declared.strokes.Stroke.{Stroke}
-use Rattle.a2_play.specs.declared.strokes.Stroke.TheVariants.{Key, Prefix, Order, Nothing}
-use Rattle.a2_play.specs.declared.strokes.Order.TheVariants as order
+use Rattle.a2_strokes.specs.declared.strokes.Stroke.{Stroke}
+use Rattle.a2_strokes.specs.declared.strokes.Stroke.TheVariants.{Key, Prefix, Order, Nothing}
+use Rattle.a2_strokes.specs.declared.strokes.Order.TheVariants as order
 
 -- the first thing that bytes say, and those behind it
 pub record First : Type 0 where

@@ -1,7 +1,7 @@
 //! What typed bytes say.
 
 ghost use Rattle.std.specs.Prelude.{◌≡◌, ◌<◌, Some, [], length, IfSome, IfNone};
-ghost use Rattle.a2_play.specs.Strokes as strokes;
+ghost use Rattle.a2_strokes.specs.Strokes as strokes;
 
 use a2_text::capital;
 
