@@ -2,6 +2,7 @@
 
 ghost use Rattle.std.specs.Prelude.{◌≤◌, IfErr};
 
+use crate::named::file_in;
 use crate::program::{behind, refused, tell, tell_number, tell_value};
 use crate::table::Word;
 use crate::tools::told;
@@ -43,6 +44,20 @@ pub fn order_in<'a, E: Output>(
 {
     match order_of(words) {
         Ok(order) => Ok(order),
+        Err(fault) => Err(refused(word, behind(words), fault, complaints)),
+    }
+}
+
+/// The file that words name alone, none and `-` for the standard input; or the status, where their fault is told.
+pub fn named_file<'a, E: Output>(
+    word: &Word,
+    words: &'a [String],
+    complaints: &mut E,
+) -> Result<Option<&'a str>, u8>
+    ensures { IfErr result (λ status. status ≤ 5) }
+{
+    match file_in(words) {
+        Ok(file) => Ok(file),
         Err(fault) => Err(refused(word, behind(words), fault, complaints)),
     }
 }

@@ -12,7 +12,7 @@ use crate::words::Order;
 use a2_host::Shelf;
 use a2_inspect::Inspector;
 use a2_options::{Kind, Row};
-use a2_panes::{Panes, Wall};
+use a2_panes::{LEAST_COLUMNS, LEAST_ROWS, Panes, Wall};
 use a2_stream::{Input, Output};
 use std::alloc::Global;
 use std::cell::Cell;
@@ -33,17 +33,15 @@ static DEBUG_OPTIONS: [Row; 3] = [
     },
 ];
 
-// The rows and columns of panes.
-const ROWS: u16 = 24;
-
-const COLUMNS: u16 = 80;
-
 // Where panes can be drawn, if the terminal has room for them.
 fn wall_of(terminal: Option<Terminal>, columns: Option<&Cell<usize>>) -> Option<Wall<'_>> {
     match (terminal, columns) {
-        (Some(terminal), Some(columns)) if terminal.rows >= ROWS && terminal.columns >= COLUMNS => {
+        (Some(terminal), Some(columns))
+            if terminal.rows >= u16::from(LEAST_ROWS)
+                && terminal.columns >= u16::from(LEAST_COLUMNS) => {
             Some(Wall {
                 columns,
+                rows: usize::from(terminal.rows),
                 all: usize::from(terminal.columns),
                 colours: terminal.colours,
             })
@@ -111,6 +109,7 @@ fn debug<R: Input, W: Output, E: Output>(
         },
         columns: columns.as_ref(),
         has_panes: wall.is_some(),
+        keys: None,
     };
     match Inspector::new(alloc, source, &order.keys, order.free, order.limit) {
         Ok(inspector) => debug_in(

@@ -75,7 +75,11 @@ are left for which all of them hold:
   --last N       of these the last N
 
 P is $300, a name of F, or either with a number behind it, as NAME+2; P..P
-may be one place alone.
+may be one place alone. In place of these:
+
+  --calls        the routines as a tree: CALL where one is entered, and from
+                 where; BACK where it is left, with its steps and cycles and
+                 those of what it calls; OPEN where the run ended in it
 ";
 
 // The options that `profile` alone has.

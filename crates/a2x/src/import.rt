@@ -3,7 +3,7 @@
 ghost use Rattle.std.specs.Prelude.{◌≡◌, ◌≤◌};
 ghost use Rattle.a2x.specs.Imports.{ShowsRows};
 
-use crate::named::is_file;
+use crate::named::{is_file, option_at_end};
 use crate::tools::told;
 use a2_hex::HexFault;
 use a2_import::{
@@ -65,16 +65,10 @@ fn file_of(words: &[String]) -> Result<Option<&str>, ImportWordsFault<'_>> {
 
 /// What the words behind `import` ask for: `--from` with its value may stand before the file or behind it.
 pub fn import_order(words: &[String]) -> Result<ImportOrder<'_>, ImportWordsFault<'_>> {
-    let (from, files) = match words {
-        [option, name, files @ ..] if option.as_str() == "--from" => (
-            from_named(name.as_str())?,
-            files,
-        ),
-        [files @ .., option, name] if option.as_str() == "--from" => (
-            from_named(name.as_str())?,
-            files,
-        ),
-        _ => (None, words),
+    let (name, files) = option_at_end("--from", words);
+    let from = match name {
+        Some(name) => from_named(name)?,
+        None => None,
     };
     let file = file_of(files)?;
     Ok(ImportOrder { from, file })

@@ -31,12 +31,13 @@ pub enum Prompt {
 }
 
 /// How the lines of a session are typed: a prompt before each, and, where the terminal gives each byte, in how many columns of a
-/// row they are edited, and whether Ctrl-L gives the line `panes`.
+/// row they are edited, whether Ctrl-L gives the line `panes`, and whether a key is typed in place of a line.
 #[derive(Clone, Copy)]
 pub struct Lines<'a> {
     pub prompt: Prompt,
     pub columns: Option<&'a Cell<usize>>,
     pub has_panes: bool,
+    pub keys: Option<&'a Cell<bool>>,
 }
 
 // The bytes of a prompt.
@@ -112,7 +113,9 @@ pub fn talked<P: Partner, R: Input, W: Output, E: Output>(
         prompt,
         columns,
         by_clear: line_by_clear(lines.has_panes),
+        keys: lines.keys,
     };
-    let answer = talk(partner, prompt, &mut Typist::new(console, editor), output);
+    // The prompt is drawn with the line.
+    let answer = talk(partner, b"", &mut Typist::new(console, editor), output);
     ended(answer, complaints)
 }

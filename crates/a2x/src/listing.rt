@@ -4,9 +4,8 @@ ghost use Rattle.std.specs.Prelude.{◌≡◌, ◌≤◌, codes, IfOk, IfErr};
 ghost use Rattle.std.specs.List.{list_any};
 ghost use Rattle.std.specs.Str.{bytes_eq};
 
-use crate::asked::held_in;
-use crate::named::file_in;
-use crate::program::{behind, refused, text_of};
+use crate::asked::{held_in, named_file};
+use crate::program::text_of;
 use crate::table::Word;
 use crate::tools::list;
 use a2_host::Shelf;
@@ -64,11 +63,7 @@ pub fn list_of<S: Shelf, R: Input, W: Output, E: Output>(
     ensures refused { IfErr result (λ status. status ≤ 5) }
 {
     let held = held_in(alloc, word, &LIST_OPTIONS, words, complaints)?;
-    let others = held.others.as_slice();
-    let file = match file_in(others) {
-        Ok(file) => file,
-        Err(fault) => return Err(refused(word, behind(others), fault, complaints)),
-    };
+    let file = named_file(word, held.others.as_slice(), complaints)?;
     let text = text_of(alloc, file, shelf, input, complaints)?;
     let shown = shown_by(held.found.as_slice());
     Ok(list(alloc, text.as_slice(), shown, output, complaints))

@@ -7,6 +7,7 @@ ghost use Rattle.std.specs.Io.KnownBytes.{Keeps};
 ghost use Rattle.a2_run.specs.declared.fault.RunFault.TheVariants.{Write as WriteFails};
 
 mod asked;
+mod checking;
 mod clock;
 mod debugging;
 mod film;

@@ -6,7 +6,6 @@ ghost use Rattle.a2x.specs.Named.{IsFile, IsNamed};
 ghost use Rattle.a2x.specs.declared.words.WordsFault.TheVariants.{Words};
 
 use crate::words::WordsFault;
-use a2_check::Format;
 
 /// Whether a word names a file: one that does not begin with `-`, or a single `-`, which names the standard input.
 pub fn is_file(word: &str) -> bool
@@ -39,18 +38,8 @@ pub fn file_in(words: &[String]) -> Result<Option<&str>, WordsFault>
     }
 }
 
-// The format of this name.
-fn format_named(name: &str) -> Result<Format, WordsFault> {
-    match name {
-        "short" => Ok(Format::Short),
-        "json" => Ok(Format::Json),
-        "long" => Ok(Format::Long),
-        _ => Err(WordsFault::Words),
-    }
-}
-
-// Refuses a word that names no file, but for one behind `--`.
-fn files_in(words: &[String]) -> Result<&[String], WordsFault> {
+/// The files that words name. Refused is a word that names none, but for one behind `--`.
+pub fn files_in(words: &[String]) -> Result<&[String], WordsFault> {
     match words {
         [end, files @ ..] if end.as_str() == "--" && files.len() == 1 => return Ok(files),
         _ => {}
@@ -63,17 +52,11 @@ fn files_in(words: &[String]) -> Result<&[String], WordsFault> {
     Ok(words)
 }
 
-/// The format that words ask for, and the files that they name; without one the standard input is meant. `--format` with its
-/// value may stand before the files or behind them. The first word says what is done.
-pub fn check_order(words: &[String]) -> Result<(Format, &[String]), WordsFault> {
+/// The value of an option that stands before it, first or last among words, and the other words.
+pub fn option_at_end<'a>(option: &str, words: &'a [String]) -> (Option<&'a str>, &'a [String]) {
     match words {
-        [] => Ok((Format::Long, words)),
-        [_, option, format, files @ ..] if option.as_str() == "--format" => {
-            Ok((format_named(format.as_str())?, files_in(files)?))
-        }
-        [_, files @ .., option, format] if option.as_str() == "--format" => {
-            Ok((format_named(format.as_str())?, files_in(files)?))
-        }
-        [_, files @ ..] => Ok((Format::Long, files_in(files)?)),
+        [first, value, others @ ..] if first.as_str() == option => (Some(value.as_str()), others),
+        [others @ .., last, value] if last.as_str() == option => (Some(value.as_str()), others),
+        _ => (None, words),
     }
 }

@@ -4,11 +4,13 @@ ghost use Rattle.std.specs.Prelude.{◌≤◌};
 
 use crate::import::tell_of_line;
 use crate::tools::told;
+use a2_asm::Program;
 use a2_notes::{Kind, Note, notes_of};
 use a2_run::RunFault;
 use a2_stream::Output;
+use a2_syntax::Source;
 use a2_text::cut;
-use std::alloc::Global;
+use std::alloc::Allocator;
 
 // What is told of a kind, and what to do.
 fn text_of(kind: Kind) -> &'static [u8] {
@@ -21,6 +23,8 @@ fn text_of(kind: Kind) -> &'static [u8] {
             b"this reads a byte that no line stores; # before the number makes it the number: ",
         Kind::RunsOut => b"no instruction stands behind this one; end with RTS, or go on by JMP: ",
         Kind::Circle => b"this jumps to itself, and never ends; RTS ends a run: ",
+        Kind::Plain =>
+            b"a character between ' ' shows inverse or flashing; between \" \" it shows as it is: ",
     }
 }
 
@@ -36,24 +40,32 @@ fn tell_note<E: Output>(name: &str, note: Note, line: &[u8], complaints: &mut E)
     )
 }
 
-/// Tells the notes of a source with this name, a line each; the status. A source that is refused has none.
-pub fn tell_source_notes<E: Output>(
-    alloc: Global,
+// Tells these notes of a source with this name and these lines.
+fn tell_notes<E: Output>(name: &str, notes: &[Note], texts: &[&[u8]], complaints: &mut E) {
+    for note in notes {
+        let line = note.line.checked_sub(1).and_then(|i| texts.get(i).copied());
+        tell_note(name, *note, line.unwrap_or(b""), complaints);
+    }
+}
+
+/// Tells the notes of a source with this name, a line each, by what its lines say and the program that they make; the status.
+pub fn tell_source_notes<A: Allocator + Copy, E: Output>(
+    alloc: A,
     name: &str,
     source: &[u8],
+    lines: &Source<A>,
+    program: &Program<A>,
     complaints: &mut E,
 ) -> u8
     ensures { result ≤ 5 }
 {
-    let Ok(notes) = notes_of(alloc, source) else {
+    let Ok(texts) = cut(alloc, source) else {
         return told(RunFault::Memory, complaints);
     };
-    let Ok(lines) = cut(alloc, source) else {
+    let texts = texts.as_slice();
+    let Ok(notes) = notes_of(alloc, texts, lines.lines(), program) else {
         return told(RunFault::Memory, complaints);
     };
-    for note in notes.as_slice() {
-        let line = note.line.checked_sub(1).and_then(|i| lines.get(i).copied());
-        tell_note(name, *note, line.unwrap_or(b""), complaints);
-    }
+    tell_notes(name, notes.as_slice(), texts, complaints);
     0
 }

@@ -2,6 +2,8 @@
 
 ghost use Rattle.std.specs.Prelude.{◌≡◌, ◌≢◌, ◌≤◌, codes, IfSome, IfOk, IfErr};
 
+use crate::asked::named_file;
+use crate::checking::check_of;
 use crate::debugging::debug_of;
 use crate::film::{FilmFault, FilmOrder, is_film_limit, parted, window_of};
 use crate::fmt::{Way, fmt, fmt_order, tell_fmt_words};
@@ -9,7 +11,7 @@ use crate::help::{put_page, put_use};
 use crate::import::{import, import_order, tell_import_words};
 use crate::lines::{Terminal, terminal_in};
 use crate::listing::list_of;
-use crate::named::{check_order, file_in, is_input};
+use crate::named::is_input;
 use crate::play::{Seat, play_of};
 use crate::profiling::profile_of;
 use crate::promising::promise_of;
@@ -19,10 +21,9 @@ use crate::running::run_of;
 use crate::table::{Tool, Word, nearest, word_named};
 use crate::terminal::mon;
 use crate::tests::{exam_in, tell_words, test};
-use crate::tools::{check, film, told, written};
+use crate::tools::{film, told, written};
 use crate::tracing::trace_of;
 use crate::words::{Misfit, Order, WordsFault, misfit_in, order_of};
-use a2_check::Format;
 use a2_desk::Desk;
 use a2_film::{ScriptFault, chapters_of};
 use a2_host::Shelf;
@@ -324,13 +325,13 @@ fn talk_of<S: Shelf, R: Input, W: Output, E: Output>(
     ensures { result ≤ 5 }
 {
     let (terminal, words) = terminal_in(words);
-    match file_in(words) {
+    match named_file(word, words, complaints) {
         Ok(Some(name)) if is_input(name) => tell_lines_come(word.name.as_bytes(), complaints),
         Ok(Some(name)) => talk_over(
             alloc, name, prompts, terminal, shelf, input, output, complaints,
         ),
         Ok(None) => mon(alloc, None, prompts, terminal, input, output, complaints),
-        Err(fault) => refused(word, behind(words), fault, complaints),
+        Err(status) => status,
     }
 }
 
@@ -429,7 +430,7 @@ fn film_limit<E: Output>(
 ) -> Result<Option<u32>, u8>
     ensures { IfErr result (λ status. status ≤ 5) }
 {
-    if !has_limit(words) {
+    if !words.iter().any(|word| word.as_str() == "--limit") {
         return Ok(None);
     }
     if is_film_limit(order.limit) {
@@ -561,65 +562,6 @@ fn fmt_text<S: Shelf, D: Desk, R: Input, W: Output, E: Output>(
     }
 }
 
-// Tells the refusals of a file, one of several where it is headed, or of the standard input.
-fn check_text<S: Shelf, R: Input, W: Output, E: Output>(
-    alloc: Global,
-    format: Format,
-    file: Option<&str>,
-    headed: bool,
-    shelf: &mut S,
-    input: &mut R,
-    output: &mut W,
-    complaints: &mut E,
-) -> u8
-    ensures { result ≤ 5 }
-{
-    let name = file.unwrap_or("-");
-    match text_of(alloc, file, shelf, input, complaints) {
-        Ok(text) => check(
-            alloc,
-            name,
-            headed,
-            text.as_slice(),
-            format,
-            output,
-            complaints,
-        ),
-        Err(status) => status,
-    }
-}
-
-// Tells the refusals of the files that words name, or of the standard input. The status is the greatest of those of the texts.
-fn check_of<S: Shelf, R: Input, W: Output, E: Output>(
-    alloc: Global,
-    word: &Word,
-    words: &[String],
-    shelf: &mut S,
-    input: &mut R,
-    output: &mut W,
-    complaints: &mut E,
-) -> u8
-    ensures { result ≤ 5 }
-{
-    let (format, files) = match check_order(words) {
-        Ok(order) => order,
-        Err(fault) => return refused(word, behind(words), fault, complaints),
-    };
-    if files.is_empty() {
-        return check_text(alloc, format, None, false, shelf, input, output, complaints);
-    }
-    let headed = files.len() > 1;
-    let mut status = 0;
-    for file in files {
-        let name = Some(file.as_str());
-        status = check_text(
-            alloc, format, name, headed, shelf, input, output, complaints,
-        )
-        .max(status);
-    }
-    status
-}
-
 // Brings over the old text that words name, or that of the standard input.
 fn import_of<S: Shelf, R: Input, W: Output, E: Output>(
     alloc: Global,
@@ -666,11 +608,11 @@ fn act<S: Shelf, D: Desk, C: Clock, R: Input, W: Output, E: Output>(
         Tool::Help => Ok(help(alloc, behind(words), output, complaints)),
         Tool::Check => Ok(check_of(alloc, word, words, shelf, input, output, complaints)),
         Tool::List => list_of(alloc, word, words, shelf, input, output, complaints),
-        Tool::Test => match exam_in(words) {
-            Ok(exam) => Ok(test(alloc, &exam, shelf, output, complaints)),
+        Tool::Test => match exam_in(behind(words)) {
+            Ok(exam) => Ok(test(alloc, &exam, shelf, input, output, complaints)),
             Err(_) => Err(tell_words(complaints)),
         },
-        Tool::Promise => promise_of(alloc, words, shelf, input, output, complaints),
+        Tool::Promise => promise_of(alloc, word, words, shelf, input, output, complaints),
         Tool::Mon => Ok(talk_of(
             alloc, word, words, seat.types, shelf, input, output, complaints,
         )),
@@ -717,16 +659,6 @@ pub fn talks(words: &[String]) -> bool {
         },
         _ => false,
     }
-}
-
-// Whether the words have a limit.
-fn has_limit(words: &[String]) -> bool {
-    for word in words {
-        if word.as_str() == "--limit" {
-            return true;
-        }
-    }
-    false
 }
 
 /// Does what `words` ask for, and answers the exit status, 0 to 6. The first word is the program's name, and the second says

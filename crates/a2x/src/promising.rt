@@ -2,12 +2,14 @@
 
 ghost use Rattle.std.specs.Prelude.{◌≤◌, IfOk, IfErr};
 
-use crate::asked::program_in;
+use crate::asked::{held_in, named_file, program_in};
 use crate::program::{tell, text_of};
+use crate::table::Word;
 use crate::tools::told;
 use a2_asm::Program;
 use a2_host::Shelf;
-use a2_promise::{Found, promises_of};
+use a2_options::{Found, Kind, Row};
+use a2_promise::{Found as Stated, promises_of};
 use a2_run::{RunFault, step_limit};
 use a2_stream::{Input, Output};
 use a2_text::cut;
@@ -20,6 +22,18 @@ const TRIALS: Trials = Trials {
     some: 1_000_000,
 };
 
+// The options of `promise`, and what stands before a file whose name begins with `-`.
+static PROMISE_OPTIONS: [Row; 2] = [
+    Row {
+        name: "--states",
+        kind: Kind::Value,
+    },
+    Row {
+        name: "--",
+        kind: Kind::End,
+    },
+];
+
 // What is found of the promises of a source.
 #[derive(Clone, Copy)]
 struct Sum {
@@ -28,65 +42,52 @@ struct Sum {
     failed: bool,
 }
 
-// How many states words ask for, and the file; or the status, where a fault is told.
-fn order_in<'a, E: Output>(words: &'a [String], complaints: &mut E) -> Result<(Trials, &'a str), u8>
+// How many states are tried, by the options; or the status, where a fault is told.
+fn trials_of<E: Output>(found: &[Found<'_>], complaints: &mut E) -> Result<Trials, u8>
     ensures { IfErr result (λ status. status ≤ 5) }
 {
-    match words {
-        [_, file] if !file.as_str().starts_with('-') => Ok((TRIALS, file.as_str())),
-        [_, option, number, file]
-            if option.as_str() == "--states" && !file.as_str().starts_with('-') => {
-            match step_limit(number.as_str()) {
-                Some(states) if states > 0 => {
-                    let trials = Trials {
-                        all: u64::from(states),
-                        some: u64::from(states),
-                    };
-                    Ok((trials, file.as_str()))
-                }
-                _ => {
-                    tell(
-                        &[
-                            b"promise: --states ",
-                            number.as_str().as_bytes(),
-                            b" is no number from 1 to 100000000",
-                        ],
-                        complaints,
-                    );
-                    Err(2)
-                }
+    let mut trials = TRIALS;
+    for option in found {
+        trials = match step_limit(option.value) {
+            Some(states) if states > 0 => Trials {
+                all: u64::from(states),
+                some: u64::from(states),
+            },
+            _ => {
+                tell(
+                    &[
+                        b"promise: --states ",
+                        option.value.as_bytes(),
+                        b" is no number from 1 to 100000000",
+                    ],
+                    complaints,
+                );
+                return Err(2);
             }
-        }
-        _ => {
-            tell(
-                &[
-                    b"promise takes a source, and before it --states with a number (a2x help promise)",
-                ],
-                complaints,
-            );
-            Err(2)
-        }
+        };
     }
+    Ok(trials)
 }
 
-// Tries a promise, or tells why it is none.
+// Tries a promise of those that are found, or tells why it is none.
 fn judge_one<W: Output>(
     alloc: Global,
     program: &Program<Global>,
     lines: &[&[u8]],
-    found: &Found<'_>,
+    found: &[Stated<'_>],
+    one: &Stated<'_>,
     trials: Trials,
     sum: &mut Sum,
     output: &mut W,
 ) -> Result<(), RunFault> {
     sum.count = sum.count.saturating_add(1);
-    match found {
-        Found::Refused(refusal, name) => {
+    match one {
+        Stated::Refused(refusal, name) => {
             sum.refused = true;
             put_refusal(*name, refusal, output)?;
         }
-        Found::Promise(promise) => {
-            let verdict = try_promise(alloc, program, promise, trials)?;
+        Stated::Promise(promise) => {
+            let verdict = try_promise(alloc, program, found, promise, trials)?;
             if !matches!(verdict, Verdict::Held { .. }) {
                 sum.failed = true;
             }
@@ -116,6 +117,7 @@ fn judge_all<W: Output>(
             alloc,
             program,
             lines.as_slice(),
+            found.as_slice(),
             one,
             trials,
             &mut sum,
@@ -153,6 +155,7 @@ fn status_of<E: Output>(file: &str, sum: Sum, complaints: &mut E) -> u8
 /// memory, each told on `complaints`.
 pub fn promise_of<S: Shelf, R: Input, W: Output, E: Output>(
     alloc: Global,
+    word: &Word,
     words: &[String],
     shelf: &mut S,
     input: &mut R,
@@ -162,11 +165,13 @@ pub fn promise_of<S: Shelf, R: Input, W: Output, E: Output>(
     ensures done { IfOk result (λ status. status ≤ 6) }
     ensures refused { IfErr result (λ status. status ≤ 5) }
 {
-    let (trials, file) = order_in(words, complaints)?;
-    let source = text_of(alloc, Some(file), shelf, input, complaints)?;
+    let held = held_in(alloc, word, &PROMISE_OPTIONS, words, complaints)?;
+    let trials = trials_of(held.found.as_slice(), complaints)?;
+    let file = named_file(word, held.others.as_slice(), complaints)?;
+    let source = text_of(alloc, file, shelf, input, complaints)?;
     let program = program_in(alloc, source.as_slice(), complaints)?;
     match judge_all(alloc, &program, source.as_slice(), trials, output) {
-        Ok(sum) => Ok(status_of(file, sum, complaints)),
+        Ok(sum) => Ok(status_of(file.unwrap_or("-"), sum, complaints)),
         Err(fault) => Err(told(fault, complaints)),
     }
 }

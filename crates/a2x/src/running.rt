@@ -6,7 +6,7 @@ ghost use Rattle.a2x.specs.Saved.{SavesInto};
 use crate::asked::{held_in, order_in, program_in, span_in, steps_in, tell_span};
 use crate::program::{spares_input, text_of};
 use crate::table::Word;
-use crate::tools::{complain, run, told};
+use crate::tools::{run, run_status, told};
 use crate::typing::{add_strokes, run_typed};
 use crate::words::Order;
 use a2_asm::Program;
@@ -16,7 +16,7 @@ use a2_host::Shelf;
 use a2_machine::Cause;
 use a2_memory::{Part, image_source, memory_source};
 use a2_options::{Found, Kind, Row};
-use a2_run::{RunFault, status};
+use a2_run::RunFault;
 use a2_stream::{Input, Output};
 use a2_trace::{Choice, trace_source};
 use a2_typed::Strokes;
@@ -115,16 +115,6 @@ fn behind_of<'a, E: Output>(
     Ok(asked)
 }
 
-// Tells a fault behind a run; the status.
-fn told_behind<E: Output>(answer: Result<Cause, RunFault>, complaints: &mut E) -> u8
-    ensures { result ≤ 5 }
-{
-    if let Err(fault) = answer {
-        complain(fault, complaints);
-    }
-    status(&answer)
-}
-
 /// Runs a source with these keys waiting, and writes the object lines of all of RAM behind it into the file `image` of `desk`,
 /// whole or not at all: where it is refused all files are as they were. Refused where the source is, where a write fails, and
 /// for want of memory.
@@ -190,11 +180,11 @@ fn do_behind<D: Desk, W: Output, E: Output>(
     if !asked.parts.is_empty() {
         let parts = asked.parts.as_slice();
         let answer = memory_source(alloc, source, keys, limit, free, parts, output);
-        greatest = greatest.max(told_behind(answer, complaints));
+        greatest = greatest.max(run_status(answer, complaints));
     }
     if let Some(image) = asked.image {
         let answer = image_into(alloc, source, keys, limit, free, image, desk);
-        greatest = greatest.max(told_behind(answer, complaints));
+        greatest = greatest.max(run_status(answer, complaints));
     }
     greatest
 }

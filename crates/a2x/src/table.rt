@@ -104,7 +104,7 @@ pub static WORDS: [Word; 14] = [
     },
     Word {
         name: "promise",
-        arguments: "[--states N] F",
+        arguments: "[options] [F]",
         runs: false,
         says: "tries what routines of F promise in comments",
         tool: Tool::Promise,

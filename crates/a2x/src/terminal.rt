@@ -10,6 +10,7 @@ use a2_syntax::Fault;
 use a2_talk::TalkFault;
 use a2_terminal::Monitor;
 use std::alloc::Global;
+use std::cell::Cell;
 
 /// The status of a session that ended.
 pub fn ended<E: Output>(answer: Result<(), TalkFault>, complaints: &mut E) -> u8
@@ -24,16 +25,29 @@ pub fn ended<E: Output>(answer: Result<(), TalkFault>, complaints: &mut E) -> u8
 }
 
 // The Monitor with a text, or with nothing.
-fn monitor_with(alloc: Global, text: Option<&[u8]>) -> Result<Monitor, RunFault> {
+fn monitor_with<'a>(
+    alloc: Global,
+    keyboard: Option<&'a Cell<bool>>,
+    text: Option<&[u8]>,
+) -> Result<Monitor<'a>, RunFault> {
     match text {
-        Some(text) => Monitor::with(alloc, text),
-        None => Ok(Monitor::new(alloc)?),
+        Some(text) => Monitor::with(alloc, keyboard, text),
+        None => Ok(Monitor::new(alloc, keyboard)?),
+    }
+}
+
+// What says that a key is typed in place of a line, where the terminal gives each byte.
+fn keyboard_of(terminal: Option<Terminal>) -> Option<Cell<bool>> {
+    match terminal {
+        Some(_) => Some(Cell::new(false)),
+        None => None,
     }
 }
 
 /// Answers the Monitor lines of `input` on `output`, each before the next is read, up to its end or `quit`. What `text`
 /// holds, object lines or a source, is loaded first. `prompts` says whether a prompt stands before each line, and `terminal` which
-/// one gives each byte as it is typed, so that lines are edited. The status is 1 where the source is refused, 4 where a read or a write fails, and 5 for want of memory, each told on `complaints`.
+/// one gives each byte as it is typed, so that lines are edited, and a program that waits for a key takes it from there. The status
+/// is 1 where the source is refused, 4 where a read or a write fails, and 5 for want of memory, each told on `complaints`.
 pub fn mon<R: Input, W: Output, E: Output>(
     alloc: Global,
     text: Option<&[u8]>,
@@ -46,6 +60,7 @@ pub fn mon<R: Input, W: Output, E: Output>(
     ensures { result ≤ 5 }
 {
     let columns = columns_of(terminal);
+    let keyboard = keyboard_of(terminal);
     let lines = Lines {
         prompt: if prompts {
             Prompt::Monitor
@@ -54,8 +69,9 @@ pub fn mon<R: Input, W: Output, E: Output>(
         },
         columns: columns.as_ref(),
         has_panes: false,
+        keys: keyboard.as_ref(),
     };
-    match monitor_with(alloc, text) {
+    match monitor_with(alloc, keyboard.as_ref(), text) {
         Ok(mut monitor) => talked(alloc, &mut monitor, lines, input, output, complaints),
         Err(fault) => told(fault, complaints),
     }

@@ -2,6 +2,7 @@
 
 ghost use Rattle.std.specs.Prelude.{◌≤◌};
 
+use crate::named::{files_in, is_input, option_at_end};
 use crate::tools::told;
 use crate::words::WordsFault;
 use a2_class::{
@@ -10,7 +11,7 @@ use a2_class::{
 };
 use a2_host::Shelf;
 use a2_run::{ReadingFault, RunFault, read_text};
-use a2_stream::{Output, put_all};
+use a2_stream::{Input, Output, put_all};
 use a2_text::{cut, decimal};
 use std::alloc::Global;
 
@@ -36,29 +37,20 @@ fn format_named(name: &str) -> Result<Format, WordsFault> {
     }
 }
 
-// The exam of files, the first of which is the WANT.
-fn exam_of(format: Format, files: &[String]) -> Result<Exam<'_>, WordsFault> {
-    match files {
-        [want, solutions @ ..] if !solutions.is_empty() && !want.as_str().starts_with('-') => {
-            Ok(Exam {
-                format,
-                want: want.as_str(),
-                solutions,
-            })
-        }
-        _ => Err(WordsFault::Words),
-    }
-}
-
-/// What words ask for, the first of which says what is done: `--format` with its value may stand first, then the WANT and the
-/// solutions.
+/// What the words behind `test` ask for: the WANT and the solutions, before or behind which `--format` with its value may stand.
 pub fn exam_in(words: &[String]) -> Result<Exam<'_>, WordsFault> {
-    match words {
-        [_, option, format, files @ ..] if option.as_str() == "--format" => {
-            exam_of(format_named(format.as_str())?, files)
-        }
-        [_, files @ ..] => exam_of(Format::Table, files),
-        [] => Err(WordsFault::Words),
+    let (name, files) = option_at_end("--format", words);
+    let format = match name {
+        Some(name) => format_named(name)?,
+        None => Format::Table,
+    };
+    match files_in(files)? {
+        [want, solutions @ ..] if !solutions.is_empty() => Ok(Exam {
+            format,
+            want: want.as_str(),
+            solutions,
+        }),
+        _ => Err(WordsFault::Words),
     }
 }
 
@@ -69,7 +61,7 @@ pub fn tell_words<E: Output>(complaints: &mut E) -> u8
     // Where this fails there is no place left to tell it.
     let _ = put_all(
         &[
-            b"a2x: test takes a WANT and solutions behind it, and before them --format table, csv, json or junit\n",
+            b"a2x: test takes a WANT and solutions behind it, and before or behind them --format table, csv, json or junit\n",
         ],
         complaints,
     );
@@ -111,8 +103,16 @@ fn tell_unknown<E: Output>(
     count
 }
 
-// The text of a file, or why there is none.
-fn text_in<S: Shelf>(alloc: Global, name: &str, shelf: &mut S) -> Result<Vec<u8>, ReadingFault> {
+// The text of a file, or of the standard input, or why there is none.
+fn text_in<S: Shelf, R: Input>(
+    alloc: Global,
+    name: &str,
+    shelf: &mut S,
+    input: &mut R,
+) -> Result<Vec<u8>, ReadingFault> {
+    if is_input(name) {
+        return read_text(alloc, input);
+    }
     let Ok(mut reader) = shelf.open(name) else {
         return Err(ReadingFault::Read);
     };
@@ -135,7 +135,7 @@ fn report<W: Output>(
 }
 
 // Judges a solution, and writes what is found.
-fn examine<S: Shelf, W: Output>(
+fn examine<S: Shelf, R: Input, W: Output>(
     alloc: Global,
     exam: &Exam,
     name: &str,
@@ -143,9 +143,10 @@ fn examine<S: Shelf, W: Output>(
     is_first: bool,
     totals: &mut Totals,
     shelf: &mut S,
+    input: &mut R,
     output: &mut W,
 ) -> Result<(), RunFault> {
-    let text = match text_in(alloc, name, shelf) {
+    let text = match text_in(alloc, name, shelf, input) {
         Ok(text) => text,
         Err(ReadingFault::Memory) => return Err(RunFault::Memory),
         Err(ReadingFault::Read) => {
@@ -168,11 +169,12 @@ fn examine<S: Shelf, W: Output>(
 }
 
 // Judges all solutions, and writes what is found.
-fn examine_all<S: Shelf, W: Output>(
+fn examine_all<S: Shelf, R: Input, W: Output>(
     alloc: Global,
     exam: &Exam,
     cases: &[Case<Global>],
     shelf: &mut S,
+    input: &mut R,
     output: &mut W,
 ) -> Result<Totals, RunFault> {
     let mut totals = Totals::new();
@@ -186,6 +188,7 @@ fn examine_all<S: Shelf, W: Output>(
             index == 0,
             &mut totals,
             shelf,
+            input,
             output,
         )?;
     }
@@ -205,11 +208,12 @@ fn status_of(totals: &Totals) -> u8
 }
 
 // Judges all solutions by the text of a WANT.
-fn test_by<S: Shelf, W: Output, E: Output>(
+fn test_by<S: Shelf, R: Input, W: Output, E: Output>(
     alloc: Global,
     exam: &Exam,
     want: &[u8],
     shelf: &mut S,
+    input: &mut R,
     output: &mut W,
     complaints: &mut E,
 ) -> Result<u8, RunFault> {
@@ -219,22 +223,23 @@ fn test_by<S: Shelf, W: Output, E: Output>(
         return Ok(1);
     }
     let cases = cases_of(alloc, lines.as_slice())?;
-    let totals = examine_all(alloc, exam, cases.as_slice(), shelf, output)?;
+    let totals = examine_all(alloc, exam, cases.as_slice(), shelf, input, output)?;
     Ok(status_of(&totals))
 }
 
 /// Judges solutions by a WANT, and writes what is found. The status is 6 where one did not pass all cases, and 1 where lines of the WANT
 /// are in no form, each told on `complaints`.
-pub fn test<S: Shelf, W: Output, E: Output>(
+pub fn test<S: Shelf, R: Input, W: Output, E: Output>(
     alloc: Global,
     exam: &Exam,
     shelf: &mut S,
+    input: &mut R,
     output: &mut W,
     complaints: &mut E,
 ) -> u8
     ensures { result ≤ 6 }
 {
-    let want = match text_in(alloc, exam.want, shelf) {
+    let want = match text_in(alloc, exam.want, shelf, input) {
         Ok(want) => want,
         Err(ReadingFault::Memory) => return told(RunFault::Memory, complaints),
         Err(ReadingFault::Read) => {
@@ -249,7 +254,15 @@ pub fn test<S: Shelf, W: Output, E: Output>(
             return 4;
         }
     };
-    match test_by(alloc, exam, want.as_slice(), shelf, output, complaints) {
+    match test_by(
+        alloc,
+        exam,
+        want.as_slice(),
+        shelf,
+        input,
+        output,
+        complaints,
+    ) {
         Ok(status) => status.min(NOT_PASSED),
         Err(fault) => told(fault, complaints),
     }

@@ -6,20 +6,19 @@ ghost use Rattle.a2_run.specs.Status.{fault_status as status_of_fault};
 ghost use Rattle.a2_run.specs.Texts.{run_fault_text};
 
 use crate::film::{FilmOrder, film_into};
-use crate::notes::tell_source_notes;
 use crate::profiling::Counting;
+use crate::tracing::Tracing;
 use crate::words::Order;
-use a2_check::{Format, TellFault, put_refusals, refusals_of};
 use a2_desk::Desk;
 use a2_explain::{Course, explain_stop};
 use a2_film::{Chapter, Window, film_source};
 use a2_host::tell;
 use a2_list::{Shown, list_told};
+use a2_machine::Cause;
 use a2_profile::{profile_source, profile_source_routines};
 use a2_run::{Options, RunFault, fault_status, run_text, status};
-use a2_stream::{FromRead, Output, WriteFault, put_all};
-use a2_syntax::Fault;
-use a2_trace::{Choice, trace_source};
+use a2_stream::{FromRead, Output, WriteFault};
+use a2_trace::{trace_calls, trace_source};
 use a2_typed::Strokes;
 use std::alloc::Global;
 
@@ -48,6 +47,16 @@ pub fn written<E: Output>(answer: Result<(), WriteFault>, complaints: &mut E) ->
         Ok(()) => 0,
         Err(fault) => told(RunFault::from(fault), complaints),
     }
+}
+
+/// The status of a run; a fault is told, by a line of its text.
+pub fn run_status<E: Output>(answer: Result<Cause, RunFault>, complaints: &mut E) -> u8
+    ensures { result ≤ 5 }
+{
+    if let Err(fault) = answer {
+        complain(fault, complaints);
+    }
+    status(&answer)
 }
 
 /// Lists a source, with what is `shown`; behind its refusal the refused line is told.
@@ -113,23 +122,23 @@ pub fn run<W: Output, E: Output>(
     status(&answer)
 }
 
-/// Traces the chosen steps of the run of a source.
+/// Traces the run of a source: its chosen steps, or its routines.
 pub fn trace<W: Output, E: Output>(
     alloc: Global,
     source: &[u8],
     order: &Order,
-    choice: &Choice,
+    tracing: &Tracing,
     output: &mut W,
     complaints: &mut E,
 ) -> u8
     ensures { result ≤ 5 }
 {
     let (keys, limit, free) = (&order.keys, order.limit, order.free);
-    let answer = trace_source(alloc, source, keys, limit, free, choice, output);
-    if let Err(fault) = answer {
-        complain(fault, complaints);
-    }
-    status(&answer)
+    let answer = match tracing {
+        Tracing::Steps(choice) => trace_source(alloc, source, keys, limit, free, choice, output),
+        Tracing::Calls => trace_calls(alloc, source, keys, limit, free, output),
+    };
+    run_status(answer, complaints)
 }
 
 /// Profiles the run of a source, by its lines or by its routines.
@@ -148,10 +157,7 @@ pub fn profile<W: Output, E: Output>(
         Counting::Lines => profile_source(alloc, source, keys, limit, free, output),
         Counting::Routines => profile_source_routines(alloc, source, keys, limit, free, output),
     };
-    if let Err(fault) = answer {
-        complain(fault, complaints);
-    }
-    status(&answer)
+    run_status(answer, complaints)
 }
 
 /// Writes the film of a window of a source's run, titled by the file's name, into the file that the words name, whole or not at
@@ -177,56 +183,5 @@ pub fn film<D: Desk, W: Output, E: Output>(
         ),
         None => film_source(alloc, source, title, chapters, keys, window, free, output),
     };
-    if let Err(fault) = answer {
-        complain(fault, complaints);
-    }
-    status(&answer)
-}
-
-// Writes refusals of a source; `headed`, and at length, behind a line with its name.
-fn put_headed<W: Output>(
-    alloc: Global,
-    name: &str,
-    headed: bool,
-    source: &[u8],
-    refusals: &[Fault],
-    format: Format,
-    output: &mut W,
-) -> Result<(), TellFault> {
-    if headed && format == Format::Long {
-        put_all(&[name.as_bytes(), b":\n"], output)?;
-    }
-    put_refusals(alloc, name, source, refusals, format, output)
-}
-
-/// Writes all refusals of a source, which is called `name`, or tells the notes of one that is accepted; where it is one of several, `headed`, behind its name. The status is
-/// 1 where there is one.
-pub fn check<W: Output, E: Output>(
-    alloc: Global,
-    name: &str,
-    headed: bool,
-    source: &[u8],
-    format: Format,
-    output: &mut W,
-    complaints: &mut E,
-) -> u8
-    ensures { result ≤ 5 }
-{
-    let Ok(refusals) = refusals_of(alloc, source) else {
-        return told(RunFault::Memory, complaints);
-    };
-    match put_headed(
-        alloc,
-        name,
-        headed,
-        source,
-        refusals.as_slice(),
-        format,
-        output,
-    ) {
-        Ok(()) if refusals.is_empty() => tell_source_notes(alloc, name, source, complaints),
-        Ok(()) => 1,
-        Err(TellFault::Write) => told(RunFault::Write, complaints),
-        Err(TellFault::Memory) => told(RunFault::Memory, complaints),
-    }
+    run_status(answer, complaints)
 }

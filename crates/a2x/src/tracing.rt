@@ -1,9 +1,9 @@
-//! The word `trace`: which steps its words ask for.
+//! The word `trace`: what its words ask for.
 
 ghost use Rattle.std.specs.Prelude.{◌≤◌, IfOk, IfErr};
 
 use crate::asked::{held_in, order_in, program_in, span_in, steps_in};
-use crate::program::text_of;
+use crate::program::{tell, text_of};
 use crate::table::Word;
 use crate::tools::trace;
 use a2_host::Shelf;
@@ -13,7 +13,11 @@ use a2_trace::Choice;
 use std::alloc::Global;
 
 // The options of `trace`, of which those of each run are left.
-static TRACE_OPTIONS: [Row; 6] = [
+static TRACE_OPTIONS: [Row; 7] = [
+    Row {
+        name: "--calls",
+        kind: Kind::Flag,
+    },
     Row {
         name: "--from",
         kind: Kind::Value,
@@ -40,6 +44,15 @@ static TRACE_OPTIONS: [Row; 6] = [
     },
 ];
 
+/// What a trace shows.
+#[derive(Clone, Copy)]
+pub enum Tracing {
+    /// The steps that are chosen.
+    Steps(Choice),
+    /// The routines as a tree.
+    Calls,
+}
+
 // Which steps a trace shows, by its options; or the status, where a fault is told.
 fn choice_of<E: Output>(
     alloc: Global,
@@ -65,6 +78,43 @@ fn choice_of<E: Output>(
     Ok(choice)
 }
 
+// The first option that stands beside `--calls`.
+fn beside_calls<'a>(found: &[Found<'a>]) -> Option<&'a str> {
+    for option in found {
+        if option.name != "--calls" {
+            return Some(option.name);
+        }
+    }
+    None
+}
+
+// What a trace shows, by its options; or the status, where a fault is told.
+fn tracing_of<E: Output>(
+    alloc: Global,
+    source: &[u8],
+    found: &[Found<'_>],
+    complaints: &mut E,
+) -> Result<Tracing, u8>
+    ensures { IfErr result (λ status. status ≤ 5) }
+{
+    if !found.iter().any(|option| option.name == "--calls") {
+        return Ok(Tracing::Steps(choice_of(alloc, source, found, complaints)?));
+    }
+    match beside_calls(found) {
+        None => Ok(Tracing::Calls),
+        Some(option) => {
+            tell(
+                &[
+                    b"trace: --calls shows the routines of the whole run, and stands without ",
+                    option.as_bytes(),
+                ],
+                complaints,
+            );
+            Err(2)
+        }
+    }
+}
+
 /// Traces the run that the words ask for. The status is 1 where the source is refused, 2 where the words are, 3 where the run
 /// stopped but by RETURNED or BRK, 4 where the file does not open or a read or a write fails, and 5 for want of memory, each
 /// told on `complaints`.
@@ -83,12 +133,12 @@ pub fn trace_of<S: Shelf, R: Input, W: Output, E: Output>(
     let held = held_in(alloc, word, &TRACE_OPTIONS, words, complaints)?;
     let order = order_in(word, held.others.as_slice(), complaints)?;
     let source = text_of(alloc, order.file, shelf, input, complaints)?;
-    let choice = choice_of(alloc, source.as_slice(), held.found.as_slice(), complaints)?;
+    let tracing = tracing_of(alloc, source.as_slice(), held.found.as_slice(), complaints)?;
     Ok(trace(
         alloc,
         source.as_slice(),
         &order,
-        &choice,
+        &tracing,
         output,
         complaints,
     ))
