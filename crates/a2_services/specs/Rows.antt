@@ -1,6 +1,6 @@
 -- The services' rows. Apple II Reference Manual (1979), chapter 3, "Some useful Monitor subroutines", has the addresses;
 -- all else is this project's profile.
-use Rattle.std.specs.Prelude.{ℕ, List, [], ◌∷◌}
+use Rattle.std.specs.Prelude.{ℕ, List, [], ◌∷◌, codes}
 use Rattle.a2_bus.specs.Locations as at
 use Rattle.a2_services.specs.declared.Service.{Service}
 use Rattle.a2_services.specs.declared.Service.TheVariants.{Cout, Cout1, Crout, Home, Prbyte, Prhex, Setinv, Setnorm, Vtab, Clreol, Clreop, Rdkey, Keyin, Getln, Wait, Setcol, Plot, Hline, Vline, Scrn, Clrscr}
@@ -44,3 +44,27 @@ abbrev pub services : List Service
 services =
     Cout ∷ Cout1 ∷ Crout ∷ Home ∷ Prbyte ∷ Prhex ∷ Setinv ∷ Setnorm ∷ Vtab ∷ Clreol ∷ Clreop
     ∷ Rdkey ∷ Keyin ∷ Getln ∷ Wait ∷ Setcol ∷ Plot ∷ Hline ∷ Vline ∷ Scrn ∷ Clrscr ∷ []
+
+-- the name of a service in the Monitor
+abbrev pub service_name : Service → List ℕ
+service_name Cout = codes "COUT"
+service_name Cout1 = codes "COUT1"
+service_name Crout = codes "CROUT"
+service_name Home = codes "HOME"
+service_name Prbyte = codes "PRBYTE"
+service_name Prhex = codes "PRHEX"
+service_name Setinv = codes "SETINV"
+service_name Setnorm = codes "SETNORM"
+service_name Vtab = codes "VTAB"
+service_name Clreol = codes "CLREOL"
+service_name Clreop = codes "CLREOP"
+service_name Rdkey = codes "RDKEY"
+service_name Keyin = codes "KEYIN"
+service_name Getln = codes "GETLN"
+service_name Wait = codes "WAIT"
+service_name Setcol = codes "SETCOL"
+service_name Plot = codes "PLOT"
+service_name Hline = codes "HLINE"
+service_name Vline = codes "VLINE"
+service_name Scrn = codes "SCRN"
+service_name Clrscr = codes "CLRSCR"

@@ -8,15 +8,15 @@
 //! row from CV and always works on page 1, keeps A, X, Y and P except where it answers in one of them, writes no byte of
 //! the stack, and at its end pulls PC as RTS does. COUT, CROUT and RDKEY are hooks: they pull nothing and only go on where
 //! two bytes of page 0 say.
+//!
+//! How it is called is shown in CALLING.md.
 #![tactic(auto)]
 
-mod addresses;
 mod blocks;
 mod bytes;
 mod calls;
 mod editing;
 mod ends;
-mod entries;
 mod hooks;
 mod line;
 pub mod live;
@@ -26,9 +26,11 @@ mod on_board;
 mod put;
 mod rows;
 mod screen;
+mod stores;
 
-pub use entries::{reach, service_at};
 pub use on_board::call;
+pub use rows::service_at;
+pub use stores::reach;
 
 /// A service of the Monitor. A hook takes 5 cycles, WAIT as many as A says, each other 6 (this project's profile).
 ///

@@ -1,9 +1,49 @@
-//! The services' rows: where each is called, what it needs, where it may store and how long it takes.
+//! The services' rows: the name of each, where it is called, what it needs, where it may store and how long it takes.
 
-ghost use Rattle.std.specs.Prelude.{◌≡◌};
-ghost use Rattle.a2_services.specs.Rows.{service_row as row_by, row_at as entry_of};
+ghost use Rattle.std.specs.Prelude.{◌≡◌, ◌≤◌, length};
+ghost use Rattle.a2_services.specs.Rows.{service_row as row_by, row_at as entry_of, service_name as name_of};
+ghost use Rattle.a2_services.specs.Services.{service_at as service_at_of};
 
-use crate::{Service, addresses as at};
+use crate::Service;
+use a2_bus::locations::{COUT1, KEYIN};
+
+const COUT: u16 = 0xFDED;
+
+const CROUT: u16 = 0xFD8E;
+
+const HOME: u16 = 0xFC58;
+
+const PRBYTE: u16 = 0xFDDA;
+
+const PRHEX: u16 = 0xFDE3;
+
+const SETINV: u16 = 0xFE80;
+
+const SETNORM: u16 = 0xFE84;
+
+const VTAB: u16 = 0xFC22;
+
+const CLREOL: u16 = 0xFC9C;
+
+const CLREOP: u16 = 0xFC42;
+
+const RDKEY: u16 = 0xFD0C;
+
+const GETLN: u16 = 0xFD6A;
+
+const WAIT: u16 = 0xFCA8;
+
+const SETCOL: u16 = 0xF864;
+
+const PLOT: u16 = 0xF800;
+
+const HLINE: u16 = 0xF819;
+
+const VLINE: u16 = 0xF828;
+
+const SCRN: u16 = 0xF871;
+
+const CLRSCR: u16 = 0xF832;
 
 /// What a service needs of window, cursor, keys and registers.
 #[derive(Clone, Copy)]
@@ -74,27 +114,27 @@ pub fn row_of(service: Service) -> Row
     ensures { result ≡ row_by service }
 {
     match service {
-        Service::Cout => entry(at::COUT, Needs::Nothing, Reach::Nowhere, Takes::Hook),
-        Service::Cout1 => entry(at::COUT1, Needs::Cursor, Reach::Screen, Takes::Six),
-        Service::Crout => entry(at::CROUT, Needs::Nothing, Reach::Nowhere, Takes::Hook),
-        Service::Home => entry(at::HOME, Needs::Window, Reach::Screen, Takes::Six),
-        Service::Prbyte => entry(at::PRBYTE, Needs::Cursor, Reach::Screen, Takes::Six),
-        Service::Prhex => entry(at::PRHEX, Needs::Cursor, Reach::Screen, Takes::Six),
-        Service::Setinv => entry(at::SETINV, Needs::Nothing, Reach::Mask, Takes::Six),
-        Service::Setnorm => entry(at::SETNORM, Needs::Nothing, Reach::Mask, Takes::Six),
-        Service::Vtab => entry(at::VTAB, Needs::Cursor, Reach::Base, Takes::Six),
-        Service::Clreol => entry(at::CLREOL, Needs::Cursor, Reach::Page, Takes::Six),
-        Service::Clreop => entry(at::CLREOP, Needs::Cursor, Reach::BaseAndPage, Takes::Six),
-        Service::Rdkey => entry(at::RDKEY, Needs::Nothing, Reach::Nowhere, Takes::Hook),
-        Service::Keyin => entry(at::KEYIN, Needs::Key, Reach::Nowhere, Takes::Six),
-        Service::Getln => entry(at::GETLN, Needs::Line, Reach::ScreenAndLine, Takes::Six),
-        Service::Wait => entry(at::WAIT, Needs::Nothing, Reach::Nowhere, Takes::Wait),
-        Service::Setcol => entry(at::SETCOL, Needs::Nothing, Reach::Color, Takes::Six),
-        Service::Plot => entry(at::PLOT, Needs::Block, Reach::Page, Takes::Six),
-        Service::Hline => entry(at::HLINE, Needs::Across, Reach::Page, Takes::Six),
-        Service::Vline => entry(at::VLINE, Needs::Down, Reach::Page, Takes::Six),
-        Service::Scrn => entry(at::SCRN, Needs::Block, Reach::Nowhere, Takes::Six),
-        Service::Clrscr => entry(at::CLRSCR, Needs::Nothing, Reach::Graphics, Takes::Six),
+        Service::Cout => entry(COUT, Needs::Nothing, Reach::Nowhere, Takes::Hook),
+        Service::Cout1 => entry(COUT1, Needs::Cursor, Reach::Screen, Takes::Six),
+        Service::Crout => entry(CROUT, Needs::Nothing, Reach::Nowhere, Takes::Hook),
+        Service::Home => entry(HOME, Needs::Window, Reach::Screen, Takes::Six),
+        Service::Prbyte => entry(PRBYTE, Needs::Cursor, Reach::Screen, Takes::Six),
+        Service::Prhex => entry(PRHEX, Needs::Cursor, Reach::Screen, Takes::Six),
+        Service::Setinv => entry(SETINV, Needs::Nothing, Reach::Mask, Takes::Six),
+        Service::Setnorm => entry(SETNORM, Needs::Nothing, Reach::Mask, Takes::Six),
+        Service::Vtab => entry(VTAB, Needs::Cursor, Reach::Base, Takes::Six),
+        Service::Clreol => entry(CLREOL, Needs::Cursor, Reach::Page, Takes::Six),
+        Service::Clreop => entry(CLREOP, Needs::Cursor, Reach::BaseAndPage, Takes::Six),
+        Service::Rdkey => entry(RDKEY, Needs::Nothing, Reach::Nowhere, Takes::Hook),
+        Service::Keyin => entry(KEYIN, Needs::Key, Reach::Nowhere, Takes::Six),
+        Service::Getln => entry(GETLN, Needs::Line, Reach::ScreenAndLine, Takes::Six),
+        Service::Wait => entry(WAIT, Needs::Nothing, Reach::Nowhere, Takes::Wait),
+        Service::Setcol => entry(SETCOL, Needs::Nothing, Reach::Color, Takes::Six),
+        Service::Plot => entry(PLOT, Needs::Block, Reach::Page, Takes::Six),
+        Service::Hline => entry(HLINE, Needs::Across, Reach::Page, Takes::Six),
+        Service::Vline => entry(VLINE, Needs::Down, Reach::Page, Takes::Six),
+        Service::Scrn => entry(SCRN, Needs::Block, Reach::Nowhere, Takes::Six),
+        Service::Clrscr => entry(CLRSCR, Needs::Nothing, Reach::Graphics, Takes::Six),
     }
 }
 
@@ -108,5 +148,71 @@ fn entry(address: u16, needs: Needs, reach: Reach, takes: Takes) -> Row
         needs,
         reach,
         takes,
+    }
+}
+
+/// The service that is called at an address, from 0 to $FFFF, or `None` where none is. Apple II Reference
+/// Manual (1979), chapter 3, "Some useful Monitor subroutines".
+#[inline(always)]
+#[tactic(auto, unfolding(crate::specs::Services::service_at))]
+pub fn service_at(address: u16) -> Option<Service>
+    ensures { result ≡ service_at_of address }
+{
+    match address {
+        COUT => Some(Service::Cout),
+        COUT1 => Some(Service::Cout1),
+        CROUT => Some(Service::Crout),
+        HOME => Some(Service::Home),
+        PRBYTE => Some(Service::Prbyte),
+        PRHEX => Some(Service::Prhex),
+        SETINV => Some(Service::Setinv),
+        SETNORM => Some(Service::Setnorm),
+        VTAB => Some(Service::Vtab),
+        CLREOL => Some(Service::Clreol),
+        CLREOP => Some(Service::Clreop),
+        RDKEY => Some(Service::Rdkey),
+        KEYIN => Some(Service::Keyin),
+        GETLN => Some(Service::Getln),
+        WAIT => Some(Service::Wait),
+        SETCOL => Some(Service::Setcol),
+        PLOT => Some(Service::Plot),
+        HLINE => Some(Service::Hline),
+        VLINE => Some(Service::Vline),
+        SCRN => Some(Service::Scrn),
+        CLRSCR => Some(Service::Clrscr),
+        _ => None,
+    }
+}
+
+impl Service {
+    /// Its name in the Monitor, in capitals: 4 to 7 letters and digits. Apple II Reference Manual (1979), chapter 3, "Some
+    /// useful Monitor subroutines".
+    pub fn name(self) -> &'static [u8]
+        ensures name { result.now ≡ name_of self }
+        ensures short { length result.now ≤ 7 }
+    {
+        match self {
+            Service::Cout => b"COUT",
+            Service::Cout1 => b"COUT1",
+            Service::Crout => b"CROUT",
+            Service::Home => b"HOME",
+            Service::Prbyte => b"PRBYTE",
+            Service::Prhex => b"PRHEX",
+            Service::Setinv => b"SETINV",
+            Service::Setnorm => b"SETNORM",
+            Service::Vtab => b"VTAB",
+            Service::Clreol => b"CLREOL",
+            Service::Clreop => b"CLREOP",
+            Service::Rdkey => b"RDKEY",
+            Service::Keyin => b"KEYIN",
+            Service::Getln => b"GETLN",
+            Service::Wait => b"WAIT",
+            Service::Setcol => b"SETCOL",
+            Service::Plot => b"PLOT",
+            Service::Hline => b"HLINE",
+            Service::Vline => b"VLINE",
+            Service::Scrn => b"SCRN",
+            Service::Clrscr => b"CLRSCR",
+        }
     }
 }
