@@ -6,7 +6,7 @@ use Rattle.clap.specs.Words.{Row, Text, fault_of, first_of, one_of, subcommand_o
 use Rattle.a2_bus.specs.KeyText.{SpellsKeys}
 use Rattle.a2_run.specs.declared.Options.{Options}
 use Rattle.a2_run.specs.declared.fault.RunFault.{RunFault}
-use Rattle.a2_run.specs.Limits.{IsStepLimit}
+use Rattle.a2_run.specs.Limits.{IsStepLimit, default_steps}
 use Rattle.a2_run.specs.Status.{fault_status}
 use Rattle.a2_host.specs.declared.HostWordsFault.{HostWordsFault}
 use Rattle.a2_host.specs.declared.HostWordsFault.TheVariants as host
@@ -17,9 +17,9 @@ use Rattle.a2.specs.declared.words.WordsFault.{WordsFault}
 use Rattle.a2.specs.declared.words.WordsFault.TheVariants.{Words, Keys, Memory}
 use Rattle.a2.specs.Grammar.{grammar}
 
--- the most steps: without the option 1,000,000, with it the number that its word spells, and bad words where it spells none
+-- the most steps: without the option the usual ones, with it the number that its word spells, and bad words where it spells none
 abbrev pub SaysLimit : Option (List ℕ) → Result ℕ WordsFault → Type 0
-SaysLimit None (Ok limit) = limit ≡ 1000000
+SaysLimit None (Ok limit) = limit ≡ default_steps
 SaysLimit None (Err fault) = ⊥
 SaysLimit (Some word) (Ok limit) = IsStepLimit word × (limit ≡ digits_value 10 word)
 SaysLimit (Some word) (Err fault) = ¬ (IsStepLimit word) × (fault ≡ Words)
@@ -126,7 +126,7 @@ plain = record { free = false; attr = false }
 
 -- what is done without words: the standard input is run
 abbrev pub plain_run : RunOrder
-plain_run = record { source = None; keys = []; limit = 1000000; options = plain }
+plain_run = record { source = None; keys = []; limit = default_steps; options = plain }
 
 -- what words ask for, of which the first is the program's name
 pub record Asks (words : List Text) (asked : Result Order WordsFault) : Type 0 where

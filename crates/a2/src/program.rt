@@ -4,6 +4,7 @@ ghost use Rattle.std.specs.Prelude.{◌≡◌, ◌≢◌, ◌⊎◌, ◌<◌, �
 ghost use Rattle.a2_machine.specs.declared.Cause.{Cause as Stop};
 ghost use Rattle.a2_run.specs.declared.fault.RunFault.{RunFault as Fault};
 ghost use Rattle.a2_run.specs.declared.fault.RunFault.TheVariants.{Read};
+ghost use Rattle.a2_run.specs.Limits.{default_steps};
 ghost use Rattle.a2_run.specs.Status.{status_of};
 ghost use Rattle.a2_host.specs.Complaints.{TellsLine};
 ghost use Rattle.a2_host.specs.Shelves.{Opens};
@@ -212,10 +213,10 @@ pub fn obey<S: Shelf, R: Input, W: Output, E: Output>(
         (E.taker complaints.old) (E.taker complaints.new) result)
         (λ fault. Refuses fault (S.shelved shelf.old) (S.shelved shelf.new)
         (W.taker output.old) (W.taker output.new) (E.taker complaints.old) (E.taker complaints.new) result) }
-    // Without words the input is run, guarded, with no keys and at most 1,000,000 steps.
+    // Without words the input is run, guarded, with no keys and at most the usual steps.
     ensures plain { length words.now ≤ 1 → (answer : Result Stop Fault) × (result ≡ status_of answer)
         × TellsFault answer (E.taker complaints.old) (E.taker complaints.new)
-        × RunsInput [] 1000000 plain (R.giver input.old) (R.giver input.new) (W.taker output.old) (W.taker output.new) answer }
+        × RunsInput [] default_steps plain (R.giver input.old) (R.giver input.new) (W.taker output.old) (W.taker output.new) answer }
     // Whatever the words: at most 5; by 1, 2 or 5 nothing went out, by 0 or 3 no write failed, and by 4 one did, or nothing went out.
     ensures output { Tells result (W.taker output.old) (W.taker output.new) }
     // By 0 and 3 nothing is told, and by another status a line is, of a text that goes with the status.

@@ -8,7 +8,7 @@ ghost use Rattle.a2.specs.Words.{AreLooseKeys, Asks, HasLooseKeys, IsFlag, IsOrd
 
 use a2_bus::Keys;
 use a2_host::HostWordsFault;
-use a2_run::{Options, step_limit};
+use a2_run::{DEFAULT_STEPS, Options, step_limit};
 use clap::error::ErrorKind;
 use clap::{Arg, ArgAction, ArgMatches, Command};
 use std::alloc::{AllocError, Global};
@@ -84,9 +84,6 @@ impl From<HostWordsFault> for WordsFault {
         }
     }
 }
-
-// Steps of a run without `--limit`.
-const DEFAULT_LIMIT: u32 = 1_000_000;
 
 // A word that has to stand.
 fn needed<'a>(alloc: Global, name: &'a str) -> Arg<'a>
@@ -211,7 +208,7 @@ fn limit_given(word: Option<&str>) -> Result<u32, WordsFault>
     ensures { SaysLimit (option_map (λ word. word.now) word.entry) result }
 {
     match word {
-        None => Ok(DEFAULT_LIMIT),
+        None => Ok(DEFAULT_STEPS),
         Some(word) => step_limit(word).ok_or(WordsFault::Words),
     }
 }
@@ -274,7 +271,7 @@ fn plain_order<'a>() -> RunOrder<'a>
     RunOrder {
         source: None,
         keys: Keys::new(),
-        limit: DEFAULT_LIMIT,
+        limit: DEFAULT_STEPS,
         options: Options {
             free: false,
             attr: false,

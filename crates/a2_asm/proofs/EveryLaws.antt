@@ -17,8 +17,9 @@ use Rattle.a2_syntax.specs.declared.source.Operand.TheVariants as forms
 use Rattle.a2_syntax.specs.declared.source.Body.{Body}
 use Rattle.a2_syntax.specs.declared.source.Body.TheVariants.{Empty, Instr, Org, Equ, Dfb, Dw, Asc, Ds}
 use Rattle.a2_syntax.specs.declared.source.Line.{Line}
+use Rattle.a2_syntax.specs.Operands.{expr_of}
 use Rattle.a2_asm.specs.Values.{Names, is_known}
-use Rattle.a2_asm.specs.Modes.{has_mode, expr_of}
+use Rattle.a2_asm.specs.Modes.{has_mode}
 use Rattle.a2_asm.specs.Layout.{Row, names, defined_by}
 use Rattle.a2_asm.specs.Pass.{source_rows}
 use Rattle.a2_asm.specs.Refusals.{first_behind, is_taken, refuse_place, refuse_operand}

@@ -10,9 +10,10 @@ use Rattle.a2_syntax.specs.declared.source.Operand.{Operand}
 use Rattle.a2_syntax.specs.declared.source.Operand.TheVariants as forms
 use Rattle.a2_syntax.specs.declared.source.Body.{Body}
 use Rattle.a2_syntax.specs.declared.source.Body.TheVariants.{Empty, Instr, Org, Equ, Dfb, Dw, Asc, Ds}
+use Rattle.a2_syntax.specs.Operands.{expr_of}
 use Rattle.a2_asm.specs.declared.place.Place.{Place}
 use Rattle.a2_asm.specs.Values.{Names, is_known, value_within}
-use Rattle.a2_asm.specs.Modes.{greatest, expr_of}
+use Rattle.a2_asm.specs.Modes.{greatest}
 use Rattle.a2_asm.specs.Layout.{Row, names}
 use Rattle.a2_asm.specs.Pass.{source_rows, layout_refusal}
 use Rattle.a2_asm.specs.Bytes.{value_or_zero}

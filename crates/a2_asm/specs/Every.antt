@@ -14,9 +14,10 @@ use Rattle.a2_syntax.specs.declared.source.Operand.{Operand}
 use Rattle.a2_syntax.specs.declared.source.Body.{Body}
 use Rattle.a2_syntax.specs.declared.source.Body.TheVariants.{Instr, Org, Equ, Dfb, Dw, Ds}
 use Rattle.a2_syntax.specs.declared.source.Line.{Line}
+use Rattle.a2_syntax.specs.Operands.{expr_of}
 use Rattle.a2_asm.specs.Assembled.{Assembled}
 use Rattle.a2_asm.specs.Values.{Names, is_known}
-use Rattle.a2_asm.specs.Modes.{has_mode, mode_of, expr_of}
+use Rattle.a2_asm.specs.Modes.{has_mode, mode_of}
 use Rattle.a2_asm.specs.Layout.{Row, IsLayout, defined_by, names}
 use Rattle.a2_asm.specs.Programs.{IsProgram}
 use Rattle.a2_asm.specs.Refusals.{first_behind, is_taken, refuse_place, refuse_operand, IsLayoutRefusal}

@@ -6,9 +6,10 @@ use Rattle.a2_syntax.specs.declared.source.Expr.{Expr}
 use Rattle.a2_syntax.specs.declared.source.Body.{Body}
 use Rattle.a2_syntax.specs.declared.source.Body.TheVariants.{Instr, Org, Equ, Dfb, Dw, Ds}
 use Rattle.a2_syntax.specs.Bare.{NoAllocator, BareLine}
+use Rattle.a2_syntax.specs.Operands.{expr_of}
 use Rattle.a2_asm.specs.declared.place.Place.{Place}
 use Rattle.a2_asm.specs.Values.{Names, is_known, value_within}
-use Rattle.a2_asm.specs.Modes.{greatest, expr_of}
+use Rattle.a2_asm.specs.Modes.{greatest}
 use Rattle.a2_asm.specs.Layout.{Row, IsLayout, names}
 use Rattle.a2_asm.specs.Bytes.{instr_of}
 use Rattle.a2_asm.specs.Refusals.{refusal_in}

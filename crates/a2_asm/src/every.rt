@@ -12,7 +12,7 @@ ghost use Rattle.a2_asm.specs.Every as every;
 ghost use Rattle.a2_asm.specs.Every.{AreLayoutRefusals};
 
 use crate::assembling::assemble;
-use crate::bytes::{are_known, expr_of, line_bytes};
+use crate::bytes::{are_known, line_bytes};
 use crate::layout::{define, is_taken, place};
 use crate::modes::{has, mode_of};
 use crate::place::Place;
@@ -113,7 +113,7 @@ fn refuse_instr<A: Allocator>(
     if !has(mnemonic, mode_of(earlier, 0, mnemonic, operand)) {
         return Some(Fault::NoMode(number));
     }
-    match expr_of(operand) {
+    match operand.expr() {
         Some(e) => refuse_name(all, number, e),
         None => None,
     }

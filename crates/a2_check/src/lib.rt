@@ -1,4 +1,6 @@
 //! Every refusal of a source: which they are, and what is told of each.
+//!
+//! How it is called is shown in CALLING.md.
 #![tactic(auto)]
 
 mod elsewhere;

@@ -7,20 +7,6 @@ use std::alloc::{AllocError, Allocator};
 use std::hash::{BuildHasherDefault, FoldHasher};
 use strsim::generic_levenshtein;
 
-// The expression of an operand.
-fn expr_of<A: Allocator>(operand: &Operand<A>) -> Option<&Expr<A>> {
-    match operand {
-        Operand::Nothing | Operand::Accumulator => None,
-        Operand::Immediate(e)
-        | Operand::Plain(e)
-        | Operand::WithX(e)
-        | Operand::WithY(e)
-        | Operand::InParenthesesX(e)
-        | Operand::ParenthesesY(e)
-        | Operand::InParentheses(e) => Some(e),
-    }
-}
-
 // How far a name is from another: 0 where capitals and small letters alone differ, and else 1 more than the number of letters
 // that are put in, left out or changed.
 fn distance<A: Allocator + Copy>(alloc: A, name: &[u8], other: &[u8]) -> Result<usize, AllocError> {
@@ -99,7 +85,7 @@ impl<A: Allocator + Copy> Labels<A> {
         match body {
             Body::Empty | Body::Asc(_) => None,
             Body::Org(e) | Body::Equ(e) | Body::Ds(e) => self.missing_in(index, e),
-            Body::Instr(_, operand) => self.missing_in(index, expr_of(operand)?),
+            Body::Instr(_, operand) => self.missing_in(index, operand.expr()?),
             Body::Dfb(es) | Body::Dw(es) => self.missing_among(index, es.get()),
         }
     }

@@ -5,6 +5,7 @@ use Rattle.a2_bus.specs.KeyText.{SpellsKeys}
 use Rattle.a2_syntax.specs.declared.fault.Fault.{Fault}
 use Rattle.a2_asm.specs.Assembled.{Assembled}
 use Rattle.a2_machine.specs.Meaning.{End, IsEnd}
+use Rattle.a2_run.specs.Limits.{default_steps}
 use Rattle.a2_run.specs.Meaning.{IsProgramOf, IsRefused, code_of_run, start_of_run}
 use Rattle.a2_class.specs.Asks.{MeetsAll, IsFirstMissed}
 use Rattle.a2_class.specs.Calls.{case_text}
@@ -15,7 +16,7 @@ use Rattle.a2_class.specs.declared.cases.Case.{Case}
 use Rattle.a2_class.specs.declared.judge.Verdict.{Verdict}
 use Rattle.a2_class.specs.declared.judge.Verdict.TheVariants.{Passed, Missed, NotCalled}
 
--- the most steps of a case: of several lines the last counts, and without one they are 1,000,000
+-- the most steps of a case: of several lines the last counts, and without one they are the usual ones
 abbrev pub limit_or : ℕ → Line → ℕ
 limit_or before (Limit n) = n
 limit_or before _ = before
@@ -25,7 +26,7 @@ limit_from before [] = before
 limit_from before (asked ∷ rest) = limit_from (limit_or before asked.line) rest
 
 abbrev pub limit_of : List Asked → ℕ
-limit_of lines = limit_from 1_000_000 lines
+limit_of lines = limit_from default_steps lines
 
 -- the spelling of the keys that wait: of several lines the last counts, and without one it is empty
 abbrev pub keys_or : List ℕ → Line → List ℕ

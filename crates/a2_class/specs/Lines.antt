@@ -1,9 +1,6 @@
 -- The lines of a WANT. This project's profile.
-use Rattle.std.specs.Prelude.{◌≡◌, ℕ, not, List, [], ◌∷◌, codes, take, drop}
-use Rattle.std.specs.List.{prefix_len}
+use Rattle.std.specs.Prelude.{◌≡◌, ℕ, List, codes}
 use Rattle.std.specs.Str.Parse.{digits_value}
-use Rattle.a2_text.specs.Bytes.{is_blank}
-use Rattle.a2_text.specs.Words.{behind_blanks}
 use Rattle.a2_run.specs.Limits.{IsStepLimit}
 use Rattle.a2_class.specs.declared.line.Verb.{Verb}
 use Rattle.a2_class.specs.declared.line.Verb.TheVariants.{Case, Keys, Limit, Call, Screen, Mem, Reg, Stop, Cycles, Bytes, Must}
@@ -21,16 +18,6 @@ verb_letters Stop = codes "stop"
 verb_letters Cycles = codes "cycles"
 verb_letters Bytes = codes "bytes"
 verb_letters Must = codes "must"
-
--- the first word of a text, and what stands behind it
-abbrev pub first_length : List ℕ → ℕ
-first_length text = prefix_len (λ c. not (is_blank c)) (behind_blanks text)
-
-unfoldable pub first_word : List ℕ → List ℕ
-first_word text = take (first_length text) (behind_blanks text)
-
-unfoldable pub behind_word : List ℕ → List ℕ
-behind_word text = drop (first_length text) (behind_blanks text)
 
 -- a word spells a number, 0 to 100,000,000
 abbrev pub IsNumber : List ℕ → ℕ → Type 0

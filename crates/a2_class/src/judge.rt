@@ -20,7 +20,7 @@ use a2_asm::Program;
 use a2_bus::Keys;
 use a2_machine::{Cause, Machine};
 use a2_page::print;
-use a2_run::{RunFault, program_of, started};
+use a2_run::{DEFAULT_STEPS, RunFault, program_of, started};
 use a2_text::cut;
 use std::alloc::{AllocError, Allocator};
 
@@ -34,9 +34,6 @@ pub enum Verdict<A: Allocator> {
     /// Its routine can't be called: the source has none of that name, or it can't stand behind the lines that call it.
     NotCalled,
 }
-
-// The most steps of a run whose case has no limit.
-const DEFAULT_LIMIT: u32 = 1_000_000;
 
 // The limit of a line, or the one before.
 fn limit_or(before: u32, line: Line) -> u32
@@ -52,7 +49,7 @@ fn limit_or(before: u32, line: Line) -> u32
 fn limit_in(lines: &[Asked]) -> u32
     ensures { result ≡ judging.limit_of lines.now }
 {
-    let mut limit = DEFAULT_LIMIT;
+    let mut limit = DEFAULT_STEPS;
     for asked in lines {
         limit = limit_or(limit, asked.line);
     }

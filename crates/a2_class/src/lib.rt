@@ -1,4 +1,6 @@
 //! The tests of a class or an author: what a WANT asks of a source, and whether the source's run is so.
+//!
+//! How it is called is shown in CALLING.md.
 #![tactic(auto)]
 
 mod asks;

@@ -10,7 +10,7 @@ use a2_bus::Keys;
 use a2_machine::Cause;
 use a2_opcode::Mnemonic;
 use a2_run::step_limit;
-use a2_text::{behind_blanks, first_word, front_len, is_blank};
+use a2_text::{behind_blanks, first_word, only_word, split_word};
 
 /// What a line of a WANT says. Of the texts in it each is a part of the line.
 #[derive(Clone, Copy)]
@@ -136,16 +136,6 @@ fn verb_of(word: &[u8]) -> Option<Verb>
     None
 }
 
-// The first word of a text and what stands behind it.
-#[tactic(auto, unfolding(crate::specs::Lines::first_word, crate::specs::Lines::behind_word))]
-fn split_word(text: &[u8]) -> (&[u8], &[u8])
-    ensures word { result.0.now ≡ said.first_word text.now }
-    ensures behind { result.1.now ≡ said.behind_word text.now }
-{
-    let here = behind_blanks(text);
-    here.split_at(front_len(here, |c| !is_blank(c)))
-}
-
 // The number that a word spells, 0 to 100,000,000.
 fn number_of(word: &[u8]) -> Option<u32>
     ensures { IfSome result (λ n. said.IsNumber word.now n) }
@@ -154,18 +144,6 @@ fn number_of(word: &[u8]) -> Option<u32>
         return None;
     };
     step_limit(text)
-}
-
-// The one word of a text, where it has one and no other.
-fn only_word(text: &[u8]) -> Option<&[u8]>
-    ensures some { IfSome result (λ word. words text.now ≡ word.now ∷ []) }
-    ensures none { IfNone result ((word : List ℕ) → words text.now ≡ word ∷ [] → ⊥) }
-{
-    let (word, behind) = first_word(text)?;
-    match first_word(behind) {
-        Some(_) => None,
-        None => Some(word),
-    }
 }
 
 // What stands behind the first word of a text, where that is this one.

@@ -3,7 +3,7 @@ use Rattle.std.specs.Option.{unwrap_or}
 use Rattle.std.proofs.Common.{◌≡◌, ◌⊎◌, ℕ, ◌+◌, ◌-◌, ◌%◌, ◌<◌, List, [], ◌∷◌, ◌++◌, length, map, drop, Some, None, is_some, Result, Ok, Err, cond, eqb, refl, sym, ap, ap₂, ◌∙◌, subst, inl, inr, arith}
 use Rattle.std.proofs.lemmas.Bool.{false≢true}
 use Rattle.a2_text.specs.Bytes.{capital}
-use Rattle.a2_text.specs.Words.{words}
+use Rattle.a2_text.specs.Words.{words, first_word, behind_word, only_word}
 use Rattle.a2_bus.specs.KeyText.{SpellsKeys}
 use Rattle.a2_debug.specs.declared.fault.DebugFault.{DebugFault}
 use Rattle.a2_debug.specs.declared.fault.DebugFault.TheVariants as fault
@@ -17,7 +17,7 @@ use Rattle.a2_debug.specs.Session.{Halted as End, stepped, gone}
 use Rattle.a2_debug.specs.Stored.{Stored, session_of, typed_at, up_to}
 use Rattle.a2_debug.specs.Marks.{marked, unmarked, at_place}
 use Rattle.a2_debug.specs.Calls.{CallDoes, Ends, Sets, Run}
-use Rattle.a2_debug.specs.Lines.{verb_letters, first_word, behind_word, only_number, only_word, halt_line}
+use Rattle.a2_debug.specs.Lines.{verb_letters, only_number, halt_line}
 use Rattle.a2_debug.specs.Answers.{Says, SaysNone, done_text, IsAnswerText, IsCallDone, IsCallRefused, IsVerb, IsDebugAnswer, IsLineRefused}
 use Rattle.a2_debug.specs.Laws.{LookAlike}
 use Rattle.a2_debug.proofs.Alike.{stepped-alike, gone-alike, line-alike, picture-alike, moves-alike, both-alike}

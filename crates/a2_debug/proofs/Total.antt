@@ -2,7 +2,7 @@
 use Rattle.std.proofs.Common.{◌≡◌, ◌≢◌, ◌⊎◌, ℕ, zero, suc, ◌+◌, ◌-◌, ◌%◌, ◌<◌, ◌≤◌, Bool, true, false, List, [], ◌∷◌, ◌++◌, length, map, Option, Some, None, Result, Ok, Err, refl, sym, ap, ◌∙◌, subst, inl, inr, arith, eqb, cond, ltb}
 use Rattle.std.proofs.lemmas.Bool.{eqb-true, eqb-false}
 use Rattle.a2_text.specs.Bytes.{is_among, capital}
-use Rattle.a2_text.specs.Words.{words}
+use Rattle.a2_text.specs.Words.{words, first_word, behind_word, only_word}
 use Rattle.a2_syntax.specs.Names.{is_name}
 use Rattle.a2_hex.specs.ObjectLines.{hex_address}
 use Rattle.a2_asm.specs.Values.{Names, name_value}
@@ -23,7 +23,7 @@ use Rattle.a2_debug.specs.Session.{Halted as End, appended, advanced, stepped, g
 use Rattle.a2_debug.specs.Stored.{Stored, session_of, typed_at, up_to, Moves, NoneAbove}
 use Rattle.a2_debug.specs.Marks.{found_or, word_address, marked, unmarked, at_place}
 use Rattle.a2_debug.specs.Calls.{CallDoes, Sets, Run}
-use Rattle.a2_debug.specs.Lines.{verb_letters, first_word, behind_word, only_number, only_word, session_line, halt_line, session_picture}
+use Rattle.a2_debug.specs.Lines.{verb_letters, only_number, session_line, halt_line, session_picture}
 use Rattle.a2_debug.specs.Answers.{Says, SaysNone, done_text, IsAnswerText, IsVerb, IsDebugAnswer, IsLineRefused}
 use Rattle.a2_debug.proofs.Keys.{NoneAbove-weaker, NoneAbove-append, NoneAbove-typed_at, NoneAbove-up_to}
 use Rattle.a2_debug.proofs.Sessions.{session_next, session_typed, session_back}

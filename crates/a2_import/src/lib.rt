@@ -1,4 +1,6 @@
 //! Old texts as sources of this language.
+//!
+//! How it is called is shown in CALLING.md.
 #![tactic(auto)]
 
 mod data;

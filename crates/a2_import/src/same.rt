@@ -1,7 +1,7 @@
 //! Whether two images hold the same bytes.
 
 ghost use Rattle.std.specs.Prelude.{◌≡◌, ◌<◌, ◌↔◌, ℕ, IsTrue};
-ghost use Rattle.a2_hex.specs.Images.{held};
+ghost use Rattle.a2_hex.specs.Images.{held, ram_end};
 
 use a2_hex::{Image, RAM_END};
 use std::alloc::Allocator;
@@ -15,7 +15,7 @@ fn is_same_at<A: Allocator, B: Allocator>(image: &Image<A>, other: &Image<B>, ad
 
 /// Whether two images hold the same byte, or none, at each address.
 pub(crate) fn are_same<A: Allocator, B: Allocator>(image: &Image<A>, other: &Image<B>) -> bool
-    ensures { IsTrue result ↔ ((a : ℕ) → a < 49152 → held image.now a ≡ held other.now a) }
+    ensures { IsTrue result ↔ ((a : ℕ) → a < ram_end → held image.now a ≡ held other.now a) }
 {
     for address in 0..RAM_END {
         if !is_same_at(image, other, address) {

@@ -1,11 +1,10 @@
 -- What the lines of a debugger leave. This project's profile.
 use Rattle.std.specs.Prelude.{◌≡◌, ◌⊎◌, ℕ, ◌+◌, ◌-◌, ◌<◌, ◌≤◌, min, not, nat_lt, nat_le, List, [], ◌∷◌, ◌++◌, ◌==◌, ◌||◌, ◌&&◌, length, map, take, filter, slice_get, Bool, true, false, Option, Some, None, if◌then◌else◌}
 use Rattle.a2_text.specs.Bytes.{capital}
-use Rattle.a2_text.specs.Words.{words}
+use Rattle.a2_text.specs.Words.{words, first_word, behind_word}
 use Rattle.a2_services.specs.World.{World}
 use Rattle.a2_asm.specs.Assembled.{Assembled}
 use Rattle.a2_run.specs.Started.{IsStarted}
-use Rattle.a2_debug.specs.Lines.{first_word, behind_word}
 use Rattle.a2_history.specs.declared.Halt.{Halt}
 use Rattle.a2_routines.specs.declared.routines.Entry.{Entry}
 use Rattle.a2_history.specs.Going.{Track, here, Advances, IsNewest, with_typed}

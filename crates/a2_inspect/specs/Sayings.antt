@@ -1,10 +1,9 @@
 -- What lines say. This project's profile.
 use Rattle.std.specs.Prelude.{◌≡◌, ◌≢◌, ℕ, ◌<◌, ◌≤◌, List, [], ◌∷◌, length, drop, Option, Some, None}
 use Rattle.a2_text.specs.Bytes.{number_in}
-use Rattle.a2_text.specs.Words.{words}
+use Rattle.a2_text.specs.Words.{words, only_word}
 use Rattle.a2_bus.specs.KeyText.{SpellsKeys}
 use Rattle.a2_asm.specs.Assembled.{Assembled}
-use Rattle.a2_debug.specs.Lines.{only_word}
 use Rattle.a2_places.specs.Places.{place_of, span_of}
 use Rattle.a2_inspect.specs.Stops.{watchable}
 use Rattle.a2_inspect.specs.Conditions.{break_in}

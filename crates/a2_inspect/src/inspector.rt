@@ -32,7 +32,7 @@ ghost use Rattle.a2_inspect.specs.Inspections.{
 
 use crate::alerts::Alerts;
 use crate::order::{Order, Outcome, Refusal, Show};
-use crate::reading::{order_of, split_word};
+use crate::reading::order_of;
 use crate::sheet::{Stand, tell};
 use crate::sights::{At, Changed, Left, Stops};
 use crate::stops::Break;
@@ -47,7 +47,7 @@ use a2_places::Span;
 use a2_run::{RunFault, program_of, started};
 use a2_stream::{Output, WriteFault};
 use a2_talk::Partner;
-use a2_text::{cut, first_word};
+use a2_text::{cut, first_word, split_word};
 use arrayvec::ArrayVec;
 use std::alloc::{Allocator, Global};
 use std::marker::Model;

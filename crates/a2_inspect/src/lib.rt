@@ -1,4 +1,6 @@
 //! A source's run at a terminal, gone along in both directions: the lines of a debugger, answered one after another.
+//!
+//! How it is called is shown in CALLING.md.
 #![tactic(auto)]
 
 mod alerts;

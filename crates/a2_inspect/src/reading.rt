@@ -2,7 +2,6 @@
 
 ghost use Rattle.std.specs.Prelude.{◌≡◌, ◌≢◌, None, Some, MatchOption, IfOk, IfErr, IfSome, IfNone, []};
 ghost use Rattle.a2_text.specs.Words.{words};
-ghost use Rattle.a2_debug.specs.Lines as said;
 ghost use Rattle.a2_inspect.specs.Sayings.{Says, SaysNone, count_in as count_of, place_in as place_of_words, span_in as span_of_words, SpellsBehind, SpellsNoneBehind};
 
 use crate::conditions::{break_in, register_of};
@@ -12,29 +11,8 @@ use crate::verbs::Verb;
 use a2_asm::Program;
 use a2_bus::Keys;
 use a2_places::{Span, place_of, span_of};
-use a2_text::{behind_blanks, capital, first_word, front_len, is_blank, number_in};
+use a2_text::{capital, first_word, number_in, only_word};
 use std::alloc::Allocator;
-
-/// The first word of a text and what stands behind it.
-#[tactic(auto, unfolding(a2_debug::specs::Lines::first_word, a2_debug::specs::Lines::behind_word))]
-pub fn split_word(text: &[u8]) -> (&[u8], &[u8])
-    ensures word { result.0.now ≡ said.first_word text.now }
-    ensures behind { result.1.now ≡ said.behind_word text.now }
-{
-    let here = behind_blanks(text);
-    here.split_at(front_len(here, |c| !is_blank(c)))
-}
-
-// The one word of a text, where it has one and no other.
-fn only_word(text: &[u8]) -> Option<&[u8]>
-    ensures { MatchOption result (said.only_word (words text.now) ≡ None) (λ word. said.only_word (words text.now) ≡ Some word.now) }
-{
-    let (word, behind) = first_word(text)?;
-    match first_word(behind) {
-        Some(_) => None,
-        None => Some(word),
-    }
-}
 
 // The number that the one word of a text says; 1 where it has none.
 fn count_in(text: &[u8]) -> Option<u16>

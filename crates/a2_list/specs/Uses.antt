@@ -10,7 +10,7 @@ use Rattle.a2_syntax.specs.declared.source.Operand.{Operand}
 use Rattle.a2_syntax.specs.declared.source.Body.{Body}
 use Rattle.a2_syntax.specs.declared.source.Body.TheVariants.{Instr, Org, Equ, Dfb, Dw, Ds}
 use Rattle.a2_syntax.specs.declared.source.Line.{Line}
-use Rattle.a2_asm.specs.Modes.{expr_of}
+use Rattle.a2_syntax.specs.Operands.{expr_of}
 
 -- a term is a name
 abbrev pub is_named : {A : Type 0} → List ℕ → Term A → Bool

@@ -1,4 +1,6 @@
 //! The listing of a source and its names.
+//!
+//! How it is called is shown in CALLING.md.
 #![tactic(auto)]
 
 mod blanks;

@@ -2,7 +2,6 @@
 
 ghost use Rattle.std.specs.Prelude.{◌≡◌, ◌<◌, length, MatchOption, IfSome, Some, None};
 ghost use Rattle.std.specs.List.{list_any, position};
-ghost use Rattle.a2_asm.specs.Modes.{expr_of as expr_in};
 ghost use Rattle.a2_list.specs.Uses as uses;
 
 use a2_syntax::{Body, Expr, Line, Name, Operand, Term};
@@ -25,27 +24,11 @@ fn is_in<A: Allocator>(name: &str, e: &Expr<A>) -> bool
     e.terms.get().iter().any(|t| is_named(name, &t.term))
 }
 
-// The expression of an operand, if it has one.
-fn expr_of<A: Allocator>(operand: &Operand<A>) -> Option<&Expr<A>>
-    ensures { MatchOption result (expr_in operand.now ≡ None) (λ e. expr_in operand.now ≡ Some e.now) }
-{
-    match operand {
-        Operand::Nothing | Operand::Accumulator => None,
-        Operand::Immediate(e)
-        | Operand::Plain(e)
-        | Operand::WithX(e)
-        | Operand::WithY(e)
-        | Operand::InParenthesesX(e)
-        | Operand::ParenthesesY(e)
-        | Operand::InParentheses(e) => Some(e),
-    }
-}
-
 // Whether a name stands in an operand.
 fn is_in_operand<A: Allocator>(name: &str, operand: &Operand<A>) -> bool
     ensures { result ≡ uses.is_in_operand name.now operand.now }
 {
-    match expr_of(operand) {
+    match operand.expr() {
         Some(e) => is_in(name, e),
         None => false,
     }

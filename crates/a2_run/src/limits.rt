@@ -4,6 +4,9 @@ ghost use Rattle.std.specs.Prelude.{SomeIff};
 ghost use Rattle.std.specs.Str.Parse.{digits_value};
 ghost use Rattle.a2_run.specs.Limits.{IsStepLimit};
 
+/// The most steps of a run whose words ask for no other number.
+pub const DEFAULT_STEPS: u32 = 1_000_000;
+
 /// The most steps that a word can ask for.
 pub const MOST_STEPS: u32 = 100_000_000;
 

@@ -10,4 +10,5 @@ pub mod Limits
 pub mod Sources
 pub mod Reading
 pub mod Shapes
+pub mod Operands
 pub mod Texts

@@ -1,4 +1,6 @@
 //! Source texts of the assembler: their lines, and what each line says.
+//!
+//! How it is called is shown in CALLING.md.
 #![tactic(auto)]
 
 mod body;

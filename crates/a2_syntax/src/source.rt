@@ -1,8 +1,9 @@
 //! The lines of a source text, and their parts.
 
-ghost use Rattle.std.specs.Prelude.{◌≡◌, ◌≤◌, true, length, string_bytes};
+ghost use Rattle.std.specs.Prelude.{◌≡◌, ◌≤◌, true, None, Some, MatchOption, length, string_bytes};
 ghost use Rattle.a2_syntax.specs.Names.{is_name};
 ghost use Rattle.a2_syntax.specs.Bare.{bare};
+ghost use Rattle.a2_syntax.specs.Operands.{expr_of};
 
 use a2_opcode::Mnemonic;
 use std::alloc::{Allocator, Global};
@@ -204,6 +205,24 @@ pub enum Operand<A: Allocator = Global> {
     ParenthesesY(Expr<A>),
     /// `(e)`
     InParentheses(Expr<A>),
+}
+
+impl<A: Allocator> Operand<A> {
+    /// The expression in it: none where it is `Nothing` or `Accumulator`, and one in every other form.
+    pub fn expr(&self) -> Option<&Expr<A>>
+        ensures { MatchOption result (expr_of self.now ≡ None) (λ e. expr_of self.now ≡ Some e.now) }
+    {
+        match self {
+            Operand::Nothing | Operand::Accumulator => None,
+            Operand::Immediate(e)
+            | Operand::Plain(e)
+            | Operand::WithX(e)
+            | Operand::WithY(e)
+            | Operand::InParenthesesX(e)
+            | Operand::ParenthesesY(e)
+            | Operand::InParentheses(e) => Some(e),
+        }
+    }
 }
 
 /// What a line does.

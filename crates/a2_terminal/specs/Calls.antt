@@ -4,7 +4,7 @@ use Rattle.a2_services.specs.World.{World}
 use Rattle.a2_machine.specs.declared.Cause.{Cause}
 use Rattle.a2_machine.specs.declared.Cause.TheVariants.{Keys}
 use Rattle.a2_machine.specs.Start.{called_at}
-use Rattle.a2_monitor.specs.Sittings.{Sitting, KeptSession, sitting_of, with_keys, end_lines, IsFreeRun}
+use Rattle.a2_monitor.specs.Sittings.{Sitting, KeptSession, sitting_of, with_keys, end_lines, steps_of_call, IsFreeRun}
 use Rattle.a2_terminal.specs.declared.press.Press.{Press}
 use Rattle.a2_terminal.specs.declared.press.Press.TheVariants.{Key, Stop, Nothing}
 use Rattle.a2_terminal.specs.Screens.{IsSameScreen, screen_of, screen_where}
@@ -45,7 +45,7 @@ abbrev pub IsCallTold : ℕ → Attended → List ℕ → Attended → Type 0
 IsCallTold at old text new =
     let sitting = sitting_of old.session in
     let begin : Begin = record { world = called_at at sitting.world; sitting = sitting } in
-    IsTold begin 1_000_000 (codes "IT WAITS FOR A KEY; CTRL-] STOPS IT\n") old.is_live text new
+    IsTold begin steps_of_call (codes "IT WAITS FOR A KEY; CTRL-] STOPS IT\n") old.is_live text new
 
 -- it waits, and a key is typed
 abbrev pub IsKeyTold : ℕ → ℕ → Attended → List ℕ → Attended → Type 0

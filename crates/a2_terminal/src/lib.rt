@@ -1,4 +1,6 @@
 //! The Monitor at a terminal: its lines, answered one after another.
+//!
+//! How it is called is shown in CALLING.md.
 #![tactic(auto)]
 
 mod laws;

@@ -1,5 +1,5 @@
 -- The words of a text.
-use Rattle.std.specs.Prelude.{◌≡◌, ℕ, Bool, List, length, drop, nat_lt}
+use Rattle.std.specs.Prelude.{◌≡◌, ℕ, Bool, List, [], ◌∷◌, Option, None, Some, length, take, drop, not, nat_lt}
 use Rattle.std.specs.List.{prefix_len, slice_split, filter}
 use Rattle.a2_text.specs.Bytes.{is_blank}
 
@@ -10,6 +10,23 @@ behind_blanks text = drop (prefix_len is_blank text) text
 -- the pieces between blanks, but for empty ones
 abbrev pub words : List ℕ → List (List ℕ)
 words text = filter (λ piece. nat_lt 0 (length piece)) (slice_split is_blank text)
+
+-- the length of the first word, behind blanks
+abbrev pub first_length : List ℕ → ℕ
+first_length text = prefix_len (λ c. not (is_blank c)) (behind_blanks text)
+
+-- the first word of a text, which has no bytes where the text is blank, and what stands behind it
+unfoldable pub first_word : List ℕ → List ℕ
+first_word text = take (first_length text) (behind_blanks text)
+
+unfoldable pub behind_word : List ℕ → List ℕ
+behind_word text = drop (first_length text) (behind_blanks text)
+
+-- the one word that there is
+abbrev pub only_word : List (List ℕ) → Option (List ℕ)
+only_word [] = None
+only_word (word ∷ []) = Some word
+only_word (word ∷ next ∷ more) = None
 
 -- whatever a call may answer at a byte is what the test says
 abbrev pub IsTest : (ℕ → Bool) → (ℕ → Bool → Type 0) → Type 0

@@ -1,4 +1,6 @@
 //! Texts as bytes: their lines, blanks and digits, and how a refusal is shown.
+//!
+//! How it is called is shown in CALLING.md.
 #![tactic(auto)]
 
 mod digits;
@@ -11,4 +13,4 @@ pub use digits::{decimal, hex_pair, hex_word};
 pub use lines::cut;
 pub use numbers::{capital, is_blank, number_in};
 pub use refusal::{RefusalText, refusal_text};
-pub use words::{behind_blanks, first_word, front_len};
+pub use words::{behind_blanks, first_word, front_len, only_word, split_word};

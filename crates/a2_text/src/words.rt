@@ -1,6 +1,6 @@
 //! The words of a text: its pieces between blanks.
 
-ghost use Rattle.std.specs.Prelude.{◌≡◌, ◌<◌, ◌≤◌, ℕ, Bool, [], ◌∷◌, length, MatchOption, IfSome};
+ghost use Rattle.std.specs.Prelude.{◌≡◌, ◌<◌, ◌≤◌, ℕ, Bool, [], ◌∷◌, None, Some, length, MatchOption, IfSome};
 ghost use Rattle.std.specs.List.{prefix_len};
 ghost use Rattle.a2_text.specs.Words as word;
 ghost use Rattle.a2_text.specs.Words.{IsTest};
@@ -39,4 +39,25 @@ pub fn first_word(text: &[u8]) -> Option<(&[u8], &[u8])>
         return None;
     }
     Some(here.split_at(front_len(here, |c| !is_blank(c))))
+}
+
+/// The first word of a text and what stands behind it; of a blank text two empty ones.
+#[tactic(auto, unfolding(crate::specs::Words::first_word, crate::specs::Words::behind_word))]
+pub fn split_word(text: &[u8]) -> (&[u8], &[u8])
+    ensures word { result.0.now ≡ word.first_word text.now }
+    ensures behind { result.1.now ≡ word.behind_word text.now }
+{
+    let here = behind_blanks(text);
+    here.split_at(front_len(here, |c| !is_blank(c)))
+}
+
+/// The one word of a text, or none where it has none or several.
+pub fn only_word(text: &[u8]) -> Option<&[u8]>
+    ensures { MatchOption result (word.only_word (word.words text.now) ≡ None) (λ w. word.only_word (word.words text.now) ≡ Some w.now) }
+{
+    let (word, behind) = first_word(text)?;
+    match first_word(behind) {
+        Some(_) => None,
+        None => Some(word),
+    }
 }

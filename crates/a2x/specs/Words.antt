@@ -3,7 +3,7 @@ use Rattle.std.specs.Prelude.{◌≡◌, ◌⊎◌, ℕ, ◌≤◌, Bool, true, 
 use Rattle.std.specs.Option.{option_map}
 use Rattle.std.specs.Str.Parse.{digits_value}
 use Rattle.a2_bus.specs.KeyText.{SpellsKeys}
-use Rattle.a2_run.specs.Limits.{IsStepLimit}
+use Rattle.a2_run.specs.Limits.{IsStepLimit, default_steps}
 use Rattle.a2x.specs.Named.{IsFile}
 use Rattle.a2x.specs.declared.words.WordsFault.{WordsFault}
 use Rattle.a2x.specs.declared.words.WordsFault.TheVariants.{Words, Keys}
@@ -25,7 +25,7 @@ asked_of order = record { file = option_map (λ word. word.now) order.file; keys
 
 -- what no words ask for
 abbrev pub nothing_asked : Asked
-nothing_asked = record { file = None; keys = []; limit = 1000000; free = false }
+nothing_asked = record { file = None; keys = []; limit = default_steps; free = false }
 
 -- these words ask for the last order, where those before them ask for the first: options, of two of one name the later
 -- counting, and then a file, if any

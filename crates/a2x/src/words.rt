@@ -5,10 +5,7 @@ ghost use Rattle.a2x.specs.Words.{Asked, Asks, asked_of, nothing_asked, HaveBadK
 
 use crate::named::is_file;
 use a2_bus::Keys;
-use a2_run::step_limit;
-
-/// The most steps of a run without `--limit`.
-const DEFAULT_LIMIT: u32 = 1_000_000;
+use a2_run::{DEFAULT_STEPS, step_limit};
 
 /// Why words ask for nothing.
 #[derive(Clone, Copy)]
@@ -85,7 +82,7 @@ pub fn order_of(words: &[String]) -> Result<Order<'_>, WordsFault>
     let mut order = Order {
         file: None,
         keys: Keys::new(),
-        limit: DEFAULT_LIMIT,
+        limit: DEFAULT_STEPS,
         free: false,
     };
     let mut rest = match words {
