@@ -80,7 +80,7 @@ registers_back d w e =
     (with_pc (next_address d.row w.registers.pc) w)).registers) e
     ∙ (λ i. record w.registers { s = raised i; pc = (low i + 256 * high i + 1) % 65536 })
 
-not_refused : (protected : List ℕ) (d : Decoded) (w : World) → d.row.mnemonic ≡ Rts → cause_at protected (Ok d) w ≡ None
+pub not_refused : (protected : List ℕ) (d : Decoded) (w : World) → d.row.mnemonic ≡ Rts → cause_at protected (Ok d) w ≡ None
 unfolding refusal_of
 not_refused protected d w e = λ i.
     elim (refusal_of (e i) w.registers.flags) [

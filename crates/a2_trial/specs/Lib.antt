@@ -1,1 +1,6 @@
 pub mod Judging
+pub mod States
+pub mod Kept
+pub mod Everywhere
+pub mod Walking
+pub mod Returning

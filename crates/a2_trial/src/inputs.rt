@@ -1,5 +1,8 @@
 //! What a promise names at the entry of its routine.
 
+ghost use Rattle.std.specs.Prelude.{◌≡◌};
+ghost use Rattle.a2_trial.specs.Kept.{may_store};
+
 use a2_promise::{Atom, Changes, Expr, Function, Operation, Promise};
 use a2_uses::Part;
 use std::alloc::{AllocError, Global};
@@ -109,13 +112,13 @@ fn input_of(atom: Atom) -> Option<Input> {
 }
 
 /// Whether a byte may change.
-pub(crate) fn may_change(changes: &Changes, address: u16) -> bool {
-    for range in changes.ranges.as_slice() {
-        if range.first <= address && address <= range.last {
-            return true;
-        }
-    }
-    false
+pub(crate) fn may_change(changes: &Changes, address: u16) -> bool
+    ensures { result ≡ may_store changes.now address }
+{
+    changes
+        .ranges
+        .iter()
+        .any(|range| range.first <= address && address <= range.last)
 }
 
 // Whether an input is behind the routine what it was at its entry.

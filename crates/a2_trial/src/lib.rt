@@ -1,5 +1,10 @@
 //! Routines tried: each entered in many states, whether it keeps what it promises, and what is told of it.
+//!
+//! How it is called is shown in CALLING.md.
 #![tactic(auto)]
+
+ghost use Rattle.a2_trial.specs.Everywhere.{PromisesHoldEverywhere};
+ghost use Rattle.a2_trial.specs.Returning.{AnRtsKeepsAll};
 
 mod ground;
 mod inputs;
@@ -8,10 +13,27 @@ mod parts;
 mod report;
 mod services;
 mod trial;
+mod walk;
 mod within;
 
+use a2_promise::values_depend_on_looks;
 pub use ground::{Door, Passage, Traced};
 pub use inputs::Input;
 pub use judge::{Broken, Unmet};
+pub use parts::Parts;
 pub use report::{put_refusal, put_verdict};
 pub use trial::{Failure, Trials, Verdict, try_promise};
+pub use walk::{Walk, walk_home};
+
+/// A theorem, and no code: a promise that is kept in each state of its inputs, where neither its routine nor itself looks at anything
+/// else that is not fixed, is kept in every world at the routine's entry that is as it requires.
+pub fn promises_hold_everywhere()
+    ensures { PromisesHoldEverywhere }
+{
+    values_depend_on_looks();
+}
+
+/// A theorem, and no code: there is such a promise. A routine that is an RTS alone keeps one that says nothing, so that all stays.
+pub fn an_rts_keeps_all()
+    ensures { AnRtsKeepsAll }
+{}
