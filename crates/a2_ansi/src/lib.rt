@@ -1,4 +1,6 @@
 //! The Apple's screen on an ANSI terminal: the cells that changed, each at its place.
+//!
+//! How it is called is shown in CALLING.md.
 #![tactic(auto)]
 
 mod changes;

@@ -1,4 +1,6 @@
 //! Files that are written whole or not at all.
+//!
+//! How it is called is shown in CALLING.md.
 #![tactic(auto)]
 
 ghost use Rattle.std.specs.Prelude.{◌≡◌, None};

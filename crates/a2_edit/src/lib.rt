@@ -1,5 +1,7 @@
 //! A line that is edited at a terminal in raw mode: keys from its bytes, the line and its cursor, a history of lines, and what is
 //! drawn.
+//!
+//! How it is called is shown in CALLING.md.
 #![tactic(auto)]
 
 mod drawing;

@@ -1,4 +1,6 @@
 //! Why a run stopped, in words: what stands at PC, which line led there, and what that rests on.
+//!
+//! How it is called is shown in CALLING.md.
 #![tactic(auto)]
 
 mod course;

@@ -2,6 +2,8 @@
 //!
 //! The page holds its data as lines of text, and a row of them for each step. What a row says and how it is spelt is proved,
 //! and that the rows give the run's worlds back; the page's own script, which reads them, is not.
+//!
+//! How it is called is shown in CALLING.md.
 #![tactic(auto)]
 
 ghost use Rattle.a2_film.specs.Laws.{FramesShowTheRun, DataHaveNoTag};

@@ -1,5 +1,7 @@
 //! The page that shows a film, a run as it goes forwards and backwards: HTML with its style and script. Of these nothing is
 //! proved but that they go out as they stand in `data/viewer.html`.
+//!
+//! How it is called is shown in CALLING.md.
 #![tactic(auto)]
 
 ghost use Rattle.std.specs.Prelude.{◌≡◌};

@@ -1,4 +1,6 @@
 //! A law of films: their rows can be read, and say what they were written of.
+//!
+//! How it is called is shown in CALLING.md.
 #![tactic(auto)]
 
 ghost use Rattle.a2_film_read.specs.Laws.{RowsReadBack};

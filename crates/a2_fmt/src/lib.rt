@@ -1,4 +1,6 @@
 //! Source texts laid out in columns, which say the same.
+//!
+//! How it is called is shown in CALLING.md.
 #![tactic(auto)]
 
 mod fault;

@@ -1,4 +1,6 @@
 //! Images: bytes at addresses of RAM, and their text.
+//!
+//! How it is called is shown in CALLING.md.
 #![tactic(auto)]
 
 mod fault;

@@ -1,4 +1,6 @@
 //! A run that is gone along in both directions: forwards step by step, back to any position that was reached.
+//!
+//! How it is called is shown in CALLING.md.
 #![tactic(auto)]
 
 mod checkpoints;

@@ -1,4 +1,6 @@
 //! What a program takes from its host: its words, its files, and where it tells a fault.
+//!
+//! How it is called is shown in CALLING.md.
 #![tactic(auto)]
 
 ghost use Rattle.std.specs.Prelude.{◌≡◌, ◌++◌, IfSome, None, codes};

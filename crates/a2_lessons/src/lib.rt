@@ -1,5 +1,7 @@
 //! Lessons: theorems about 6502 routines and source texts, each proved for every input. The calls do nothing: their
 //! contracts are the theorems.
+//!
+//! How it is called is shown in CALLING.md.
 #![tactic(auto)]
 
 ghost use Rattle.a2_lessons.specs.ByteSum.{ByteSumSums};

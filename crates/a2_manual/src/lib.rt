@@ -1,4 +1,6 @@
 //! What the manual says of a name: of a refusal, a cause, an operation, a service or a location.
+//!
+//! How it is called is shown in CALLING.md.
 #![tactic(auto)]
 
 mod cutting;

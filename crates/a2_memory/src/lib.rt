@@ -1,4 +1,6 @@
 //! Memory behind a run: parts of it as the Monitor shows them, and all of RAM as object lines.
+//!
+//! How it is called is shown in CALLING.md.
 #![tactic(auto)]
 
 mod ends;

@@ -1,4 +1,6 @@
 //! What a source has that is accepted, and may be meant otherwise.
+//!
+//! How it is called is shown in CALLING.md.
 #![tactic(auto)]
 
 mod lines;

@@ -1,5 +1,7 @@
 //! A run at a terminal in panes: its source, registers, stack and memory, the last answer, and the Apple's screen, drawn again behind
 //! each line.
+//!
+//! How it is called is shown in CALLING.md.
 #![tactic(auto)]
 
 mod layout;

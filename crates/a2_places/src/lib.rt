@@ -1,4 +1,6 @@
 //! The addresses that words of a command line say, by the names of a program.
+//!
+//! How it is called is shown in CALLING.md.
 #![tactic(auto)]
 
 mod places;

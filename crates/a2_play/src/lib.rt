@@ -1,4 +1,6 @@
 //! A machine that is played at a terminal: keys as they are typed, cycles as time goes, and the cells that changed.
+//!
+//! How it is called is shown in CALLING.md.
 #![tactic(auto)]
 
 ghost use Rattle.a2_play.specs.Replays.{ReplayIsPlay};

@@ -1,4 +1,6 @@
 //! How often each line of a source, and each of its routines, is done by its run, and what it costs.
+//!
+//! How it is called is shown in CALLING.md.
 #![tactic(auto)]
 
 mod profile;

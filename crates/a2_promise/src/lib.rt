@@ -1,5 +1,7 @@
 //! What a routine promises in comments of its source: how promises are written, and what they say of a state where it is entered and
 //! one that it leaves.
+//!
+//! How it is called is shown in CALLING.md.
 #![tactic(auto)]
 
 ghost use Rattle.a2_promise.specs.Looks.{ValuesDependOnLooks};

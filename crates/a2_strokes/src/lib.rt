@@ -1,4 +1,6 @@
 //! What the bytes of a terminal say to an Apple II: its keys, and orders to whoever shows it.
+//!
+//! How it is called is shown in CALLING.md.
 #![tactic(auto)]
 
 mod strokes;

@@ -1,4 +1,6 @@
 //! Sessions at a terminal: each line that is read is answered before the next.
+//!
+//! How it is called is shown in CALLING.md.
 #![tactic(auto)]
 
 mod fault;

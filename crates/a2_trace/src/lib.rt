@@ -1,4 +1,6 @@
 //! The trace of a source's run: a line for each step that is chosen, or its routines as a tree.
+//!
+//! How it is called is shown in CALLING.md.
 #![tactic(auto)]
 
 mod calls;

@@ -1,4 +1,6 @@
 //! Runs at which keys are typed behind steps.
+//!
+//! How it is called is shown in CALLING.md.
 #![tactic(auto)]
 
 ghost use Rattle.a2_typed.specs.Typed.{NoKeysAreARun};

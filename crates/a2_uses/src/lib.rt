@@ -1,4 +1,6 @@
 //! What an instruction looks at and sets: the bytes that it reads, and the registers and flags.
+//!
+//! How it is called is shown in CALLING.md.
 #![tactic(auto)]
 
 mod bytes;
