@@ -1,6 +1,6 @@
 //! The machine: a board with a processor, its guard, and its counts.
 
-ghost use Rattle.std.specs.Prelude.{◌≡◌, ◌≢◌, ◌+◌, ◌^◌, ◌<◌, ◌≤◌, ◌↔◌, ℕ, [], true, None, Some, Ok, IfOk, IfNone, IfSome, OnOk, OnErr, OnSome, IsOk, length, slice_range};
+ghost use Rattle.std.specs.Prelude.{◌≡◌, ◌≢◌, ◌+◌, ◌-◌, ◌^◌, ◌<◌, ◌≤◌, ◌↔◌, ℕ, [], true, None, Some, Ok, IfOk, IfNone, IfSome, OnOk, OnErr, OnSome, IsOk, length, slice_range};
 ghost use Rattle.a2_stream.specs.Stream.{SendsOrBreaks};
 ghost use Rattle.a2_page.specs.Kept.{is_row_marked, with_row_marked, after_switch};
 ghost use Rattle.a2_page.specs.Picture.{page_grid, picture, attribute_rows};
@@ -10,6 +10,7 @@ ghost use Rattle.a2_bus.specs.Memory.{ram_end, with_ram, peek as peek_of};
 ghost use Rattle.a2_bus.specs.View.{memory_of};
 ghost use Rattle.a2_cpu.specs.Spare.{spare_bits_of};
 ghost use Rattle.a2_hex.specs.Images.{held};
+ghost use Rattle.a2_machine.specs.Looks.{look_at, seen_after};
 ghost use Rattle.a2_machine.specs.Meaning.{stuck};
 ghost use Rattle.a2_machine.specs.ProgramGuard.{guard_of_program};
 ghost use Rattle.a2_machine.specs.Start.{start_world};
@@ -27,6 +28,7 @@ use a2_bus::{AddressSpace, Board, Bus, Keys, KeysFull};
 use a2_cpu::live::Live;
 use a2_cpu::{Breakpoints, NoBreakpoints, Regs};
 use a2_hex::Image;
+use a2_live::{NoObserver, Observer};
 use a2_page::View;
 use a2_stream::{Output, WriteFault};
 use std::alloc::{AllocError, Allocator, Global};
@@ -287,8 +289,15 @@ impl<A: Allocator> Machine<A> {
     }
 
     // Makes at most so many steps, fewer only where the machine is stuck or a step came to a breakpoint: that then.
-    fn make<B: Breakpoints>(&mut self, limit: u64, breakpoints: &B) -> Option<Stop>
-        ensures { Rattle.a2_machine.specs.State.IsMaking (B.is_breakpoint breakpoints.now) limit self.old self.new result }
+    fn make<B: Breakpoints, O: Observer>(
+        &mut self,
+        limit: u64,
+        breakpoints: &B,
+        observer: &mut O,
+    ) -> Option<Stop>
+        ensures made { Rattle.a2_machine.specs.State.IsMaking (B.is_breakpoint breakpoints.now) limit self.old self.new result }
+        ensures seen { observer.new ≡ seen_after O.seen (look_at (code_of self.old.state) (world_of_state self.old.state))
+            observer.old (self.new.state.steps - self.old.state.steps) }
     {
         keeps_count(self.made);
         let left = MOST_STEPS - self.steps;
@@ -299,6 +308,7 @@ impl<A: Allocator> Machine<A> {
             &self.watch,
             most,
             breakpoints,
+            observer,
         );
         self.cycles += done.cycles;
         self.steps += done.made;
@@ -348,13 +358,37 @@ impl<A: Allocator> Machine<A> {
         cause_in(self.run_to(limit, &NoBreakpoints))
     }
 
+    /// Makes steps as [`Machine::run`] does, each of which `observer` sees as it is made, the calls of services too, and
+    /// answers what `run` answers. This project's profile.
+    pub fn run_observed<O: Observer>(&mut self, limit: u32, observer: &mut O) -> Cause
+        ensures run { IsMachineRun limit self.old self.new result }
+        ensures seen { observer.new ≡ seen_after O.seen (look_at (code_of self.old.state) (world_of_state self.old.state))
+            observer.old (self.new.state.steps - self.old.state.steps) }
+    {
+        cause_in(self.run_by(limit, &NoBreakpoints, observer))
+    }
+
     /// Makes steps as [`Machine::run`] does, but ends after a step that comes to one of `breakpoints`, and answers
     /// [`Stop::Breakpoint`], whatever cause holds there, `Cause::Limit` too. PC is not looked at before the first step.
     /// Where no step comes to a breakpoint the answer is the cause that `run` answers. This project's profile.
     pub fn run_to<B: Breakpoints>(&mut self, limit: u32, breakpoints: &B) -> Stop
         ensures { IsRunTo (B.is_breakpoint breakpoints.now) limit self.old self.new result }
     {
-        if let Some(stop) = self.make(u64::from(limit), breakpoints) {
+        self.run_by(limit, breakpoints, &mut NoObserver)
+    }
+
+    // The run of `run_to`, each step of which the observer sees.
+    fn run_by<B: Breakpoints, O: Observer>(
+        &mut self,
+        limit: u32,
+        breakpoints: &B,
+        observer: &mut O,
+    ) -> Stop
+        ensures run { IsRunTo (B.is_breakpoint breakpoints.now) limit self.old self.new result }
+        ensures seen { observer.new ≡ seen_after O.seen (look_at (code_of self.old.state) (world_of_state self.old.state))
+            observer.old (self.new.state.steps - self.old.state.steps) }
+    {
+        if let Some(stop) = self.make(u64::from(limit), breakpoints, observer) {
             return stop;
         }
         match self.stop() {
