@@ -23,7 +23,8 @@ use Rattle.a2_run.proofs.Runs.{meant, sound-of}
 use Rattle.a2_routines.specs.declared.routines.Entry.{Entry}
 use Rattle.a2_routines.specs.Routines.{is_call, entry_at, with_call, entered}
 use Rattle.a2_routines.specs.Routines as routines
-use Rattle.a2_profile.proofs.Going.{IsGone, gone-none, gone-next, step-reached, ended_at, EndAlike, end-late, same-world}
+use Rattle.a2_profile.proofs.Going.{EndAlike, end-late, same-world}
+use Rattle.a2_trace.proofs.Going.{IsGone, gone-none, gone-next, step-reached, ended_at}
 use Rattle.a2_profile.proofs.Walking.{map-filter, map-push, entered-before, entered-alike, map-alike}
 use Rattle.a2_trace.specs.declared.calls.Visit.{Visit}
 use Rattle.a2_trace.specs.Calls.{visit_of, entered_row, spent_row, is_within, word_of, left_rows, visits, visits_called, call_row, back_rows, call_rows, call_tree, IsCallTreeOf}

@@ -1,3 +1,5 @@
 pub mod Drawing
+pub mod Going
+mod Pairs
 pub mod Storing
 pub mod Tracing

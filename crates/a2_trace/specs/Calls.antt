@@ -9,6 +9,7 @@ use Rattle.a2_asm.specs.Assembled.{Assembled}
 use Rattle.a2_asm.specs.Programs.{begins_at}
 use Rattle.a2_asm.specs.Values.{Names}
 use Rattle.a2_services.specs.declared.Service.{Service}
+use Rattle.a2_services.specs.Rows.{service_name}
 use Rattle.a2_services.specs.Services.{service_at}
 use Rattle.a2_services.specs.World.{World}
 use Rattle.a2_machine.specs.declared.Cause.{Cause}
@@ -20,7 +21,6 @@ use Rattle.a2_routines.specs.Routines.{is_call, entry_at, with_call, entered}
 use Rattle.a2_profile.specs.Routines.{begin_of}
 use Rattle.a2_profile.specs.RoutineTable.{name_of}
 use Rattle.a2_trace.specs.declared.calls.Visit.{Visit}
-use Rattle.a2_trace.specs.Trace.{service_name}
 
 -- what is told of a routine that was entered: where its JSR stands and where it begins, the stack pointer before the JSR, and the
 -- steps and cycles of the run behind it

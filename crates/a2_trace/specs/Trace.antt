@@ -1,12 +1,11 @@
 -- What a trace shows: the chosen steps of a run, with what stands at PC before each and the registers behind it. This
 -- project's profile.
-use Rattle.std.specs.Prelude.{◌≡◌, ℕ, zero, suc, ◌+◌, ◌-◌, nat_le, Bool, ◌&&◌, List, [], ◌∷◌, ◌++◌, length, take, codes, Option, Some, None, if◌then◌else◌}
+use Rattle.std.specs.Prelude.{◌≡◌, ℕ, zero, suc, ◌+◌, ◌-◌, nat_le, Bool, ◌&&◌, List, [], ◌++◌, length, take, codes, Option, Some, None, if◌then◌else◌}
 use Rattle.a2_text.specs.Digits.{hex_word}
 use Rattle.a2_opcode.specs.Listing.{listing}
-use Rattle.a2_bus.specs.Memory.{Memory}
 use Rattle.a2_asm.specs.Assembled.{Assembled}
 use Rattle.a2_services.specs.declared.Service.{Service}
-use Rattle.a2_services.specs.declared.Service.TheVariants.{Cout, Cout1, Crout, Home, Prbyte, Prhex, Setinv, Setnorm, Vtab, Clreol, Clreop, Rdkey, Keyin, Getln, Wait, Setcol, Plot, Hline, Vline, Scrn, Clrscr}
+use Rattle.a2_services.specs.Rows.{service_name}
 use Rattle.a2_services.specs.Services.{service_at}
 use Rattle.a2_services.specs.World.{World}
 use Rattle.a2_machine.specs.declared.Cause.{Cause}
@@ -14,48 +13,23 @@ use Rattle.a2_machine.specs.Meaning.{Code, End, IsEnd, world_at}
 use Rattle.a2_machine.specs.Output.{register_line, cause_line}
 use Rattle.a2_run.specs.Meaning.{IsProgramOf, code_of_run, start_of_run}
 use Rattle.a2_trace.specs.declared.choice.Choice.{Choice}
-use Rattle.a2_trace.specs.Bytes.{byte_at}
+use Rattle.a2_trace.specs.Bytes.{bytes_at}
 use Rattle.a2_trace.specs.Choices.{is_chosen}
 
--- the name of a service in the Monitor
-abbrev pub service_name : Service → List ℕ
-service_name Cout = codes "COUT"
-service_name Cout1 = codes "COUT1"
-service_name Crout = codes "CROUT"
-service_name Home = codes "HOME"
-service_name Prbyte = codes "PRBYTE"
-service_name Prhex = codes "PRHEX"
-service_name Setinv = codes "SETINV"
-service_name Setnorm = codes "SETNORM"
-service_name Vtab = codes "VTAB"
-service_name Clreol = codes "CLREOL"
-service_name Clreop = codes "CLREOP"
-service_name Rdkey = codes "RDKEY"
-service_name Keyin = codes "KEYIN"
-service_name Getln = codes "GETLN"
-service_name Wait = codes "WAIT"
-service_name Setcol = codes "SETCOL"
-service_name Plot = codes "PLOT"
-service_name Hline = codes "HLINE"
-service_name Vline = codes "VLINE"
-service_name Scrn = codes "SCRN"
-service_name Clrscr = codes "CLRSCR"
-
--- the line of a listing for the instruction at an address
-abbrev pub instruction_line : Memory → ℕ → List ℕ
-instruction_line memory pc = listing (byte_at memory pc ∷ byte_at memory (pc + 1) ∷ byte_at memory (pc + 2) ∷ []) pc
-
--- the same form for a service that is called at an address
+-- the line of a listing for a service that is called at an address
 abbrev pub service_line : Service → ℕ → List ℕ
-service_line service pc = hex_word pc ++ (codes "-              " ++ service_name service)
+service_line service a = hex_word a ++ (codes "-              " ++ service_name service)
 
--- what stands at PC
-unfoldable pub at_pc : World → List ℕ
-at_pc world =
-    elim (service_at world.registers.pc) [
-      | Some service ↦ service_line service world.registers.pc
-      | None ↦ instruction_line world.memory world.registers.pc
+-- what stands at an address with these bytes: a service that is called there, or else an instruction
+unfoldable pub standing : ℕ → List ℕ → List ℕ
+standing a bytes =
+    elim (service_at a) [
+      | Some service ↦ service_line service a
+      | None ↦ listing bytes a
     ]
+
+abbrev pub at_pc : World → List ℕ
+at_pc world = standing world.registers.pc (bytes_at world.memory world.registers.pc)
 
 -- a text with blanks behind it up to 34 places
 abbrev pub padded : List ℕ → List ℕ

@@ -1,7 +1,10 @@
 -- What calls that make steps answer. No public clause cites this file.
-use Rattle.std.specs.Prelude.{◌≡◌, ℕ, Bool, ◌&&◌, List, ◌++◌, Option, Some, None, Result, Ok, Err}
+use Rattle.std.specs.Prelude.{◌≡◌, ℕ, zero, suc, Bool, ◌&&◌, List, [], ◌∷◌, ◌++◌, codes, Option, Some, None, Result, Ok, Err}
+use Rattle.std.specs.List.{concat}
+use Rattle.a2_text.specs.Digits.{hex_pair, hex_word}
 use Rattle.a2_stream.specs.Stream.{Taker, Sends, Breaks}
 use Rattle.a2_stream.specs.declared.WriteFault.{WriteFault}
+use Rattle.a2_cpu.specs.Registers.{Registers, byte_of_flags}
 use Rattle.a2_places.specs.declared.places.Span.{Span}
 use Rattle.a2_services.specs.World.{World}
 use Rattle.a2_machine.specs.declared.Cause.{Cause}
@@ -44,3 +47,14 @@ pub record IsLeftOut (program : Assembled) (keys : List ℕ) (limit : ℕ) (free
   pub end : End
   pub is_end : IsEnd (code_of_run free program) (start_of_run program keys) limit end
   pub skip_is : skip ≡ left_out choice.last (count_chosen choice (code_of_run free program) (start_of_run program keys) end.steps)
+
+-- the digits of so many first bytes, one after another
+abbrev pub pairs : ℕ → List ℕ
+pairs zero = []
+pairs (suc n) = pairs n ++ hex_pair n
+
+-- the front of a register line, up to the steps
+unfoldable pub fields : Registers → List ℕ
+fields r = concat (
+    codes "A=" ∷ hex_pair r.a ∷ codes " X=" ∷ hex_pair r.x ∷ codes " Y=" ∷ hex_pair r.y ∷ codes " P=" ∷ hex_pair (byte_of_flags r.flags)
+    ∷ codes " S=" ∷ hex_pair r.s ∷ codes " PC=" ∷ hex_word r.pc ∷ codes " STEPS=" ∷ [])

@@ -13,7 +13,7 @@ ghost use Rattle.a2_trace.specs.Called.{Draws, begun};
 ghost use Rattle.a2_trace.specs.Calls as tree;
 ghost use Rattle.a2_trace.specs.Calls.{IsCallTreeOf};
 
-use crate::trace::{put_end, service_name};
+use crate::trace::put_end;
 use a2_asm::{Names, Program, Statement};
 use a2_bus::Keys;
 use a2_machine::{Cause, Machine};
@@ -63,7 +63,7 @@ fn routine_name<A: Allocator>(names: &Names<A>, address: u16) -> &[u8]
         return own;
     }
     match service_at(address) {
-        Some(service) => service_name(service),
+        Some(service) => service.name(),
         None => b"",
     }
 }

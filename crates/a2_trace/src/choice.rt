@@ -157,6 +157,7 @@ fn make_any<A: Allocator>(machine: &mut Machine<A>, near: bool) -> Result<bool, 
 }
 
 // Makes a step, and says whether it is near and stores where it is asked for; or the cause that forbids it.
+#[inline(always)]
 pub(crate) fn make_step<A: Allocator>(
     machine: &mut Machine<A>,
     was: &mut Machine<A>,

@@ -5,6 +5,8 @@
 
 mod calls;
 mod choice;
+mod front;
+mod line;
 mod trace;
 
 pub use calls::trace_calls;

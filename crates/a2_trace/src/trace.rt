@@ -1,7 +1,6 @@
 //! The trace of a run.
 
-ghost use Rattle.std.specs.Prelude.{◌≡◌, ◌+◌, ◌≤◌, ◌++◌, ◌&&◌, [], length, true, false, IfOk, if◌then◌else◌};
-ghost use Rattle.arrayvec.specs.ArrayVec.{array_vec_len};
+ghost use Rattle.std.specs.Prelude.{◌≡◌, ◌++◌, ◌&&◌, [], true, false, IfOk, if◌then◌else◌};
 ghost use Rattle.a2_stream.specs.Stream.{SendsOrBreaks};
 ghost use Rattle.a2_bus.specs.View.{memory_of};
 ghost use Rattle.a2_cpu.specs.View.{registers_of};
@@ -9,122 +8,46 @@ ghost use Rattle.a2_machine.specs.Output.{register_line, cause_line};
 ghost use Rattle.a2_machine.specs.State.{code_of, world_of_state};
 ghost use Rattle.a2_run.specs.Answers.{Answers, OfSource, is_read_fault};
 ghost use Rattle.a2_run.specs.Meaning.{IsRefused};
+ghost use Rattle.a2_trace.specs.Bytes as bytes;
 ghost use Rattle.a2_trace.specs.Trace as trace;
 ghost use Rattle.a2_trace.specs.Trace.{IsTraceOf};
 ghost use Rattle.a2_trace.specs.Traced.{IsCountOf, IsLeftOut, Traces};
 
 use crate::choice::{Choice, byte_at, is_near, make_step};
+use crate::front::{BLANK, Front, Fronts};
+use crate::line::{Line, fields};
 use a2_asm::Program;
 use a2_bus::Keys;
-use a2_machine::{Cause, Machine, write_cause, write_registers};
-use a2_opcode::{Listed, list_line};
+use a2_machine::{Cause, Machine, write_cause};
 use a2_run::{RunFault, program_of, started};
-use a2_services::{Service, service_at};
 use a2_stream::{Output, WriteFault, put};
-use a2_text::hex_word;
-use arrayvec::ArrayVec;
 use std::alloc::{AllocError, Allocator};
 
-// What stands before the registers of a line.
-type Front = ArrayVec<u8, 34>;
-
-const BLANKS: &[u8] = b"                                  ";
-
-// Appends bytes that fit.
-fn append(front: &mut Front, bytes: &[u8])
-    requires { array_vec_len front.old + length bytes.now ≤ 34 }
-    ensures bytes { front.new.items ≡ front.old.items ++ bytes.now }
-    ensures length { array_vec_len front.new ≡ array_vec_len front.old + length bytes.now }
+// The bytes of the instruction at an address, if one is there.
+fn bytes_at<A: Allocator>(machine: &Machine<A>, address: u16) -> [u8; 3]
+    ensures { result ≡ bytes.bytes_at (memory_of machine.now.state.bus) address }
 {
-    front.try_extend_from_slice(bytes).unwrap();
+    [
+        byte_at(machine, address),
+        byte_at(machine, address.wrapping_add(1)),
+        byte_at(machine, address.wrapping_add(2)),
+    ]
 }
 
-// The name of a service in the Monitor.
-pub(crate) fn service_name(service: Service) -> &'static [u8]
-    ensures name { result.now ≡ trace.service_name service }
-    ensures short { length result.now ≤ 7 }
-{
-    match service {
-        Service::Cout => b"COUT",
-        Service::Cout1 => b"COUT1",
-        Service::Crout => b"CROUT",
-        Service::Home => b"HOME",
-        Service::Prbyte => b"PRBYTE",
-        Service::Prhex => b"PRHEX",
-        Service::Setinv => b"SETINV",
-        Service::Setnorm => b"SETNORM",
-        Service::Vtab => b"VTAB",
-        Service::Clreol => b"CLREOL",
-        Service::Clreop => b"CLREOP",
-        Service::Rdkey => b"RDKEY",
-        Service::Keyin => b"KEYIN",
-        Service::Getln => b"GETLN",
-        Service::Wait => b"WAIT",
-        Service::Setcol => b"SETCOL",
-        Service::Plot => b"PLOT",
-        Service::Hline => b"HLINE",
-        Service::Vline => b"VLINE",
-        Service::Scrn => b"SCRN",
-        Service::Clrscr => b"CLRSCR",
-    }
-}
-
-// The line of a listing for the instruction at an address.
-fn instruction_line<A: Allocator>(machine: &Machine<A>, pc: u16) -> Listed
-    ensures { result.text.bytes ≡ trace.instruction_line (memory_of machine.now.state.bus) pc }
-{
-    let bytes = [
-        byte_at(machine, pc),
-        byte_at(machine, pc.wrapping_add(1)),
-        byte_at(machine, pc.wrapping_add(2)),
-    ];
-    list_line(&bytes, pc)
-}
-
-// What stands at PC.
-#[tactic(auto, unfolding(crate::specs::Trace::at_pc))]
-fn at_pc<A: Allocator>(machine: &Machine<A>) -> Front
-    ensures text { result.items ≡ trace.at_pc (world_of_state machine.now.state) }
-    ensures room { array_vec_len result ≤ 34 }
-{
-    let pc = machine.regs().pc;
-    let mut front = Front::new();
-    match service_at(pc) {
-        Some(service) => {
-            append(&mut front, &hex_word(pc));
-            append(&mut front, b"-              ");
-            append(&mut front, service_name(service));
-        }
-        None => append(
-            &mut front,
-            instruction_line(machine, pc).text.as_str().as_bytes(),
-        ),
-    }
-    front
-}
-
-// The same with blanks behind it.
-fn front_of<A: Allocator>(machine: &Machine<A>) -> Front
-    ensures { result.items ≡ trace.padded (trace.at_pc (world_of_state machine.now.state)) }
-{
-    let mut front = at_pc(machine);
-    let gap = BLANKS.len() - front.len();
-    append(&mut front, &BLANKS[..gap]);
-    front
-}
-
-// Writes the line of a step: what stood at PC before it, and the registers behind it.
-#[tactic(auto, using(a2_stream::proofs::Joined::broke_off, a2_stream::proofs::Joined::went_on))]
-fn put_step<A: Allocator, W: Output>(
-    front: &[u8],
-    machine: &Machine<A>,
-    writer: &mut W,
-) -> Result<(), WriteFault>
+// Spells the line of a step: what stood at PC before it, and the registers behind it.
+#[tactic(auto, unfolding(a2_machine::specs::Output::line_of_digits))]
+#[inline(always)]
+fn spell<A: Allocator>(line: &mut Line, front: &Front, machine: &Machine<A>)
+    requires { line.old ≡ [] }
     ensures { let s = machine.now.state in
-        SendsOrBreaks (W.taker writer.old) (W.taker writer.new) result (front.now ++ register_line (registers_of s.regs) s.steps s.cycles) }
+        line.new ≡ front.now ++ register_line (registers_of s.regs) s.steps s.cycles }
 {
-    put(front, writer)?;
-    write_registers(machine, writer)
+    line.put(b'\n');
+    line.put_number(machine.cycles());
+    line.put_text(b" CYCLES=");
+    line.put_number(machine.steps());
+    line.put_text(&fields(machine.regs()));
+    line.put_text(front);
 }
 
 // Writes the cause line, and answers the cause.
@@ -137,13 +60,19 @@ pub(crate) fn put_end<W: Output>(cause: Cause, writer: &mut W) -> Result<Cause, 
 }
 
 // The front of the next step's line, where it may be shown.
-fn front_where<A: Allocator>(near: bool, late: bool, machine: &Machine<A>) -> Front
-    ensures { near ≡ true → late ≡ true → result.items ≡ trace.padded (trace.at_pc (world_of_state machine.now.state)) }
+fn front_where<'a, A: Allocator>(
+    near: bool,
+    late: bool,
+    fronts: &'a mut Fronts,
+    machine: &Machine<A>,
+) -> &'a Front
+    ensures { near ≡ true → late ≡ true → result.now ≡ trace.padded (trace.at_pc (world_of_state machine.now.state)) }
 {
     if near && late {
-        front_of(machine)
+        let pc = machine.regs().pc;
+        fronts.front(pc, bytes_at(machine, pc))
     } else {
-        Front::new()
+        &BLANK
     }
 }
 
@@ -151,7 +80,7 @@ fn front_where<A: Allocator>(near: bool, late: bool, machine: &Machine<A>) -> Fr
 fn put_where<A: Allocator, W: Output>(
     chosen: bool,
     late: bool,
-    front: &[u8],
+    front: &Front,
     machine: &Machine<A>,
     writer: &mut W,
 ) -> Result<(), WriteFault>
@@ -160,7 +89,9 @@ fn put_where<A: Allocator, W: Output>(
         (if chosen && late then front.now ++ register_line (registers_of s.regs) s.steps s.cycles else []) }
 {
     if chosen && late {
-        put_step(front, machine, writer)
+        let mut line = Line::new();
+        spell(&mut line, front, machine);
+        put(line.as_slice(), writer)
     } else {
         Ok(())
     }
@@ -201,16 +132,17 @@ fn trace_run<A: Allocator, W: Output>(
     ensures { Traces choice.now skip (code_of machine.old.state) (world_of_state machine.old.state) limit
         (W.taker writer.old) (W.taker writer.new) result }
 {
+    let mut fronts = Fronts::new();
     let mut count = 0;
     for _ in 0..limit {
         let near = is_near(choice, machine);
         let late = count >= skip;
-        let front = front_where(near, late, machine);
+        let front = front_where(near, late, &mut fronts, machine);
         let chosen = match make_step(machine, was, near, choice.stores) {
             Ok(chosen) => chosen,
             Err(cause) => return put_end(cause, writer),
         };
-        put_where(chosen, late, front.as_slice(), machine, writer)?;
+        put_where(chosen, late, front, machine, writer)?;
         count += u64::from(chosen);
     }
     let cause = machine.run(0);

@@ -3,7 +3,7 @@ use Rattle.a2_cpu.specs.declared.Regs.{Regs}
 use Rattle.a2_machine.specs.State.{code_of, world_of_state}
 use Rattle.a2_stream.proofs.Joined.{Sends-nil, Breaks-then}
 use Rattle.a2_stream.specs.Stream.{Breaks}
-use Rattle.a2_profile.proofs.Going.{stuck-ends, limit-ends, gone-next}
+use Rattle.a2_trace.proofs.Going.{stuck-ends, limit-ends, gone-next}
 use Rattle.a2_trace.proofs.Drawing.{IsDrawn, few, drawn-none, drawn-next, rows-next, draws-end, draws-broken}
 use Rattle.a2_trace.proofs.calls.draw_run.Goals as goal
 

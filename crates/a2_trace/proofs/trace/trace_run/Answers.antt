@@ -46,8 +46,8 @@ loop-preserved g c =
           c.is_near-near.result c.in-Ok.chosen c.is_near-near.ensures c.in-Ok.ensures.2 low c.in-Ok.ensures.0);
       sent = subst (Sends before after)
           (line-next choice (code_of start) (world_of_state start) c.loop.machine c.make_step.new.machine c.loop.counter c.loop.count c.loop.invariant.made c.in-Ok.ensures.1
-          c.is_near-near.result c.in-Ok.chosen c.is_near-near.ensures c.in-Ok.ensures.2 c.args.skip (nat_le c.args.skip c.loop.count) c.as_slice.result.now _ refl
-          (λ n l. c.as_slice.ensures.value ∙ c.front_where-front.ensures n l) refl)
+          c.is_near-near.result c.in-Ok.chosen c.is_near-near.ensures c.in-Ok.ensures.2 c.args.skip (nat_le c.args.skip c.loop.count) c.front_where-front.result.now _ refl
+          c.front_where-front.ensures refl)
           (Sends-then before here after _ _ c.loop.invariant.sent c.in_ok-put_where.ensures);
     }
 
@@ -62,6 +62,6 @@ returns-in_err-put_where g c =
     c.is_near-near.result c.in-Ok.chosen c.is_near-near.ensures c.in-Ok.ensures.2 low c.in-Ok.ensures.0)
     c.loop-test.true
     (line-next choice (code_of start) (world_of_state start) c.loop.machine c.make_step.new.machine c.loop.counter c.loop.count c.loop.invariant.made c.in-Ok.ensures.1
-    c.is_near-near.result c.in-Ok.chosen c.is_near-near.ensures c.in-Ok.ensures.2 c.args.skip (nat_le c.args.skip c.loop.count) c.as_slice.result.now _ refl
-    (λ n l. c.as_slice.ensures.value ∙ c.front_where-front.ensures n l) refl)
+    c.is_near-near.result c.in-Ok.chosen c.is_near-near.ensures c.in-Ok.ensures.2 c.args.skip (nat_le c.args.skip c.loop.count) c.front_where-front.result.now _ refl
+    c.front_where-front.ensures refl)
     c.in_err-put_where.ensures
