@@ -2,5 +2,9 @@ pub mod CountLaws
 pub mod Going
 pub mod Counting
 pub mod RowLaws
+pub mod ItemLaws
+pub mod StringLaws
+pub mod JoinLaws
+pub mod RunLaws
 pub mod WalkLaws
 pub mod Walking

@@ -1,20 +1,43 @@
 -- What each part of a step leaves of a walk.
-use Rattle.std.specs.Prelude.{◌≡◌, ◌≢◌, ◌⊎◌, ℕ, zero, suc, ◌+◌, ◌-◌, ◌<◌, ◌≤◌, ◌==◌, ◌&&◌, nat_le, not, Bool, true, false, List, [], ◌∷◌, ◌++◌, length, take, filter, nat_lt, replicate, slice_set, slice_index_or, if◌then◌else◌, refl}
+use Rattle.std.specs.Prelude.{◌≡◌, ◌≢◌, ◌⊎◌, ℕ, zero, suc, ◌+◌, ◌-◌, ◌<◌, ◌≤◌, ◌^◌, ◌==◌, ◌&&◌, nat_le, not, Bool, true, false, List, [], ◌∷◌, ◌++◌, length, take, filter, nat_lt, replicate, slice_set, slice_get, slice_index_or, if◌then◌else◌, Some, refl}
 use Rattle.std.specs.List.{All, AllPairs, count_by, sum_by}
-use Rattle.std.proofs.Common.{sym, ap, ap₂, ◌∙◌, subst, arith, inl, inr, get_or-set_same, get_or-set_other, mul-zero, lit<}
+use Rattle.std.proofs.Common.{sym, ap, ap₂, ◌∙◌, subst, arith, inl, inr, get_or-set_same, get_or-set_other, mul-zero, lit<, lit≤}
 use Rattle.std.proofs.lemmas.Bool.{and_parts, leb-true, le-ltb, lt-ltb}
 use Rattle.std.proofs.lemmas.Bool.Decides.{nat_tests}
 use Rattle.std.proofs.lemmas.List.{length-set, length-replicate, take_all, take_more, append-nil, get_or_default}
 use Rattle.std.proofs.lemmas.Grind.{common_steps}
+use Rattle.std.proofs.lemmas.Option.{get_or_from_slice_get}
 use Rattle.std.proofs.lemmas.List.Elements.{All-push, filter-append}
 use Rattle.std.proofs.lemmas.List.Folds.{sum_by-replicate}
 use Rattle.std.proofs.lemmas.List.Quantifiers.{all_pairs_push}
 use Rattle.std.proofs.lemmas.List.Sums.{sum_by-set, sum_by_push, sum_by_more, count_by-le-length}
+use Rattle.a2_live.specs.declared.observer.Look.{Look}
 use Rattle.a2_profile.specs.declared.walk.Frame.{Frame}
 use Rattle.a2_profile.specs.declared.walk.Opening.{Opening}
 use Rattle.a2_profile.specs.declared.walk.Totals.{Totals}
+use Rattle.a2_profile.specs.Seeing.{is_small}
 use Rattle.a2_profile.specs.Totals.{itself, nothing, totals_at, own_steps_in, own_cycles_in}
-use Rattle.a2_profile.specs.Walks.{Walk, base, closed, opening_at, frame_at, inner, depth_of, with_open, seen, seen_at, IsWithin, IsWalk, opened, left, leaves, SeesAlike}
+use Rattle.a2_profile.specs.Walks.{Walk, base, closed, opening_at, frame_at, inner, depth_of, with_open, seen, seen_at, IsWithin, IsWalk, IsLow, most_steps, counted, noted, opened, left, leaves, left_many, left_below, has_room, with_made, with_look, lost, SeesAlike}
+
+-- a step more, the own one of a routine, or among those of what it calls
+abbrev pub with_step : Bool → Bool → ℕ → Totals → Totals
+with_step own among cost t = record {
+  times = t.times;
+  steps = t.steps + (if own then 1 else 0);
+  cycles = t.cycles + (if own then cost else 0);
+  all_steps = t.all_steps + (if among then 1 else 0);
+  all_cycles = t.all_cycles + (if among then cost else 0);
+}
+
+-- entered once more
+abbrev pub with_entry : Bool → Totals → Totals
+with_entry entered t = record {
+  times = t.times + (if entered then 1 else 0);
+  steps = t.steps;
+  cycles = t.cycles;
+  all_steps = t.all_steps;
+  all_cycles = t.all_cycles;
+}
 
 -- Numbers
 
@@ -70,7 +93,27 @@ open-left now depth done since some = go (split depth)
         open-more : (a b : ℕ) → (a + 0) + b ≡ a + b
         open-more a b = omega arith
 
+-- one that is open goes on with each step
+open-grown : (now more depth done since : ℕ) → since ≤ now
+    → with_open (now + more) depth done since ≡ with_open now depth done since + (if not (depth == 0) then more else 0)
+open-grown now more depth done since le = go (depth == 0)
+  where
+    go : (b : Bool) → done + (if b then 0 else (now + more) - since) ≡ (done + (if b then 0 else now - since)) + (if not b then more else 0)
+    go true = omega arith
+    go false = omega (arith, le)
+
+open-within : (now more depth done since : ℕ) → since ≤ now → with_open now depth done since ≤ now → with_open (now + more) depth done since ≤ now + more
+open-within now more depth done since le within = go (depth == 0) within
+  where
+    go : (b : Bool) → done + (if b then 0 else now - since) ≤ now → done + (if b then 0 else (now + more) - since) ≤ now + more
+    go true e = omega (arith, e)
+    go false e = omega (arith, e, le)
+
 -- Frames
+
+-- the last one
+pub popped-inner : (frames : List Frame) (frame : Frame) → slice_get frames (length frames - 1) ≡ Some frame → frame.routine ≡ inner frames
+popped-inner frames frame is = sym (ap (λ (f : Frame). f.routine) (get_or_from_slice_get frames (length frames - 1) frame base is))
 
 pub depth-push : (r : ℕ) (frames : List Frame) (f : Frame) → depth_of r (frames ++ f ∷ []) ≡ depth_of r frames + (if f.routine == r then 1 else 0)
 depth-push r frames f = sum_by_push (λ (g : Frame). if g.routine == r then 1 else 0) frames f
@@ -94,10 +137,12 @@ none-walk n e = record {
   totals_size = length-replicate n nothing ∙ e;
   openings_size = length-replicate n closed ∙ e;
   fit = λ k d low. absurd (omega (arith, low));
+  high = λ k d low. absurd (omega (arith, low));
   falls = λ i j d lt low. absurd (omega (arith, low));
   depths = λ r low. ap (λ (o : Opening). o.depth) (count_at-nothing n r closed);
   within = λ r low. subst (λ (o : Opening). IsWithin none o (totals_at (replicate n nothing) r)) (sym (count_at-nothing n r closed))
       (subst (λ (t : Totals). IsWithin none closed t) (sym (count_at-nothing n r nothing)) (record {
+        times = omega arith;
         since_steps = omega arith;
         since_cycles = omega arith;
         steps = omega arith;
@@ -107,6 +152,8 @@ none-walk n e = record {
       }));
   steps_are = sum_by-replicate (λ (t : Totals). t.steps) n nothing ∙ mul-zero n;
   cycles_are = sum_by-replicate (λ (t : Totals). t.cycles) n nothing ∙ mul-zero n;
+  few = omega arith;
+  cheap = omega arith;
 }
   where
     none : Walk
@@ -142,7 +189,7 @@ alike-more old mid new a b = record {
 
 -- A routine that is entered
 
-module _ (walk : Walk) (h : IsWalk walk) (routine s : ℕ) (few : routine < 65537) (low : All (λ (f : Frame). s ≤ f.s) walk.frames) where
+module _ (walk : Walk) (h : IsWalk walk) (routine s : ℕ) (few : routine < 65537) (high : s ≤ 256) (low : IsLow s walk.frames) where
   abbrev old_opening : Opening
   old_opening = opening_at walk.openings routine
 
@@ -179,12 +226,14 @@ module _ (walk : Walk) (h : IsWalk walk) (routine s : ℕ) (few : routine < 6553
     totals_size = h.totals_size;
     openings_size = length-set walk.openings routine new_opening ∙ h.openings_size;
     fit = All-push (λ (f : Frame). f.routine < 65537) walk.frames new_frame h.fit few;
-    falls = all_pairs_push (λ (f g : Frame). g.s ≤ f.s) walk.frames new_frame h.falls (λ k d lt. low k d lt);
+    high = All-push (λ (f : Frame). f.s ≤ 256) walk.frames new_frame h.high high;
+    falls = all_pairs_push (λ (f g : Frame). g.s < f.s) walk.frames new_frame h.falls (λ k d lt. low k d lt);
     depths = each-set (λ (r : ℕ) (o : Opening). r < 65537 → o.depth ≡ depth_of r (walk.frames ++ new_frame ∷ [])) walk.openings routine new_opening closed size
         (λ _. ap (λ (n : ℕ). n + 1) (h.depths routine few) ∙ sym deeper)
         (λ r ne lt. h.depths r lt ∙ sym (as-deep r ne));
     within = each-set (λ (r : ℕ) (o : Opening). r < 65537 → IsWithin (opened routine s walk) o (totals_at walk.totals r)) walk.openings routine new_opening closed size
         (λ _. let w = h.within routine few in let t = totals_at walk.totals routine in record {
+          times = w.times;
           since_steps = at-once walk.steps old_opening.steps (old_opening.depth == 0) w.since_steps;
           since_cycles = at-once walk.cycles old_opening.cycles (old_opening.depth == 0) w.since_cycles;
           steps = w.steps;
@@ -193,6 +242,7 @@ module _ (walk : Walk) (h : IsWalk walk) (routine s : ℕ) (few : routine < 6553
           all_cycles = subst (λ (n : ℕ). n ≤ walk.cycles) (sym (open-entered walk.cycles old_opening.depth t.all_cycles old_opening.cycles)) w.all_cycles;
         })
         (λ r ne lt. let w = h.within r lt in record {
+          times = w.times;
           since_steps = w.since_steps;
           since_cycles = w.since_cycles;
           steps = w.steps;
@@ -202,6 +252,8 @@ module _ (walk : Walk) (h : IsWalk walk) (routine s : ℕ) (few : routine < 6553
         });
     steps_are = h.steps_are;
     cycles_are = h.cycles_are;
+    few = h.few;
+    cheap = h.cheap;
   }
 
   pub seen-opened : (r : ℕ) → r < 65537 → seen_at (opened routine s walk) r ≡ seen_at walk r
@@ -274,7 +326,10 @@ module _ (walk : Walk) (h : IsWalk walk) (some : 0 < length walk.frames) where
   front-fits : All (λ (f : Frame). f.routine < 65537) front
   front-fits = grind (arith, common_steps, h.fit)
 
-  front-falls : AllPairs (λ (f g : Frame). g.s ≤ f.s) front
+  front-high : All (λ (f : Frame). f.s ≤ 256) front
+  front-high = grind (arith, common_steps, h.high)
+
+  front-falls : AllPairs (λ (f g : Frame). g.s < f.s) front
   front-falls = grind (arith, common_steps, h.falls)
 
   pub left-walk : IsWalk (left walk)
@@ -282,12 +337,14 @@ module _ (walk : Walk) (h : IsWalk walk) (some : 0 < length walk.frames) where
     totals_size = length-set walk.totals at left_totals ∙ h.totals_size;
     openings_size = length-set walk.openings at left_opening ∙ h.openings_size;
     fit = front-fits;
+    high = front-high;
     falls = front-falls;
     depths = each-left (λ (r : ℕ) (o : Opening) (t : Totals). r < 65537 → o.depth ≡ depth_of r front)
         (λ _. omega (arith, h.depths at inner-few, last-deep))
         (λ r ne lt. h.depths r lt ∙ others-deep r ne);
     within = each-left (λ (r : ℕ) (o : Opening) (t : Totals). r < 65537 → IsWithin (left walk) o t)
         (λ _. let w = h.within at inner-few in record {
+          times = w.times;
           since_steps = w.since_steps;
           since_cycles = w.since_cycles;
           steps = w.steps;
@@ -296,6 +353,7 @@ module _ (walk : Walk) (h : IsWalk walk) (some : 0 < length walk.frames) where
           all_cycles = subst (λ (n : ℕ). n ≤ walk.cycles) (sym (open-left walk.cycles last_opening.depth last_totals.all_cycles last_opening.cycles last-open)) w.all_cycles;
         })
         (λ r ne lt. let w = h.within r lt in record {
+          times = w.times;
           since_steps = w.since_steps;
           since_cycles = w.since_cycles;
           steps = w.steps;
@@ -305,6 +363,8 @@ module _ (walk : Walk) (h : IsWalk walk) (some : 0 < length walk.frames) where
         });
     steps_are = omega (arith, sum_by-set (λ (t : Totals). t.steps) walk.totals at left_totals nothing totals-low, h.steps_are);
     cycles_are = omega (arith, sum_by-set (λ (t : Totals). t.cycles) walk.totals at left_totals nothing totals-low, h.cycles_are);
+    few = h.few;
+    cheap = h.cheap;
   }
 
   pub left-alike : SeesAlike walk (left walk)
@@ -318,9 +378,148 @@ module _ (walk : Walk) (h : IsWalk walk) (some : 0 < length walk.frames) where
     cycles = refl;
   }
 
+  -- A step that is counted in it
+
+  abbrev made_totals : ℕ → Totals
+  made_totals cost = record {
+    times = last_totals.times;
+    steps = last_totals.steps + 1;
+    cycles = last_totals.cycles + cost;
+    all_steps = last_totals.all_steps;
+    all_cycles = last_totals.all_cycles;
+  }
+
+  each-counted : (cost : ℕ) (P : ℕ → Totals → Type 0) → P at (made_totals cost) → ((r : ℕ) → r ≢ at → P r (totals_at walk.totals r))
+      → (r : ℕ) → P r (totals_at (counted cost walk).totals r)
+  each-counted cost P here others r = each-set P walk.totals at (made_totals cost) nothing totals-low here others r
+
+  more-within : (cost : ℕ) (o : Opening) (t u : Totals) → IsWithin walk o t → u.times ≡ t.times → u.steps ≤ t.steps + 1 → u.cycles ≤ t.cycles + cost
+      → u.all_steps ≡ t.all_steps → u.all_cycles ≡ t.all_cycles → IsWithin (counted cost walk) o u
+  more-within cost o t u w e f g i j = record {
+    times = omega (arith, w.times, e);
+    since_steps = omega (arith, w.since_steps);
+    since_cycles = omega (arith, w.since_cycles);
+    steps = omega (arith, w.steps, f);
+    cycles = omega (arith, w.cycles, g);
+    all_steps = subst (λ (n : ℕ). with_open (walk.steps + 1) o.depth n o.steps ≤ walk.steps + 1) (sym i)
+        (open-within walk.steps 1 o.depth t.all_steps o.steps w.since_steps w.all_steps);
+    all_cycles = subst (λ (n : ℕ). with_open (walk.cycles + cost) o.depth n o.cycles ≤ walk.cycles + cost) (sym j)
+        (open-within walk.cycles cost o.depth t.all_cycles o.cycles w.since_cycles w.all_cycles);
+  }
+
+  pub counted-walk : (cost : ℕ) → walk.steps < most_steps → cost ≤ most_steps → IsWalk (counted cost walk)
+  counted-walk cost room small = record {
+    totals_size = length-set walk.totals at (made_totals cost) ∙ h.totals_size;
+    openings_size = h.openings_size;
+    fit = h.fit;
+    high = h.high;
+    falls = h.falls;
+    depths = h.depths;
+    within = each-counted cost (λ (r : ℕ) (t : Totals). r < 65537 → IsWithin (counted cost walk) (opening_at walk.openings r) t)
+        (λ _. more-within cost last_opening last_totals (made_totals cost) (h.within at inner-few) refl (omega arith) (omega arith) refl refl)
+        (λ r ne lt. let t = totals_at walk.totals r in
+        more-within cost (opening_at walk.openings r) t t (h.within r lt) refl (omega arith) (omega arith) refl refl);
+    steps_are = omega (arith, sum_by-set (λ (t : Totals). t.steps) walk.totals at (made_totals cost) nothing totals-low, h.steps_are);
+    cycles_are = omega (arith, sum_by-set (λ (t : Totals). t.cycles) walk.totals at (made_totals cost) nothing totals-low, h.cycles_are);
+    few = omega (arith, room);
+    cheap = omega (arith, h.cheap, small);
+  }
+
+  pub counted-times : (cost r : ℕ) → r < 65537 → (totals_at (counted cost walk).totals r).times < (counted cost walk).steps
+  counted-times cost r lt =
+      each-counted cost (λ (k : ℕ) (t : Totals). k < 65537 → t.times < walk.steps + 1) (λ few. omega (arith, (h.within at few).times)) (λ k ne few. omega (arith, (h.within k few).times)) r lt
+
+  step-seen : (cost r : ℕ) → r < 65537 → (own : Bool) (t u : Totals) → t ≡ totals_at walk.totals r → u.times ≡ t.times → u.steps ≡ t.steps + (if own then 1 else 0)
+      → u.cycles ≡ t.cycles + (if own then cost else 0) → u.all_steps ≡ t.all_steps → u.all_cycles ≡ t.all_cycles
+      → seen (walk.steps + 1) (walk.cycles + cost) (opening_at walk.openings r) u
+      ≡ with_step own (not (depth_of r walk.frames == 0)) cost (seen walk.steps walk.cycles (opening_at walk.openings r) t)
+  step-seen cost r lt own t u is e f g i j =
+      let o = opening_at walk.openings r in
+      let deep = h.depths r lt in
+      totals-alike (seen (walk.steps + 1) (walk.cycles + cost) o u) (with_step own (not (depth_of r walk.frames == 0)) cost (seen walk.steps walk.cycles o t)) e f g
+      (ap (λ (n : ℕ). with_open (walk.steps + 1) o.depth n o.steps) i ∙ open-grown walk.steps 1 o.depth t.all_steps o.steps (h.within r lt).since_steps
+      ∙ ap (λ (d : ℕ). with_open walk.steps o.depth t.all_steps o.steps + (if not (d == 0) then 1 else 0)) deep)
+      (ap (λ (n : ℕ). with_open (walk.cycles + cost) o.depth n o.cycles) j ∙ open-grown walk.cycles cost o.depth t.all_cycles o.cycles (h.within r lt).since_cycles
+      ∙ ap (λ (d : ℕ). with_open walk.cycles o.depth t.all_cycles o.cycles + (if not (d == 0) then cost else 0)) deep)
+
+  pub counted-seen : (cost r : ℕ) → r < 65537
+      → seen_at (counted cost walk) r ≡ with_step (inner walk.frames == r) (not (depth_of r walk.frames == 0)) cost (seen_at walk r)
+  counted-seen cost r lt =
+      each-counted cost
+      (λ (k : ℕ) (t : Totals). k < 65537 → seen (walk.steps + 1) (walk.cycles + cost) (opening_at walk.openings k) t
+      ≡ with_step (at == k) (not (depth_of k walk.frames == 0)) cost (seen_at walk k))
+      (λ few. step-seen cost at few true last_totals (made_totals cost) refl refl refl refl refl refl
+      ∙ ap (λ (b : Bool). with_step b (not (depth_of at walk.frames == 0)) cost (seen_at walk at)) (sym (same-number at)))
+      (λ k ne few. let t = totals_at walk.totals k in
+      step-seen cost k few false t t refl refl (omega arith) (omega arith) refl refl
+      ∙ ap (λ (b : Bool). with_step b (not (depth_of k walk.frames == 0)) cost (seen_at walk k)) (sym (other-number at k (λ e. ne (sym e)))))
+      r lt
+
+-- A JSR that is noted
+
+module _ (walk : Walk) (h : IsWalk walk) (routine : ℕ) (few : routine < 65537) where
+  abbrev old_totals : Totals
+  old_totals = totals_at walk.totals routine
+
+  abbrev noted_totals : Totals
+  noted_totals = record {
+    times = old_totals.times + 1;
+    steps = old_totals.steps;
+    cycles = old_totals.cycles;
+    all_steps = old_totals.all_steps;
+    all_cycles = old_totals.all_cycles;
+  }
+
+  noted-low : routine < length walk.totals
+  noted-low = omega (arith, h.totals_size, few)
+
+  pub noted-walk : (totals_at walk.totals routine).times < walk.steps → IsWalk (noted routine walk)
+  noted-walk times = record {
+    totals_size = length-set walk.totals routine noted_totals ∙ h.totals_size;
+    openings_size = h.openings_size;
+    fit = h.fit;
+    high = h.high;
+    falls = h.falls;
+    depths = h.depths;
+    within = each-set (λ (r : ℕ) (t : Totals). r < 65537 → IsWithin (noted routine walk) (opening_at walk.openings r) t) walk.totals routine noted_totals nothing noted-low
+        (λ _. let w = h.within routine few in record {
+          times = omega (arith, times);
+          since_steps = w.since_steps;
+          since_cycles = w.since_cycles;
+          steps = w.steps;
+          cycles = w.cycles;
+          all_steps = w.all_steps;
+          all_cycles = w.all_cycles;
+        })
+        (λ r ne lt. let w = h.within r lt in record {
+          times = w.times;
+          since_steps = w.since_steps;
+          since_cycles = w.since_cycles;
+          steps = w.steps;
+          cycles = w.cycles;
+          all_steps = w.all_steps;
+          all_cycles = w.all_cycles;
+        });
+    steps_are = omega (arith, sum_by-set (λ (t : Totals). t.steps) walk.totals routine noted_totals nothing noted-low, h.steps_are);
+    cycles_are = omega (arith, sum_by-set (λ (t : Totals). t.cycles) walk.totals routine noted_totals nothing noted-low, h.cycles_are);
+    few = h.few;
+    cheap = h.cheap;
+  }
+
+  pub noted-seen : (r : ℕ) → r < 65537 → seen_at (noted routine walk) r ≡ with_entry (routine == r) (seen_at walk r)
+  noted-seen r lt =
+      each-set (λ (k : ℕ) (t : Totals). k < 65537 → seen walk.steps walk.cycles (opening_at walk.openings k) t ≡ with_entry (routine == k) (seen_at walk k))
+      walk.totals routine noted_totals nothing noted-low
+      (λ _. ap (λ (b : Bool). with_entry b (seen_at walk routine)) (sym (same-number routine)))
+      (λ k ne _. none-more (seen_at walk k) ∙ ap (λ (b : Bool). with_entry b (seen_at walk k)) (sym (other-number routine k (λ e. ne (sym e)))))
+      r lt
+    where
+      none-more : (t : Totals) → t ≡ with_entry false t
+      none-more t = totals-alike t (with_entry false t) (omega arith) refl refl refl refl
+
 -- The same by what a body makes of it
 
-pub opened-is : (walk : Walk) (routine s : ℕ) → IsWalk walk → routine < 65537 → All (λ (f : Frame). s ≤ f.s) walk.frames
+pub opened-is : (walk : Walk) (routine s : ℕ) → IsWalk walk → routine < 65537 → s ≤ 256 → IsLow s walk.frames
     → (frames : List Frame) (o : Opening) (steps cycles : ℕ) → frames ≡ walk.frames ++ record { routine = routine; s = s } ∷ []
     → o ≡ opening_at walk.openings routine → steps ≡ (if o.depth == 0 then walk.steps else o.steps)
     → cycles ≡ (if o.depth == 0 then walk.cycles else o.cycles)
@@ -331,12 +530,12 @@ pub opened-is : (walk : Walk) (routine s : ℕ) → IsWalk walk → routine < 65
       steps = walk.steps;
       cycles = walk.cycles;
     })
-opened-is walk routine s h few low frames o steps cycles e f i j =
+opened-is walk routine s h few high low frames o steps cycles e f i j =
     subst (λ (l : List Frame). IsWalk (with_parts l o steps cycles)) (sym e)
     (subst (λ (n : ℕ). IsWalk (with_parts new_frames o n cycles)) (sym i)
     (subst (λ (n : ℕ). IsWalk (with_parts new_frames o (if o.depth == 0 then walk.steps else o.steps) n)) (sym j)
     (subst (λ (p : Opening). IsWalk (with_parts new_frames p (if p.depth == 0 then walk.steps else p.steps) (if p.depth == 0 then walk.cycles else p.cycles)))
-    (sym f) (opened-walk walk h routine s few low))))
+    (sym f) (opened-walk walk h routine s few high low))))
   where
     new_frames : List Frame
     new_frames = walk.frames ++ record { routine = routine; s = s } ∷ []
@@ -376,6 +575,9 @@ module _ (walk : Walk) (frames : List Frame) (i : ℕ) (o : Opening) (t : Totals
 
 -- Leaving
 
+front-length : (frames : List Frame) → length (take (length frames - 1) frames) ≡ length frames - 1
+front-length frames = grind (arith, common_steps)
+
 filter-all : {X : Type 0} (p : X → Bool) (xs : List X) → All (λ x. p x ≡ true) xs → filter p xs ≡ xs
 filter-all p [] all = refl
 filter-all p (x ∷ xs) all =
@@ -407,24 +609,153 @@ leaves-true walk s e =
     sym (ap (kept s) whole ∙ filter-append (λ f. nat_lt s f.s) front (last ∷ []) ∙ ap (λ (l : List Frame). kept s front ++ l) (kept-one s last (le-ltb s last.s high))
     ∙ append-nil (kept s front))
 
-pub kept-all : (walk : Walk) (s : ℕ) → IsWalk walk → 0 < length walk.frames → s < (frame_at walk.frames (length walk.frames - 1)).s
-    → kept s walk.frames ≡ walk.frames
-kept-all walk s h some high = filter-all (λ f. nat_lt s f.s) walk.frames (λ k d low. lt-ltb s (slice_index_or walk.frames k d).s (go k d low (split k (length walk.frames - 1))))
+pub kept-low : (s : ℕ) (frames : List Frame) → IsLow s frames → kept s frames ≡ frames
+kept-low s frames low = filter-all (λ f. nat_lt s f.s) frames (λ k d lt. lt-ltb s (slice_index_or frames k d).s (low k d lt))
+
+-- below the innermost is below all
+pub low-above : (walk : Walk) (s : ℕ) → IsWalk walk → (0 < length walk.frames → s < (frame_at walk.frames (length walk.frames - 1)).s) → IsLow s walk.frames
+low-above walk s h high = λ k d low. go k d low (split k (length walk.frames - 1))
   where
     split : (a b : ℕ) → (a < b) ⊎ (b ≤ a)
     split a b = grind arith
 
     go : (k : ℕ) (d : Frame) → k < length walk.frames → (k < length walk.frames - 1) ⊎ (length walk.frames - 1 ≤ k) → s < (slice_index_or walk.frames k d).s
     go k d low (inl lt) =
-        omega (arith, high, h.falls k (length walk.frames - 1) base lt (omega (arith, some)), ap (λ (f : Frame). f.s) (get_or_default walk.frames k d base low))
+        omega (arith, high (omega (arith, low)), h.falls k (length walk.frames - 1) base lt (omega (arith, low)), ap (λ (f : Frame). f.s) (get_or_default walk.frames k d base low))
     go k d low (inr le) =
         let at_last : k ≡ length walk.frames - 1 = omega (arith, low, le) in
-        subst (λ (f : Frame). s < f.s) (sym (get_or_default walk.frames k d base low ∙ ap (frame_at walk.frames) at_last)) high
+        subst (λ (f : Frame). s < f.s) (sym (get_or_default walk.frames k d base low ∙ ap (frame_at walk.frames) at_last)) (high (omega (arith, low)))
+
+-- so none is left
+pub stays-low : (walk : Walk) (s : ℕ) → IsLow s walk.frames → leaves s walk ≡ false
+stays-low walk s low = go (split (length walk.frames))
+  where
+    split : (n : ℕ) → (n ≡ 0) ⊎ (0 < n)
+    split n = grind arith
+
+    above : (n t : ℕ) → s < t → (not (n == 0) && nat_le t s) ≡ false
+    above n t lt = grind (arith, nat_tests, lt)
+
+    none : (n t : ℕ) → n ≡ 0 → (not (n == 0) && nat_le t s) ≡ false
+    none n t e = grind (arith, nat_tests, e)
+
+    go : (length walk.frames ≡ 0) ⊎ (0 < length walk.frames) → leaves s walk ≡ false
+    go (inl e) = none (length walk.frames) (frame_at walk.frames (length walk.frames - 1)).s e
+    go (inr some) =
+        above (length walk.frames) (frame_at walk.frames (length walk.frames - 1)).s (low (length walk.frames - 1) base (omega (arith, some)))
+
+-- where the innermost is not left, none is
+pub low-all : (walk : Walk) (s : ℕ) → IsWalk walk → leaves s walk ≡ false → IsLow s walk.frames
+low-all walk s h e = low-above walk s h (λ some. above (length walk.frames) (frame_at walk.frames (length walk.frames - 1)).s some e)
+  where
+    above : (n t : ℕ) → 0 < n → (not (n == 0) && nat_le t s) ≡ false → s < t
+    above n t some e = grind (arith, nat_tests, some, e)
+
+-- there are at most as many as stack pointers above
+falls-by : (frames : List Frame) → AllPairs (λ (f g : Frame). g.s < f.s) frames → (k : ℕ) → k < length frames → (frame_at frames k).s + k ≤ (frame_at frames 0).s
+falls-by frames falls zero low = omega arith
+falls-by frames falls (suc k) low = omega (arith, falls-by frames falls k (omega (arith, low)), falls k (suc k) base (omega arith) low)
+
+pub frames-few : (walk : Walk) (s : ℕ) → IsWalk walk → IsLow s walk.frames → length walk.frames < 257
+frames-few walk s h low = go (split (length walk.frames))
+  where
+    split : (n : ℕ) → (n ≡ 0) ⊎ (0 < n)
+    split n = grind arith
+
+    go : (length walk.frames ≡ 0) ⊎ (0 < length walk.frames) → length walk.frames < 257
+    go (inl none) = omega (arith, none)
+    go (inr some) =
+        let last : length walk.frames - 1 < length walk.frames = omega (arith, some) in
+        omega (arith, some, falls-by walk.frames h.falls (length walk.frames - 1) last, h.high 0 base some, low (length walk.frames - 1) base last)
+
+-- All that a stack pointer is not below
+
+many-walk : (s n : ℕ) (walk : Walk) → IsWalk walk → IsWalk (left_many s n walk)
+many-walk s zero walk h = h
+many-walk s (suc n) walk h = go (leaves s walk) refl (λ some. many-walk s n (left walk) (left-walk walk h some))
+  where
+    go : (b : Bool) → leaves s walk ≡ b → (0 < length walk.frames → IsWalk (left_many s n (left walk))) → IsWalk (if b then left_many s n (left walk) else walk)
+    go true e rest = rest (leaves-some walk s e)
+    go false e rest = h
+
+many-alike : (s n : ℕ) (walk : Walk) → IsWalk walk → SeesAlike walk (left_many s n walk)
+many-alike s zero walk h = alike-none walk
+many-alike s (suc n) walk h = go (leaves s walk) refl (λ some. many-alike s n (left walk) (left-walk walk h some))
+  where
+    go : (b : Bool) → leaves s walk ≡ b → (0 < length walk.frames → SeesAlike (left walk) (left_many s n (left walk)))
+        → SeesAlike walk (if b then left_many s n (left walk) else walk)
+    go true e rest =
+        let some = leaves-some walk s e in
+        alike-more walk (left walk) (left_many s n (left walk)) (left-alike walk h some) (rest some)
+    go false e rest = alike-none walk
+
+many-frames : (s n : ℕ) (walk : Walk) → IsWalk walk → length walk.frames ≤ n → (left_many s n walk).frames ≡ kept s walk.frames
+many-frames s zero walk h few = none walk.frames few
+  where
+    none : (l : List Frame) → length l ≤ 0 → l ≡ kept s l
+    none [] e = refl
+    none (f ∷ l) e = absurd (omega (arith, e))
+many-frames s (suc n) walk h few =
+    go (leaves s walk) refl (λ some. many-frames s n (left walk) (left-walk walk h some) (omega (arith, few, some, front-length walk.frames)))
+  where
+    go : (b : Bool) → leaves s walk ≡ b → (0 < length walk.frames → (left_many s n (left walk)).frames ≡ kept s (left walk).frames)
+        → (if b then left_many s n (left walk) else walk).frames ≡ kept s walk.frames
+    go true e rest = rest (leaves-some walk s e) ∙ leaves-true walk s e
+    go false e rest = sym (kept-low s walk.frames (low-all walk s h e))
+
+pub below-walk : (s : ℕ) (walk : Walk) → IsWalk walk → IsWalk (left_below s walk)
+below-walk s walk h = many-walk s (length walk.frames) walk h
+
+pub below-alike : (s : ℕ) (walk : Walk) → IsWalk walk → SeesAlike walk (left_below s walk)
+below-alike s walk h = many-alike s (length walk.frames) walk h
+
+pub below-frames : (s : ℕ) (walk : Walk) → IsWalk walk → (left_below s walk).frames ≡ kept s walk.frames
+below-frames s walk h = many-frames s (length walk.frames) walk h (omega arith)
+
+pub below-next : (s : ℕ) (walk : Walk) → leaves s walk ≡ true → left_below s (left walk) ≡ left_below s walk
+below-next s walk e =
+    let some = leaves-some walk s e in
+    let m = length walk.frames - 1 in
+    let more : length walk.frames ≡ suc m = omega (arith, some) in
+    ap (λ (n : ℕ). left_many s n (left walk)) (front-length walk.frames)
+    ∙ ap (λ (b : Bool). if b then left_many s m (left walk) else walk) (sym e)
+    ∙ ap (λ (n : ℕ). left_many s n walk) (sym more)
+
+pub below-last : (s : ℕ) (walk : Walk) → leaves s walk ≡ false → left_below s walk ≡ walk
+below-last s walk e = go (length walk.frames)
+  where
+    go : (n : ℕ) → left_many s n walk ≡ walk
+    go zero = refl
+    go (suc n) = ap (λ (b : Bool). if b then left_many s n (left walk) else walk) e
+
+-- A look that is seen
+
+pub small-is : (look : Look) → look.pc < 2 ^ 16 → look.s < 2 ^ 8 → look.next_pc < 2 ^ 16 → look.next_s < 2 ^ 8 → look.cycles < 2 ^ 32 → is_small look ≡ true
+small-is look pc s next_pc next_s cycles =
+    ap₂ (λ (a b : Bool). a && b) (lt-ltb look.pc (2 ^ 16) pc)
+    (ap₂ (λ (a b : Bool). a && b) (lt-ltb look.s (2 ^ 8) s)
+    (ap₂ (λ (a b : Bool). a && b) (lt-ltb look.next_pc (2 ^ 16) next_pc)
+    (ap₂ (λ (a b : Bool). a && b) (lt-ltb look.next_s (2 ^ 8) next_s) (lt-ltb look.cycles (2 ^ 32) cycles))))
+
+-- where there is room, and where there is none
+seen-where : (walk : Walk) (look : Look) (b : Bool) → is_small look ≡ true → IsWalk walk → has_room walk ≡ b
+    → (if b then with_made look walk else walk) ≡ with_look walk look
+seen-where walk look b small h room =
+    ap (λ (c : Bool). if c then with_made look walk else walk) (sym room)
+    ∙ ap₂ (λ (c d : Bool). if c && d then (if has_room walk then with_made look walk else walk) else lost) (sym small)
+    (sym (ap (λ (n : ℕ). n == 65537) h.totals_size))
+
+pub seen-made : (walk : Walk) (look : Look) (made : Walk) → is_small look ≡ true → IsWalk walk → has_room walk ≡ true → made ≡ with_made look walk
+    → made ≡ with_look walk look
+seen-made walk look made small h room e = e ∙ seen-where walk look true small h room
+
+pub seen-full : (walk : Walk) (look : Look) → is_small look ≡ true → IsWalk walk → has_room walk ≡ false → walk ≡ with_look walk look
+seen-full walk look small h room = seen-where walk look false small h room
 
 -- in the program itself nothing is seen at first
 pub begun-seen : (new : Walk) → new ≡ opened itself 256 no_walk → (r : ℕ) → r < 65537 → seen_at new r ≡ nothing
 begun-seen new is r lt =
     ap (λ (w : Walk). seen_at w r) is
-    ∙ seen-opened no_walk (empty-walk [] (replicate 65537 nothing) (replicate 65537 closed) refl refl refl) itself 256 (lit< tt)
+    ∙ seen-opened no_walk (empty-walk [] (replicate 65537 nothing) (replicate 65537 closed) refl refl refl) itself 256 (lit< tt) (lit≤ tt)
     (λ k d low. absurd (omega (arith, low))) r lt
     ∙ ap₂ (λ (o : Opening) (t : Totals). seen 0 0 o t) (count_at-nothing 65537 r closed) (count_at-nothing 65537 r nothing)

@@ -1,32 +1,39 @@
 -- The steps of a run that is walked along, one after another.
-use Rattle.std.specs.Prelude.{◌≡◌, ◌≢◌, ◌⊎◌, ℕ, zero, suc, ◌+◌, ◌-◌, ◌<◌, ◌≤◌, ◌==◌, ◌&&◌, ◌||◌, not, nat_lt, Bool, true, false, List, [], ◌∷◌, ◌++◌, map, filter, length, slice_index_or, if◌then◌else◌, Some, None, refl}
+use Rattle.std.specs.Prelude.{◌≡◌, ◌≢◌, ◌⊎◌, ℕ, zero, suc, ◌+◌, ◌-◌, ◌^◌, ◌<◌, ◌≤◌, ◌==◌, ◌&&◌, ◌||◌, not, nat_lt, Bool, true, false, List, [], ◌∷◌, ◌++◌, map, filter, length, slice_index_or, if◌then◌else◌, Option, Some, None, refl}
 use Rattle.std.specs.List.{All, list_any, sum_by}
+use Rattle.std.specs.Option.{unwrap_or}
 use Rattle.std.proofs.Common.{sym, ap, ap₂, ◌∙◌, subst, arith, inl, inr}
-use Rattle.std.proofs.lemmas.Bool.{lt-ltb, ltb-true}
+use Rattle.std.proofs.lemmas.Bool.{and_parts, lt-ltb, ltb-true}
 use Rattle.std.proofs.lemmas.Bool.Decides.{nat_tests}
 use Rattle.std.proofs.lemmas.List.{length-map, get_or-map, get_or_default}
 use Rattle.std.proofs.lemmas.List.Elements.{All-filter, All-push, filter_passes}
 use Rattle.std.proofs.lemmas.List.Sums.{sum_by-cons}
+use Rattle.a2_bus.specs.Memory.{peek}
+use Rattle.a2_live.specs.declared.observer.Look.{Look}
 use Rattle.a2_services.specs.World.{World}
 use Rattle.a2_asm.specs.Assembled.{Assembled}
 use Rattle.a2_asm.specs.Programs.{IsSound}
 use Rattle.a2_machine.specs.declared.Cause.{Cause}
 use Rattle.a2_machine.specs.ByteRun.{bytes}
-use Rattle.a2_machine.specs.Meaning.{Code, IsEnd, stuck, world_at}
-use Rattle.a2_machine.specs.State.{Device, MachineState, world_of_state, code_of, cause_of, most_steps, IsStep}
+use Rattle.a2_machine.specs.Meaning.{Code, IsEnd, world_at}
+use Rattle.a2_machine.specs.Looks.{look_at, seen_after}
+use Rattle.a2_machine.specs.State.{Device, MachineState, world_of_state, code_of, IsMachineRun}
 use Rattle.a2_run.specs.Meaning.{code_of_run, start_of_run}
 use Rattle.a2_run.specs.Started.{IsStarted, guard_of_run}
 use Rattle.a2_run.proofs.Runs.{meant}
 use Rattle.a2_routines.specs.declared.routines.Entry.{Entry}
-use Rattle.a2_routines.specs.Routines.{is_call, entry_at, is_within, with_call, entered}
+use Rattle.a2_routines.specs.Routines.{is_jsr, is_call, entry_at, is_within, with_call, entered}
 use Rattle.a2_profile.specs.declared.walk.Frame.{Frame}
 use Rattle.a2_profile.specs.declared.walk.Totals.{Totals}
 use Rattle.a2_profile.specs.Run.{over_steps, is_at}
 use Rattle.a2_profile.specs.Totals.{itself, nothing, totals_at, own_steps_in, own_cycles_in}
 use Rattle.a2_profile.specs.Routines.{begin_of, around, innermost, is_in, is_own, is_entry, cost, totals_of, AreTotals, IsRoutineProfile}
-use Rattle.a2_profile.specs.Walks.{Walk, base, frame_at, inner, depth_of, seen_at, with_step, with_entry, SeesAlike}
+use Rattle.a2_profile.specs.Seeing.{is_small}
+use Rattle.a2_profile.specs.Walks.{Walk, IsWalk, IsLow, most_steps, base, frame_at, inner, depth_of, seen_at, counted, noted, opened, left_below, has_room, with_made, lost, with_look, SeesAlike}
+use Rattle.a2_profile.specs.Walks as walks
 use Rattle.a2_profile.specs.Walked.{IsWalked}
-use Rattle.a2_profile.proofs.Going.{IsGone, gone-none, gone-next, step-reached, step-later, ended_at, EndAlike, same-world}
+use Rattle.a2_profile.proofs.Going.{step-later, ended_by, run-ends, EndAlike, same-world}
+use Rattle.a2_profile.proofs.WalkLaws.{with_step, with_entry, totals-alike, counted-walk, counted-seen, counted-times, noted-walk, noted-seen, opened-walk, seen-opened, stays-low, below-walk, below-alike, below-frames}
 
 -- The frames of a run
 
@@ -43,13 +50,13 @@ entered-within worlds zero = λ k d low. absurd (omega (arith, low))
 entered-within worlds (suc n) = filter_passes (is_within (worlds (suc n))) (with_call n (worlds n) (entered worlds n))
 
 pub frames-low : (worlds : ℕ → World) (n s : ℕ) (frames : List Frame) → frames ≡ frames_of worlds n → s ≡ (worlds n).registers.s → s < 256
-    → All (λ (f : Frame). s ≤ f.s) frames
-frames-low worlds n s frames is at few = subst (All (λ (f : Frame). s ≤ f.s)) (sym is) low
+    → IsLow s frames
+frames-low worlds n s frames is at few = subst (IsLow s) (sym is) low
   where
     here : Frame
     here = base
 
-    low : (k : ℕ) (d : Frame) → k < length (frames_of worlds n) → s ≤ (slice_index_or (frames_of worlds n) k d).s
+    low : (k : ℕ) (d : Frame) → k < length (frames_of worlds n) → s < (slice_index_or (frames_of worlds n) k d).s
     low zero d lt = omega (arith, few)
     low (suc k) d lt =
         let count = length-map (entered worlds n) (frame_of worlds) in
@@ -135,103 +142,216 @@ totals-next : (worlds : ℕ → World) (n r : ℕ)
 unfolding totals_of
 totals-next worlds n r = refl
 
-pub times-few : (worlds : ℕ → World) (n r : ℕ) → (totals_of worlds n r).times ≤ n
-unfolding totals_of
-times-few worlds n r = few (λ k. is_entry worlds r k) n
-  where
-    few : (p : ℕ → Bool) (n : ℕ) → over_steps (λ k. if p k then 1 else 0) n ≤ n
-    few p zero = omega arith
-    few p (suc n) = omega (arith, few p n, one (p n))
-      where
-        one : (b : Bool) → (if b then 1 else 0) ≤ 1
-        one true = omega arith
-        one false = omega arith
+-- So many steps are walked along
 
--- So many steps are made and walked along
-
-pub record IsAlong (code : Code) (start : World) (d : Device) (n : ℕ) (walk : Walk) : Type 0 where
-  pub gone : IsGone code start d n
+pub record IsAlong (code : Code) (start : World) (n : ℕ) (walk : Walk) : Type 0 where
+  pub is_walk : IsWalk walk
   pub frames : walk.frames ≡ frames_of (world_at code start) n
   pub seen : (r : ℕ) → r < 65537 → seen_at walk r ≡ totals_of (world_at code start) n r
   pub steps : walk.steps ≡ n
-  pub cycles : walk.cycles ≡ d.state.cycles
+  pub cycles : walk.cycles ≡ (world_at code start n).cycles
 
-pub along-none : (d : Device) (walk : Walk) → d.state.steps ≡ 0 → d.state.cycles ≡ 0 → walk.frames ≡ base ∷ [] → ((r : ℕ) → r < 65537 → seen_at walk r ≡ nothing)
-    → walk.steps ≡ 0 → walk.cycles ≡ 0 → IsAlong (code_of d.state) (world_of_state d.state) d 0 walk
-unfolding entered totals_of
-along-none d walk steps cycles frames seen walk_steps walk_cycles = record {
-  gone = gone-none d steps;
-  frames = frames;
-  seen = seen;
-  steps = walk_steps;
-  cycles = walk_cycles ∙ sym cycles;
-}
+-- at first
+pub record IsBegun (start : World) (walk : Walk) : Type 0 where
+  pub is_walk : IsWalk walk
+  pub frames : walk.frames ≡ base ∷ []
+  pub seen : (r : ℕ) → r < 65537 → seen_at walk r ≡ nothing
+  pub steps : walk.steps ≡ 0
+  pub cycles : walk.cycles ≡ start.cycles
+
+along-none : (code : Code) (start : World) (walk : Walk) → IsBegun start walk → IsAlong code start 0 walk
+unfolding entered totals_of world_at
+along-none code start walk h = record { is_walk = h.is_walk; frames = h.frames; seen = h.seen; steps = h.steps; cycles = h.cycles }
+
+-- the numbers of a look
+record AreSmall (look : Look) : Type 0 where
+  pub pc : look.pc < 2 ^ 16
+  pub s : look.s < 2 ^ 8
+  pub next_pc : look.next_pc < 2 ^ 16
+  pub next_s : look.next_s < 2 ^ 8
+  pub cycles : look.cycles < 2 ^ 32
+
+are-small : (look : Look) → is_small look ≡ true → AreSmall look
+are-small look e =
+    let pc = nat_lt look.pc (2 ^ 16) in
+    let s = nat_lt look.s (2 ^ 8) in
+    let next_pc = nat_lt look.next_pc (2 ^ 16) in
+    let next_s = nat_lt look.next_s (2 ^ 8) in
+    let cycles = nat_lt look.cycles (2 ^ 32) in
+    let one = and_parts pc (s && (next_pc && (next_s && cycles))) e in
+    let two = and_parts s (next_pc && (next_s && cycles)) one.1 in
+    let three = and_parts next_pc (next_s && cycles) two.1 in
+    let four = and_parts next_s cycles three.1 in
+    record {
+      pc = ltb-true look.pc (2 ^ 16) one.0;
+      s = ltb-true look.s (2 ^ 8) two.0;
+      next_pc = ltb-true look.next_pc (2 ^ 16) three.0;
+      next_s = ltb-true look.next_s (2 ^ 8) four.0;
+      cycles = ltb-true look.cycles (2 ^ 32) four.1;
+    }
 
 -- what was seen behind the step, its entry and what it left
 abbrev Sees : Walk → Walk → (ℕ → Totals → Totals) → Type 0
 Sees old new change = (r : ℕ) → r < 65537 → seen_at new r ≡ change r (seen_at old r)
 
-pub along-next : (code : Code) (start : World) (old new : Device) (n : ℕ) (walk made called left : Walk) (calls : Bool) (spent routine s now : ℕ)
-    → IsAlong code start old n walk → IsStep old new → n < most_steps → None ≡ cause_of old.state
-    → calls ≡ is_call (world_of_state old.state) → s ≡ (world_of_state old.state).registers.s
-    → spent ≡ new.state.cycles - old.state.cycles → routine ≡ (world_of_state new.state).registers.pc → now ≡ (world_of_state new.state).registers.s → now < 256
-    → made.frames ≡ walk.frames → Sees walk made (λ r. with_step (inner walk.frames == r) (not (depth_of r walk.frames == 0)) spent)
-    → made.steps ≡ walk.steps + 1 → made.cycles ≡ walk.cycles + spent
-    → called.frames ≡ (if calls then made.frames ++ record { routine = routine; s = s } ∷ [] else made.frames)
-    → Sees made called (λ r. with_entry (calls && (routine == r))) → called.steps ≡ made.steps → called.cycles ≡ made.cycles
-    → left.frames ≡ filter (λ f. nat_lt now f.s) called.frames → SeesAlike called left
-    → IsAlong code start new (n + 1) left
-along-next code start old new n walk made called left calls spent routine s now h step few free is_calls is_s is_spent is_routine is_now now_few made_frames made_seen made_steps made_cycles called_frames called_seen called_steps called_cycles left_frames alike =
+-- A step that may be a JSR
+
+record IsCalled (old new : Walk) (calls : Bool) (routine s : ℕ) : Type 0 where
+  pub is_walk : IsWalk new
+  pub frames : new.frames ≡ (if calls then old.frames ++ record { routine = routine; s = s } ∷ [] else old.frames)
+  pub seen : Sees old new (λ r. with_entry (calls && (routine == r)))
+  pub steps : new.steps ≡ old.steps
+  pub cycles : new.cycles ≡ old.cycles
+
+called-walk : (walk : Walk) (calls : Bool) (routine s : ℕ) → IsWalk walk → routine < 65537 → s < 256 → IsLow s walk.frames
+    → ((r : ℕ) → r < 65537 → (totals_at walk.totals r).times < walk.steps)
+    → IsCalled walk (if calls then walks.entered routine s walk else walk) calls routine s
+called-walk walk true routine s h few small low times =
+    subst (λ (w : Walk). IsCalled walk w true routine s)
+    (ap (λ (b : Bool). if b then walk else opened routine s (noted routine walk)) (sym (stays-low walk s low)))
+    (let noted-is = noted-walk walk h routine few (times routine few) in
     record {
-      gone = gone-next code start old new n h.gone step few free;
-      frames = frames-next worlds n made.frames called.frames left.frames calls routine s now (made_frames ∙ h.frames) called_frames
-          (is_calls ∙ ap is_call h.gone.world) (is_routine ∙ ap (λ (w : World). w.registers.pc) reached) (is_s ∙ ap (λ (w : World). w.registers.s) h.gone.world)
-          (is_now ∙ ap (λ (w : World). w.registers.s) reached) now_few left_frames ∙ ap (frames_of worlds) one;
-      seen = λ r low. alike.seen_are r low ∙ called_seen r low ∙ ap (with_entry (calls && (routine == r))) (made_seen r low) ∙ seen-is r low
-          ∙ sym (totals-next worlds n r) ∙ ap (λ (m : ℕ). totals_of worlds m r) one;
-      steps = omega (arith, alike.steps, called_steps, made_steps, h.steps);
-      cycles = omega (arith, alike.cycles, called_cycles, made_cycles, h.cycles, is_spent, step-later old new step);
-    }
+      is_walk = opened-walk (noted routine walk) noted-is routine s few (omega (arith, small)) low;
+      frames = refl;
+      seen = λ r lt. seen-opened (noted routine walk) noted-is routine s few (omega (arith, small)) low r lt ∙ noted-seen walk h routine few r lt;
+      steps = refl;
+      cycles = refl;
+    })
+called-walk walk false routine s h few small low times = record {
+  is_walk = h;
+  frames = refl;
+  seen = λ r lt. none-more (seen_at walk r);
+  steps = refl;
+  cycles = refl;
+}
   where
-    worlds : ℕ → World
-    worlds = world_at code start
+    none-more : (t : Totals) → t ≡ with_entry false t
+    none-more t = totals-alike t (with_entry false t) (omega arith) refl refl refl refl
 
-    one : suc n ≡ n + 1
-    one = omega arith
+-- the look's byte is JSR's
+call-is : (o : Option ℕ) → (unwrap_or o 0 == 0x20) ≡ is_jsr o
+call-is None = refl
+call-is (Some byte) = refl
 
-    reached : world_of_state new.state ≡ worlds (suc n)
-    reached = step-reached code start old new n h.gone step
+module _ (code : Code) (start : World) (n : ℕ) (walk : Walk) (h : IsAlong code start n walk) (small : is_small (look_at code start n) ≡ true) (few : n < most_steps) where
+  abbrev worlds : ℕ → World
+  worlds = world_at code start
 
-    same-test : (a b : ℕ) → (a == b) ≡ (a == b)
-    same-test a b = refl
+  abbrev look : Look
+  look = look_at code start n
 
-    entry-is : (r : ℕ) → (calls && (routine == r)) ≡ is_entry worlds r n
-    entry-is r = ap₂ (λ (b : Bool) (k : ℕ). b && (k == r)) (is_calls ∙ ap is_call h.gone.world) (is_routine ∙ ap (λ (w : World). w.registers.pc) reached)
+  sizes : AreSmall look
+  sizes = are-small look small
 
-    cost-is : spent ≡ cost worlds n
-    cost-is = is_spent ∙ ap₂ (λ (v w : World). w.cycles - v.cycles) h.gone.world reached
+  some : 0 < length walk.frames
+  some = subst (λ (l : List Frame). 0 < length l) (sym h.frames) (omega arith)
 
-    step-is : (r : ℕ) → r < 65537 → with_step (inner walk.frames == r) (not (depth_of r walk.frames == 0)) spent (seen_at walk r)
-        ≡ with_step (is_own worlds r n) (is_in worlds r n) (cost worlds n) (totals_of worlds n r)
-    step-is r low =
-        ap (λ (l : List Frame). with_step (inner l == r) (not (depth_of r l == 0)) spent (seen_at walk r)) h.frames
-        ∙ ap₂ (λ (a b : Bool). with_step a b spent (seen_at walk r)) (own-is worlds n r) (in-is worlds n r)
-        ∙ ap₂ (λ (k : ℕ) (t : Totals). with_step (is_own worlds r n) (is_in worlds r n) k t) cost-is (h.seen r low)
+  abbrev made : Walk
+  made = counted look.cycles walk
 
-    seen-is : (r : ℕ) → r < 65537 → with_entry (calls && (routine == r)) (with_step (inner walk.frames == r) (not (depth_of r walk.frames == 0)) spent (seen_at walk r))
-        ≡ with_entry (is_entry worlds r n) (with_step (is_own worlds r n) (is_in worlds r n) (cost worlds n) (totals_of worlds n r))
-    seen-is r low = ap₂ (λ (b : Bool) (t : Totals). with_entry b t) (entry-is r) (step-is r low)
+  made-walk : IsWalk made
+  made-walk = counted-walk walk h.is_walk some look.cycles (omega (arith, h.steps, few)) (omega (arith, sizes.cycles))
 
-pub walked : (code : Code) (start : World) (d : Device) (n limit : ℕ) (walk : Walk) (cause : Cause) → IsAlong code start d n walk
-    → IsEnd code start limit (ended_at d n cause) → IsWalked code start limit walk cause
-walked code start d n limit walk cause h is = record {
-  end = ended_at d n cause;
+  called : IsCalled made (walks.with_call look made) (look.opcode == 0x20) look.next_pc look.s
+  called =
+      called-walk made (look.opcode == 0x20) look.next_pc look.s made-walk (omega (arith, sizes.next_pc)) sizes.s
+      (frames-low worlds n look.s walk.frames h.frames refl sizes.s) (λ r lt. counted-times walk h.is_walk some look.cycles r lt)
+
+  abbrev left_now : Walk
+  left_now = left_below look.next_s (walks.with_call look made)
+
+  left-alike-is : SeesAlike (walks.with_call look made) left_now
+  left-alike-is = below-alike look.next_s (walks.with_call look made) called.is_walk
+
+  calls-is : (look.opcode == 0x20) ≡ is_call (worlds n)
+  calls-is = call-is (peek (worlds n).memory (worlds n).registers.pc)
+
+  entry-is : (r : ℕ) → ((look.opcode == 0x20) && (look.next_pc == r)) ≡ is_entry worlds r n
+  entry-is r = ap (λ (b : Bool). b && (look.next_pc == r)) calls-is
+
+  step-is : (r : ℕ) → r < 65537 → with_step (inner walk.frames == r) (not (depth_of r walk.frames == 0)) look.cycles (seen_at walk r)
+      ≡ with_step (is_own worlds r n) (is_in worlds r n) (cost worlds n) (totals_of worlds n r)
+  step-is r low =
+      ap (λ (l : List Frame). with_step (inner l == r) (not (depth_of r l == 0)) look.cycles (seen_at walk r)) h.frames
+      ∙ ap₂ (λ (a b : Bool). with_step a b look.cycles (seen_at walk r)) (own-is worlds n r) (in-is worlds n r)
+      ∙ ap (with_step (is_own worlds r n) (is_in worlds r n) (cost worlds n)) (h.seen r low)
+
+  seen-now : (r : ℕ) → r < 65537 → seen_at left_now r ≡ totals_of worlds (suc n) r
+  seen-now r low =
+      left-alike-is.seen_are r low ∙ called.seen r low
+      ∙ ap (with_entry ((look.opcode == 0x20) && (look.next_pc == r))) (counted-seen walk h.is_walk some look.cycles r low)
+      ∙ ap₂ (λ (b : Bool) (t : Totals). with_entry b t) (entry-is r) (step-is r low)
+      ∙ sym (totals-next worlds n r)
+
+  pub along-next : IsAlong code start (suc n) (with_made (look_at code start n) walk)
+  along-next = record {
+    is_walk = below-walk look.next_s (walks.with_call look made) called.is_walk;
+    frames = frames-next worlds n walk.frames (walks.with_call look made).frames left_now.frames (look.opcode == 0x20) look.next_pc look.s look.next_s h.frames
+        called.frames calls-is refl refl refl sizes.next_s (below-frames look.next_s (walks.with_call look made) called.is_walk);
+    seen = seen-now;
+    steps = omega (arith, left-alike-is.steps, called.steps, h.steps);
+    cycles = omega (arith, left-alike-is.cycles, called.cycles, h.cycles, step-later code start n);
+  }
+
+-- where there are totals in the end, each step was seen
+along-after : (code : Code) (start : World) (first : Walk) → IsBegun start first → (n : ℕ) → n ≤ most_steps
+    → length (seen_after with_look (look_at code start) first n).totals ≡ 65537
+    → IsAlong code start n (seen_after with_look (look_at code start) first n)
+unfolding seen_after
+along-after code start first begun zero few size = along-none code start first begun
+along-after code start first begun (suc n) few size =
+    go (is_small look) (length before.totals == 65537) refl refl size (along-after code start first begun n (omega (arith, few)))
+  where
+    look : Look
+    look = look_at code start n
+
+    before : Walk
+    before = seen_after with_look (look_at code start) first n
+
+    same-size : (a b : ℕ) → (a == b) ≡ true → a ≡ b
+    same-size a b e = grind (arith, nat_tests, e)
+
+    room-is : IsAlong code start n before → has_room before ≡ true
+    room-is h = room before.steps (length before.frames) (omega (arith, h.steps, few)) (subst (λ (l : List Frame). 0 < length l) (sym h.frames) (omega arith))
+      where
+        room : (steps frames : ℕ) → steps < most_steps → 0 < frames → (nat_lt steps most_steps && not (frames == 0)) ≡ true
+        room steps frames lt some = grind (arith, nat_tests, lt, some)
+
+    go : (small sized : Bool) → is_small look ≡ small → (length before.totals == 65537) ≡ sized
+        → length (if small && sized then (if has_room before then with_made look before else before) else lost).totals ≡ 65537
+        → (length before.totals ≡ 65537 → IsAlong code start n before)
+        → IsAlong code start (suc n) (if small && sized then (if has_room before then with_made look before else before) else lost)
+    go true true e f size earlier =
+        let h = earlier (same-size (length before.totals) 65537 f) in
+        subst (IsAlong code start (suc n)) (ap (λ (b : Bool). if b then with_made look before else before) (sym (room-is h)))
+        (along-next code start n before h e (omega (arith, few)))
+    go true false e f size earlier = absurd (omega (arith, size))
+    go false sized e f size earlier = absurd (omega (arith, size))
+
+pub walked : (old new : Device) (limit : ℕ) (cause : Cause) (first walk : Walk) → old.state.steps ≡ 0 → IsBegun (world_of_state old.state) first → limit < 2 ^ 32
+    → IsWalk walk → IsMachineRun limit old new cause
+    → walk ≡ seen_after with_look (look_at (code_of old.state) (world_of_state old.state)) first (new.state.steps - old.state.steps)
+    → IsWalked (code_of old.state) (world_of_state old.state) limit walk cause
+walked old new limit cause first walk steps begun few is_walk run seen = record {
+  end = ended_by old new cause;
   is_end = is;
   cause_is = refl;
-  seen_are = h.seen;
-  steps = h.steps;
-  cycles = h.cycles;
+  seen_are = done.seen;
+  steps = done.steps;
+  cycles = done.cycles ∙ sym (ap (λ (w : World). w.cycles) is.reached);
 }
+  where
+    n : ℕ
+    n = new.state.steps - old.state.steps
+
+    is : IsEnd (code_of old.state) (world_of_state old.state) limit (ended_by old new cause)
+    is = run-ends old new limit cause steps few run
+
+    done : IsAlong (code_of old.state) (world_of_state old.state) n walk
+    done =
+        subst (IsAlong (code_of old.state) (world_of_state old.state) n) (sym seen)
+        (along-after (code_of old.state) (world_of_state old.state) first begun n (omega (arith, is.within, few))
+        (ap (λ (w : Walk). length w.totals) (sym seen) ∙ is_walk.totals_size))
 
 -- The profile of the program's run
 

@@ -1,19 +1,11 @@
 -- Counts of steps by the addresses where they began: a list of 65,536. This project's profile.
-use Rattle.std.specs.Prelude.{◌≡◌, ℕ, ◌+◌, ◌≤◌, Bool, List, length, slice_index_or, if◌then◌else◌}
+use Rattle.std.specs.Prelude.{◌≡◌, ℕ, ◌+◌, ◌≤◌, List, length, slice_index_or}
 use Rattle.std.specs.List.{sum_by}
 use Rattle.a2_profile.specs.declared.profile.Count.{Count}
 
 -- no step
 abbrev pub none : Count
 none = record { times = 0; cycles = 0; taken = 0 }
-
--- a step more, of so many cycles
-abbrev pub counted : ℕ → Bool → Count → Count
-counted cycles is_taken count = record {
-  times = count.times + 1;
-  cycles = count.cycles + cycles;
-  taken = count.taken + (if is_taken then 1 else 0);
-}
 
 -- the steps of both
 abbrev pub joined : Count → Count → Count

@@ -1,4 +1,5 @@
 pub mod Counts
+pub mod Seeing
 pub mod Run
 pub mod Totals
 pub mod Routines
@@ -6,4 +7,8 @@ pub mod Walks
 pub mod Walked
 pub mod Table
 pub mod RoutineTable
+pub mod Runs
+pub mod Room
+pub mod Json
+pub mod Callgrind
 pub mod Texts

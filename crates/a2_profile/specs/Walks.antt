@@ -1,9 +1,11 @@
 -- What a walk through a run knows of its routines. No public clause cites this file.
-use Rattle.std.specs.Prelude.{◌≡◌, ℕ, ◌+◌, ◌-◌, ◌<◌, ◌≤◌, ◌==◌, ◌&&◌, nat_le, not, Bool, List, [], ◌∷◌, ◌++◌, length, take, slice_index_or, slice_set, if◌then◌else◌}
+use Rattle.std.specs.Prelude.{◌≡◌, ℕ, zero, suc, ◌+◌, ◌-◌, ◌*◌, ◌<◌, ◌≤◌, ◌==◌, ◌&&◌, nat_le, nat_lt, not, Bool, List, [], ◌∷◌, ◌++◌, length, take, slice_index_or, slice_set, if◌then◌else◌}
 use Rattle.std.specs.List.{All, AllPairs, count_by}
+use Rattle.a2_live.specs.declared.observer.Look.{Look}
 use Rattle.a2_profile.specs.declared.walk.Frame.{Frame}
 use Rattle.a2_profile.specs.declared.walk.Opening.{Opening}
 use Rattle.a2_profile.specs.declared.walk.Totals.{Totals}
+use Rattle.a2_profile.specs.Seeing.{is_small}
 use Rattle.a2_profile.specs.Totals.{itself, nothing, totals_at, own_steps_in, own_cycles_in}
 
 -- the routines that are entered and not left, what is counted of each, since when it is, and the steps and cycles so far
@@ -51,27 +53,16 @@ seen steps cycles opening t = record {
 abbrev pub seen_at : Walk → ℕ → Totals
 seen_at walk routine = seen walk.steps walk.cycles (opening_at walk.openings routine) (totals_at walk.totals routine)
 
--- a step more, the own one of a routine, or among those of what it calls
-abbrev pub with_step : Bool → Bool → ℕ → Totals → Totals
-with_step own among cost t = record {
-  times = t.times;
-  steps = t.steps + (if own then 1 else 0);
-  cycles = t.cycles + (if own then cost else 0);
-  all_steps = t.all_steps + (if among then 1 else 0);
-  all_cycles = t.all_cycles + (if among then cost else 0);
-}
+-- the greatest limit
+abbrev pub most_steps : ℕ
+most_steps = 4294967295
 
--- entered once more
-abbrev pub with_entry : Bool → Totals → Totals
-with_entry entered t = record {
-  times = t.times + (if entered then 1 else 0);
-  steps = t.steps;
-  cycles = t.cycles;
-  all_steps = t.all_steps;
-  all_cycles = t.all_cycles;
-}
+-- a stack pointer is below that of each frame
+abbrev pub IsLow : ℕ → List Frame → Type 0
+IsLow s frames = All (λ f. s < f.s) frames
 
 pub record IsWithin (walk : Walk) (opening : Opening) (t : Totals) : Type 0 where
+  pub times : t.times ≤ walk.steps
   pub since_steps : opening.steps ≤ walk.steps
   pub since_cycles : opening.cycles ≤ walk.cycles
   pub steps : t.steps ≤ walk.steps
@@ -84,11 +75,27 @@ pub record IsWalk (walk : Walk) : Type 0 where
   pub openings_size : length walk.openings ≡ 65537
   pub fit : All (λ f. f.routine < 65537) walk.frames
   -- a routine that was entered later has a lower stack pointer
-  pub falls : AllPairs (λ f g. g.s ≤ f.s) walk.frames
+  pub high : All (λ f. f.s ≤ 256) walk.frames
+  pub falls : AllPairs (λ f g. g.s < f.s) walk.frames
   pub depths : (r : ℕ) → r < 65537 → (opening_at walk.openings r).depth ≡ depth_of r walk.frames
   pub within : (r : ℕ) → r < 65537 → IsWithin walk (opening_at walk.openings r) (totals_at walk.totals r)
   pub steps_are : own_steps_in walk.totals ≡ walk.steps
   pub cycles_are : own_cycles_in walk.totals ≡ walk.cycles
+  pub few : walk.steps ≤ most_steps
+  pub cheap : walk.cycles ≤ most_steps * walk.steps
+
+-- a step of so many cycles was made in the innermost
+abbrev pub counted : ℕ → Walk → Walk
+counted cost walk =
+    let i = inner walk.frames in
+    let t = totals_at walk.totals i in record {
+      frames = walk.frames;
+      totals = slice_set walk.totals i
+          (record { times = t.times; steps = t.steps + 1; cycles = t.cycles + cost; all_steps = t.all_steps; all_cycles = t.all_cycles });
+      openings = walk.openings;
+      steps = walk.steps + 1;
+      cycles = walk.cycles + cost;
+    }
 
 -- a JSR went to a routine
 abbrev pub noted : ℕ → Walk → Walk
@@ -139,6 +146,37 @@ left walk =
 -- a stack pointer is not below that before the innermost, if there is one
 abbrev pub leaves : ℕ → Walk → Bool
 leaves s walk = not (length walk.frames == 0) && nat_le (frame_at walk.frames (length walk.frames - 1)).s s
+
+-- all are left that it is not below
+abbrev pub left_many : ℕ → ℕ → Walk → Walk
+left_many s zero walk = walk
+left_many s (suc n) walk = if leaves s walk then left_many s n (left walk) else walk
+
+abbrev pub left_below : ℕ → Walk → Walk
+left_below s walk = left_many s (length walk.frames) walk
+
+-- a JSR before which the stack pointer was this enters a routine
+abbrev pub entered : ℕ → ℕ → Walk → Walk
+entered routine s walk = if leaves s walk then walk else opened routine s (noted routine walk)
+
+abbrev pub has_room : Walk → Bool
+has_room walk = nat_lt walk.steps most_steps && not (length walk.frames == 0)
+
+-- a step that is seen is counted, and what it enters and leaves
+abbrev pub with_call : Look → Walk → Walk
+with_call look walk = if look.opcode == 0x20 then entered look.next_pc look.s walk else walk
+
+abbrev pub with_made : Look → Walk → Walk
+with_made look walk = left_below look.next_s (with_call look (counted look.cycles walk))
+
+-- what no observer sees leaves no totals
+abbrev pub lost : Walk
+lost = record { frames = []; totals = []; openings = []; steps = 0; cycles = 0 }
+
+-- the walk behind a look: so where there are totals, each look was seen
+abbrev pub with_look : Walk → Look → Walk
+with_look walk look =
+    if is_small look && (length walk.totals == 65537) then (if has_room walk then with_made look walk else walk) else lost
 
 -- the same is seen of all routines
 pub record SeesAlike (old new : Walk) : Type 0 where

@@ -1,8 +1,10 @@
 //! The counts of a profile.
 
-ghost use Rattle.std.specs.Prelude.{◌≡◌, ◌+◌, ◌^◌, ◌<◌, ◌≤◌, ◌↔◌, ℕ, length, replicate, slice_set, IfOk, IsOk, OnOk, OnErr};
-ghost use Rattle.a2_profile.specs.Counts.{NoneTakenMore, count_at, steps_in, cycles_in, none, counted, joined};
+ghost use Rattle.std.specs.Prelude.{◌≡◌, ◌+◌, ◌^◌, ◌<◌, ◌≤◌, ◌↔◌, ℕ, length, replicate, IfOk, IsOk, OnOk, OnErr};
+ghost use Rattle.a2_profile.specs.Counts.{NoneTakenMore, AreSummed, count_at, steps_in, cycles_in, none, joined};
+ghost use Rattle.a2_profile.specs.Seeing.{with_look};
 
+use a2_live::{Look, Observer};
 use std::alloc::{AllocError, Allocator, Global};
 use std::marker::Model;
 
@@ -145,21 +147,70 @@ impl<A: Allocator> Profile<A> {
         self.cycles = cycles;
         Ok(())
     }
+}
 
-    // Counts a step more, at an address, of so many cycles.
-    pub(crate) fn count_step(&mut self, address: u16, cycles: u64, is_taken: bool)
-        requires steps { steps_in self.old + 1 < 2 ^ 64 }
-        requires cycles { cycles_in self.old + cycles < 2 ^ 64 }
-        ensures { self.new ≡ slice_set self.old address (counted cycles is_taken (count_at self.old address)) }
+/// Counts of the steps of a run that are seen as they are made, whose sums the run knows. Contracts see a list of 65,536
+/// counts.
+#[derive(Drop)]
+pub(crate) struct Counting<A: Allocator = Global> {
+    counts: Vec<Count, A>,
+}
+
+impl<A: Allocator> Model for Counting<A> {
+    ghost use Rattle.std.specs.Prelude.{◌≡◌, List, length};
+    ghost use Rattle.a2_profile.specs.declared.profile.Count.{Count};
+
+    ghost Value = { List Count };
+
+    ghost view = { λ c. c.counts.items };
+
+    ghost invariant = { λ c. length c.counts.items ≡ 65536 };
+}
+
+impl<A: Allocator> Counting<A> {
+    // Counts of no step.
+    pub fn new(alloc: A) -> Result<Counting<A>, AllocError>
+        ensures { IfOk result (λ counting. counting ≡ replicate 65536 none) }
     {
-        let index = usize::from(address);
+        Ok(Counting {
+            counts: no_counts(alloc)?,
+        })
+    }
+
+    // For the prover alone: there is a count for each address.
+    pub fn is_whole(&self)
+        ensures { length self.now ≡ 65536 }
+    {
+        let _ = &self.counts;
+    }
+
+    // The profile of these counts, which are so many steps and cycles together.
+    pub fn profile(self, steps: u64, cycles: u64) -> Profile<A>
+        requires { AreSummed self steps cycles }
+        ensures { result ≡ self }
+    {
+        let Counting { counts } = self;
+        Profile {
+            counts,
+            steps,
+            cycles,
+        }
+    }
+}
+
+impl<A: Allocator> Observer for Counting<A> {
+    ghost seen = { with_look };
+
+    // No count of a run comes to 2^64.
+    #[inline(always)]
+    fn see(&mut self, look: Look) {
+        let index = usize::from(look.pc);
         let count = self.counts[index];
+        let is_taken = look.next_pc != look.pc.wrapping_add(2);
         self.counts[index] = Count {
-            times: count.times + 1,
-            cycles: count.cycles + cycles,
-            taken: count.taken + u64::from(is_taken),
+            times: count.times.wrapping_add(1),
+            cycles: count.cycles.wrapping_add(u64::from(look.cycles)),
+            taken: count.taken.wrapping_add(u64::from(is_taken)),
         };
-        self.steps += 1;
-        self.cycles += cycles;
     }
 }

@@ -6,34 +6,29 @@ ghost use Rattle.a2_profile.specs.Counts.{none};
 ghost use Rattle.a2_profile.specs.Run.{AreCounts, IsProfile};
 
 use crate::Profile;
+use crate::profile::Counting;
 use a2_asm::Program;
 use a2_bus::Keys;
 use a2_machine::{Cause, Machine};
 use a2_run::started;
 use std::alloc::{AllocError, Allocator};
 
-// Makes the steps of a run from a machine's start, and counts each.
-fn profile_machine<A: Allocator>(
+// Makes the steps of a run from a machine's start, each of which is counted as it is made.
+fn profile_machine<A: Allocator, B: Allocator>(
     machine: &mut Machine<A>,
     limit: u32,
-    profile: &mut Profile<A>,
-) -> Cause
+    mut counting: Counting<B>,
+) -> (Profile<B>, Cause)
     requires steps { machine.old.state.steps ≡ 0 }
     requires cycles { machine.old.state.cycles ≡ 0 }
-    requires empty { profile.old ≡ replicate 65536 none }
-    ensures { AreCounts (code_of machine.old.state) (world_of_state machine.old.state) limit profile.new result }
+    requires empty { counting ≡ replicate 65536 none }
+    ensures { AreCounts (code_of machine.old.state) (world_of_state machine.old.state) limit result.0 result.1 }
 {
-    for _ in 0..limit {
-        let pc = machine.regs().pc;
-        let before = machine.cycles();
-        if let Some(cause) = machine.step() {
-            return cause;
-        }
-        let cycles = machine.cycles() - before;
-        let is_taken = machine.regs().pc != pc.wrapping_add(2);
-        profile.count_step(pc, cycles, is_taken);
-    }
-    machine.run(0)
+    let cause = machine.run_observed(limit, &mut counting);
+    // For the prover alone: so each look was one of a machine.
+    counting.is_whole();
+    let profile = counting.profile(machine.steps(), machine.cycles());
+    (profile, cause)
 }
 
 /// Runs `program` with these keys waiting, and counts its steps; the cause of the run's end. `limit` is the most steps,
@@ -50,7 +45,6 @@ pub fn profile_run<A: Allocator + Copy>(
     // For the prover alone: a law of every program, by which the guarded bytes run as its statements.
     program.is_sound();
     let mut machine = started(alloc, program, keys, free)?;
-    let mut profile = Profile::new(alloc)?;
-    let cause = profile_machine(&mut machine, limit, &mut profile);
-    Ok((profile, cause))
+    let counting = Counting::new(alloc)?;
+    Ok(profile_machine(&mut machine, limit, counting))
 }

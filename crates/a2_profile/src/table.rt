@@ -150,7 +150,7 @@ fn put_count<W: Output>(
 }
 
 // Whether a statement is a branch.
-fn is_branch(statement: &Statement) -> bool
+pub(crate) fn is_branch(statement: &Statement) -> bool
     ensures { result ≡ table.is_branch statement.now }
 {
     match statement.instr {
@@ -167,7 +167,7 @@ fn is_instruction_on(statement: &Statement, number: usize) -> bool
 }
 
 // The instruction on a line.
-fn instruction_on(statements: &[Statement], number: usize) -> Option<Statement>
+pub(crate) fn instruction_on(statements: &[Statement], number: usize) -> Option<Statement>
     ensures { result ≡ table.instruction_on statements.now number }
 {
     for statement in statements {
@@ -228,6 +228,17 @@ fn outside_text() -> &'static [u8]
     b"OUTSIDE THE SOURCE"
 }
 
+// Whether steps began at an address where no instruction of the source stands.
+pub(crate) fn is_outside<A: Allocator, B: Allocator>(
+    program: &Program<B>,
+    profile: &Profile<A>,
+    address: u16,
+) -> bool
+    ensures { result ≡ table.is_outside program.now.statements profile.now address }
+{
+    profile.at(address).times != 0 && program.instr_at(address).is_none()
+}
+
 // Writes the row of an address where no instruction of the source stands, if steps began there.
 fn put_outside<A: Allocator, B: Allocator, W: Output>(
     program: &Program<B>,
@@ -238,12 +249,11 @@ fn put_outside<A: Allocator, B: Allocator, W: Output>(
     ensures { SendsOrBreaks (W.taker writer.old) (W.taker writer.new) result
         (table.outside_row program.now.statements profile.now address) }
 {
-    let count = profile.at(address);
-    if count.times != 0 && program.instr_at(address).is_none() {
+    if is_outside(program, profile, address) {
         put_count(
             profile.cycles(),
             false,
-            count,
+            profile.at(address),
             &hex_word(address),
             outside_text(),
             writer,
@@ -277,6 +287,13 @@ fn line_of<'a>(texts: &[&'a [u8]], statement: &Statement) -> &'a [u8]
     }
 }
 
+// Whether a statement is an instruction that was never done.
+pub(crate) fn is_never_done<A: Allocator>(profile: &Profile<A>, statement: &Statement) -> bool
+    ensures { result ≡ table.is_never_done profile.now statement.now }
+{
+    statement.instr.is_some() && profile.at(statement.addr).times == 0
+}
+
 // Writes the row of a statement, if it is an instruction that was never done.
 fn put_never<A: Allocator, W: Output>(
     profile: &Profile<A>,
@@ -287,7 +304,7 @@ fn put_never<A: Allocator, W: Output>(
     ensures { SendsOrBreaks (W.taker writer.old) (W.taker writer.new) result
         (table.never_row profile.now (map (λ x. x.now) texts.now) statement.now) }
 {
-    if statement.instr.is_some() && profile.at(statement.addr).times == 0 {
+    if is_never_done(profile, statement) {
         let label = decimal(u64::from(statement.line));
         let text = line_of(texts, statement);
         put_row(b"NEVER", b"", b"", b"", b"", label.as_slice(), text, writer)

@@ -1,11 +1,13 @@
 //! A walk through a run, which counts what is done in its routines.
 
-ghost use Rattle.std.specs.Prelude.{◌≡◌, ◌+◌, ◌-◌, ◌^◌, ◌<◌, ◌≤◌, ℕ, false, ◌==◌, not, [], ◌∷◌, ◌++◌, length, replicate, filter, nat_lt, IfOk, if◌then◌else◌};
+ghost use Rattle.std.specs.Prelude.{◌≡◌, ◌-◌, ◌<◌, ◌≤◌, ℕ, false, [], ◌∷◌, length, replicate, IfOk, if◌then◌else◌};
 ghost use Rattle.std.specs.List.{All};
 ghost use Rattle.a2_profile.specs.Totals.{itself, nothing, totals_at, own_steps_in, own_cycles_in};
 ghost use Rattle.a2_profile.specs.Walks as walks;
-ghost use Rattle.a2_profile.specs.Walks.{SeesAlike};
+ghost use Rattle.a2_profile.specs.Walks.{SeesAlike, IsLow};
 
+use a2_live::{Look, Observer};
+use arrayvec::ArrayVec;
 use std::alloc::{AllocError, Allocator, Global};
 use std::marker::Model;
 
@@ -14,6 +16,16 @@ const ROUTINES: usize = 0x1_0001;
 
 /// The number of the program itself.
 const ITSELF: u32 = 0x1_0000;
+
+/// JSR's operation code.
+const JSR: u8 = 0x20;
+
+/// The most steps of a walk: those of a run with the greatest limit.
+const MOST_STEPS: u64 = 0xFFFF_FFFF;
+
+/// The most routines that are entered and not left, since the stack pointer is lower before each: at 256 for the program itself,
+/// and then at 255 to 0.
+const MOST_FRAMES: usize = 257;
 
 /// What was done in a routine.
 #[derive(Clone, Copy, Debug, PartialEq, Eq)]
@@ -40,7 +52,7 @@ const NOTHING: Totals = Totals {
 };
 
 // A routine that is entered and not left.
-#[derive(Clone, Copy)]
+#[derive(Clone, Copy, Default)]
 pub(crate) struct Frame {
     // The address where it begins, or the number of the program itself.
     routine: u32,
@@ -63,7 +75,7 @@ const CLOSED: Opening = Opening {
 };
 
 // No totals of each routine.
-fn no_totals<A: Allocator>(alloc: A) -> Result<Vec<Totals, A>, AllocError>
+pub(crate) fn no_totals<A: Allocator>(alloc: A) -> Result<Vec<Totals, A>, AllocError>
     ensures { IfOk result (λ totals. totals.items ≡ replicate 65537 nothing) }
 {
     vec![in alloc; NOTHING; ROUTINES]
@@ -94,7 +106,7 @@ fn spent(is_last: bool, now: u64, since: u64) -> u64
 // The routines of a run that are entered and not left, and what was counted so far.
 #[derive(Drop)]
 pub(crate) struct Walk<A: Allocator = Global> {
-    frames: Vec<Frame, A>,
+    frames: ArrayVec<Frame, MOST_FRAMES>,
     totals: Vec<Totals, A>,
     openings: Vec<Opening, A>,
     steps: u64,
@@ -123,7 +135,7 @@ impl<A: Allocator + Copy> Walk<A> {
         }) }
     {
         Ok(Walk {
-            frames: Vec::new(alloc),
+            frames: ArrayVec::new(),
             totals: no_totals(alloc)?,
             openings: no_openings(alloc)?,
             steps: 0,
@@ -139,24 +151,37 @@ impl<A: Allocator + Copy> Walk<A> {
         ensures cycles { IfOk result (λ walk. walk.cycles ≡ 0) }
     {
         let mut walk = Walk::empty(alloc)?;
-        walk.open(ITSELF, 0x100)?;
+        walk.open(ITSELF, 0x100);
         Ok(walk)
     }
 }
 
 impl<A: Allocator> Walk<A> {
-    // Counts a step of so many cycles in the innermost routine.
-    pub fn count_step(&mut self, cycles: u64)
-        requires entered { 0 < length self.old.frames }
-        requires steps { self.old.steps + 1 < 2 ^ 64 }
-        requires cycles { self.old.cycles + cycles < 2 ^ 64 }
-        ensures frames { self.new.frames ≡ self.old.frames }
-        ensures seen { (r : ℕ) → r < 65537 → walks.seen_at self.new r
-            ≡ walks.with_step (walks.inner self.old.frames == r) (not (walks.depth_of r self.old.frames == 0)) cycles (walks.seen_at self.old r) }
-        ensures steps { self.new.steps ≡ self.old.steps + 1 }
-        ensures cycles { self.new.cycles ≡ self.old.cycles + cycles }
+    // For the prover alone: a law of every walk.
+    #[inline(always)]
+    pub fn is_walk(&self)
+        ensures { walks.IsWalk self.now }
     {
-        let index = self.frames[self.frames.len() - 1].routine as usize;
+        let _ = &self.totals;
+    }
+
+    // Whether it can count a step more, which it can at each step of a run.
+    #[inline(always)]
+    fn has_room(&self) -> bool
+        ensures { result ≡ walks.has_room self.now }
+    {
+        self.steps < MOST_STEPS && !self.frames.is_empty()
+    }
+
+    // Counts a step of so many cycles in the innermost routine.
+    #[inline(always)]
+    fn count_step(&mut self, cycles: u32)
+        requires steps { self.old.steps < walks.most_steps }
+        requires entered { 0 < length self.old.frames }
+        ensures { self.new ≡ walks.counted cycles self.old }
+    {
+        let cycles = u64::from(cycles);
+        let index = self.frames.as_slice()[self.frames.len() - 1].routine as usize;
         let totals = self.totals[index];
         self.totals[index] = Totals {
             times: totals.times,
@@ -171,9 +196,8 @@ impl<A: Allocator> Walk<A> {
 
     // Counts a JSR to a routine.
     fn note(&mut self, routine: u16)
-        requires { (totals_at self.old.totals routine).times + 1 < 2 ^ 64 }
-        ensures noted { self.new ≡ walks.noted routine self.old }
-        ensures seen { (r : ℕ) → r < 65537 → walks.seen_at self.new r ≡ walks.with_entry (routine == r) (walks.seen_at self.old r) }
+        requires { (totals_at self.old.totals routine).times < self.old.steps }
+        ensures { self.new ≡ walks.noted routine self.old }
     {
         let index = usize::from(routine);
         let totals = self.totals[index];
@@ -186,41 +210,50 @@ impl<A: Allocator> Walk<A> {
         };
     }
 
-    // Enters a routine from where the stack pointer is this, which is not above that of any other.
-    fn open(&mut self, routine: u32, s: u16) -> Result<(), AllocError>
+    // Enters a routine from where the stack pointer is this, which is below that of any other.
+    fn open(&mut self, routine: u32, s: u16)
         requires routine { routine < 65537 }
-        requires low { All (λ f. s ≤ f.s) self.old.frames }
-        ensures opened { IfOk result (λ _. self.new ≡ walks.opened routine s self.old) }
-        ensures alike { IfOk result (λ _. SeesAlike self.old self.new) }
+        requires high { s ≤ 256 }
+        requires low { IsLow s self.old.frames }
+        ensures { self.new ≡ walks.opened routine s self.old }
     {
         let index = routine as usize;
         let opening = self.openings[index];
-        self.frames.push(Frame { routine, s })?;
-        // For the prover alone: as often as frames there are.
-        let _ = self.frames.len();
+        self.frames.push(Frame { routine, s });
         let is_first = opening.depth == 0;
         self.openings[index] = Opening {
             depth: opening.depth + 1,
             steps: begun(is_first, self.steps, opening.steps),
             cycles: begun(is_first, self.cycles, opening.cycles),
         };
-        Ok(())
     }
 
-    // Enters a routine by a JSR before which the stack pointer was this.
-    pub fn enter(&mut self, routine: u16, s: u8) -> Result<(), AllocError>
-        requires times { (totals_at self.old.totals routine).times + 1 < 2 ^ 64 }
-        requires low { All (λ f. s ≤ f.s) self.old.frames }
-        ensures frames { IfOk result (λ _. self.new.frames ≡ self.old.frames ++ record { routine = routine; s = s } ∷ []) }
-        ensures seen { IfOk result (λ _. (r : ℕ) → r < 65537 → walks.seen_at self.new r ≡ walks.with_entry (routine == r) (walks.seen_at self.old r)) }
-        ensures steps { IfOk result (λ _. self.new.steps ≡ self.old.steps) }
-        ensures cycles { IfOk result (λ _. self.new.cycles ≡ self.old.cycles) }
+    // Enters a routine by a JSR before which the stack pointer was this. It is below that of any other, unless none of a run.
+    #[inline(never)]
+    fn enter(&mut self, routine: u16, s: u8)
+        requires { (totals_at self.old.totals routine).times < self.old.steps }
+        ensures { self.new ≡ walks.entered routine s self.old }
     {
+        if self.leaves(s) {
+            return;
+        }
         self.note(routine);
-        self.open(u32::from(routine), u16::from(s))
+        self.open(u32::from(routine), u16::from(s));
+    }
+
+    // Enters what a step enters, if it is a JSR.
+    #[inline(always)]
+    fn enter_by(&mut self, look: Look)
+        requires { (totals_at self.old.totals look.next_pc).times < self.old.steps }
+        ensures { self.new ≡ walks.with_call look self.old }
+    {
+        if look.opcode == JSR {
+            self.enter(look.next_pc, look.s);
+        }
     }
 
     // Leaves the innermost routine.
+    #[inline(never)]
     fn close(&mut self)
         requires { 0 < length self.old.frames }
         ensures left { self.new ≡ walks.left self.old }
@@ -248,20 +281,21 @@ impl<A: Allocator> Walk<A> {
     }
 
     // Whether a stack pointer is not below that before the innermost routine, if there is one.
+    #[inline(always)]
     fn leaves(&self, s: u8) -> bool
         ensures value { result ≡ walks.leaves s self.now }
-        ensures kept { result ≡ false → filter (λ f. nat_lt s f.s) self.now.frames ≡ self.now.frames }
+        ensures low { result ≡ false → IsLow s self.now.frames }
     {
-        match self.frames.last() {
+        match self.frames.as_slice().last() {
             Some(frame) => frame.s <= u16::from(s),
             None => false,
         }
     }
 
     // Leaves the routines that a stack pointer is not below.
-    pub fn leave(&mut self, s: u8)
-        ensures frames { self.new.frames ≡ filter (λ f. nat_lt s f.s) self.old.frames }
-        ensures alike { SeesAlike self.old self.new }
+    #[inline(always)]
+    fn leave(&mut self, s: u8)
+        ensures { self.new ≡ walks.left_below s self.old }
     {
         while self.leaves(s) {
             self.close();
@@ -291,13 +325,27 @@ impl<A: Allocator> Walk<A> {
     }
 }
 
+impl<A: Allocator> Observer for Walk<A> {
+    ghost seen = { walks.with_look };
+
+    #[inline(always)]
+    fn see(&mut self, look: Look) {
+        self.is_walk();
+        if self.has_room() {
+            self.count_step(look.cycles);
+            self.enter_by(look);
+            self.leave(look.next_s);
+        }
+    }
+}
+
 /// What was done in each routine of a run, and in the program itself. Contracts see a list of 65,537 totals. This project's
 /// profile.
 #[derive(Drop)]
 pub struct RoutineProfile<A: Allocator = Global> {
-    totals: Vec<Totals, A>,
-    steps: u64,
-    cycles: u64,
+    pub(crate) totals: Vec<Totals, A>,
+    pub(crate) steps: u64,
+    pub(crate) cycles: u64,
 }
 
 impl<A: Allocator> Model for RoutineProfile<A> {

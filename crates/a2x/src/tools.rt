@@ -6,7 +6,7 @@ ghost use Rattle.a2_run.specs.Status.{fault_status as status_of_fault};
 ghost use Rattle.a2_run.specs.Texts.{run_fault_text};
 
 use crate::film::{FilmOrder, film_into};
-use crate::profiling::Counting;
+use crate::profiling::{Counting, Profiling};
 use crate::tracing::Tracing;
 use crate::words::Order;
 use a2_desk::Desk;
@@ -14,10 +14,11 @@ use a2_explain::{Course, explain_stop};
 use a2_film::{Chapter, Window, film_source};
 use a2_host::tell;
 use a2_list::{Shown, list_told};
-use a2_machine::Cause;
-use a2_profile::{profile_source, profile_source_routines};
+use a2_machine::{Cause, write_cause};
+use a2_profile::{first_stop, profile_source, profile_source_routines};
 use a2_run::{Options, RunFault, fault_status, run_text, status};
-use a2_stream::{FromRead, Output, WriteFault};
+use a2_stream::{FromRead, Output, WriteFault, put_all};
+use a2_text::decimal;
 use a2_trace::{trace_calls, trace_source};
 use a2_typed::Strokes;
 use std::alloc::Global;
@@ -141,23 +142,63 @@ pub fn trace<W: Output, E: Output>(
     run_status(answer, complaints)
 }
 
-/// Profiles the run of a source, by its lines or by its routines.
+// Tells the end of a run, which has this number and these keys, as they were spelt.
+fn tell_end<E: Output>(number: usize, spelling: &str, cause: Cause, complaints: &mut E) {
+    // Where this fails there is no place left to tell it.
+    let _ = put_all(
+        &[
+            b"a2x: profile: run ",
+            decimal(number as u64).as_slice(),
+            b", --keys ",
+            spelling.as_bytes(),
+            b": ",
+        ],
+        complaints,
+    );
+    let _ = write_cause(cause, complaints);
+}
+
+// Tells each end of several runs but by RETURNED.
+fn tell_ends<E: Output>(causes: &[Cause], spellings: &[&str], complaints: &mut E) {
+    if causes.len() < 2 {
+        return;
+    }
+    let mut number = 1usize;
+    for (cause, spelling) in causes.iter().zip(spellings) {
+        if *cause != Cause::Returned {
+            tell_end(number, *spelling, *cause, complaints);
+        }
+        number = number.saturating_add(1);
+    }
+}
+
+/// Profiles the runs of a source, by its lines or by its routines; of several it tells each end but by RETURNED. The status is
+/// that of the first run that did not end so.
 pub fn profile<W: Output, E: Output>(
     alloc: Global,
     source: &[u8],
     order: &Order,
-    counting: Counting,
+    asked: &Profiling<'_>,
     output: &mut W,
     complaints: &mut E,
 ) -> u8
     ensures { result ≤ 5 }
 {
-    let (keys, limit, free) = (&order.keys, order.limit, order.free);
-    let answer = match counting {
-        Counting::Lines => profile_source(alloc, source, keys, limit, free, output),
-        Counting::Routines => profile_source_routines(alloc, source, keys, limit, free, output),
+    let (name, runs) = (order.file.unwrap_or("-").as_bytes(), asked.runs.as_slice());
+    let (limit, free, format) = (order.limit, order.free, asked.format);
+    let answer = match asked.counting {
+        Counting::Lines => profile_source(alloc, name, source, runs, limit, free, format, output),
+        Counting::Routines => {
+            profile_source_routines(alloc, name, source, runs, limit, free, format, output)
+        }
     };
-    run_status(answer, complaints)
+    match answer {
+        Ok(causes) => {
+            tell_ends(causes.as_slice(), asked.spellings.as_slice(), complaints);
+            status(&Ok(first_stop(causes.as_slice())))
+        }
+        Err(fault) => told(fault, complaints),
+    }
 }
 
 /// Writes the film of a window of a source's run, titled by the file's name, into the file that the words name, whole or not at

@@ -2,7 +2,8 @@ use Rattle.std.proofs.Common.{◌≡◌, ◌∙◌, ap, ℕ, List, map}
 use Rattle.std.proofs.lemmas.Result.{err_from_is_err_and}
 use Rattle.a2_stream.proofs.Joined.{Sends-nil}
 use Rattle.a2_text.specs.Lines.{lines}
-use Rattle.a2_profile.specs.Table.{profile_table}
+use Rattle.a2_machine.specs.declared.Cause.{Cause}
+use Rattle.a2_profile.specs.Texts.{profile_text}
 use Rattle.a2_profile.proofs.source.profile_source.Goals as goal
 
 pub returns-in_err-texts-clause-meaning : goal.returns-in_err-texts-clause-meaning
@@ -15,21 +16,23 @@ returns-in_err-profile-clause-meaning g c =
     let fault = err_from_is_err_and c.from_residual-in_err-profile.result c.from_residual-in_err-profile.ensures.1 in
     rw (fault.1, fault.2) (Sends-nil (g.W.Output.taker c.args.writer.now))
 
-pub returns-in_err-write_profile-clause-meaning : goal.returns-in_err-write_profile-clause-meaning
-returns-in_err-write_profile-clause-meaning g c =
-    let fault = err_from_is_err_and c.from_residual-in_err-write_profile.result c.from_residual-in_err-write_profile.ensures.1 in
+pub returns-in_err-put_profile-clause-meaning : goal.returns-in_err-put_profile-clause-meaning
+returns-in_err-put_profile-clause-meaning g c =
+    let fault = err_from_is_err_and c.from_residual-in_err-put_profile.result c.from_residual-in_err-put_profile.ensures.1 in
     let program = c.in_ok-program.program in
     let counts = c.in_ok-profile.profile in
-    let shown : map (λ x. x.now) c.as_slice.result.now ≡ lines c.args.source.now = ap (map (λ x. x.now)) c.as_slice.ensures.value ∙ c.in_ok-texts.ensures in
+    let shown : map (λ x. x.now) c.as_slice-lines.result.now ≡ lines c.args.source.now = ap (map (λ x. x.now)) c.as_slice-lines.ensures.value ∙ c.in_ok-texts.ensures in
     rw (fault.1, fault.2) (
-      c.in_ok-profile.cause,
-      profile_table program (map (λ x. x.now) c.as_slice.result.now) counts,
+      c.in_ok-profile.causes,
+      profile_text c.args.format c.args.name.now program (map (λ x. x.now) c.as_slice-lines.result.now) counts c.as_slice-ends.result.now,
       record {
         program = program;
         is_program = c.in_ok-program.ensures.made;
         counts = counts;
         is_profile = c.in_ok-profile.ensures;
-        output_is = ap (λ (texts : List (List ℕ)). profile_table program texts counts) shown;
+        output_is =
+            ap (λ (texts : List (List ℕ)). profile_text c.args.format c.args.name.now program texts counts c.as_slice-ends.result.now) shown
+            ∙ ap (λ (causes : List Cause). profile_text c.args.format c.args.name.now program (lines c.args.source.now) counts causes) c.as_slice-ends.ensures.value;
       },
-      c.in_err-write_profile.ensures,
+      c.in_err-put_profile.ensures,
     )

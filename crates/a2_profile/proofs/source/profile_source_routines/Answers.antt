@@ -1,7 +1,8 @@
-use Rattle.std.proofs.Common.{refl}
+use Rattle.std.proofs.Common.{ap, List}
 use Rattle.std.proofs.lemmas.Result.{err_from_is_err_and}
 use Rattle.a2_stream.proofs.Joined.{Sends-nil}
-use Rattle.a2_profile.specs.RoutineTable.{routine_table}
+use Rattle.a2_machine.specs.declared.Cause.{Cause}
+use Rattle.a2_profile.specs.Texts.{routines_text}
 use Rattle.a2_profile.proofs.source.profile_source_routines.Goals as goal
 
 pub returns-in_err-profile-clause-meaning : goal.returns-in_err-profile-clause-meaning
@@ -9,20 +10,20 @@ returns-in_err-profile-clause-meaning g c =
     let fault = err_from_is_err_and c.from_residual-in_err-profile.result c.from_residual-in_err-profile.ensures.1 in
     rw (fault.1, fault.2) (Sends-nil (g.W.Output.taker c.args.writer.now))
 
-pub returns-in_err-write_routines-clause-meaning : goal.returns-in_err-write_routines-clause-meaning
-returns-in_err-write_routines-clause-meaning g c =
-    let fault = err_from_is_err_and c.from_residual-in_err-write_routines.result c.from_residual-in_err-write_routines.ensures.1 in
+pub returns-in_err-put_routines-clause-meaning : goal.returns-in_err-put_routines-clause-meaning
+returns-in_err-put_routines-clause-meaning g c =
+    let fault = err_from_is_err_and c.from_residual-in_err-put_routines.result c.from_residual-in_err-put_routines.ensures.1 in
     let program = c.in_ok-program.program in
     let totals = c.in_ok-profile.profile in
     rw (fault.1, fault.2) (
-      c.in_ok-profile.cause,
-      routine_table program totals,
+      c.in_ok-profile.causes,
+      routines_text c.args.format c.args.name.now program totals c.as_slice.result.now,
       record {
         program = program;
         is_program = c.in_ok-program.ensures.made;
         totals = totals;
         is_profile = c.in_ok-profile.ensures;
-        output_is = refl;
+        output_is = ap (λ (causes : List Cause). routines_text c.args.format c.args.name.now program totals causes) c.as_slice.ensures.value;
       },
-      c.in_err-write_routines.ensures,
+      c.in_err-put_routines.ensures,
     )

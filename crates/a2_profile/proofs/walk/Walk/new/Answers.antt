@@ -6,4 +6,4 @@ use Rattle.a2_profile.proofs.walk.Walk.new.Goals as goal
 
 pub returns-clause-nothing : goal.returns-clause-nothing
 returns-clause-nothing g c =
-    begun-seen c.open.new.self (c.in_ok-open.ensures.opened ∙ ap (λ (w : Walk). opened itself 256 w) c.in_ok-walk.ensures)
+    begun-seen c.open.new.self (c.open.ensures ∙ ap (λ (w : Walk). opened itself 256 w) c.in_ok-walk.ensures)

@@ -1,0 +1,11 @@
+use Rattle.std.proofs.Common.{◌-◌}
+use Rattle.a2_page.proofs.Sending.{IsLeft}
+use Rattle.a2_profile.specs.Table.{rows_from}
+use Rattle.a2_profile.specs.Callgrind.{routine_record}
+use Rattle.a2_profile.proofs.callgrind.put_routines.Given as goal
+
+-- the functions of the addresses so far went out
+abbrev pub invariant-loop-address : goal.invariant-loop-address
+invariant-loop-address g l =
+    IsLeft (g.W.Output.taker l.fn.writer) (g.W.Output.taker l.writer) (rows_from (routine_record l.program l.profile) 0 65536)
+    (rows_from (routine_record l.program l.profile) l.address (65536 - l.address))

@@ -1,0 +1,32 @@
+use Rattle.a2_page.proofs.Sending.{left_more, left_broke_off}
+use Rattle.std.proofs.Common.{ap, sym, ◌∙◌}
+use Rattle.a2_profile.specs.Json.{never_numbers}
+use Rattle.a2_profile.proofs.ItemLaws.{behind, left_items, left_same, behind-next, numbers-next, numbers-skip}
+use Rattle.a2_profile.proofs.json.put_never.Goals as goal
+use Rattle.a2_profile.proofs.json.put_never.Goals.{then-is_never_done+in_ok-put_number, else-is_never_done}
+
+pub loop-statement-init : goal.loop-statement-init
+loop-statement-init g c = left_items _ _ (never_numbers c.args.profile.now c.args.statements.now) c.as_slice-front.ensures
+
+pub returns-in_err-put_number : goal.returns-in_err-put_number
+returns-in_err-put_number g c =
+    left_broke_off _ _ _ c.from_residual.result _ _ _ _ c.from_residual.ensures.0
+    (behind-next c.loop-statement.front.now _ _ _
+    (numbers-next c.args.profile.now c.args.statements.now c.loop-statement.statement-index _ c.loop-statement-test.true (sym c.is_never_done.ensures ∙ c.if-is_never_done.true)))
+    c.loop-statement.invariant c.in_err-put_number.ensures
+
+pub loop-statement-preserved : goal.loop-statement-preserved
+loop-statement-preserved g c = elim c.if-is_never_done.branch [
+  | then-is_never_done+in_ok-put_number w ↦ rw (w.writer-is, w.front-is) (
+      left_more _ _ _ _ _ _ _
+      (behind-next c.loop-statement.front.now _ _ _
+      (numbers-next c.args.profile.now c.args.statements.now c.loop-statement.statement-index _ c.loop-statement-test.true (sym c.is_never_done.ensures ∙ w.if-is_never_done.true)))
+      c.loop-statement.invariant w.in_ok-put_number.ensures
+      )
+  | else-is_never_done w ↦ rw (w.writer-is, w.front-is) (
+      left_same _ _ _ _ _
+      (ap (behind c.loop-statement.front.now)
+      (numbers-skip c.args.profile.now c.args.statements.now c.loop-statement.statement-index _ c.loop-statement-test.true (sym c.is_never_done.ensures ∙ w.if-is_never_done.false)))
+      c.loop-statement.invariant
+      )
+]

@@ -1,0 +1,31 @@
+-- What an observer counts of the steps that it sees. No public clause cites this file.
+use Rattle.std.specs.Prelude.{ℕ, ◌+◌, ◌%◌, ◌^◌, ◌==◌, ◌&&◌, not, nat_lt, Bool, List, [], length, slice_set, if◌then◌else◌}
+use Rattle.a2_live.specs.declared.observer.Look.{Look}
+use Rattle.a2_profile.specs.declared.profile.Count.{Count}
+use Rattle.a2_profile.specs.Counts.{count_at}
+
+-- each number of a look is as small as an observer sees it
+abbrev pub is_small : Look → Bool
+is_small look =
+    nat_lt look.pc (2 ^ 16) && (nat_lt look.s (2 ^ 8) && (nat_lt look.next_pc (2 ^ 16) && (nat_lt look.next_s (2 ^ 8) && nat_lt look.cycles (2 ^ 32))))
+
+-- it does not go on two bytes further
+abbrev pub turns : Look → Bool
+turns look = not (look.next_pc == (look.pc + 2) % 65536)
+
+-- a step more, of so many cycles
+abbrev pub counted : ℕ → Bool → Count → Count
+counted cycles is_taken count = record {
+  times = count.times + 1;
+  cycles = count.cycles + cycles;
+  taken = count.taken + (if is_taken then 1 else 0);
+}
+
+-- in 64 bits
+abbrev pub in_words : Count → Count
+in_words count = record { times = count.times % 2 ^ 64; cycles = count.cycles % 2 ^ 64; taken = count.taken % 2 ^ 64 }
+
+-- the counts behind a look. One that no observer sees leaves no counts: so where there are some, each look was seen
+abbrev pub with_look : List Count → Look → List Count
+with_look counts look =
+    if is_small look then slice_set counts look.pc (in_words (counted look.cycles (turns look) (count_at counts look.pc))) else []

@@ -1,0 +1,417 @@
+//! A profile in the form of Callgrind's files.
+
+ghost use Rattle.std.specs.Prelude.{◌≡◌, ◌==◌, ◌∷◌, ◌++◌, if◌then◌else◌, codes, length, map};
+ghost use Rattle.a2_text.specs.Digits.{hex_word as hex_word_of};
+ghost use Rattle.a2_stream.specs.Stream.{SendsOrBreaks};
+ghost use Rattle.a2_profile.specs.Callgrind as callgrind;
+ghost use Rattle.a2_profile.specs.RoutineTable.{name_of as name_at};
+ghost use Rattle.a2_profile.specs.Table.{rows_from};
+
+use crate::table::{instruction_on, is_outside};
+use crate::{Profile, RoutineProfile, Totals, name_of};
+use a2_asm::{Program, Statement};
+use a2_stream::{Output, WriteFault, put, put_all};
+use a2_text::{decimal, hex_word};
+use std::alloc::Allocator;
+
+// How many addresses there are.
+const ADDRESSES: u32 = 0x1_0000;
+
+// A byte of a file's name; a control byte, which would end a line, as ?.
+fn shown_byte(byte: u8) -> u8
+    ensures { result ≡ callgrind.shown_byte byte }
+{
+    match byte {
+        0..=0x1F | 0x7F => b'?',
+        _ => byte,
+    }
+}
+
+// Writes a file's name.
+#[tactic(auto, unfolding(crate::specs::Callgrind::shown_name))]
+fn put_name<W: Output>(name: &[u8], writer: &mut W) -> Result<(), WriteFault>
+    ensures { SendsOrBreaks (W.taker writer.old) (W.taker writer.new) result (callgrind.shown_name name.now) }
+{
+    for byte in name {
+        put(&[shown_byte(*byte)], writer)?;
+    }
+    Ok(())
+}
+
+// Writes what stands first, up to the source's name.
+#[tactic(auto, unfolding(crate::specs::Callgrind::heading))]
+fn put_heading<W: Output>(steps: u64, cycles: u64, writer: &mut W) -> Result<(), WriteFault>
+    ensures { SendsOrBreaks (W.taker writer.old) (W.taker writer.new) result (callgrind.heading steps cycles) }
+{
+    let steps = decimal(steps);
+    let cycles = decimal(cycles);
+    put_all(
+        &[
+            b"# callgrind format\nversion: 1\ncreator: a2x\ncmd: a2x profile\npositions: line\nevents: Steps Cycles\nsummary: ",
+            steps.as_slice(),
+            b" ",
+            cycles.as_slice(),
+            b"\nfl=(2) ???\nfl=(1) ",
+        ],
+        writer,
+    )
+}
+
+// Writes the cost of a line.
+#[tactic(auto, unfolding(crate::specs::Callgrind::cost_row))]
+fn put_cost<W: Output>(line: u64, steps: u64, cycles: u64, writer: &mut W) -> Result<(), WriteFault>
+    ensures { SendsOrBreaks (W.taker writer.old) (W.taker writer.new) result (callgrind.cost_row line steps cycles) }
+{
+    let line = decimal(line);
+    let steps = decimal(steps);
+    let cycles = decimal(cycles);
+    put_all(
+        &[
+            line.as_slice(),
+            b" ",
+            steps.as_slice(),
+            b" ",
+            cycles.as_slice(),
+            b"\n",
+        ],
+        writer,
+    )
+}
+
+// Writes how a function in a file begins.
+#[tactic(auto, unfolding(crate::specs::Callgrind::function_head))]
+fn put_function_head<'a, W: Output>(
+    file: &'a [u8],
+    name: &'a [u8],
+    writer: &mut W,
+) -> Result<(), WriteFault>
+    ensures { SendsOrBreaks (W.taker writer.old) (W.taker writer.new) result (callgrind.function_head file.now name.now) }
+{
+    put_all(&[b"fl=(", file, b")\nfn=", name, b"\n"], writer)
+}
+
+// Writes a function in a file, with a line and its cost.
+#[tactic(auto, using(a2_stream::proofs::Joined::broke_off, a2_stream::proofs::Joined::went_on))]
+fn put_function<'a, W: Output>(
+    file: &'a [u8],
+    name: &'a [u8],
+    line: u64,
+    steps: u64,
+    cycles: u64,
+    writer: &mut W,
+) -> Result<(), WriteFault>
+    ensures { SendsOrBreaks (W.taker writer.old) (W.taker writer.new) result
+        (callgrind.function_record file.now name.now line steps cycles) }
+{
+    put_function_head(file, name, writer)?;
+    put_cost(line, steps, cycles, writer)
+}
+
+// The name of what begins at an address, or else these digits of it.
+fn name_or<'a, A: Allocator>(program: &'a Program<A>, address: u16, digits: &'a [u8; 5]) -> &'a [u8]
+    ensures { result.now ≡ (if length (name_at program.now.names address) == 0 then digits.now
+        else name_at program.now.names address) }
+{
+    let name = name_of(program.names(), address);
+    if name.is_empty() { digits } else { name }
+}
+
+// The digits of an address behind a $.
+fn address_digits(address: u16) -> [u8; 5]
+    ensures { result ≡ 0x24 ∷ hex_word_of address }
+{
+    let [a, b, c, d] = hex_word(address);
+    [b'$', a, b, c, d]
+}
+
+// Writes the cost of the instruction on a line, if one stands there and was done.
+fn put_line<A: Allocator, W: Output>(
+    profile: &Profile<A>,
+    statement: Option<Statement>,
+    number: usize,
+    writer: &mut W,
+) -> Result<(), WriteFault>
+    ensures { SendsOrBreaks (W.taker writer.old) (W.taker writer.new) result (callgrind.line_cost profile.now statement number) }
+{
+    let Some(statement) = statement else {
+        return Ok(());
+    };
+    let count = profile.at(statement.addr);
+    if count.times == 0 {
+        return Ok(());
+    }
+    put_cost(number as u64, count.times, count.cycles, writer)
+}
+
+// Writes the costs of all lines.
+fn put_lines<A: Allocator, W: Output>(
+    profile: &Profile<A>,
+    statements: &[Statement],
+    texts: &[&[u8]],
+    writer: &mut W,
+) -> Result<(), WriteFault>
+    ensures { SendsOrBreaks (W.taker writer.old) (W.taker writer.new) result
+        (callgrind.line_costs profile.now statements.now 1 (map (λ x. x.now) texts.now)) }
+{
+    let mut number = 1usize;
+    for _text in texts {
+        let statement = instruction_on(statements, number);
+        put_line(profile, statement, number, writer)?;
+        number += 1;
+    }
+    Ok(())
+}
+
+// Writes the function of an address where no instruction of the source stands, if steps began there.
+fn put_outside<A: Allocator, B: Allocator, W: Output>(
+    program: &Program<B>,
+    profile: &Profile<A>,
+    address: u16,
+    writer: &mut W,
+) -> Result<(), WriteFault>
+    ensures { SendsOrBreaks (W.taker writer.old) (W.taker writer.new) result
+        (callgrind.outside_record program.now profile.now address) }
+{
+    if !is_outside(program, profile, address) {
+        return Ok(());
+    }
+    let count = profile.at(address);
+    let digits = address_digits(address);
+    let name = name_or(program, address, &digits);
+    put_function(b"2", name, 0, count.times, count.cycles, writer)
+}
+
+// Writes the functions of all such addresses.
+fn put_outsides<A: Allocator, B: Allocator, W: Output>(
+    program: &Program<B>,
+    profile: &Profile<A>,
+    writer: &mut W,
+) -> Result<(), WriteFault>
+    ensures { SendsOrBreaks (W.taker writer.old) (W.taker writer.new) result
+        (rows_from (callgrind.outside_record program.now profile.now) 0 65536) }
+{
+    for address in 0..ADDRESSES {
+        put_outside(program, profile, address as u16, writer)?;
+    }
+    Ok(())
+}
+
+// Writes the costs of all lines, and the functions of the other addresses.
+#[tactic(auto, using(a2_stream::proofs::Joined::broke_off, a2_stream::proofs::Joined::went_on))]
+fn put_costs<A: Allocator, B: Allocator, W: Output>(
+    program: &Program<B>,
+    texts: &[&[u8]],
+    profile: &Profile<A>,
+    writer: &mut W,
+) -> Result<(), WriteFault>
+    ensures { SendsOrBreaks (W.taker writer.old) (W.taker writer.new) result
+        (callgrind.line_costs profile.now program.now.statements 1 (map (λ x. x.now) texts.now)
+        ++ rows_from (callgrind.outside_record program.now profile.now) 0 65536) }
+{
+    put_lines(profile, program.statements(), texts, writer)?;
+    put_outsides(program, profile, writer)
+}
+
+// Writes the function of the source, and those of the other addresses.
+#[tactic(auto, using(a2_stream::proofs::Joined::broke_off, a2_stream::proofs::Joined::went_on))]
+fn put_source<A: Allocator, B: Allocator, W: Output>(
+    program: &Program<B>,
+    texts: &[&[u8]],
+    profile: &Profile<A>,
+    writer: &mut W,
+) -> Result<(), WriteFault>
+    ensures { SendsOrBreaks (W.taker writer.old) (W.taker writer.new) result (codes "\nfn=THE SOURCE\n"
+        ++ (callgrind.line_costs profile.now program.now.statements 1 (map (λ x. x.now) texts.now)
+        ++ rows_from (callgrind.outside_record program.now profile.now) 0 65536)) }
+{
+    put(b"\nfn=THE SOURCE\n", writer)?;
+    put_costs(program, texts, profile, writer)
+}
+
+// Writes the name of the source, and all functions.
+#[tactic(auto, using(a2_stream::proofs::Joined::broke_off, a2_stream::proofs::Joined::went_on))]
+fn put_named_source<A: Allocator, B: Allocator, W: Output>(
+    name: &[u8],
+    program: &Program<B>,
+    texts: &[&[u8]],
+    profile: &Profile<A>,
+    writer: &mut W,
+) -> Result<(), WriteFault>
+    ensures { SendsOrBreaks (W.taker writer.old) (W.taker writer.new) result
+        (callgrind.shown_name name.now ++ (codes "\nfn=THE SOURCE\n"
+        ++ (callgrind.line_costs profile.now program.now.statements 1 (map (λ x. x.now) texts.now)
+        ++ rows_from (callgrind.outside_record program.now profile.now) 0 65536))) }
+{
+    put_name(name, writer)?;
+    put_source(program, texts, profile, writer)
+}
+
+/// Writes a profile of `program`, whose source has this name and these lines, in the form of Callgrind's files, as
+/// `callgrind_annotate` and KCachegrind read them. The events are `Steps` and `Cycles`. Each line with an instruction that was
+/// done has its steps and cycles in the function `THE SOURCE` of the file `name`; each other address where steps began is a
+/// function of the file `???`, named by the source or as `$FDED`. A control byte of `name` stands as `?`. Valgrind's "Callgrind
+/// Format Specification", version 1; which functions there are is this project's profile.
+///
+/// # Errors
+///
+/// `WriteFault` at the first write that failed, which is the last one made: a front of the file went out.
+#[tactic(auto, using(a2_stream::proofs::Joined::broke_off, a2_stream::proofs::Joined::went_on))]
+pub fn write_callgrind<A: Allocator, B: Allocator, W: Output>(
+    name: &[u8],
+    program: &Program<B>,
+    texts: &[&[u8]],
+    profile: &Profile<A>,
+    writer: &mut W,
+) -> Result<(), WriteFault>
+    ensures { SendsOrBreaks (W.taker writer.old) (W.taker writer.new) result
+        (callgrind.callgrind_profile name.now program.now (map (λ x. x.now) texts.now) profile.now) }
+{
+    put_heading(profile.steps(), profile.cycles(), writer)?;
+    put_named_source(name, program, texts, profile, writer)
+}
+
+// The line of the instruction that begins at an address, or 0.
+fn line_at(statements: &[Statement], address: u16) -> u16
+    ensures { result ≡ callgrind.line_at statements.now address }
+{
+    for statement in statements {
+        if statement.addr == address && statement.instr.is_some() {
+            return statement.line;
+        }
+    }
+    0
+}
+
+// Writes a routine that begins on a line, or on none of the source.
+fn put_totals<W: Output>(
+    name: &[u8],
+    line: u16,
+    totals: Totals,
+    writer: &mut W,
+) -> Result<(), WriteFault>
+    ensures { SendsOrBreaks (W.taker writer.old) (W.taker writer.new) result (callgrind.totals_record name.now line totals) }
+{
+    let file = if line == 0 { b"2" } else { b"1" };
+    put_function(
+        file,
+        name,
+        u64::from(line),
+        totals.steps,
+        totals.cycles,
+        writer,
+    )
+}
+
+// Writes a routine, if it was entered.
+fn put_routine<A: Allocator, B: Allocator, W: Output>(
+    program: &Program<B>,
+    profile: &RoutineProfile<A>,
+    address: u16,
+    writer: &mut W,
+) -> Result<(), WriteFault>
+    ensures { SendsOrBreaks (W.taker writer.old) (W.taker writer.new) result
+        (callgrind.routine_record program.now profile.now address) }
+{
+    let totals = profile.at(address);
+    if totals.times == 0 {
+        return Ok(());
+    }
+    let digits = address_digits(address);
+    let name = name_or(program, address, &digits);
+    put_totals(name, line_at(program.statements(), address), totals, writer)
+}
+
+// Writes all routines.
+fn put_routines<A: Allocator, B: Allocator, W: Output>(
+    program: &Program<B>,
+    profile: &RoutineProfile<A>,
+    writer: &mut W,
+) -> Result<(), WriteFault>
+    ensures { SendsOrBreaks (W.taker writer.old) (W.taker writer.new) result
+        (rows_from (callgrind.routine_record program.now profile.now) 0 65536) }
+{
+    for address in 0..ADDRESSES {
+        put_routine(program, profile, address as u16, writer)?;
+    }
+    Ok(())
+}
+
+// Writes the program itself.
+fn put_itself<A: Allocator, B: Allocator, W: Output>(
+    program: &Program<B>,
+    profile: &RoutineProfile<A>,
+    writer: &mut W,
+) -> Result<(), WriteFault>
+    ensures { SendsOrBreaks (W.taker writer.old) (W.taker writer.new) result (callgrind.itself_record program.now profile.now) }
+{
+    let line = line_at(program.statements(), program.entry());
+    put_totals(b"THE PROGRAM ITSELF", line, profile.itself(), writer)
+}
+
+// Writes the program itself, and all routines.
+#[tactic(auto, using(a2_stream::proofs::Joined::broke_off, a2_stream::proofs::Joined::went_on))]
+fn put_records<A: Allocator, B: Allocator, W: Output>(
+    program: &Program<B>,
+    profile: &RoutineProfile<A>,
+    writer: &mut W,
+) -> Result<(), WriteFault>
+    ensures { SendsOrBreaks (W.taker writer.old) (W.taker writer.new) result
+        (callgrind.itself_record program.now profile.now
+        ++ rows_from (callgrind.routine_record program.now profile.now) 0 65536) }
+{
+    put_itself(program, profile, writer)?;
+    put_routines(program, profile, writer)
+}
+
+// Writes them behind the line of the source's name.
+#[tactic(auto, using(a2_stream::proofs::Joined::broke_off, a2_stream::proofs::Joined::went_on))]
+fn put_functions<A: Allocator, B: Allocator, W: Output>(
+    program: &Program<B>,
+    profile: &RoutineProfile<A>,
+    writer: &mut W,
+) -> Result<(), WriteFault>
+    ensures { SendsOrBreaks (W.taker writer.old) (W.taker writer.new) result (codes "\n"
+        ++ (callgrind.itself_record program.now profile.now
+        ++ rows_from (callgrind.routine_record program.now profile.now) 0 65536)) }
+{
+    put(b"\n", writer)?;
+    put_records(program, profile, writer)
+}
+
+// Writes the name of the source, and all functions.
+#[tactic(auto, using(a2_stream::proofs::Joined::broke_off, a2_stream::proofs::Joined::went_on))]
+fn put_named_routines<A: Allocator, B: Allocator, W: Output>(
+    name: &[u8],
+    program: &Program<B>,
+    profile: &RoutineProfile<A>,
+    writer: &mut W,
+) -> Result<(), WriteFault>
+    ensures { SendsOrBreaks (W.taker writer.old) (W.taker writer.new) result (callgrind.shown_name name.now ++ (codes "\n"
+        ++ (callgrind.itself_record program.now profile.now
+        ++ rows_from (callgrind.routine_record program.now profile.now) 0 65536))) }
+{
+    put_name(name, writer)?;
+    put_functions(program, profile, writer)
+}
+
+/// Writes a profile of `program` by routine, whose source has this name, in the form of Callgrind's files. The program itself and
+/// each routine that was entered is a function with its own `Steps` and `Cycles`, at the line of the file `name` where it begins;
+/// or in the file `???`, where no instruction of the source stands there. A control byte of `name` stands as `?`. Valgrind's
+/// "Callgrind Format Specification", version 1; which functions there are is this project's profile.
+///
+/// # Errors
+///
+/// `WriteFault` at the first write that failed, which is the last one made: a front of the file went out.
+#[tactic(auto, using(a2_stream::proofs::Joined::broke_off, a2_stream::proofs::Joined::went_on))]
+pub fn write_routine_callgrind<A: Allocator, B: Allocator, W: Output>(
+    name: &[u8],
+    program: &Program<B>,
+    profile: &RoutineProfile<A>,
+    writer: &mut W,
+) -> Result<(), WriteFault>
+    ensures { SendsOrBreaks (W.taker writer.old) (W.taker writer.new) result
+        (callgrind.callgrind_routines name.now program.now profile.now) }
+{
+    put_heading(profile.steps(), profile.cycles(), writer)?;
+    put_named_routines(name, program, profile, writer)
+}

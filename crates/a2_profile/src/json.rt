@@ -1,0 +1,462 @@
+//! A profile as an object of JSON.
+
+ghost use Rattle.std.specs.Prelude.{◌≡◌, ◌<◌, ◌++◌, ◌∷◌, ℕ, List, All, false, Some, codes, map};
+ghost use Rattle.std.specs.Fmt.{decimal as decimal_of};
+ghost use Rattle.a2_stream.specs.Stream.{SendsOrBreaks};
+ghost use Rattle.a2_profile.specs.Json as json;
+ghost use Rattle.a2_machine.specs.Output.{cause_name as cause_name_of};
+
+use crate::table::{instruction_on, is_branch, is_never_done, is_outside};
+use crate::{Count, Profile};
+use a2_asm::{Program, Statement};
+use a2_machine::Cause;
+use a2_stream::{Output, WriteFault, put, put_all};
+use a2_text::{decimal, hex_pair};
+use std::alloc::Allocator;
+
+// How many addresses there are.
+const ADDRESSES: u32 = 0x1_0000;
+
+// What stands between two items of an array.
+pub(crate) const COMMA: &[u8] = b",\n";
+
+/// A theorem, and no code: no text ends the string that its escapes stand in. A reader of JSON finds behind the open string just
+/// what stands behind its last quote.
+pub fn no_text_ends_its_string()
+    ensures { (text rest : List ℕ) → All (λ byte. byte < 256) text
+        → json.behind_string false (json.escapes text ++ 0x22 ∷ rest) ≡ Some rest }
+{}
+
+// Writes a byte of a string.
+fn put_escaped<W: Output>(byte: u8, writer: &mut W) -> Result<(), WriteFault>
+    ensures { SendsOrBreaks (W.taker writer.old) (W.taker writer.new) result (json.escaped byte) }
+{
+    let [high, low] = hex_pair(byte);
+    match byte {
+        b'"' | b'\\' => put(&[b'\\', byte], writer),
+        0..=0x1F | 0x7F..=0xFF => put(&[b'\\', b'u', b'0', b'0', high, low], writer),
+        _ => put(&[byte], writer),
+    }
+}
+
+// Writes a text between the quotes of a string.
+#[tactic(auto, unfolding(crate::specs::Json::escapes))]
+pub(crate) fn put_escapes<W: Output>(text: &[u8], writer: &mut W) -> Result<(), WriteFault>
+    ensures { SendsOrBreaks (W.taker writer.old) (W.taker writer.new) result (json.escapes text.now) }
+{
+    for byte in text {
+        put_escaped(*byte, writer)?;
+    }
+    Ok(())
+}
+
+// Writes what is counted at an address, between these.
+#[tactic(auto, unfolding(crate::specs::Json::count_fields))]
+fn put_count<W: Output>(
+    front: &[u8],
+    address: u16,
+    count: Count,
+    end: &[u8],
+    writer: &mut W,
+) -> Result<(), WriteFault>
+    ensures { SendsOrBreaks (W.taker writer.old) (W.taker writer.new) result (json.count_fields front.now address count end.now) }
+{
+    let address = decimal(u64::from(address));
+    let times = decimal(count.times);
+    let cycles = decimal(count.cycles);
+    put_all(
+        &[
+            front,
+            b"\"address\":",
+            address.as_slice(),
+            b",\"times\":",
+            times.as_slice(),
+            b",\"cycles\":",
+            cycles.as_slice(),
+            end,
+        ],
+        writer,
+    )
+}
+
+// Writes of a branch how often it was taken, and how often not.
+#[tactic(auto, unfolding(crate::specs::Json::branch_fields))]
+fn put_branch<W: Output>(is_branch: bool, count: Count, writer: &mut W) -> Result<(), WriteFault>
+    ensures { SendsOrBreaks (W.taker writer.old) (W.taker writer.new) result (json.branch_fields is_branch count) }
+{
+    if !is_branch {
+        return Ok(());
+    }
+    let taken = decimal(count.taken);
+    let straight = decimal(count.times.saturating_sub(count.taken));
+    put_all(
+        &[
+            b",\"taken\":",
+            taken.as_slice(),
+            b",\"not_taken\":",
+            straight.as_slice(),
+        ],
+        writer,
+    )
+}
+
+// Writes what is counted of an instruction.
+#[tactic(auto, using(a2_stream::proofs::Joined::broke_off, a2_stream::proofs::Joined::went_on))]
+fn put_instruction<A: Allocator, W: Output>(
+    profile: &Profile<A>,
+    statement: &Statement,
+    writer: &mut W,
+) -> Result<(), WriteFault>
+    ensures { SendsOrBreaks (W.taker writer.old) (W.taker writer.new) result (json.statement_fields profile.now (Some statement.now)) }
+{
+    let count = profile.at(statement.addr);
+    put_count(b",", statement.addr, count, b"", writer)?;
+    put_branch(is_branch(statement), count, writer)
+}
+
+// Writes what is counted of the instruction on a line, if one stands there.
+fn put_statement<A: Allocator, W: Output>(
+    profile: &Profile<A>,
+    statement: Option<Statement>,
+    writer: &mut W,
+) -> Result<(), WriteFault>
+    ensures { SendsOrBreaks (W.taker writer.old) (W.taker writer.new) result (json.statement_fields profile.now statement) }
+{
+    match statement {
+        Some(statement) => put_instruction(profile, &statement, writer),
+        None => Ok(()),
+    }
+}
+
+// Writes a line to the end of its object.
+#[tactic(auto, using(a2_stream::proofs::Joined::broke_off, a2_stream::proofs::Joined::went_on))]
+fn put_text_end<W: Output>(text: &[u8], writer: &mut W) -> Result<(), WriteFault>
+    ensures { SendsOrBreaks (W.taker writer.old) (W.taker writer.new) result (json.escapes text.now ++ codes "\"}") }
+{
+    put_escapes(text, writer)?;
+    put(b"\"}", writer)
+}
+
+// Writes a line as the last field of its object.
+fn put_source<W: Output>(text: &[u8], writer: &mut W) -> Result<(), WriteFault>
+    ensures { SendsOrBreaks (W.taker writer.old) (W.taker writer.new) result (json.source_field text.now) }
+{
+    put(b",\"source\":\"", writer)?;
+    put_text_end(text, writer)
+}
+
+// Writes what is counted on a line, and the line.
+#[tactic(auto, using(a2_stream::proofs::Joined::broke_off, a2_stream::proofs::Joined::went_on))]
+fn put_fields<A: Allocator, W: Output>(
+    profile: &Profile<A>,
+    statement: Option<Statement>,
+    text: &[u8],
+    writer: &mut W,
+) -> Result<(), WriteFault>
+    ensures { SendsOrBreaks (W.taker writer.old) (W.taker writer.new) result
+        (json.statement_fields profile.now statement ++ json.source_field text.now) }
+{
+    put_statement(profile, statement, writer)?;
+    put_source(text, writer)
+}
+
+// Writes how the object of a line begins.
+#[tactic(auto, unfolding(crate::specs::Json::line_head))]
+fn put_head<W: Output>(number: usize, writer: &mut W) -> Result<(), WriteFault>
+    ensures { SendsOrBreaks (W.taker writer.old) (W.taker writer.new) result (json.line_head number) }
+{
+    let number = decimal(number as u64);
+    put_all(&[b"{\"line\":", number.as_slice()], writer)
+}
+
+// Writes the object of a line.
+#[tactic(auto, using(a2_stream::proofs::Joined::broke_off, a2_stream::proofs::Joined::went_on))]
+fn put_object<A: Allocator, W: Output>(
+    profile: &Profile<A>,
+    statement: Option<Statement>,
+    number: usize,
+    text: &[u8],
+    writer: &mut W,
+) -> Result<(), WriteFault>
+    ensures { SendsOrBreaks (W.taker writer.old) (W.taker writer.new) result (json.line_object profile.now statement number text.now) }
+{
+    put_head(number, writer)?;
+    put_fields(profile, statement, text, writer)
+}
+
+// Writes the object of a line, behind what stands before it.
+#[tactic(auto, using(a2_stream::proofs::Joined::broke_off, a2_stream::proofs::Joined::went_on))]
+fn put_line<'a, A: Allocator, W: Output>(
+    front: &'a [u8],
+    profile: &Profile<A>,
+    statement: Option<Statement>,
+    number: usize,
+    text: &'a [u8],
+    writer: &mut W,
+) -> Result<(), WriteFault>
+    ensures { SendsOrBreaks (W.taker writer.old) (W.taker writer.new) result
+        (front.now ++ json.line_object profile.now statement number text.now) }
+{
+    put(front, writer)?;
+    put_object(profile, statement, number, text, writer)
+}
+
+// Writes the objects of all lines.
+fn put_lines<A: Allocator, W: Output>(
+    profile: &Profile<A>,
+    statements: &[Statement],
+    texts: &[&[u8]],
+    writer: &mut W,
+) -> Result<(), WriteFault>
+    ensures { SendsOrBreaks (W.taker writer.old) (W.taker writer.new) result
+        (json.items (json.line_objects profile.now statements.now 1 (map (λ x. x.now) texts.now))) }
+{
+    let mut front = b"".as_slice();
+    let mut number = 1usize;
+    for text in texts {
+        let statement = instruction_on(statements, number);
+        put_line(front, profile, statement, number, *text, writer)?;
+        front = COMMA;
+        number += 1;
+    }
+    Ok(())
+}
+
+// Writes the object of an address where no instruction of the source stands, behind what stands before it.
+#[tactic(auto, using(a2_stream::proofs::Joined::broke_off, a2_stream::proofs::Joined::went_on))]
+fn put_outside<A: Allocator, W: Output>(
+    front: &[u8],
+    profile: &Profile<A>,
+    address: u16,
+    writer: &mut W,
+) -> Result<(), WriteFault>
+    ensures { SendsOrBreaks (W.taker writer.old) (W.taker writer.new) result (front.now ++ json.outside_object profile.now address) }
+{
+    put(front, writer)?;
+    put_count(b"{", address, profile.at(address), b"}", writer)
+}
+
+// Writes the objects of all such addresses where steps began.
+fn put_outsides<A: Allocator, B: Allocator, W: Output>(
+    program: &Program<B>,
+    profile: &Profile<A>,
+    writer: &mut W,
+) -> Result<(), WriteFault>
+    ensures { SendsOrBreaks (W.taker writer.old) (W.taker writer.new) result
+        (json.items (json.outside_objects program.now.statements profile.now (json.addresses_from 0 65536))) }
+{
+    let mut front = b"".as_slice();
+    for address in 0..ADDRESSES {
+        if is_outside(program, profile, address as u16) {
+            put_outside(front, profile, address as u16, writer)?;
+            front = COMMA;
+        }
+    }
+    Ok(())
+}
+
+// Writes the numbers of the lines that were never done.
+fn put_never<A: Allocator, W: Output>(
+    profile: &Profile<A>,
+    statements: &[Statement],
+    writer: &mut W,
+) -> Result<(), WriteFault>
+    ensures { SendsOrBreaks (W.taker writer.old) (W.taker writer.new) result
+        (json.items (json.never_numbers profile.now statements.now)) }
+{
+    let mut front = b"".as_slice();
+    for statement in statements {
+        if is_never_done(profile, statement) {
+            put_number(front, statement.line, writer)?;
+            front = COMMA;
+        }
+    }
+    Ok(())
+}
+
+// Writes a number, behind what stands before it.
+#[tactic(auto, using(a2_stream::proofs::Joined::broke_off, a2_stream::proofs::Joined::went_on))]
+fn put_number<W: Output>(front: &[u8], number: u16, writer: &mut W) -> Result<(), WriteFault>
+    ensures { SendsOrBreaks (W.taker writer.old) (W.taker writer.new) result (front.now ++ decimal_of number) }
+{
+    put(front, writer)?;
+    put(decimal(u64::from(number)).as_slice(), writer)
+}
+
+// How a cause is spelt.
+fn cause_name(cause: Cause) -> &'static [u8]
+    ensures { result.now ≡ cause_name_of cause }
+{
+    match cause {
+        Cause::Returned => b"RETURNED",
+        Cause::CodeWrite => b"CODE WRITE",
+        Cause::Window => b"WINDOW",
+        Cause::Keys => b"KEYS",
+        Cause::OffStatement => b"OFF STATEMENT",
+        Cause::Rom => b"ROM",
+        Cause::Opcode => b"OPCODE",
+        Cause::Brk => b"BRK",
+        Cause::Decimal => b"DECIMAL",
+        Cause::Limit => b"LIMIT",
+    }
+}
+
+// Writes a cause, behind what stands before it.
+#[tactic(auto, using(a2_stream::proofs::Joined::broke_off, a2_stream::proofs::Joined::went_on))]
+fn put_cause<W: Output>(front: &[u8], cause: Cause, writer: &mut W) -> Result<(), WriteFault>
+    ensures { SendsOrBreaks (W.taker writer.old) (W.taker writer.new) result (front.now ++ json.cause_string cause) }
+{
+    put(front, writer)?;
+    put_all(&[b"\"", cause_name(cause), b"\""], writer)
+}
+
+// Writes causes.
+pub(crate) fn put_causes<W: Output>(causes: &[Cause], writer: &mut W) -> Result<(), WriteFault>
+    ensures { SendsOrBreaks (W.taker writer.old) (W.taker writer.new) result (json.items (map json.cause_string causes.now)) }
+{
+    let mut front = b"".as_slice();
+    for cause in causes {
+        put_cause(front, *cause, writer)?;
+        front = COMMA;
+    }
+    Ok(())
+}
+
+// Writes all steps and cycles, and what comes before the causes.
+pub(crate) fn put_sums<W: Output>(steps: u64, cycles: u64, writer: &mut W) -> Result<(), WriteFault>
+    ensures { SendsOrBreaks (W.taker writer.old) (W.taker writer.new) result (json.sum_fields steps cycles) }
+{
+    let steps = decimal(steps);
+    let cycles = decimal(cycles);
+    put_all(
+        &[
+            b"{\"steps\":",
+            steps.as_slice(),
+            b",\"cycles\":",
+            cycles.as_slice(),
+            b",\"causes\":[",
+        ],
+        writer,
+    )
+}
+
+// Writes the array of all lines.
+fn put_lines_array<A: Allocator, W: Output>(
+    profile: &Profile<A>,
+    statements: &[Statement],
+    texts: &[&[u8]],
+    writer: &mut W,
+) -> Result<(), WriteFault>
+    ensures { SendsOrBreaks (W.taker writer.old) (W.taker writer.new) result
+        (json.lines_array profile.now statements.now (map (λ x. x.now) texts.now)) }
+{
+    put(b"],\n\"lines\":[\n", writer)?;
+    put_lines(profile, statements, texts, writer)
+}
+
+// Writes the array of the other addresses.
+fn put_outside_array<A: Allocator, B: Allocator, W: Output>(
+    program: &Program<B>,
+    profile: &Profile<A>,
+    writer: &mut W,
+) -> Result<(), WriteFault>
+    ensures { SendsOrBreaks (W.taker writer.old) (W.taker writer.new) result (json.outside_array program.now.statements profile.now) }
+{
+    put(b"],\n\"outside\":[\n", writer)?;
+    put_outsides(program, profile, writer)
+}
+
+// Writes the numbers of the lines that were never done, to the end of all.
+#[tactic(auto, using(a2_stream::proofs::Joined::broke_off, a2_stream::proofs::Joined::went_on))]
+fn put_never_end<A: Allocator, W: Output>(
+    profile: &Profile<A>,
+    statements: &[Statement],
+    writer: &mut W,
+) -> Result<(), WriteFault>
+    ensures { SendsOrBreaks (W.taker writer.old) (W.taker writer.new) result
+        (json.items (json.never_numbers profile.now statements.now) ++ codes "]}\n") }
+{
+    put_never(profile, statements, writer)?;
+    put(b"]}\n", writer)
+}
+
+// Writes the array of the lines that were never done.
+fn put_never_array<A: Allocator, W: Output>(
+    profile: &Profile<A>,
+    statements: &[Statement],
+    writer: &mut W,
+) -> Result<(), WriteFault>
+    ensures { SendsOrBreaks (W.taker writer.old) (W.taker writer.new) result (json.never_array profile.now statements.now) }
+{
+    put(b"],\n\"never\":[\n", writer)?;
+    put_never_end(profile, statements, writer)
+}
+
+// Writes the arrays behind that of the lines.
+fn put_rest<A: Allocator, B: Allocator, W: Output>(
+    program: &Program<B>,
+    profile: &Profile<A>,
+    writer: &mut W,
+) -> Result<(), WriteFault>
+    ensures { SendsOrBreaks (W.taker writer.old) (W.taker writer.new) result
+        (json.outside_array program.now.statements profile.now ++ json.never_array profile.now program.now.statements) }
+{
+    put_outside_array(program, profile, writer)?;
+    put_never_array(profile, program.statements(), writer)
+}
+
+// Writes the arrays behind that of the causes.
+fn put_arrays<A: Allocator, B: Allocator, W: Output>(
+    program: &Program<B>,
+    texts: &[&[u8]],
+    profile: &Profile<A>,
+    writer: &mut W,
+) -> Result<(), WriteFault>
+    ensures { SendsOrBreaks (W.taker writer.old) (W.taker writer.new) result
+        (json.lines_array profile.now program.now.statements (map (λ x. x.now) texts.now)
+        ++ (json.outside_array program.now.statements profile.now ++ json.never_array profile.now program.now.statements)) }
+{
+    put_lines_array(profile, program.statements(), texts, writer)?;
+    put_rest(program, profile, writer)
+}
+
+// Writes what stands behind the sums.
+#[tactic(auto, using(a2_stream::proofs::Joined::broke_off, a2_stream::proofs::Joined::went_on))]
+fn put_body<A: Allocator, B: Allocator, W: Output>(
+    program: &Program<B>,
+    texts: &[&[u8]],
+    profile: &Profile<A>,
+    causes: &[Cause],
+    writer: &mut W,
+) -> Result<(), WriteFault>
+    ensures { SendsOrBreaks (W.taker writer.old) (W.taker writer.new) result (json.items (map json.cause_string causes.now)
+        ++ (json.lines_array profile.now program.now.statements (map (λ x. x.now) texts.now)
+        ++ (json.outside_array program.now.statements profile.now ++ json.never_array profile.now program.now.statements))) }
+{
+    put_causes(causes, writer)?;
+    put_arrays(program, texts, profile, writer)
+}
+
+/// Writes a profile of `program`, whose source has these lines, as an object of JSON: all `steps` and `cycles`; `causes`, by
+/// which its runs ended; `lines`, each with its number and the line as `source`, and where an instruction stands there with its
+/// `address`, how many `times` it was done and its `cycles`, and of a branch with `taken` and `not_taken`; `outside`, the other
+/// addresses where steps began; and `never`, the numbers of the lines that were never done. A byte of a line that is no printing
+/// character of ASCII stands as `\u00C1`. This project's profile.
+///
+/// # Errors
+///
+/// `WriteFault` at the first write that failed, which is the last one made: a front of the object went out.
+#[tactic(auto, using(a2_stream::proofs::Joined::broke_off, a2_stream::proofs::Joined::went_on))]
+pub fn write_json<A: Allocator, B: Allocator, W: Output>(
+    program: &Program<B>,
+    texts: &[&[u8]],
+    profile: &Profile<A>,
+    causes: &[Cause],
+    writer: &mut W,
+) -> Result<(), WriteFault>
+    ensures { SendsOrBreaks (W.taker writer.old) (W.taker writer.new) result
+        (json.json_profile program.now (map (λ x. x.now) texts.now) profile.now causes.now) }
+{
+    put_sums(profile.steps(), profile.cycles(), writer)?;
+    put_body(program, texts, profile, causes, writer)
+}
