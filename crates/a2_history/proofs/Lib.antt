@@ -3,3 +3,4 @@ mod Ways
 mod Histories
 mod Leaping
 mod Routes
+mod Holding

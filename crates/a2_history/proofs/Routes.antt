@@ -1,5 +1,5 @@
 -- The routines on the way.
-use Rattle.std.proofs.Common.{◌≡◌, ◌⊎◌, inl, inr, ℕ, suc, ◌+◌, ◌<◌, ◌≤◌, List, [], length, Option, Some, None, sym, ap, ap₂, subst, ◌∙◌, arith, add-one}
+use Rattle.std.proofs.Common.{◌≡◌, ◌⊎◌, inl, inr, ℕ, ◌+◌, ◌<◌, ◌≤◌, List, length, Option, Some, None, sym, subst, arith}
 use Rattle.a2_routines.specs.declared.routines.Entry.{Entry}
 use Rattle.a2_history.specs.Courses.{Course}
 use Rattle.a2_history.specs.Routines.{entered, IsNewestOutside}

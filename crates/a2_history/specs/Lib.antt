@@ -4,3 +4,4 @@ pub mod Going
 pub mod Gone
 pub mod Bursts
 pub mod Routines
+pub mod Held

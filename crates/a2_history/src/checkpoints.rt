@@ -1,61 +1,123 @@
 //! Checkpoints: copies of a run's machine at positions that it reached, over the whole of it.
 
-ghost use Rattle.std.specs.Prelude.{◌≡◌, ◌≤◌, ◌<◌, [], length, All, IfSome};
+ghost use Rattle.std.specs.Prelude.{◌≡◌, ◌⊎◌, ◌≤◌, ◌<◌, ◌++◌, ◌∷◌, [], length, slice_index_or, All, IfSome};
+ghost use Rattle.a2_machine.specs.State.{Device};
+ghost use Rattle.a2_spread.specs.Spread.{IsKept};
 ghost use Rattle.a2_history.specs.Courses.{Course};
 ghost use Rattle.a2_history.specs.Going.{IsOn, AreOn};
+ghost use Rattle.a2_history.specs.Held.{Thins, IsCopy, Holds};
 
 use a2_machine::Machine;
+use a2_spread::{STRIDE, is_kept, width_of};
 use std::alloc::{Allocator, Global};
 use std::marker::Model;
 
-/// Each position at which a checkpoint is made is a multiple of this, but those behind typed keys.
-pub const STRIDE: u64 = 1024;
-
-/// From one checkpoint to the next lead at most a stride and this part of the steps to it.
-const PART: u64 = 50;
-
-/// Checkpoints, in the order in which they were made.
+/// Checkpoints at multiples of `STRIDE`, the earliest first.
 #[derive(Drop)]
 pub struct Checkpoints<A: Allocator = Global> {
     held: Vec<Machine<A>, A>,
     // The most that are held.
     most: usize,
-    // The position from which on the next is made.
-    next: u64,
 }
 
 impl<A: Allocator> Model for Checkpoints<A> {
-    ghost use Rattle.std.specs.Prelude.{List};
+    ghost use Rattle.std.specs.Prelude.{◌≤◌, List, length};
     ghost use Rattle.a2_machine.specs.State.{Device};
 
     ghost Value = { List Device };
 
     ghost view = { λ c. c.held.items };
+
+    ghost invariant = { λ c. length c.held.items ≤ c.most };
 }
 
-// The position from which on the next is made behind one.
-fn next_behind(position: u64) -> u64 {
-    let strides = position / STRIDE;
-    (strides + (strides / PART).max(1)).saturating_mul(STRIDE)
+// Whether one is to be made at a position, behind all that are held.
+fn is_due<A: Allocator>(held: &[Machine<A>], position: u64) -> bool {
+    match held.last() {
+        Some(newest) => position % STRIDE == 0 && newest.steps() < position,
+        None => position % STRIDE == 0,
+    }
 }
 
-// Adds a copy of a machine, where fewer than the most are held. Where there is no memory for it none is added.
-fn add<A: Allocator + Copy>(
+// The index of the first that is not kept any more.
+fn first_other<A: Allocator>(held: &[Machine<A>], width: u64, now: u64) -> Option<usize>
+    ensures within { IfSome result (λ index. index < length held.now) }
+    ensures other { IfSome result (λ index. (d : Device) → IsKept width now (slice_index_or held.now index d).state.steps → ⊥) }
+{
+    for (index, kept) in held.iter().enumerate() {
+        if !is_kept(width, now, kept.steps()) {
+            return Some(index);
+        }
+    }
+    None
+}
+
+// Takes one away that is not kept any more, if there is one.
+fn take_other<A: Allocator>(
+    held: &mut Vec<Machine<A>, A>,
+    width: u64,
+    now: u64,
+) -> Option<Machine<A>>
+    ensures { Thins width now held.old.items held.new.items }
+{
+    let index = first_other(held.as_slice(), width, now)?;
+    Some(held.remove(index))
+}
+
+// Drops those that are not kept any more.
+fn drop_others<A: Allocator>(held: &mut Vec<Machine<A>, A>, width: u64, now: u64)
+    ensures thinned { Thins width now held.old.items held.new.items }
+    ensures wanted { All (λ d. IsKept width now d.state.steps) held.new.items }
+{
+    held.retain(|kept| is_kept(width, now, kept.steps()));
+}
+
+// A copy of a machine, in another's place if there is one. None where there is no memory for it.
+fn copy_of<A: Allocator + Copy>(
+    alloc: A,
+    spare: Option<Machine<A>>,
+    machine: &Machine<A>,
+) -> Option<Machine<A>>
+    ensures { IfSome result (λ copy. IsCopy machine.now.state copy.state) }
+{
+    let mut copy = match spare {
+        Some(spare) => spare,
+        None => Machine::new(alloc).ok()?,
+    };
+    copy.restore(machine);
+    Some(copy)
+}
+
+// Adds one, where fewer than the most are held and there is memory.
+fn add<A: Allocator>(held: &mut Vec<Machine<A>, A>, copy: Machine<A>, most: usize)
+    requires { length held.old.items ≤ most }
+    ensures added { (held.new.items ≡ held.old.items) ⊎ (held.new.items ≡ held.old.items ++ copy ∷ []) }
+    ensures few { length held.new.items ≤ most }
+{
+    if held.len() < most {
+        let _ = held.push(copy);
+    }
+}
+
+// Drops those that are not kept where a machine has come to, and adds a copy of it, where there is memory. It takes the place of one
+// that is dropped: a new one would take longer.
+fn hold<A: Allocator + Copy>(
     alloc: A,
     held: &mut Vec<Machine<A>, A>,
     machine: &Machine<A>,
     most: usize,
 )
-    ensures { (course : Course) → IsOn course machine.now.state → AreOn course held.old.items → AreOn course held.new.items }
+    requires { length held.old.items ≤ most }
+    ensures holds { Holds most machine.now.state held.old.items held.new.items }
+    ensures few { length held.new.items ≤ most }
 {
-    if held.len() >= most {
-        return;
+    let now = machine.steps();
+    let width = width_of(most, now);
+    let spare = take_other(held, width, now);
+    drop_others(held, width, now);
+    if let Some(copy) = copy_of(alloc, spare, machine) {
+        add(held, copy, most);
     }
-    let Ok(mut copy) = Machine::new(alloc) else {
-        return;
-    };
-    copy.restore(machine);
-    let _ = held.push(copy);
 }
 
 impl<A: Allocator + Copy> Checkpoints<A> {
@@ -66,20 +128,16 @@ impl<A: Allocator + Copy> Checkpoints<A> {
         Checkpoints {
             held: Vec::new(alloc),
             most,
-            next: STRIDE,
         }
     }
 
-    /// Makes one where the position is one for it.
+    /// Makes one where the position is one for it, and drops those that are not kept any more.
     pub fn keep(&mut self, alloc: A, machine: &Machine<A>)
         ensures { (course : Course) → IsOn course machine.now.state → AreOn course self.old → AreOn course self.new }
     {
-        let position = machine.steps();
-        if position < self.next {
-            return;
+        if is_due(self.held.as_slice(), machine.steps()) {
+            hold(alloc, &mut self.held, machine, self.most);
         }
-        add(alloc, &mut self.held, machine, self.most);
-        self.next = next_behind(position);
     }
 }
 
@@ -119,6 +177,5 @@ impl<A: Allocator> Checkpoints<A> {
         ensures before { All (λ d. d.state.steps < position) self.new }
     {
         self.held.retain(|kept| kept.steps() < position);
-        self.next = position;
     }
 }

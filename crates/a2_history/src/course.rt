@@ -10,11 +10,11 @@ ghost use Rattle.a2_history.specs.Bursts.{IsBurst, IsQuiet, Leaps};
 ghost use Rattle.a2_history.specs.Typing.{IsTyped, IsTypedBy};
 ghost use Rattle.a2_history.specs.declared.fault.TypingFault.TheVariants.{Full};
 
-use crate::checkpoints::STRIDE;
 use crate::{Sight, Typed, TypingFault};
 use a2_bus::Keys;
 use a2_cpu::{Breakpoints, NoBreakpoints};
 use a2_machine::{Cause, Machine, Stop};
+use a2_spread::STRIDE;
 use std::alloc::{AllocError, Allocator, Global};
 use std::marker::Model;
 

@@ -51,7 +51,7 @@ impl<A: Allocator> Model for History<A> {
 
 impl<A: Allocator + Copy> History<A> {
     /// The history of a machine that has made no step, at its start, with at most `most` checkpoints later, of which each takes some
-    /// 124,000 bytes. Refused only for want of memory.
+    /// 124,000 bytes: those that `a2_spread` keeps where the farthest position is that was reached. Refused only for want of memory.
     pub fn new(alloc: A, machine: Machine<A>, most: usize) -> Result<History<A>, AllocError>
         requires { machine.state.steps ≡ 0 }
         ensures { IfOk result (λ h. h ≡ record { course = record { origin = machine.state; log = [] }; position = 0 }) }
@@ -290,7 +290,7 @@ impl<A: Allocator> History<A> {
         self.machine.steps()
     }
 
-    /// How many checkpoints are held beside the start. No clause says how many.
+    /// How many checkpoints are held beside the start, at most as many as it was made with. No clause says how many.
     pub fn kept(&self) -> usize {
         self.checkpoints.len()
     }
@@ -312,7 +312,9 @@ impl<A: Allocator> History<A> {
         let end = self.machine.steps();
         look_back(&self.course, &mut self.scout, &self.checkpoints, end, sight)
     }
+}
 
+impl<A: Allocator + Copy> History<A> {
     /// Types `keys` at its position, behind those that wait; keys that were typed at later positions are forgotten. Refused, with nothing
     /// changed, by `TypingFault::Full` where more than 4,096 would wait, and by `TypingFault::Memory` for want of memory.
     pub fn type_keys(&mut self, keys: Keys) -> Result<(), TypingFault>
@@ -325,11 +327,10 @@ impl<A: Allocator> History<A> {
         let position = self.machine.steps();
         self.course.type_keys(&mut self.machine, keys)?;
         self.checkpoints.forget_from(position);
+        self.checkpoints.keep(self.alloc, &self.machine);
         Ok(())
     }
-}
 
-impl<A: Allocator + Copy> History<A> {
     /// The routines that were entered on the way to its position and not left, the outermost first: a JSR enters one, and the first step
     /// behind which the stack pointer is not below that before the JSR leaves it. It stands where it stood. Refused only for want of memory.
     pub fn entered(&mut self) -> Result<Vec<Entry, A>, AllocError>

@@ -15,8 +15,9 @@ invariant_of-self-2 g c =
       c.type_keys.ensures.guard ∙ c.self.invariant.1 ∙ sym (ap (λ (k : Course). k.origin.guard) noted),
       omega (arith, c.type_keys.ensures.steps, c.self.invariant.2),
       c.self.invariant.3 ∙ sym (ap (λ (k : Course). k.origin.guard) noted),
-      subst (λ (k : Course). AreOn k c.forget_from.new.self) (sym noted)
-          (on-typed c.self.inside.course n c.args.keys c.forget_from.new.self (c.forget_from.ensures.on c.self.inside.course c.self.invariant.4) before),
+      c.keep.ensures c.type_keys.new.self c.in_ok-type_keys.ensures.on
+          (subst (λ (k : Course). AreOn k c.forget_from.new.self) (sym noted)
+          (on-typed c.self.inside.course n c.args.keys c.forget_from.new.self (c.forget_from.ensures.on c.self.inside.course c.self.invariant.4) before)),
     )
 
 pub returns-clause-room : goal.returns-clause-room

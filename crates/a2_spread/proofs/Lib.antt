@@ -1,0 +1,3 @@
+pub mod Placing
+pub mod Nearness
+pub mod Counting
