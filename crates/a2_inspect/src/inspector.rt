@@ -52,9 +52,6 @@ use arrayvec::ArrayVec;
 use std::alloc::{Allocator, Global};
 use std::marker::Model;
 
-// The most copies of the machine that are kept on the way, each of some 124,000 bytes.
-const MOST_KEPT: usize = 500;
-
 // The most bytes of a line.
 const MOST_BYTES: usize = 255;
 
@@ -371,13 +368,15 @@ fn meant_by(line: &[u8], last: &Line) -> Line
 
 impl<'a, A: Allocator + Copy> Inspector<'a, A> {
     /// The run of `source` at its start, with these keys waiting, guarded or `free`. `go` and `until` make at most `most` steps
-    /// each. Refused where the source is, and for want of memory.
+    /// each. On the way at most `kept` copies of the machine are kept, each of some 124,000 bytes: the more, the fewer steps are
+    /// made again where the run goes back. Refused where the source is, and for want of memory.
     pub fn new(
         alloc: A,
         source: &'a [u8],
         keys: &Keys,
         free: bool,
         most: u32,
+        kept: usize,
     ) -> Result<Inspector<'a, A>, RunFault>
         ensures begun { IfOk result (λ i. (program : Assembled) × IsProgramOf source.now program × IsBegun free keys.now most program i) }
         ensures refused { IfErr result (λ fault. RefusesText source.now fault) }
@@ -387,7 +386,7 @@ impl<'a, A: Allocator + Copy> Inspector<'a, A> {
         let machine = started(alloc, &program, keys, free)?;
         let before = Machine::new(alloc)?;
         let alerts = Alerts::new(alloc)?;
-        let history = History::new(alloc, machine, MOST_KEPT)?;
+        let history = History::new(alloc, machine, kept)?;
         Ok(Inspector {
             alloc,
             program,

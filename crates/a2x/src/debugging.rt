@@ -11,17 +11,22 @@ use crate::tools::{told, written};
 use crate::words::Order;
 use a2_host::Shelf;
 use a2_inspect::Inspector;
-use a2_options::{Kind, Row};
+use a2_options::{Found, Kind, Row};
 use a2_panes::{LEAST_COLUMNS, LEAST_ROWS, Panes, Wall};
+use a2_run::step_limit;
 use a2_stream::{Input, Output};
 use std::alloc::Global;
 use std::cell::Cell;
 
 // The options of `debug`, of which those of each run are left.
-static DEBUG_OPTIONS: [Row; 3] = [
+static DEBUG_OPTIONS: [Row; 4] = [
     Row {
         name: "--tui",
         kind: Kind::Flag,
+    },
+    Row {
+        name: "--keep",
+        kind: Kind::Value,
     },
     Row {
         name: "--keys",
@@ -32,6 +37,58 @@ static DEBUG_OPTIONS: [Row; 3] = [
         kind: Kind::Left,
     },
 ];
+
+// How many copies of the machine are kept without `--keep`: some 64 MB of them.
+const USUALLY_KEPT: usize = 540;
+
+// The fewest that are spread over each run.
+const LEAST_KEPT: u32 = 20;
+
+// What the options say that `debug` alone has.
+#[derive(Clone, Copy)]
+struct Asked {
+    // Whether panes are up from the start.
+    are_up: bool,
+    // How many copies of the machine are kept at most.
+    kept: usize,
+}
+
+// The number of copies that an option has; or the status, where its fault is told.
+fn kept_in<E: Output>(option: &Found<'_>, complaints: &mut E) -> Result<usize, u8>
+    ensures { IfErr result (λ status. status ≤ 5) }
+{
+    match step_limit(option.value) {
+        Some(kept) if kept >= LEAST_KEPT => Ok(kept as usize),
+        _ => {
+            tell(
+                &[
+                    b"debug: --keep ",
+                    option.value.as_bytes(),
+                    b" is no number from 20 to 100000000",
+                ],
+                complaints,
+            );
+            Err(2)
+        }
+    }
+}
+
+// What the options say; or the status, where a fault is told.
+fn asked_in<E: Output>(found: &[Found<'_>], complaints: &mut E) -> Result<Asked, u8>
+    ensures { IfErr result (λ status. status ≤ 5) }
+{
+    let mut asked = Asked {
+        are_up: false,
+        kept: USUALLY_KEPT,
+    };
+    for option in found {
+        match option.name {
+            "--keep" => asked.kept = kept_in(option, complaints)?,
+            _ => asked.are_up = true,
+        }
+    }
+    Ok(asked)
+}
 
 // Where panes can be drawn, if the terminal has room for them.
 fn wall_of(terminal: Option<Terminal>, columns: Option<&Cell<usize>>) -> Option<Wall<'_>> {
@@ -86,7 +143,7 @@ fn debug<R: Input, W: Output, E: Output>(
     alloc: Global,
     source: &[u8],
     order: &Order,
-    are_up: bool,
+    asked: Asked,
     prompts: bool,
     terminal: Option<Terminal>,
     input: &mut R,
@@ -97,7 +154,7 @@ fn debug<R: Input, W: Output, E: Output>(
 {
     let columns = columns_of(terminal);
     let wall = wall_of(terminal, columns.as_ref());
-    if are_up && wall.is_none() {
+    if asked.are_up && wall.is_none() {
         tell_no_wall(complaints);
         return 2;
     }
@@ -111,11 +168,19 @@ fn debug<R: Input, W: Output, E: Output>(
         has_panes: wall.is_some(),
         keys: None,
     };
-    match Inspector::new(alloc, source, &order.keys, order.free, order.limit) {
+    let inspector = Inspector::new(
+        alloc,
+        source,
+        &order.keys,
+        order.free,
+        order.limit,
+        asked.kept,
+    );
+    match inspector {
         Ok(inspector) => debug_in(
             alloc,
             &mut Panes::new(alloc, inspector, wall),
-            are_up,
+            asked.are_up,
             lines,
             input,
             output,
@@ -127,7 +192,8 @@ fn debug<R: Input, W: Output, E: Output>(
 
 /// Answers the debugger's lines of `input` on `output`, each before the next is read, over the run of the file that the words
 /// name, up to the input's end or `quit`. `prompts` says whether a prompt stands before each line. The lines are edited where the
-/// words tell of a terminal that gives each byte, and `--tui` begins with panes. The status is 1 where the source is refused, 2
+/// words tell of a terminal that gives each byte, `--tui` begins with panes, and `--keep` says how many copies of the machine are
+/// kept. The status is 1 where the source is refused, 2
 /// where the words are, no file is named or panes have no room, 4 where the file does not open or a read or a write fails, and 5
 /// for want of memory, each told on `complaints`.
 pub fn debug_of<S: Shelf, R: Input, W: Output, E: Output>(
@@ -145,6 +211,7 @@ pub fn debug_of<S: Shelf, R: Input, W: Output, E: Output>(
 {
     let (terminal, words) = terminal_in(words);
     let held = held_in(alloc, word, &DEBUG_OPTIONS, words, complaints)?;
+    let asked = asked_in(held.found.as_slice(), complaints)?;
     let order = order_in(word, held.others.as_slice(), complaints)?;
     let Some(file) = order.file else {
         return Err(tell_lines_come(b"debug", complaints));
@@ -157,7 +224,7 @@ pub fn debug_of<S: Shelf, R: Input, W: Output, E: Output>(
         alloc,
         source.as_slice(),
         &order,
-        !held.found.is_empty(),
+        asked,
         prompts,
         terminal,
         input,

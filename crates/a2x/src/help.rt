@@ -22,7 +22,7 @@ run, before F:
 
 run, list, trace, profile and film have more, which a2x help run tells, and
 so on. N of --format is short, for editors, or json; of test csv, json or
-junit. Alone stands:
+junit; of profile text, json or callgrind. Alone stands:
 
   --version   the version, and the commit that the program was packaged from
 
@@ -89,6 +89,10 @@ Options of a run, and of profile alone, before or behind F:
   --by line      a row for each line of F; so it is without this option
   --by routine   a row for each routine that a JSR entered: how often, its own
                  steps and cycles, and those with what it calls
+  --format N     text, a table, as without it; json; or callgrind, a file for
+                 callgrind_annotate and KCachegrind
+  --keys K       may stand several times: each makes a run of its own from the
+                 start, and what is counted of all is added up
 ";
 
 // The options that a film alone has.
@@ -145,6 +149,8 @@ Options of a run, and of the debugger alone, before F:
   --tui       panes of source, registers, stack, memory and screen, drawn
               again behind each line, at a terminal of 80 columns of 24
               rows or more: a2x-debug --tui F
+  --keep N    keeps at most N copies of the machine, 124 KB each, by which
+              the run goes back, 20 and more; without it 540
 ";
 
 // The options that old texts alone have.
