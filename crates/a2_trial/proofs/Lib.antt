@@ -6,3 +6,5 @@ pub mod Standing
 pub mod Walking
 pub mod Home
 pub mod Returning
+pub mod Looking
+pub mod Certifying

@@ -4,3 +4,5 @@ pub mod Kept
 pub mod Everywhere
 pub mod Walking
 pub mod Returning
+pub mod Looking
+pub mod Certifying

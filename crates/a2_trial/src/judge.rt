@@ -47,8 +47,8 @@ const STACK_TOP: u16 = 0x01FD;
 /// No name stands for a number outside of what counts it.
 pub(crate) const NO_NAMES: Bounds = [0; 4];
 
-// Whether a fact holds.
-fn holds(value: Option<i64>) -> bool
+/// Whether a fact holds.
+pub(crate) fn holds(value: Option<i64>) -> bool
     ensures { result ≡ judging.holds value }
 {
     match value {

@@ -6,9 +6,11 @@
 ghost use Rattle.a2_trial.specs.Everywhere.{PromisesHoldEverywhere};
 ghost use Rattle.a2_trial.specs.Returning.{AnRtsKeepsAll};
 
+mod certain;
 mod ground;
 mod inputs;
 mod judge;
+mod looks;
 mod parts;
 mod report;
 mod services;
@@ -17,6 +19,7 @@ mod walk;
 mod within;
 
 use a2_promise::values_depend_on_looks;
+pub use certain::{Case, is_tried};
 pub use ground::{Door, Passage, Traced};
 pub use inputs::Input;
 pub use judge::{Broken, Unmet};

@@ -36,8 +36,8 @@ fn is_set(marks: &[bool], address: u16) -> bool
     }
 }
 
-// Whether what an address holds is known: at the entry, or since it was stored.
-fn is_known(known: &[bool], stored: &[bool], address: u16) -> bool
+/// Whether what an address holds is known: at the entry, or since it was stored.
+pub(crate) fn is_known(known: &[bool], stored: &[bool], address: u16) -> bool
     ensures { result ≡ known_now known.now stored.now address }
 {
     is_set(stored, address) || is_set(known, address)

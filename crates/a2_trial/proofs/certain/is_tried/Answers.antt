@@ -1,0 +1,38 @@
+use Rattle.std.proofs.Common.{sym, ◌∙◌, true≢false}
+use Rattle.a2_bus.specs.View.{memory_of}
+use Rattle.a2_cpu.specs.View.{registers_of}
+use Rattle.a2_services.specs.World.{world_of}
+use Rattle.a2_promise.specs.Values.{moment_of}
+use Rattle.a2_trial.specs.Kept.{bytes_of, known_by}
+use Rattle.a2_trial.specs.Looking.{known_of}
+use Rattle.a2_trial.specs.Walking.{known_now, knows_part}
+use Rattle.a2_trial.proofs.Certifying.{tried_by}
+use Rattle.a2_trial.proofs.certain.is_tried.Goals as goal
+
+pub returns-then-not-all_hold : goal.returns-then-not-all_hold
+returns-then-not-all_hold c = λ _.
+    let case = c.args.case.now in
+    let walk = c.args.walk.now in
+    tried_by case.known.now case.parts case.promise.now case.most (world_of (registers_of walk.regs) walk.space 0)
+    c.as_slice-wanted.result.now c.as_slice-wanted.ensures.value (known_of c.known_at_entry-known.result)
+    (λ i. known_by (known_now (c.known_at_entry-known.ensures.known i) (c.known_at_entry-known.ensures.stored i))
+    (knows_part (c.known_at_entry-known.ensures.parts i)))
+    (moment_of c.sight_of-entry.result)
+    (c.sight_of-entry.ensures
+    ∙ (λ i. record { registers = registers_of walk.regs; bytes = bytes_of (memory_of (c.requires.space i)); cycles = 0; steps = 0 }))
+    (c.look_at_known.ensures c.if-not-look_at_known.false)
+    (λ holds. absurd (true≢false (sym holds ∙ sym c.all_hold.ensures ∙ c.if-not-all_hold.true)))
+
+pub returns : goal.returns
+returns c = λ is.
+    let case = c.args.case.now in
+    let walk = c.args.walk.now in
+    tried_by case.known.now case.parts case.promise.now case.most (world_of (registers_of walk.regs) walk.space 0)
+    c.as_slice-wanted.result.now c.as_slice-wanted.ensures.value (known_of c.known_at_entry-known.result)
+    (λ i. known_by (known_now (c.known_at_entry-known.ensures.known i) (c.known_at_entry-known.ensures.stored i))
+    (knows_part (c.known_at_entry-known.ensures.parts i)))
+    (moment_of c.sight_of-entry.result)
+    (c.sight_of-entry.ensures
+    ∙ (λ i. record { registers = registers_of walk.regs; bytes = bytes_of (memory_of (c.requires.space i)); cycles = 0; steps = 0 }))
+    (c.look_at_known.ensures c.if-not-look_at_known.false)
+    (λ holds. c.is_kept.ensures is)

@@ -1,0 +1,10 @@
+use Rattle.std.specs.Prelude.{drop}
+use Rattle.a2_promise.specs.Values.{moment_of}
+use Rattle.a2_trial.specs.Kept.{LookAtKnown}
+use Rattle.a2_trial.specs.Looking.{known_of}
+use Rattle.a2_trial.proofs.looks.look_at_known.Given as goal
+
+abbrev pub invariant-loop-clause : goal.invariant-loop-clause
+invariant-loop-clause l =
+    LookAtKnown (drop l.clause-index l.clauses) (known_of l.before) (known_of l.behind) (moment_of l.entry) (moment_of l.exit)
+    → LookAtKnown l.clauses (known_of l.before) (known_of l.behind) (moment_of l.entry) (moment_of l.exit)

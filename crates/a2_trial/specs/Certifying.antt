@@ -1,0 +1,35 @@
+-- A promise that is tried in a state. This project's own.
+use Rattle.std.specs.Prelude.{◌≡◌, ◌⊎◌, ℕ, Bool, false, IsTrue, List}
+use Rattle.a2_bus.specs.BusState.{BusState}
+use Rattle.a2_cpu.specs.Registers.{Registers}
+use Rattle.a2_cpu.specs.View.{registers_of}
+use Rattle.a2_services.specs.World.{World, world_of}
+use Rattle.a2_promise.specs.declared.promises.Changes.{Changes}
+use Rattle.a2_promise.specs.declared.promises.Promise.{Promise}
+use Rattle.a2_uses.specs.declared.Part.{Part}
+use Rattle.a2_reads.specs.Parts.{held}
+use Rattle.a2_trial.specs.declared.parts.Parts.{Parts}
+use Rattle.a2_trial.specs.declared.walk.Walk.{Walk}
+use Rattle.a2_trial.specs.Kept.{IsKept, IsRequired, LookAtKnown, known_by, may_change, moment}
+use Rattle.a2_trial.specs.Walking.{is_set, knows_part}
+
+-- a state stands before a routine, and is where it sets out
+pub record IsEntered (start : World) (parts : Parts) (before : BusState) (walk : Walk) (stored : List Bool) : Type 0 where
+  pub world : world_of (registers_of walk.regs) walk.space 0 ≡ start
+  pub space : before ≡ walk.space
+  pub s : walk.regs.s ≡ 0xFD
+  pub cycles : walk.cycles ≡ 0
+  pub first_parts : walk.parts ≡ parts
+  pub clear : (a : ℕ) → is_set stored a ≡ false
+
+-- a register that may not be other than before is not known behind, or was known and is the same
+abbrev pub AreRegistersKept : Changes → Parts → Parts → Registers → Registers → Type 0
+AreRegistersKept changes parts parts_behind before behind =
+    (part : Part) → may_change changes part ≡ false
+    → (knows_part parts_behind part ≡ false) ⊎ (IsTrue (knows_part parts part) × (held part behind ≡ held part before))
+
+-- a state is as the promise requires, which looks at nothing unknown, and then the promise is kept in it
+pub record IsStateTried (known : List Bool) (parts : Parts) (promise : Promise) (most : ℕ) (start : World) : Type 0 where
+  pub looks : LookAtKnown promise.wanted.items (known_by (is_set known) (knows_part parts))
+      (known_by (is_set known) (knows_part parts)) (moment start start 0) (moment start start 0)
+  pub kept : IsRequired promise start → IsKept (is_set known) (knows_part parts) promise most start
