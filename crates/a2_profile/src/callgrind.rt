@@ -7,15 +7,13 @@ ghost use Rattle.a2_profile.specs.Callgrind as callgrind;
 ghost use Rattle.a2_profile.specs.RoutineTable.{name_of as name_at};
 ghost use Rattle.a2_profile.specs.Table.{rows_from};
 
+use crate::profile::ADDRESSES;
 use crate::table::{instruction_on, is_outside};
 use crate::{Profile, RoutineProfile, Totals, name_of};
 use a2_asm::{Program, Statement};
 use a2_stream::{Output, WriteFault, put, put_all};
 use a2_text::{decimal, hex_word};
 use std::alloc::Allocator;
-
-// How many addresses there are.
-const ADDRESSES: u32 = 0x1_0000;
 
 // A byte of a file's name; a control byte, which would end a line, as ?.
 fn shown_byte(byte: u8) -> u8

@@ -6,6 +6,7 @@ ghost use Rattle.a2_stream.specs.Stream.{SendsOrBreaks};
 ghost use Rattle.a2_profile.specs.Json as json;
 ghost use Rattle.a2_machine.specs.Output.{cause_name as cause_name_of};
 
+use crate::profile::ADDRESSES;
 use crate::table::{instruction_on, is_branch, is_never_done, is_outside};
 use crate::{Count, Profile};
 use a2_asm::{Program, Statement};
@@ -13,9 +14,6 @@ use a2_machine::Cause;
 use a2_stream::{Output, WriteFault, put, put_all};
 use a2_text::{decimal, hex_pair};
 use std::alloc::Allocator;
-
-// How many addresses there are.
-const ADDRESSES: u32 = 0x1_0000;
 
 // What stands between two items of an array.
 pub(crate) const COMMA: &[u8] = b",\n";

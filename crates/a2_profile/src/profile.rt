@@ -9,7 +9,7 @@ use std::alloc::{AllocError, Allocator, Global};
 use std::marker::Model;
 
 /// How many addresses there are.
-const ADDRESSES: usize = 0x1_0000;
+pub(crate) const ADDRESSES: u32 = 0x1_0000;
 
 /// How often the step at an address was made, and what it cost.
 #[derive(Clone, Copy, Debug, PartialEq, Eq)]
@@ -33,7 +33,7 @@ const NONE: Count = Count {
 fn no_counts<A: Allocator>(alloc: A) -> Result<Vec<Count, A>, AllocError>
     ensures { IfOk result (λ counts. counts.items ≡ replicate 65536 none) }
 {
-    vec![in alloc; NONE; ADDRESSES]
+    vec![in alloc; NONE; ADDRESSES as usize]
 }
 
 /// Two profiles have more steps or cycles together than 64 bits can count.
@@ -168,7 +168,7 @@ impl<A: Allocator> Model for Counting<A> {
 }
 
 impl<A: Allocator> Counting<A> {
-    // Counts of no step.
+    /// Counts of no step.
     pub fn new(alloc: A) -> Result<Counting<A>, AllocError>
         ensures { IfOk result (λ counting. counting ≡ replicate 65536 none) }
     {
@@ -177,14 +177,14 @@ impl<A: Allocator> Counting<A> {
         })
     }
 
-    // For the prover alone: there is a count for each address.
+    /// For the prover alone: there is a count for each address.
     pub fn is_whole(&self)
         ensures { length self.now ≡ 65536 }
     {
         let _ = &self.counts;
     }
 
-    // The profile of these counts, which are so many steps and cycles together.
+    /// The profile of these counts, which are so many steps and cycles together.
     pub fn profile(self, steps: u64, cycles: u64) -> Profile<A>
         requires { AreSummed self steps cycles }
         ensures { result ≡ self }

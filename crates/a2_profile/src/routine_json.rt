@@ -7,15 +7,13 @@ ghost use Rattle.a2_profile.specs.Json as json;
 ghost use Rattle.a2_profile.specs.Totals.{itself, totals_at};
 
 use crate::json::{COMMA, put_causes, put_escapes, put_sums};
+use crate::profile::ADDRESSES;
 use crate::{RoutineProfile, Totals, name_of};
 use a2_asm::{Names, Program};
 use a2_machine::Cause;
 use a2_stream::{Output, WriteFault, put, put_all};
 use a2_text::decimal;
 use std::alloc::Allocator;
-
-// How many addresses there are.
-const ADDRESSES: u32 = 0x1_0000;
 
 // Writes what is counted of a routine, to the end of its object.
 #[tactic(auto, unfolding(crate::specs::Json::totals_fields))]

@@ -5,15 +5,13 @@ ghost use Rattle.a2_asm.specs.Entries.{entries};
 ghost use Rattle.a2_profile.specs.RoutineTable as table;
 ghost use Rattle.a2_stream.specs.Stream.{SendsOrBreaks};
 
+use crate::profile::ADDRESSES;
 use crate::table::{before_text, gap, per_mille, put_sum_line, share_digits};
 use crate::{RoutineProfile, Totals};
 use a2_asm::{Names, Program};
 use a2_stream::{Output, WriteFault, put_all};
 use a2_text::{decimal, hex_word};
 use std::alloc::Allocator;
-
-// How many addresses there are.
-const ADDRESSES: u32 = 0x1_0000;
 
 // Writes a row of these cells.
 #[tactic(auto, unfolding(crate::specs::RoutineTable::routine_cells))]

@@ -6,6 +6,7 @@ ghost use Rattle.a2_stream.specs.Stream.{SendsOrBreaks};
 ghost use Rattle.a2_profile.specs.Table as table;
 ghost use Rattle.std.specs.Fmt.{decimal as decimal_of};
 
+use crate::profile::ADDRESSES;
 use crate::{Count, Profile};
 use a2_asm::{Program, Statement};
 use a2_opcode::Mode;
@@ -16,9 +17,6 @@ use std::alloc::Allocator;
 
 // The widest gap between two cells.
 const BLANKS: &[u8] = b"              ";
-
-// How many addresses there are.
-const ADDRESSES: u32 = 0x1_0000;
 
 // The digits of a number, or nothing.
 type Digits = ArrayVec<u8, 20>;

@@ -74,7 +74,7 @@ const CLOSED: Opening = Opening {
     cycles: 0,
 };
 
-// No totals of each routine.
+/// No totals of each routine.
 pub(crate) fn no_totals<A: Allocator>(alloc: A) -> Result<Vec<Totals, A>, AllocError>
     ensures { IfOk result (λ totals. totals.items ≡ replicate 65537 nothing) }
 {
@@ -143,7 +143,7 @@ impl<A: Allocator + Copy> Walk<A> {
         })
     }
 
-    // A walk of no steps, in the program itself.
+    /// A walk of no steps, in the program itself.
     pub fn new(alloc: A) -> Result<Walk<A>, AllocError>
         ensures frames { IfOk result (λ walk. walk.frames ≡ walks.base ∷ []) }
         ensures nothing { IfOk result (λ walk. (r : ℕ) → r < 65537 → walks.seen_at walk r ≡ nothing) }
@@ -157,7 +157,7 @@ impl<A: Allocator + Copy> Walk<A> {
 }
 
 impl<A: Allocator> Walk<A> {
-    // For the prover alone: a law of every walk.
+    /// For the prover alone: a law of every walk.
     #[inline(always)]
     pub fn is_walk(&self)
         ensures { walks.IsWalk self.now }
@@ -302,7 +302,7 @@ impl<A: Allocator> Walk<A> {
         }
     }
 
-    // Leaves all; what was done in each routine.
+    /// Leaves all; what was done in each routine.
     pub fn finish(mut self) -> RoutineProfile<A>
         ensures seen { (r : ℕ) → r < 65537 → totals_at result r ≡ walks.seen_at self r }
         ensures steps { own_steps_in result ≡ self.steps }

@@ -1,5 +1,5 @@
 -- What calls that make steps answer. No public clause cites this file.
-use Rattle.std.specs.Prelude.{◌≡◌, ℕ, zero, suc, Bool, ◌&&◌, List, [], ◌∷◌, ◌++◌, codes, Option, Some, None, Result, Ok, Err}
+use Rattle.std.specs.Prelude.{◌≡◌, ℕ, zero, suc, ◌+◌, ◌/◌, ◌%◌, Bool, ◌&&◌, List, [], ◌∷◌, ◌++◌, codes, Option, Some, None, Result, Ok, Err}
 use Rattle.std.specs.List.{concat}
 use Rattle.a2_text.specs.Digits.{hex_pair, hex_word}
 use Rattle.a2_stream.specs.Stream.{Taker, Sends, Breaks}
@@ -48,10 +48,14 @@ pub record IsLeftOut (program : Assembled) (keys : List ℕ) (limit : ℕ) (free
   pub is_end : IsEnd (code_of_run free program) (start_of_run program keys) limit end
   pub skip_is : skip ≡ left_out choice.last (count_chosen choice (code_of_run free program) (start_of_run program keys) end.steps)
 
--- the digits of so many first bytes, one after another
-abbrev pub pairs : ℕ → List ℕ
-pairs zero = []
-pairs (suc n) = pairs n ++ hex_pair n
+-- the two decimal digits of a number below 100
+abbrev pub decimal_pair : ℕ → List ℕ
+decimal_pair n = (48 + n / 10) ∷ (48 + n % 10) ∷ []
+
+-- two digits of each of so many first numbers, one after another
+abbrev pub pairs : (ℕ → List ℕ) → ℕ → List ℕ
+pairs pair zero = []
+pairs pair (suc n) = pairs pair n ++ pair n
 
 -- the front of a register line, up to the steps
 unfoldable pub fields : Registers → List ℕ

@@ -14,8 +14,8 @@ const ROOM: usize = 128;
 
 // The two capital hexadecimal digits of each byte, one after another.
 #[inline(always)]
-fn pairs() -> &'static [u8; 512]
-    ensures { result.now ≡ spelt.pairs 256 }
+fn hex_pairs() -> &'static [u8; 512]
+    ensures { result.now ≡ spelt.pairs digits.hex_pair 256 }
 {
     b"\
       000102030405060708090A0B0C0D0E0F101112131415161718191A1B1C1D1E1F\
@@ -34,9 +34,34 @@ fn pairs() -> &'static [u8; 512]
 fn hex_pair(byte: u8) -> [u8; 2]
     ensures { result ≡ digits.hex_pair byte }
 {
-    let pairs = pairs();
+    let pairs = hex_pairs();
     let place = 2 * usize::from(byte);
     [pairs[place], pairs[place + 1]]
+}
+
+// The two decimal digits of each number below 100, one after another.
+#[inline(always)]
+fn decimal_pairs() -> &'static [u8; 200]
+    ensures { result.now ≡ spelt.pairs spelt.decimal_pair 100 }
+{
+    b"\
+      0001020304050607080910111213141516171819\
+      2021222324252627282930313233343536373839\
+      4041424344454647484950515253545556575859\
+      6061626364656667686970717273747576777879\
+      8081828384858687888990919293949596979899\
+      "
+}
+
+// The two decimal digits of a number below 100.
+#[inline(always)]
+fn decimal_pair(number: u8) -> [u8; 2]
+    requires { number < 100 }
+    ensures { result ≡ spelt.decimal_pair number }
+{
+    let decimals = decimal_pairs();
+    let place = 2 * usize::from(number);
+    [decimals[place], decimals[place + 1]]
 }
 
 /// The fields of a register line up to the steps: what stands between the digits, and those of A, X, Y, the flags as they are pushed,
@@ -126,10 +151,14 @@ impl Line {
         ensures length { length self.new ≤ 20 + length self.old }
     {
         let mut rest = number;
-        while rest >= 10 {
-            self.put(b'0' + (rest % 10) as u8);
-            rest /= 10;
+        while rest >= 100 {
+            self.put_text(&decimal_pair((rest % 100) as u8));
+            rest /= 100;
         }
-        self.put(b'0' + rest as u8);
+        if rest >= 10 {
+            self.put_text(&decimal_pair(rest as u8));
+        } else {
+            self.put(b'0' + rest as u8);
+        }
     }
 }
