@@ -8,3 +8,6 @@ pub mod Home
 pub mod Returning
 pub mod Looking
 pub mod Certifying
+pub mod Knowing
+pub mod Putting
+pub mod Trying

@@ -12,7 +12,7 @@ use Rattle.a2_trial.specs.Walking.{AreMarked, MayStore, is_allowed, is_set, know
 
 -- Parts
 
-added : (part p : Part) (parts : Parts) → knows_part (with_part part parts) p ≡ (is_part p part || knows_part parts p)
+pub added : (part p : Part) (parts : Parts) → knows_part (with_part part parts) p ≡ (is_part p part || knows_part parts p)
 added part_a part_a parts = refl
 added part_a p parts = refl
 added part_x part_x parts = refl

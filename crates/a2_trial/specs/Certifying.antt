@@ -1,17 +1,29 @@
 -- A promise that is tried in a state. This project's own.
-use Rattle.std.specs.Prelude.{◌≡◌, ◌⊎◌, ℕ, Bool, false, IsTrue, List}
+use Rattle.std.specs.Prelude.{◌≡◌, ◌⊎◌, ◌<◌, ◌≤◌, ℕ, Bool, true, false, IsTrue, nat_lt, List, length, map}
 use Rattle.a2_bus.specs.BusState.{BusState}
-use Rattle.a2_cpu.specs.Registers.{Registers}
+use Rattle.a2_bus.specs.Memory.{ram_end}
+use Rattle.a2_cpu.specs.Registers.{Registers, registers_at}
 use Rattle.a2_cpu.specs.View.{registers_of}
 use Rattle.a2_services.specs.World.{World, world_of}
 use Rattle.a2_promise.specs.declared.promises.Changes.{Changes}
 use Rattle.a2_promise.specs.declared.promises.Promise.{Promise}
 use Rattle.a2_uses.specs.declared.Part.{Part}
+use Rattle.a2_reads.specs.Counting.{state_at}
 use Rattle.a2_reads.specs.Parts.{held}
+use Rattle.a2_trial.specs.declared.certain.Case.{Case}
+use Rattle.a2_trial.specs.declared.inputs.Input.{Input}
+use Rattle.a2_trial.specs.declared.inputs.Input.TheVariants.{Byte}
 use Rattle.a2_trial.specs.declared.parts.Parts.{Parts}
 use Rattle.a2_trial.specs.declared.walk.Walk.{Walk}
 use Rattle.a2_trial.specs.Kept.{IsKept, IsRequired, LookAtKnown, known_by, may_change, moment}
+use Rattle.a2_trial.specs.States.{values_of, with_values}
 use Rattle.a2_trial.specs.Walking.{is_set, knows_part}
+
+-- the state of a number
+abbrev pub start_of : Case → ℕ → World
+start_of case number =
+    with_values case.inputs.now (state_at (map values_of case.inputs.now) number)
+    (world_of (registers_at case.promise.now.address) case.base.now 0)
 
 -- a state stands before a routine, and is where it sets out
 pub record IsEntered (start : World) (parts : Parts) (before : BusState) (walk : Walk) (stored : List Bool) : Type 0 where
@@ -33,3 +45,14 @@ pub record IsStateTried (known : List Bool) (parts : Parts) (promise : Promise) 
   pub looks : LookAtKnown promise.wanted.items (known_by (is_set known) (knows_part parts))
       (known_by (is_set known) (knows_part parts)) (moment start start 0) (moment start start 0)
   pub kept : IsRequired promise start → IsKept (is_set known) (knows_part parts) promise most start
+
+-- an input is a register, a flag or a byte of RAM
+abbrev pub is_input_in_ram : Input → Bool
+is_input_in_ram (Byte a) = nat_lt a ram_end
+is_input_in_ram _ = true
+
+-- so many addresses of RAM are marked where a test passes
+pub record AreLaid (test : ℕ → Bool) (known : List Bool) (count : ℕ) : Type 0 where
+  pub size : length known ≡ count
+  pub within : count ≤ ram_end
+  pub marks : (a : ℕ) → a < count → is_set known a ≡ test a

@@ -6,3 +6,5 @@ pub mod Walking
 pub mod Returning
 pub mod Looking
 pub mod Certifying
+pub mod Entering
+pub mod Certain

@@ -1,25 +1,104 @@
-//! Whether a promise is kept in a state, where neither its routine nor itself looks at what is not known.
+//! Whether a promise is kept in every state of its inputs, and so in every world.
 
-ghost use Rattle.std.specs.Prelude.{◌≡◌, ◌⊎◌, false, [], IsTrue, IfSome};
-ghost use Rattle.a2_bus.specs.View.{memory_of};
+ghost use Rattle.std.specs.Prelude.{◌≡◌, ◌⊎◌, ◌||◌, ◌<◌, ℕ, false, [], map, is_some, IsTrue, IfOk, IfSome};
+ghost use Rattle.std.specs.List.{list_all, list_any};
+ghost use Rattle.a2_hex.specs.Images.{held};
+ghost use Rattle.a2_bus.specs.Memory.{Memory, ram_end};
+ghost use Rattle.a2_cpu.specs.Live.{live_registers};
 ghost use Rattle.a2_cpu.specs.View.{registers_of};
+ghost use Rattle.a2_cpu.specs.Registers.{registers_at};
 ghost use Rattle.a2_services.specs.World.{world_of};
 ghost use Rattle.a2_machine.specs.Meaning.{next};
 ghost use Rattle.a2_promise.specs.Values.{moment_of};
+ghost use Rattle.a2_uses.specs.declared.Part.{Part as DeclaredPart};
+ghost use Rattle.a2_reads.specs.Counting.{states_of, state_at};
+ghost use Rattle.a2_bus.specs.View.{memory_of};
 ghost use Rattle.a2_trial.specs.Kept.{bytes_of, code, IsKept};
-ghost use Rattle.a2_trial.specs.Walking.{is_set, knows_part};
-ghost use Rattle.a2_trial.specs.Certifying.{AreRegistersKept, IsEntered, IsStateTried};
+ghost use Rattle.a2_trial.specs.States.{has_part, holds_part, is_byte, values_of, with_value, with_values};
+ghost use Rattle.a2_trial.specs.Entering.{IsKeptEverywhere};
+ghost use Rattle.a2_trial.specs.Walking.{is_set, knows_part, no_parts};
+ghost use Rattle.a2_trial.specs.Certifying.{AreLaid, AreRegistersKept, IsEntered, is_input_in_ram, IsStateTried, start_of};
 
+use crate::inputs::Input;
 use crate::judge::all_hold;
 use crate::looks::{Sure, look_at_known};
 use crate::parts::Parts;
+use crate::promises_hold_everywhere;
 use crate::walk::{Walk, walk_home};
 use a2_bus::{AddressSpace, Bus};
+use a2_cpu::live::Live;
 use a2_cpu::run::guarded_step;
 use a2_cpu::{GuardedStep, NoProtection, Regs};
+use a2_hex::{Image, RAM_END};
 use a2_promise::{Changes, Promise, Sight};
 use a2_uses::Part;
-use std::alloc::Global;
+use std::alloc::{AllocError, Global};
+
+/// How many states inputs have; none where they are 2^64 or more.
+pub(crate) fn count_states(inputs: &[Input]) -> Option<u64>
+    ensures { IfSome result (λ states. states ≡ states_of (map values_of inputs.now)) }
+{
+    let mut states: u64 = 1;
+    for input in inputs {
+        states = states.checked_mul(input.values())?;
+    }
+    Some(states)
+}
+
+// Gives a register or a flag a value; a byte stays.
+fn put_register(input: Input, value: u8, live: &mut Live)
+    ensures { (memory : Memory) → live_registers live.new
+        ≡ (with_value input value (record { registers = live_registers live.old; memory = memory; cycles = 0 })).registers }
+{
+    let set = value % 2 == 1;
+    match input {
+        Input::A => live.a = value,
+        Input::X => live.x = value,
+        Input::Y => live.y = value,
+        Input::Carry => live.carry = set,
+        Input::Zero => live.set_nz(live.is_negative(), set),
+        Input::Negative => live.set_nz(set, live.is_zero()),
+        Input::Overflow => live.overflow = set,
+        Input::Interrupt => live.interrupt = set,
+        Input::Byte(_) => {}
+    }
+}
+
+// Gives an input a value; false where it is a byte that is not in RAM.
+fn put_value(input: Input, value: u8, regs: &mut Regs, space: &mut AddressSpace<Global>) -> bool
+    ensures { IsTrue result → world_of (registers_of regs.new) space.new 0
+        ≡ with_value input value (world_of (registers_of regs.old) space.old 0) }
+{
+    if let Input::Byte(address) = input {
+        if address >= RAM_END {
+            return false;
+        }
+        space.write(address, value);
+        return true;
+    }
+    let mut live = Live::of(regs);
+    put_register(input, value, &mut live);
+    *regs = live.regs();
+    true
+}
+
+// Gives inputs the values of the state of a number; false where one is a byte that is not in RAM.
+fn put_state(
+    inputs: &[Input],
+    number: u64,
+    regs: &mut Regs,
+    space: &mut AddressSpace<Global>,
+) -> bool
+    ensures { IsTrue result → world_of (registers_of regs.new) space.new 0
+        ≡ with_values inputs.now (state_at (map values_of inputs.now) number) (world_of (registers_of regs.old) space.old 0) }
+{
+    let [input, rest @ ..] = inputs else {
+        return true;
+    };
+    let values = input.values();
+    put_state(rest, number / values, regs, space)
+        && put_value(*input, (number % values) as u8, regs, space)
+}
 
 /// What a promise is judged by in a state.
 #[derive(Clone, Copy)]
@@ -30,6 +109,9 @@ pub struct Case<'a> {
     pub promise: &'a Promise<'a>,
     /// The steps that are enough, with the RTS.
     pub most: u32,
+    /// RAM as the program is laid, and the inputs that are given each of their values.
+    pub base: &'a AddressSpace<Global>,
+    pub inputs: &'a [Input],
 }
 
 // What is known at the entry.
@@ -43,6 +125,29 @@ fn known_at_entry<'a>(case: &Case<'a>) -> Sure<'a>
         stored: &[],
         parts: case.parts,
     }
+}
+
+// Makes this the state of a number, before and on its way; false where an input is a byte that is not in RAM.
+fn enter(
+    case: &Case,
+    number: u64,
+    before: &mut AddressSpace<Global>,
+    walk: &mut Walk,
+    stored: &mut [bool],
+) -> bool
+    ensures { IsTrue result → IsEntered (start_of case.now number) case.now.parts before.new walk.new stored.new }
+{
+    before.copy_from(case.base);
+    let mut regs = Regs::start(case.promise.address);
+    if !put_state(case.inputs, number, &mut regs, before) {
+        return false;
+    }
+    walk.space.copy_from(before);
+    walk.regs = regs;
+    walk.parts = case.parts;
+    walk.cycles = 0;
+    stored.fill(false);
+    true
 }
 
 // Whether a register that may not be other than before is not known behind a routine, or was known and is the same.
@@ -171,4 +276,158 @@ pub fn is_tried(
         return true;
     }
     is_kept(case, before, walk, stored)
+}
+
+// Whether it is so of the state of a number.
+fn is_state_tried(
+    case: &Case,
+    number: u64,
+    before: &mut AddressSpace<Global>,
+    walk: &mut Walk,
+    stored: &mut [bool],
+) -> bool
+    ensures { IsTrue result → IsStateTried case.now.known.now case.now.parts case.now.promise.now case.now.most (start_of case.now number) }
+{
+    enter(case, number, before, walk, stored) && is_tried(case, before, walk, stored)
+}
+
+// Whether it is so of each number below one.
+fn are_tried(
+    case: &Case,
+    states: u64,
+    before: &mut AddressSpace<Global>,
+    walk: &mut Walk,
+    stored: &mut [bool],
+) -> bool
+    ensures { IsTrue result → (number : ℕ) → number < states
+        → IsStateTried case.now.known.now case.now.parts case.now.promise.now case.now.most (start_of case.now number) }
+{
+    for number in 0..states {
+        if !is_state_tried(case, number, before, walk, stored) {
+            return false;
+        }
+    }
+    true
+}
+
+// Whether an input is the byte at an address.
+fn is_at(input: Input, address: u16) -> bool
+    ensures { result ≡ is_byte address input }
+{
+    match input {
+        Input::Byte(at) => at == address,
+        _ => false,
+    }
+}
+
+// Whether one of these is.
+fn is_named(inputs: &[Input], address: u16) -> bool
+    ensures { result ≡ list_any (is_byte address) inputs.now }
+{
+    inputs.iter().any(|input| is_at(*input, address))
+}
+
+// Whether an input is a register, a flag or a byte of RAM.
+fn is_in_ram(input: Input) -> bool
+    ensures { result ≡ is_input_in_ram input }
+{
+    match input {
+        Input::Byte(address) => address < RAM_END,
+        _ => true,
+    }
+}
+
+// Whether all of these are.
+fn are_in_ram(inputs: &[Input]) -> bool
+    ensures { result ≡ list_all is_input_in_ram inputs.now }
+{
+    inputs.iter().all(|input| is_in_ram(*input))
+}
+
+// Whether the byte at an address is an input, or one of the program.
+fn is_known_at(image: &Image<Global>, inputs: &[Input], address: u16) -> bool
+    ensures { result ≡ (list_any (is_byte address) inputs.now || is_some (held image.now address)) }
+{
+    is_named(inputs, address) || image.get(address).is_some()
+}
+
+// The addresses of RAM at which it is, marked.
+fn known_at(alloc: Global, image: &Image<Global>, inputs: &[Input]) -> Result<Vec<bool>, AllocError>
+    ensures { IfOk result (λ known. AreLaid
+        (λ a. list_any (is_byte a) inputs.now || is_some (held image.now a)) known.items ram_end) }
+{
+    let mut known = Vec::new(alloc);
+    for address in 0..RAM_END {
+        known.push(is_known_at(image, inputs, address))?;
+    }
+    Ok(known)
+}
+
+// Lets the register or the flag that an input is be known.
+#[tactic(auto, using(crate::proofs::Knowing::part_added, crate::proofs::Knowing::no_part_added))]
+fn know(input: Input, parts: &mut Parts)
+    ensures { (part : DeclaredPart) → knows_part parts.new part ≡ (holds_part input part || knows_part parts.old part) }
+{
+    match input.part() {
+        Some(found) => parts.add(found),
+        None => {}
+    }
+}
+
+// The registers and flags that are known at the entry.
+#[tactic(auto, using(crate::proofs::Knowing::none_known))]
+fn parts_at(inputs: &[Input]) -> Parts
+    ensures { (part : DeclaredPart) → knows_part result part ≡ (has_part inputs.now part || knows_part no_parts part) }
+{
+    let mut parts = Parts::none();
+    for input in inputs {
+        know(*input, &mut parts);
+    }
+    parts
+}
+
+/// Whether a promise of a program is kept within so many steps in every state of these inputs that is as it requires, where neither the
+/// routine nor the promise looks at any other byte, register or flag but those of the program and D, which is clear. Then it is
+/// kept in every world in which the routine is entered so. False says nothing: also where a routine calls a service, stores at what
+/// the promise does not let change and puts it back, or looks at what it never uses. Refused only for want of memory.
+pub fn holds_in_every_state(
+    alloc: Global,
+    image: &Image<Global>,
+    promise: &Promise,
+    inputs: &[Input],
+    most: u32,
+) -> Result<bool, AllocError>
+    ensures { IfOk result (λ holds. IsTrue holds
+        → IsKeptEverywhere (held image.now) promise.now inputs.now most) }
+{
+    promises_hold_everywhere();
+    let Some(states) = count_states(inputs) else {
+        return Ok(false);
+    };
+    if !are_in_ram(inputs) {
+        return Ok(false);
+    }
+    // For the prover, which learns from it that a program lies in RAM.
+    let _first = image.get(0);
+    let mut base = AddressSpace::new(alloc)?;
+    base.load(image);
+    let known = known_at(alloc, image, inputs)?;
+    let parts = parts_at(inputs);
+    let case = Case {
+        base: &base,
+        known: known.as_slice(),
+        parts,
+        promise,
+        inputs,
+        most,
+    };
+    let mut before = AddressSpace::new(alloc)?;
+    let mut walk = Walk {
+        regs: Regs::start(promise.address),
+        space: AddressSpace::new(alloc)?,
+        parts,
+        cycles: 0,
+    };
+    let mut stored = vec![in alloc; false; usize::from(RAM_END)]?;
+    Ok(are_tried(&case, states, &mut before, &mut walk, stored.as_mut_slice()))
 }

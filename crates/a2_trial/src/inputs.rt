@@ -1,7 +1,10 @@
 //! What a promise names at the entry of its routine.
 
-ghost use Rattle.std.specs.Prelude.{◌≡◌};
+ghost use Rattle.std.specs.Prelude.{◌≡◌, ◌≤◌, false, MatchOption};
+ghost use Rattle.a2_uses.specs.declared.Part.{Part as DeclaredPart};
+ghost use Rattle.a2_reads.specs.Parts.{is_part};
 ghost use Rattle.a2_trial.specs.Kept.{may_store};
+ghost use Rattle.a2_trial.specs.States.{holds_part, values_of};
 
 use a2_promise::{Atom, Changes, Expr, Function, Operation, Promise};
 use a2_uses::Part;
@@ -35,7 +38,11 @@ const REGISTERS: [Input; 8] = [
 
 impl Input {
     /// How many values it has.
-    pub fn values(self) -> u64 {
+    pub fn values(self) -> u64
+        ensures is { result ≡ values_of self }
+        ensures least { 2 ≤ result }
+        ensures most { result ≤ 256 }
+    {
         match self {
             Input::A | Input::X | Input::Y | Input::Byte(_) => 256,
             _ => 2,
@@ -43,7 +50,10 @@ impl Input {
     }
 
     /// The part of the registers that it is; none where it is a byte.
-    pub fn part(self) -> Option<Part> {
+    pub fn part(self) -> Option<Part>
+        ensures { MatchOption result ((part : DeclaredPart) → holds_part self part ≡ false)
+            (λ found. (part : DeclaredPart) → holds_part self part ≡ is_part part found) }
+    {
         match self {
             Input::A => Some(Part::A),
             Input::X => Some(Part::X),

@@ -19,7 +19,7 @@ mod walk;
 mod within;
 
 use a2_promise::values_depend_on_looks;
-pub use certain::{Case, is_tried};
+pub use certain::{Case, holds_in_every_state, is_tried};
 pub use ground::{Door, Passage, Traced};
 pub use inputs::Input;
 pub use judge::{Broken, Unmet};

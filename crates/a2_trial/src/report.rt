@@ -79,6 +79,17 @@ fn put_inputs<W: Output>(inputs: &[Input], output: &mut W) -> Result<(), WriteFa
     Ok(())
 }
 
+// Writes that a promise holds in every state.
+fn put_holds<W: Output>(kept: u64, tried: u64, output: &mut W) -> Result<(), WriteFault> {
+    put_all(&[b"HOLDS in every state ("], output)?;
+    if kept != tried {
+        put_grouped(kept, output)?;
+        put_all(&[b" that it requires, of "], output)?;
+    }
+    put_grouped(tried, output)?;
+    put_all(&[b" tried)\n"], output)
+}
+
 // Writes that a promise held of a routine that looks at nothing at the entry.
 fn put_held_anywhere<W: Output>(output: &mut W) -> Result<(), WriteFault> {
     put_all(&[b"held in "], output)?;
@@ -447,14 +458,17 @@ pub fn put_verdict<W: Output>(
     match verdict {
         Verdict::Held {
             inputs,
-            varied,
             kept,
             tried,
             total,
+            is_everywhere,
             passage,
         } => {
-            let shown = &inputs.as_slice()[..(*varied).min(inputs.len())];
-            put_held(shown, *kept, *tried, *total, output)?;
+            if *is_everywhere {
+                put_holds(*kept, *tried, output)?;
+            } else {
+                put_held(inputs.as_slice(), *kept, *tried, *total, output)?;
+            }
             put_passage(program, *passage, output)
         }
         Verdict::Fails(failure) => {

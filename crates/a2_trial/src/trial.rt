@@ -1,5 +1,10 @@
 //! A routine entered in many states.
 
+ghost use Rattle.std.specs.Prelude.{IfOk};
+ghost use Rattle.a2_hex.specs.Images.{held};
+ghost use Rattle.a2_trial.specs.Certain.{IsCertain, most_steps};
+
+use crate::certain::{count_states, holds_in_every_state};
 use crate::ground::{
     ENTRY_S, Exit, Ground, MOST_LOOKED, MOST_STEPS, Passage, Traced, any_byte, last_steps,
 };
@@ -39,14 +44,14 @@ pub struct Failure {
 /// What is found of a promise.
 #[derive(Drop)]
 pub enum Verdict {
-    /// It held in so many states that it admits, of so many tried, of so many that there are of the first of these inputs: those that
-    /// it names, and those that its routine looks at.
+    /// It held in so many states that it admits, of so many tried, of so many that there are of these inputs: those that it names, and
+    /// those that its routine looks at. Whether it holds in every world at the routine's entry is known too, or not.
     Held {
         inputs: Vec<Input>,
-        varied: usize,
         kept: u64,
         tried: u64,
         total: u64,
+        is_everywhere: bool,
         passage: Option<Passage>,
     },
     /// It does not hold in a state.
@@ -148,15 +153,6 @@ fn try_state(
         (exit, Some(broken)) => Ok(Tried::Broken(broken, exit, regs)),
         (_, None) => Ok(Tried::Kept),
     }
-}
-
-// How many states inputs have; 2^64 - 1 where they are more.
-fn total_of(inputs: &[Input]) -> u64 {
-    let mut total: u64 = 1;
-    for input in inputs {
-        total = total.saturating_mul(input.values());
-    }
-    total
 }
 
 // The values that are tried first: bounds, the bytes of the numbers of a promise, and the numbers of its program with their neighbours.
@@ -325,7 +321,9 @@ fn try_inputs(
     trials: Trials,
 ) -> Result<Round, AllocError> {
     let mut values = first_values(alloc, &inputs)?;
-    let total = total_of(&inputs.all[..inputs.varied.min(inputs.all.len())]);
+    let varied = &inputs.all[..inputs.varied.min(inputs.all.len())];
+    // 2^64 - 1 stands for more.
+    let total = count_states(varied).unwrap_or(u64::MAX);
     let is_all = total <= trials.all;
     let states = if is_all { total } else { trials.some };
     let looked = ground.looked.len();
@@ -348,19 +346,20 @@ fn try_inputs(
     if kept == 0 {
         return Ok(Round::Done(Verdict::NoState(states)));
     }
+    let mut varied = inputs.all;
+    varied.truncate(inputs.varied);
     Ok(Round::Done(Verdict::Held {
-        inputs: inputs.all,
-        varied: inputs.varied,
+        inputs: varied,
         kept,
         tried: states,
         total,
+        is_everywhere: false,
         passage: ground.passage,
     }))
 }
 
-/// Tries a promise of a program, one of those that are found in its source: its routine is entered in states of what the promise names and of what the routine looks at before it
-/// sets it, which is noted as it runs; bytes that the program lays are as it lays them, unless the promise names them.
-pub fn try_promise(
+// The same, where only states are tried.
+fn try_states(
     alloc: Global,
     program: &Program<Global>,
     found: &[Found],
@@ -395,4 +394,56 @@ pub fn try_promise(
         }
     }
     Ok(Verdict::NoState(0))
+}
+
+// What is found of a promise, and whether it holds everywhere, if it held in all states.
+fn certified(
+    alloc: Global,
+    program: &Program<Global>,
+    promise: &Promise,
+    verdict: Verdict,
+) -> Result<Verdict, AllocError>
+    ensures { IfOk result (IsCertain (held program.now.image) promise.now most_steps) }
+{
+    match verdict {
+        Verdict::Held {
+            inputs,
+            kept,
+            tried,
+            total,
+            passage,
+            ..
+        } => {
+            let image = program.image();
+            let is_everywhere = tried == total
+                && holds_in_every_state(alloc, image, promise, inputs.as_slice(), MOST_STEPS)?;
+            Ok(Verdict::Held {
+                inputs,
+                kept,
+                tried,
+                total,
+                is_everywhere,
+                passage,
+            })
+        }
+        other => Ok(other),
+    }
+}
+
+/// Tries a promise of a program, one of those that are found in its source: its routine is entered in states of what the promise names
+/// and of what the routine looks at before it sets it, which is noted as it runs; bytes that the program lays are as it lays them,
+/// unless the promise names them. Where it held in all states, and neither the routine nor the promise looks at anything else, it
+/// holds in every world in which the routine is entered as the promise requires, within 1,000,000 steps. Refused only for want of
+/// memory.
+pub fn try_promise(
+    alloc: Global,
+    program: &Program<Global>,
+    found: &[Found],
+    promise: &Promise,
+    trials: Trials,
+) -> Result<Verdict, AllocError>
+    ensures { IfOk result (IsCertain (held program.now.image) promise.now most_steps) }
+{
+    let verdict = try_states(alloc, program, found, promise, trials)?;
+    certified(alloc, program, promise, verdict)
 }
