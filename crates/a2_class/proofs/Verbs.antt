@@ -4,7 +4,7 @@ use Rattle.std.proofs.Common.{sym, ap, ◌∙◌, arith}
 use Rattle.std.specs.List.{position_or_len}
 use Rattle.std.specs.Cmp.Lexicographic.{pointwise}
 use Rattle.a2_class.specs.declared.line.Verb.{Verb}
-use Rattle.a2_class.specs.declared.line.Verb.TheVariants.{Case, Keys, Limit, Call, Screen, Mem, Reg, Stop, Cycles, Bytes, Must}
+use Rattle.a2_class.specs.declared.line.Verb.TheVariants.{Case, Keys, Limit, Call, Screen, Mem, Reg, Stop, Stops, Cycles, Bytes, Must}
 use Rattle.a2_class.specs.declared.line.TheConstants.{VERBS}
 use Rattle.a2_class.specs.Lines.{verb_letters}
 
@@ -18,11 +18,12 @@ verb_number Screen = 4
 verb_number Mem = 5
 verb_number Reg = 6
 verb_number Stop = 7
-verb_number Cycles = 8
-verb_number Bytes = 9
-verb_number Must = 10
+verb_number Stops = 8
+verb_number Cycles = 9
+verb_number Bytes = 10
+verb_number Must = 11
 
-verb-few : (v : Verb) → verb_number v < 11
+verb-few : (v : Verb) → verb_number v < 12
 verb-few Case = omega arith
 verb-few _ = omega arith
 
@@ -49,7 +50,7 @@ pub verb-only : (word : List ℕ) (v w : Verb) → verb_letters v ≡ word → v
 verb-only word v w e f = ap (λ k. Some k) (same_verb v w (e ∙ sym f))
 
 -- a word that none of the verbs in the table is, is no verb's
-pub verb-none : (word : List ℕ) (n : ℕ) → 11 ≤ n
+pub verb-none : (word : List ℕ) (n : ℕ) → 12 ≤ n
     → ((k : ℕ) → k < n → verb_letters (slice_index_or VERBS k Case) ≢ word)
     → (v : Verb) → verb_letters v ≢ word
 verb-none word n all others v e =

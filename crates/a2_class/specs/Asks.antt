@@ -18,10 +18,10 @@ use Rattle.a2_machine.specs.Meaning.{End}
 use Rattle.a2_machine.specs.State.{MachineState, world_of_state}
 use Rattle.a2_run.specs.Meaning.{picture_of}
 use Rattle.a2_class.specs.Settings.{byte_of, name_in, digits_in}
-use Rattle.a2_class.specs.Rows.{rows_fit, holds}
+use Rattle.a2_class.specs.Rows.{rows_fit, row_is, holds}
 use Rattle.a2_class.specs.declared.line.Asked.{Asked}
 use Rattle.a2_class.specs.declared.line.Line.{Line}
-use Rattle.a2_class.specs.declared.line.Line.TheVariants.{Screen, Holds, Mem, Reg, Stop, Cycles, Bytes, Uses, Avoids}
+use Rattle.a2_class.specs.declared.line.Line.TheVariants.{Screen, Shows, Holds, Mem, Reg, Stop, Cycles, Bytes, Uses, Avoids}
 
 -- the address of a place: a number behind $, or a name of the program
 abbrev pub place_of : Assembled → List ℕ → Option ℕ
@@ -76,6 +76,7 @@ end_at state cause = record { world = world_of_state state; steps = state.steps;
 -- what a line asks holds of the end of a run; behind the line stand these lines, and the source has this program
 abbrev pub Meets : Line → List Asked → Assembled → End → Type 0
 Meets Screen rest program end = rows_fit rest (rows_of end.world.memory) ≡ true
+Meets (Shows number text) rest program end = row_is number text.now (rows_of end.world.memory) ≡ true
 Meets (Holds text) rest program end = holds text.now (rows_of end.world.memory) ≡ true
 Meets (Mem place bytes) rest program end = has_bytes_at end.world.memory (place_of program place.now) bytes.now ≡ true
 Meets (Reg text) rest program end = list_all (is_held end.world.registers) (words text.now) ≡ true

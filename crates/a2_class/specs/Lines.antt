@@ -3,7 +3,7 @@ use Rattle.std.specs.Prelude.{◌≡◌, ℕ, List, codes}
 use Rattle.std.specs.Str.Parse.{digits_value}
 use Rattle.a2_run.specs.Limits.{IsStepLimit}
 use Rattle.a2_class.specs.declared.line.Verb.{Verb}
-use Rattle.a2_class.specs.declared.line.Verb.TheVariants.{Case, Keys, Limit, Call, Screen, Mem, Reg, Stop, Cycles, Bytes, Must}
+use Rattle.a2_class.specs.declared.line.Verb.TheVariants.{Case, Keys, Limit, Call, Screen, Mem, Reg, Stop, Stops, Cycles, Bytes, Must}
 
 -- the letters of a verb
 abbrev pub verb_letters : Verb → List ℕ
@@ -15,6 +15,7 @@ verb_letters Screen = codes "screen"
 verb_letters Mem = codes "mem"
 verb_letters Reg = codes "reg"
 verb_letters Stop = codes "stop"
+verb_letters Stops = codes "stops"
 verb_letters Cycles = codes "cycles"
 verb_letters Bytes = codes "bytes"
 verb_letters Must = codes "must"

@@ -1,5 +1,5 @@
 -- Whether the rows of a screen are those that lines of a WANT ask for. This project's profile.
-use Rattle.std.specs.Prelude.{ℕ, Bool, true, false, not, if◌then◌else◌, ◌==◌, ◌&&◌, ◌||◌, List, [], ◌∷◌, nat_eq}
+use Rattle.std.specs.Prelude.{ℕ, Bool, true, false, not, if◌then◌else◌, ◌==◌, ◌&&◌, ◌||◌, List, [], ◌∷◌, Option, Some, None, nat_eq, slice_get}
 use Rattle.std.specs.List.{list_all, list_any, starts_with}
 use Rattle.a2_text.specs.Bytes.{is_blank}
 use Rattle.a2_class.specs.declared.line.Asked.{Asked}
@@ -49,6 +49,10 @@ row_count lines = if begins_with_row lines then 1 else 0
 abbrev pub rows_fit : List Asked → List (List ℕ) → Bool
 rows_fit wanted [] = not (begins_with_row wanted)
 rows_fit wanted (row ∷ rows) = row_fits (first_row wanted) row && rows_fit (behind_row wanted) rows
+
+-- the row of this number, from 0 at the top, is as it is wanted
+abbrev pub row_is : ℕ → List ℕ → List (List ℕ) → Bool
+row_is number wanted rows = elim (slice_get rows number) [ None ↦ false | Some row ↦ row_fits wanted row ]
 
 -- a text has a part in it
 abbrev pub has : List ℕ → List ℕ → Bool

@@ -9,7 +9,7 @@ ghost use Rattle.a2_class.specs.Asks as asked;
 ghost use Rattle.a2_class.specs.Asks.{IsFirstMissed, Meets, MeetsAll, MeetsFirst, end_at};
 
 use crate::line::{Asked, Line, behind};
-use crate::rows::{holds, rows_fit};
+use crate::rows::{holds, row_is, rows_fit};
 use crate::settings::{byte_of, digits_in, name_in};
 use a2_asm::{Program, Statement};
 use a2_cpu::Regs;
@@ -181,6 +181,7 @@ fn is_met_by<A: Allocator>(line: Line, rest: &[Asked], ending: &Ending<A>) -> bo
 {
     match line {
         Line::Screen => rows_fit(rest, ending.rows),
+        Line::Shows(number, text) => row_is(number, text, ending.rows),
         Line::Holds(text) => holds(ending.rows, text),
         Line::Mem(place, bytes) => has_bytes(ending, place, bytes),
         Line::Reg(text) => first_wrong(ending.machine, text).is_none(),

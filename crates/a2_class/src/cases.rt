@@ -2,7 +2,7 @@
 
 ghost use Rattle.std.specs.Prelude.{◌≤◌, length};
 
-use crate::line::{Asked, Line, line_of};
+use crate::line::{Asked, Line, asked_of};
 use std::alloc::{AllocError, Allocator};
 
 /// A case: its name, empty where the WANT names none, and its lines, before which those stand that come before the first case.
@@ -19,11 +19,7 @@ pub fn lines_of<'a, A: Allocator>(
 ) -> Result<Vec<Asked<'a>, A>, AllocError> {
     let mut lines = Vec::new(alloc);
     for (index, text) in texts.iter().enumerate() {
-        let line = line_of(*text);
-        lines.push(Asked {
-            number: index + 1,
-            line,
-        })?;
+        lines.push(asked_of(index + 1, *text))?;
     }
     Ok(lines)
 }

@@ -16,5 +16,5 @@ mod told;
 
 pub use cases::{Case, cases_of, lines_of};
 pub use judge::{Verdict, judge_source};
-pub use line::{Asked, Line};
+pub use line::{Asked, Line, asked_of, is_asking};
 pub use report::{Format, Found, Totals, put_head, put_solution, put_tail};

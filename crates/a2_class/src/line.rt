@@ -10,7 +10,7 @@ use a2_bus::Keys;
 use a2_machine::Cause;
 use a2_opcode::Mnemonic;
 use a2_run::step_limit;
-use a2_text::{behind_blanks, first_word, only_word, split_word};
+use a2_text::{behind_blanks, first_word, number_in, only_word, split_word};
 
 /// What a line of a WANT says. Of the texts in it each is a part of the line.
 #[derive(Clone, Copy)]
@@ -29,13 +29,15 @@ pub enum Line<'a> {
     Screen,
     /// `|TEXT`: a row of the screen.
     Row(&'a [u8]),
+    /// `screen row 3 = "TEXT"`: the row of this number, from 0 at the top, is this text; `~` is any.
+    Shows(u16, &'a [u8]),
     /// `screen holds "TEXT"`: a row of the screen has this text in it.
     Holds(&'a [u8]),
     /// `mem $320 = A9 01`: at this place, a number or a name, and behind it stand these bytes.
     Mem(&'a str, &'a [u8]),
     /// `reg A=E9 X=00`: these registers hold these bytes.
     Reg(&'a [u8]),
-    /// `stop RETURNED`: the run stops by this cause.
+    /// `stop RETURNED`, or `stops RETURNED`: the run stops by this cause.
     Stop(Cause),
     /// `cycles <= N`: the run takes at most so many cycles.
     Cycles(u32),
@@ -82,13 +84,14 @@ pub(crate) enum Verb {
     Mem,
     Reg,
     Stop,
+    Stops,
     Cycles,
     Bytes,
     Must,
 }
 
 // All verbs.
-const VERBS: [Verb; 11] = [
+const VERBS: [Verb; 12] = [
     Verb::Case,
     Verb::Keys,
     Verb::Limit,
@@ -97,6 +100,7 @@ const VERBS: [Verb; 11] = [
     Verb::Mem,
     Verb::Reg,
     Verb::Stop,
+    Verb::Stops,
     Verb::Cycles,
     Verb::Bytes,
     Verb::Must,
@@ -116,6 +120,7 @@ impl Verb {
             Verb::Mem => b"mem",
             Verb::Reg => b"reg",
             Verb::Stop => b"stop",
+            Verb::Stops => b"stops",
             Verb::Cycles => b"cycles",
             Verb::Bytes => b"bytes",
             Verb::Must => b"must",
@@ -281,15 +286,30 @@ fn must<'a>(rest: &'a [u8]) -> Option<Line<'a>> {
     Some(Line::Avoids(mnemonic_in(name)?))
 }
 
+// What stands between the quotes of a text.
+fn quoted(text: &[u8]) -> Option<&[u8]> {
+    match behind_blanks(text) {
+        [b'"', inner @ .., b'"'] => Some(inner),
+        _ => None,
+    }
+}
+
+// What stands behind `screen row`.
+fn shown<'a>(rest: &'a [u8]) -> Option<Line<'a>> {
+    let (number, behind) = first_word(rest)?;
+    let number = number_in(10, 2, number)?;
+    Some(Line::Shows(number, quoted(after(b"=", behind)?)?))
+}
+
 // What stands behind `screen`.
 fn screen<'a>(rest: &'a [u8]) -> Option<Line<'a>> {
     if first_word(rest).is_none() {
         return Some(Line::Screen);
     }
-    match behind_blanks(after(b"holds", rest)?) {
-        [b'"', text @ .., b'"'] => Some(Line::Holds(text)),
-        _ => None,
+    if let Some(row) = after(b"row", rest) {
+        return shown(row);
     }
+    Some(Line::Holds(quoted(after(b"holds", rest)?)?))
 }
 
 // What stands behind `mem`.
@@ -335,7 +355,7 @@ fn said<'a>(verb: Verb, rest: &'a [u8]) -> Option<Line<'a>> {
         Verb::Screen => screen(rest),
         Verb::Mem => mem(rest),
         Verb::Reg => reg(rest),
-        Verb::Stop => Some(Line::Stop(cause_in(rest)?)),
+        Verb::Stop | Verb::Stops => Some(Line::Stop(cause_in(rest)?)),
         Verb::Cycles => Some(Line::Cycles(most_in(rest)?)),
         Verb::Bytes => Some(Line::Bytes(most_in(rest)?)),
         Verb::Must => must(rest),
@@ -357,5 +377,26 @@ pub(crate) fn line_of<'a>(text: &'a [u8]) -> Line<'a> {
             Some(line) => line,
             None => Line::Unknown,
         },
+    }
+}
+
+/// Whether a text begins as a line of a WANT does that says something, by its word or by `|`: what stands behind may still be in no form.
+pub fn is_asking(text: &[u8]) -> bool {
+    match behind_blanks(text) {
+        [b'|', ..] => true,
+        here => {
+            let (word, _) = split_word(here);
+            verb_of(word).is_some()
+        }
+    }
+}
+
+/// What a text says as the line of a WANT that has this number, from 1.
+pub fn asked_of<'a>(number: usize, text: &'a [u8]) -> Asked<'a>
+    ensures { result.number ≡ number }
+{
+    Asked {
+        number,
+        line: line_of(text),
     }
 }

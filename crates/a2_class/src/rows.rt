@@ -86,6 +86,16 @@ pub(crate) fn rows_fit(lines: &[Asked], shown: &[&[u8]]) -> bool
     !begins_with_row(behind(lines, used))
 }
 
+/// Whether the row of a number, from 0 at the top, is as it is wanted.
+pub(crate) fn row_is(number: u16, wanted: &[u8], shown: &[&[u8]]) -> bool
+    ensures { result ≡ row.row_is number wanted.now (map (λ x. x.now) shown.now) }
+{
+    match shown.get(usize::from(number)) {
+        Some(text) => row_fits(wanted, *text),
+        None => false,
+    }
+}
+
 // Whether a text has another in it.
 fn has(text: &[u8], part: &[u8]) -> bool
     ensures { result ≡ row.has part.now text.now }

@@ -56,6 +56,16 @@ fn tell_rows<A: Allocator>(
     let Some((number, wanted, row)) = first_unlike(lines, shown) else {
         return tell(text, &[b"the screen has fewer rows"]);
     };
+    tell_row(text, number, wanted, row)
+}
+
+// Tells a row of the screen that is not as it is wanted.
+fn tell_row<A: Allocator>(
+    text: &mut Vec<u8, A>,
+    number: usize,
+    wanted: &[u8],
+    row: &[u8],
+) -> Result<(), AllocError> {
     let number = decimal(number as u64);
     tell(
         text,
@@ -69,6 +79,19 @@ fn tell_rows<A: Allocator>(
             b"\"",
         ],
     )
+}
+
+// Tells the row of a number that is not as it is wanted.
+fn tell_row_at<A: Allocator>(
+    text: &mut Vec<u8, A>,
+    number: u16,
+    wanted: &[u8],
+    shown: &[&[u8]],
+) -> Result<(), AllocError> {
+    match shown.get(usize::from(number)) {
+        Some(row) => tell_row(text, usize::from(number), wanted, *row),
+        None => tell(text, &[b"the screen has fewer rows"]),
+    }
 }
 
 // Appends two hexadecimal digits, or `no byte`.
@@ -163,6 +186,7 @@ fn tell_difference<A: Allocator>(
     };
     match asked.line {
         Line::Screen => tell_rows(text, rest, ending.rows),
+        Line::Shows(number, wanted) => tell_row_at(text, number, wanted, ending.rows),
         Line::Holds(part) => tell(text, &[b"no row of the screen has \"", part, b"\""]),
         Line::Mem(place, bytes) => tell_memory(text, place, bytes, ending),
         Line::Reg(words) => tell_registers(text, words, ending),

@@ -18,7 +18,7 @@ mod words;
 
 pub use expr::{Atom, Expr, Function, Operation};
 pub use fault::Refusal;
-pub use promises::{Changes, Clause, Found, Promise, Range, Within, promises_of};
+pub use promises::{Changes, Clause, Found, Promise, Range, Within, promise_in, promises_of};
 pub use valuing::{Bounds, Sight, value};
 
 /// A theorem, and no code: the value of an expression depends on nothing but the bytes, registers and flags that it looks at.

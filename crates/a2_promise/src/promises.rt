@@ -1,5 +1,8 @@
 //! The promises of a source text.
 
+ghost use Rattle.std.specs.Prelude.{ℕ, List, MatchOption};
+ghost use Rattle.a2_promise.specs.Said.{Says};
+
 use crate::expr::Expr;
 use crate::fault::{ReadFault, Refusal};
 use crate::parsing::expression;
@@ -275,8 +278,10 @@ fn push_clause<'a>(clauses: &mut Vec<Clause<'a>>, clause: Clause<'a>) -> Result<
     Ok(clauses.push(clause)?)
 }
 
-// What stands behind `;:`, if a line begins so.
-fn promise_in(line: &[u8]) -> Option<&[u8]> {
+/// What stands behind `;:`, which blanks may stand before, if a line begins so.
+pub fn promise_in(line: &[u8]) -> Option<&[u8]>
+    ensures { MatchOption result ((rest : List ℕ) → Says line.now rest → ⊥) (λ rest. Says line.now rest.now) }
+{
     match behind_blanks(line) {
         [b';', b':', rest @ ..] => Some(rest),
         _ => None,

@@ -7,14 +7,15 @@ use crate::program::{tell, text_of};
 use crate::table::Word;
 use crate::tools::told;
 use a2_asm::Program;
+use a2_class::{Asked, Line, Verdict as RunVerdict, asked_of, cases_of, is_asking, judge_source};
 use a2_host::Shelf;
 use a2_options::{Found, Kind, Row};
-use a2_promise::{Found as Stated, promises_of};
+use a2_promise::{Found as Stated, promise_in, promises_of};
 use a2_run::{RunFault, step_limit};
-use a2_stream::{Input, Output};
-use a2_text::cut;
+use a2_stream::{Input, Output, WriteFault, put_all};
+use a2_text::{cut, decimal};
 use a2_trial::{Trials, Verdict, put_refusal, put_verdict, try_promise};
-use std::alloc::Global;
+use std::alloc::{AllocError, Global};
 
 // How many states are tried without `--states`.
 const TRIALS: Trials = Trials {
@@ -97,6 +98,147 @@ fn judge_one<W: Output>(
     Ok(())
 }
 
+// What the lines of a source promise.
+#[derive(Drop)]
+struct Lines<'a> {
+    // What its run promises: the lines behind `;:` that are those of a WANT.
+    run: Vec<Asked<'a>>,
+    // All lines, but blank ones in their place.
+    others: Vec<&'a [u8]>,
+}
+
+// Parts the lines that say what the run promises from the others.
+fn parted<'a>(alloc: Global, lines: &[&'a [u8]]) -> Result<Lines<'a>, AllocError> {
+    let mut parts = Lines {
+        run: Vec::new(alloc),
+        others: Vec::new(alloc),
+    };
+    for (index, line) in lines.iter().enumerate() {
+        match promise_in(*line) {
+            Some(text) if is_asking(text) => {
+                parts.run.push(asked_of(index + 1, text))?;
+                parts.others.push(b"")?;
+            }
+            _ => parts.others.push(*line)?,
+        }
+    }
+    Ok(parts)
+}
+
+// Tries all promises of routines that lines make.
+fn judge_routines<W: Output>(
+    alloc: Global,
+    program: &Program<Global>,
+    lines: &[&[u8]],
+    trials: Trials,
+    sum: &mut Sum,
+    output: &mut W,
+) -> Result<(), RunFault> {
+    let found = promises_of(alloc, lines, program)?;
+    for one in &found {
+        judge_one(
+            alloc,
+            program,
+            lines,
+            found.as_slice(),
+            one,
+            trials,
+            sum,
+            output,
+        )?;
+    }
+    Ok(())
+}
+
+// Writes why a line says nothing of a run.
+fn put_unknown<W: Output>(asked: &Asked, output: &mut W) -> Result<(), WriteFault> {
+    let number = decimal(asked.number as u64);
+    put_all(
+        &[
+            b"the run: REFUSED: line ",
+            number.as_slice(),
+            b": no line of a run has this form (class.md has them)\n",
+        ],
+        output,
+    )
+}
+
+// Writes what is found of a run that lines of a case ask for.
+fn put_run<W: Output>(
+    name: &[u8],
+    verdict: &RunVerdict<Global>,
+    output: &mut W,
+) -> Result<(), WriteFault> {
+    let blank: &[u8] = if name.is_empty() { b"" } else { b" " };
+    match verdict {
+        RunVerdict::Passed => put_all(&[b"the run", blank, name, b": held\n"], output),
+        RunVerdict::Missed(line, told) => {
+            let line = decimal(*line as u64);
+            put_all(
+                &[
+                    b"the run",
+                    blank,
+                    name,
+                    b": FAILS: line ",
+                    line.as_slice(),
+                    b": ",
+                    told.as_slice(),
+                    b"\n",
+                ],
+                output,
+            )
+        }
+        RunVerdict::NotCalled => put_all(
+            &[
+                b"the run",
+                blank,
+                name,
+                b": FAILS: its routine can't be called\n",
+            ],
+            output,
+        ),
+    }
+}
+
+// Whether lines all say something of a run; where one doesn't, it is told.
+fn are_known<W: Output>(run: &[Asked], output: &mut W) -> Result<bool, WriteFault> {
+    let mut known = true;
+    for asked in run {
+        if let Line::Unknown = asked.line {
+            known = false;
+            put_unknown(asked, output)?;
+        }
+    }
+    Ok(known)
+}
+
+// Judges what a source's own run promises.
+fn judge_run<W: Output>(
+    alloc: Global,
+    source: &[u8],
+    run: &[Asked],
+    sum: &mut Sum,
+    output: &mut W,
+) -> Result<(), RunFault> {
+    if run.is_empty() {
+        return Ok(());
+    }
+    sum.count = sum.count.saturating_add(1);
+    if !are_known(run, output)? {
+        sum.refused = true;
+        return Ok(());
+    }
+    let cases = cases_of(alloc, run)?;
+    let verdicts = judge_source(alloc, cases.as_slice(), source)?;
+    for (case, verdict) in cases.iter().zip(&verdicts) {
+        if !matches!(verdict, RunVerdict::Passed) {
+            sum.failed = true;
+        }
+        put_run(case.name, verdict, output)?;
+    }
+    Ok(())
+}
+
 // Tries all promises of a source with this program.
 fn judge_all<W: Output>(
     alloc: Global,
@@ -106,24 +248,21 @@ fn judge_all<W: Output>(
     output: &mut W,
 ) -> Result<Sum, RunFault> {
     let lines = cut(alloc, source)?;
-    let found = promises_of(alloc, lines.as_slice(), program)?;
+    let parts = parted(alloc, lines.as_slice())?;
     let mut sum = Sum {
         count: 0,
         refused: false,
         failed: false,
     };
-    for one in &found {
-        judge_one(
-            alloc,
-            program,
-            lines.as_slice(),
-            found.as_slice(),
-            one,
-            trials,
-            &mut sum,
-            output,
-        )?;
-    }
+    judge_routines(
+        alloc,
+        program,
+        parts.others.as_slice(),
+        trials,
+        &mut sum,
+        output,
+    )?;
+    judge_run(alloc, source, parts.run.as_slice(), &mut sum, output)?;
     Ok(sum)
 }
 
