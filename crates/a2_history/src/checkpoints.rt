@@ -12,6 +12,9 @@ use a2_spread::{STRIDE, is_kept, width_of};
 use std::alloc::{Allocator, Global};
 use std::marker::Model;
 
+// How often a stride is doubled at most: it is a fiftieth of 100,000,000 steps then.
+const DOUBLINGS: u32 = 11;
+
 /// Checkpoints at multiples of `STRIDE`, the earliest first.
 #[derive(Drop)]
 pub struct Checkpoints<A: Allocator = Global> {
@@ -31,11 +34,34 @@ impl<A: Allocator> Model for Checkpoints<A> {
     ghost invariant = { λ c. length c.held.items ≤ c.most };
 }
 
+// The steps from one that is made to the next: `STRIDE`, doubled as long as that is at most a fiftieth of the steps so far. A copy takes
+// the time of thousands of steps.
+fn stride_at(position: u64) -> u64 {
+    let mut stride = STRIDE;
+    for _ in 0..DOUBLINGS {
+        if stride <= position / 100 {
+            stride = stride.saturating_mul(2);
+        }
+    }
+    stride
+}
+
+// Whether a position is one of those, where it is a multiple of `STRIDE`.
+fn is_made_at(position: u64) -> bool {
+    match position.checked_rem(stride_at(position)) {
+        Some(rest) => rest == 0,
+        None => false,
+    }
+}
+
 // Whether one is to be made at a position, behind all that are held.
 fn is_due<A: Allocator>(held: &[Machine<A>], position: u64) -> bool {
+    if position % STRIDE != 0 {
+        return false;
+    }
     match held.last() {
-        Some(newest) => position % STRIDE == 0 && newest.steps() < position,
-        None => position % STRIDE == 0,
+        Some(newest) => newest.steps() < position && is_made_at(position),
+        None => is_made_at(position),
     }
 }
 

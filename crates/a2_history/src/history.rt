@@ -51,7 +51,8 @@ impl<A: Allocator> Model for History<A> {
 
 impl<A: Allocator + Copy> History<A> {
     /// The history of a machine that has made no step, at its start, with at most `most` checkpoints later, of which each takes some
-    /// 124,000 bytes: those that `a2_spread` keeps where the farthest position is that was reached. Refused only for want of memory.
+    /// 124,000 bytes. They are made at each 1,024 steps, and later at each fiftieth to hundredth of the steps so far; of these
+    /// are held those that `a2_spread` keeps where the farthest position is that was reached. Refused only for want of memory.
     pub fn new(alloc: A, machine: Machine<A>, most: usize) -> Result<History<A>, AllocError>
         requires { machine.state.steps ≡ 0 }
         ensures { IfOk result (λ h. h ≡ record { course = record { origin = machine.state; log = [] }; position = 0 }) }
