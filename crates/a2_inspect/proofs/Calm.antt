@@ -1,7 +1,7 @@
 -- What a run keeps between the addresses that are marked.
 use Rattle.std.specs.Prelude.{IsTrue, ◌≢◌, is_some, length, take, get_or, slice_set, ◌||◌, ◌&&◌, ◌==◌, nat_le, nat_lt, if◌then◌else◌}
 use Rattle.std.specs.List.{list_any}
-use Rattle.std.proofs.Common.{◌≡◌, ◌⊎◌, inl, inr, ℕ, zero, suc, ◌+◌, ◌-◌, ◌<◌, ◌≤◌, Bool, true, false, true≢false, List, [], ◌∷◌, Option, Some, None, Result, Ok, Err, refl, sym, ap, ap₂, subst, ◌∙◌, arith}
+use Rattle.std.proofs.Common.{◌≡◌, ◌⊎◌, inl, inr, ℕ, zero, suc, ◌+◌, ◌-◌, ◌<◌, Bool, true, false, true≢false, List, [], ◌∷◌, Option, Some, None, Result, Ok, Err, refl, sym, ap, ap₂, subst, ◌∙◌, arith}
 use Rattle.std.proofs.lemmas.Bool.{ne_eqb}
 use Rattle.std.proofs.lemmas.Bool.Decides.{nat_tests}
 use Rattle.std.proofs.lemmas.List.{get_or-set_same, get_or-set_other}
@@ -12,7 +12,7 @@ use Rattle.a2_opcode.specs.Encoding.{Fetched, no_byte, undocumented, instruction
 use Rattle.a2_bus.specs.Memory.{Memory, ram_end, ram_byte, peek, memory_access}
 use Rattle.a2_bus.proofs.Frame.{changed_by_writes}
 use Rattle.a2_cpu.specs.Instruction.{performed}
-use Rattle.a2_cpu.specs.Stores.{stores_of, IsNotIn}
+use Rattle.a2_cpu.specs.Stores.{IsNotIn}
 use Rattle.a2_cpu.proofs.StoresLemmas.{performed-stores}
 use Rattle.a2_cpu.proofs.EffectStores.{stores_of-is}
 use Rattle.a2_services.specs.declared.Service.{Service}

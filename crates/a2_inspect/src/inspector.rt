@@ -1,6 +1,7 @@
 //! A source's run, and the lines of a debugger.
 
-ghost use Rattle.std.specs.Prelude.{◌≡◌, ◌==◌, ◌&&◌, ◌⊎◌, ◌-◌, false, IfOk, IfErr};
+ghost use Rattle.std.specs.Prelude.{◌≡◌, ◌==◌, ◌&&◌, ◌⊎◌, ◌-◌, ℕ, List, false, IfOk, IfErr};
+ghost use Rattle.a2_stream.specs.Stream.{SendsOrBreaks};
 ghost use Rattle.a2_machine.specs.State.{world_of_state};
 ghost use Rattle.a2_history.specs.Going.{here, Lasts};
 ghost use Rattle.a2_history.specs.Routines.{entered};
@@ -12,6 +13,7 @@ ghost use Rattle.a2_inspect.specs.Stops.{is_stop, is_changed_in};
 ghost use Rattle.a2_inspect.specs.Inspections.{
   IsDone,
   IsObeyed,
+  IsAnswered,
   IsBegun,
   is_at,
   GoesOn,
@@ -30,10 +32,12 @@ ghost use Rattle.a2_inspect.specs.Inspections.{
   meant,
 };
 
+mod replay;
+
 use crate::alerts::Alerts;
 use crate::order::{Order, Outcome, Refusal, Show};
 use crate::reading::order_of;
-use crate::sheet::{Stand, tell};
+use crate::sheet::{Detail, Stand, tell};
 use crate::sights::{At, Changed, Left, Stops};
 use crate::stops::Break;
 use crate::verbs::verb_of;
@@ -87,6 +91,8 @@ pub struct Inspector<'a, A: Allocator = Global> {
     last: Line,
     // The most steps that one line makes which looks for a place.
     most: u32,
+    // What a stop tells of.
+    detail: Detail,
 }
 
 impl<'a, A: Allocator> Model for Inspector<'a, A> {
@@ -399,6 +405,7 @@ impl<'a, A: Allocator + Copy> Inspector<'a, A> {
             watches: Watches::new(),
             last: Line::new(),
             most,
+            detail: Detail::Full,
         })
     }
 
@@ -476,12 +483,17 @@ fn with_entries<A: Allocator + Copy>(
     }
 }
 
-impl<A: Allocator + Copy> Partner for Inspector<'_, A> {
-    ghost use Rattle.a2_inspect.specs.Inspections.{IsAnswered};
-
-    ghost meets = { λ line old text new. IsAnswered line old new };
-
-    fn answer<W: Output>(&mut self, line: &[u8], writer: &mut W) -> Result<(), WriteFault> {
+impl<A: Allocator + Copy> Inspector<'_, A> {
+    // Answers a line, in this detail.
+    fn answer_in<W: Output>(
+        &mut self,
+        detail: Detail,
+        line: &[u8],
+        writer: &mut W,
+    ) -> Result<(), WriteFault>
+        ensures { (text : List ℕ) × IsAnswered line.now self.old self.new
+            × SendsOrBreaks (W.taker writer.old) (W.taker writer.new) result text }
+    {
         let line = meant_by(line, &self.last);
         let outcome = self.obey(line.as_slice());
         self.last = line;
@@ -497,8 +509,40 @@ impl<A: Allocator + Copy> Partner for Inspector<'_, A> {
             watches: self.watches.as_slice(),
             entries: entries.as_slice(),
             most: self.most,
+            detail,
         };
         tell(self.alloc, &stand, outcome, writer)
+    }
+
+    /// Answers a line for whoever shows source and screen beside the answer: at a stop it has neither.
+    pub fn answer_beside<W: Output>(
+        &mut self,
+        line: &[u8],
+        writer: &mut W,
+    ) -> Result<(), WriteFault>
+        ensures { (text : List ℕ) × IsAnswered line.now self.old self.new
+            × SendsOrBreaks (W.taker writer.old) (W.taker writer.new) result text }
+    {
+        self.answer_in(Detail::Beside, line, writer)
+    }
+}
+
+impl<A: Allocator + Copy> Partner for Inspector<'_, A> {
+    ghost use Rattle.a2_inspect.specs.Inspections.{IsAnswered};
+
+    ghost meets = { λ line old text new. IsAnswered line old new };
+
+    fn answer<W: Output>(&mut self, line: &[u8], writer: &mut W) -> Result<(), WriteFault> {
+        self.answer_in(self.detail, line, writer)
+    }
+}
+
+impl<A: Allocator> Inspector<'_, A> {
+    /// From now on no answer has lines of the source, but for that of `list`, which asks for them.
+    pub fn tell_plainly(&mut self)
+        ensures { self.new ≡ self.old }
+    {
+        self.detail = Detail::Plain;
     }
 }
 

@@ -6,12 +6,12 @@ ghost use Rattle.a2_stream.specs.Stream.{SendsOrBreaks};
 use crate::inspector::{MOST_BREAKS, MOST_WATCHES};
 use crate::order::{Outcome, Refusal, Show};
 use crate::stops::{Break, Condition, Register, Relation, Subject, in_register};
-use a2_cpu::Regs;
+use a2_cpu::{Regs, Status};
 use a2_explain::{Scene, meaning, put_address, put_number, put_place, statement_at};
 use a2_history::{Entry, History};
 use a2_machine::{Cause, Machine, write_registers};
 use a2_opcode::list_line;
-use a2_page::print;
+use a2_page::{Page, Switches, cell, glyph, print};
 use a2_places::Span;
 use a2_stream::{Output, ToWrite, WriteFault, put, put_all};
 use a2_text::{decimal, hex_pair, hex_word};
@@ -43,8 +43,36 @@ help, quit   this; ends
 P is a name, a line as 12:, or an address as $300, also with + and a number behind it. An empty line does the last again.
 ";
 
-// How many lines are shown before the place, and behind it.
-const LINES_AROUND: u16 = 4;
+// How many lines are listed before the place, and behind it.
+const LINES_LISTED: u16 = 4;
+
+// How many of them are shown at a stop.
+const LINES_AT_STOP: u16 = 2;
+
+// How many bytes that changed are told, beside those that are watched, and how many stand in a line.
+const MOST_CHANGES: u32 = 10;
+
+const CHANGES_IN_LINE: u32 = 5;
+
+// The first address behind RAM.
+const RAM_END: u16 = 0xC000;
+
+// The first row of the mixed modes that has characters.
+const MIXED_ROW: u8 = 20;
+
+// What stands behind the number of a line, up to the column of its text.
+const BEHIND_NUMBER: &[u8; 6] = b"      ";
+
+/// What is told beside where a run stands, and what changed.
+#[derive(Clone, Copy)]
+pub enum Detail {
+    /// The lines of the source, and the screen where it changed.
+    Full,
+    /// The screen, and no line of the source.
+    Plain,
+    /// Neither: whoever asks shows both.
+    Beside,
+}
 
 /// Where a run stands.
 #[derive(Drop)]
@@ -59,6 +87,7 @@ pub struct Stand<'a, A: Allocator> {
     pub entries: &'a [Entry],
     /// The most steps that one line makes which looks for a place.
     pub most: u32,
+    pub detail: Detail,
 }
 
 // The byte of RAM at an address, or 0.
@@ -84,15 +113,36 @@ fn put_instruction<A: Allocator, W: Output>(
     put(list_line(&bytes, address).text.as_str().as_bytes(), writer)
 }
 
+// Writes a place: the line of the source that stands there, where lines are told and one does.
+fn put_spot<A: Allocator, W: Output>(
+    stand: &Stand<A>,
+    address: u16,
+    writer: &mut W,
+) -> Result<(), WriteFault> {
+    match stand.detail {
+        Detail::Plain => put_address(address, writer),
+        _ => put_place(&stand.scene, address, writer),
+    }
+}
+
+// Writes the place where the run stands, and the instruction; its address alone where no line is told.
+fn put_here<A: Allocator, W: Output>(stand: &Stand<A>, writer: &mut W) -> Result<(), WriteFault> {
+    let machine = stand.history.machine();
+    let pc = machine.regs().pc;
+    let is_plain = matches!(stand.detail, Detail::Plain);
+    if !is_plain || machine.peek(pc).is_none() {
+        put(b"  ", writer)?;
+        put_spot(stand, pc, writer)?;
+    }
+    put_instruction(machine, pc, writer)
+}
+
 // Writes where the run stands: the step, the line of the source, the instruction, and the registers.
 fn put_stand<A: Allocator, W: Output>(stand: &Stand<A>, writer: &mut W) -> Result<(), WriteFault> {
     let machine = stand.history.machine();
-    let pc = machine.regs().pc;
     put(b"step ", writer)?;
     put_number(machine.steps(), writer)?;
-    put(b"  ", writer)?;
-    put_place(&stand.scene, pc, writer)?;
-    put_instruction(machine, pc, writer)?;
+    put_here(stand, writer)?;
     put(b"\n", writer)?;
     write_registers(machine, writer)
 }
@@ -113,6 +163,30 @@ fn put_change<W: Output>(
     )
 }
 
+// Writes a flag that is another than before.
+fn put_flag<W: Output>(
+    letter: u8,
+    before: bool,
+    now: bool,
+    writer: &mut W,
+) -> Result<(), WriteFault> {
+    match (before, now) {
+        (false, true) => put_all(&[b" ", &[letter], b"=0->1"], writer),
+        (true, false) => put_all(&[b" ", &[letter], b"=1->0"], writer),
+        _ => Ok(()),
+    }
+}
+
+// Writes the flags that are others than before.
+fn put_flags<W: Output>(before: Status, now: Status, writer: &mut W) -> Result<(), WriteFault> {
+    put_flag(b'N', before.negative(), now.negative(), writer)?;
+    put_flag(b'V', before.overflow(), now.overflow(), writer)?;
+    put_flag(b'D', before.decimal(), now.decimal(), writer)?;
+    put_flag(b'I', before.interrupt(), now.interrupt(), writer)?;
+    put_flag(b'Z', before.zero(), now.zero(), writer)?;
+    put_flag(b'C', before.carry(), now.carry(), writer)
+}
+
 // Writes which registers have other values than before, but for PC.
 fn put_changes<W: Output>(before: Regs, now: Regs, writer: &mut W) -> Result<(), WriteFault> {
     put(b"changed:", writer)?;
@@ -120,6 +194,7 @@ fn put_changes<W: Output>(before: Regs, now: Regs, writer: &mut W) -> Result<(),
     put_change(b"X", before.x, now.x, writer)?;
     put_change(b"Y", before.y, now.y, writer)?;
     put_change(b"P", before.p.pushed(), now.p.pushed(), writer)?;
+    put_flags(before.p, now.p, writer)?;
     put_change(b"S", before.s, now.s, writer)?;
     put(b"\n", writer)
 }
@@ -133,49 +208,201 @@ fn is_changed(before: Regs, now: Regs) -> bool {
         || before.s != now.s
 }
 
-// Writes a watched byte that has another value than before.
+// Writes a byte before and now, behind so many others.
 fn put_byte_change<A: Allocator, W: Output>(
     stand: &Stand<A>,
     address: u16,
+    behind: u32,
     writer: &mut W,
 ) -> Result<(), WriteFault> {
-    match (
-        stand.before.peek(address),
-        stand.history.machine().peek(address),
-    ) {
-        (Some(before), Some(now)) if before != now => {
-            put(b"changed: ", writer)?;
-            put_address(address, writer)?;
-            put_all(
-                &[b"=", &hex_pair(before), b"->", &hex_pair(now), b"\n"],
-                writer,
-            )
+    if behind % CHANGES_IN_LINE == 0 {
+        if behind > 0 {
+            put(b"\n", writer)?;
         }
-        _ => Ok(()),
+        put(b"changed:", writer)?;
     }
+    let before = byte_at(stand.before, address);
+    let now = byte_at(stand.history.machine(), address);
+    put(b" ", writer)?;
+    put_address(address, writer)?;
+    put_all(&[b"=", &hex_pair(before), b"->", &hex_pair(now)], writer)
+}
+
+// Ends the line behind so many such bytes.
+fn put_end<W: Output>(told: u32, writer: &mut W) -> Result<(), WriteFault> {
+    if told == 0 {
+        return Ok(());
+    }
+    put(b"\n", writer)
+}
+
+// Whether an address is that of a watched byte.
+fn is_watched(watches: &[Span], address: u16) -> bool {
+    watches
+        .iter()
+        .any(|span| span.first <= address && address <= span.last)
+}
+
+// Whether a byte has another value than before.
+fn is_changed_at<A: Allocator>(stand: &Stand<A>, address: u16) -> bool {
+    byte_at(stand.before, address) != byte_at(stand.history.machine(), address)
 }
 
 // Writes the watched bytes that have other values than before.
-fn put_byte_changes<A: Allocator, W: Output>(
+fn put_watched<A: Allocator, W: Output>(
     stand: &Stand<A>,
     writer: &mut W,
 ) -> Result<(), WriteFault> {
-    for span in stand.watches {
-        for address in span.first..=span.last {
-            put_byte_change(stand, address, writer)?;
+    if stand.watches.is_empty() {
+        return Ok(());
+    }
+    let mut told = 0u32;
+    for address in 0..RAM_END {
+        if is_watched(stand.watches, address) && is_changed_at(stand, address) {
+            put_byte_change(stand, address, told, writer)?;
+            told = told.saturating_add(1);
         }
+    }
+    put_end(told, writer)
+}
+
+// Whether a row of cells shows that one of its bytes is another: characters do unless the glyph is the same, hi-res does not.
+fn is_row_other(switches: Switches, row: u8, before: u8, now: u8) -> bool {
+    if switches.text || switches.mixed && row >= MIXED_ROW {
+        glyph(before) != glyph(now)
+    } else {
+        !switches.hires
+    }
+}
+
+// Whether the screen shows that a byte is another than before.
+fn is_screen_other<A: Allocator>(stand: &Stand<A>, address: u16) -> bool {
+    let machine = stand.history.machine();
+    let switches = machine.view().switches;
+    match cell(address) {
+        Some((page, row, _)) => (page == Page::Two) == switches.page2
+            && is_row_other(
+                switches,
+                row,
+                byte_at(stand.before, address),
+                byte_at(machine, address),
+            ),
+        None => false,
+    }
+}
+
+// Whether an address is one of the stack at which nothing is pushed that has not been pulled.
+fn is_free<A: Allocator>(machine: &Machine<A>, address: u16) -> bool {
+    0x100 <= address && address <= 0x100 + u16::from(machine.regs().s)
+}
+
+// Whether a byte has another value than before that is to be told: it is not watched, the screen does not show it, and it is none of
+// what the stack has free.
+fn is_other<A: Allocator>(stand: &Stand<A>, address: u16) -> bool {
+    is_changed_at(stand, address)
+        && !is_watched(stand.watches, address)
+        && !is_screen_other(stand, address)
+        && !is_free(stand.history.machine(), address)
+}
+
+// Writes the first such bytes, and how many more there are.
+fn put_others<A: Allocator, W: Output>(stand: &Stand<A>, writer: &mut W) -> Result<(), WriteFault> {
+    let mut others = 0u32;
+    for address in 0..RAM_END {
+        if is_other(stand, address) {
+            if others < MOST_CHANGES {
+                put_byte_change(stand, address, others, writer)?;
+            }
+            others = others.saturating_add(1);
+        }
+    }
+    put_end(others, writer)?;
+    if others > MOST_CHANGES {
+        put(b"changed: ", writer)?;
+        put_number(u64::from(others - MOST_CHANGES), writer)?;
+        put(b" more\n", writer)?;
     }
     Ok(())
 }
 
-// Writes a stop: where the run stands, and what changed.
-fn put_stop<A: Allocator, W: Output>(stand: &Stand<A>, writer: &mut W) -> Result<(), WriteFault> {
+// The screen that a machine shows, in lines. Refused only for want of memory.
+fn screen_of<A: Allocator, B: Allocator + Copy>(
+    alloc: B,
+    machine: &Machine<A>,
+) -> Result<Vec<u8, B>, WriteFault> {
+    let mut screen = Vec::new(alloc);
+    print(&machine.view(), &mut ToWrite::new(&mut screen))?;
+    Ok(screen)
+}
+
+// A line without the blanks at its end; none is an empty one.
+fn trimmed<'a>(line: Option<&'a [u8]>) -> &'a [u8] {
+    match line {
+        Some(line) => line.trim_ascii_end(),
+        None => b"",
+    }
+}
+
+// Writes what a line of the screen shows, behind its number.
+fn put_screen_line<W: Output>(line: &[u8], writer: &mut W) -> Result<(), WriteFault> {
+    if line.is_empty() {
+        return put(b":\n", writer);
+    }
+    put_all(&[b": ", line, b"\n"], writer)
+}
+
+// Writes the lines of the screen that are others than before, each with its number, from 0 on, without the blanks at its end.
+fn put_screen_lines<W: Output>(
+    before: &[u8],
+    now: &[u8],
+    writer: &mut W,
+) -> Result<(), WriteFault> {
+    let mut earlier = before.split(|c| *c == b'\n');
+    let mut number = 0u64;
+    for line in now.split(|c| *c == b'\n') {
+        let line = line.trim_ascii_end();
+        if line != trimmed(earlier.next()) {
+            put(b"screen ", writer)?;
+            put_number(number, writer)?;
+            put_screen_line(line, writer)?;
+        }
+        number = number.saturating_add(1);
+    }
+    Ok(())
+}
+
+// Writes where the screen is another than before.
+fn put_screen_changes<A: Allocator, B: Allocator + Copy, W: Output>(
+    alloc: B,
+    stand: &Stand<A>,
+    writer: &mut W,
+) -> Result<(), WriteFault> {
+    let before = screen_of(alloc, stand.before)?;
+    let now = screen_of(alloc, stand.history.machine())?;
+    put_screen_lines(before.as_slice(), now.as_slice(), writer)
+}
+
+// Writes a stop: where the run stands, what changed, and the lines of the source around it.
+fn put_stop<A: Allocator, B: Allocator + Copy, W: Output>(
+    alloc: B,
+    stand: &Stand<A>,
+    writer: &mut W,
+) -> Result<(), WriteFault> {
     put_stand(stand, writer)?;
     let (before, now) = (stand.before.regs(), stand.history.machine().regs());
     if is_changed(before, now) {
         put_changes(before, now, writer)?;
     }
-    put_byte_changes(stand, writer)
+    put_watched(stand, writer)?;
+    put_others(stand, writer)?;
+    match stand.detail {
+        Detail::Beside => Ok(()),
+        Detail::Plain => put_screen_changes(alloc, stand, writer),
+        Detail::Full => {
+            put_screen_changes(alloc, stand, writer)?;
+            put_lines(stand, LINES_AT_STOP, writer)
+        }
+    }
 }
 
 // Writes why there is no further step, in words.
@@ -212,45 +439,65 @@ fn put_memory<A: Allocator, W: Output>(
     put(b"\n", writer)
 }
 
-// Writes a line of the source, with an arrow where the run stands at it.
+// Writes the text of a line behind a number of so many digits.
+fn put_text<W: Output>(digits: usize, text: &[u8], writer: &mut W) -> Result<(), WriteFault> {
+    if text.is_empty() {
+        return Ok(());
+    }
+    put(&BEHIND_NUMBER[digits.min(5)..], writer)?;
+    put(text, writer)
+}
+
+// What stands before a line of the source: an arrow, where the run stands at it.
+fn arrow(is_here: bool) -> &'static [u8] {
+    if is_here { b"> " } else { b"  " }
+}
+
+// Writes a line of the source behind its number. Its text begins in column 8, at a tab's stop.
 fn put_source_line<W: Output>(
     number: u16,
     text: &[u8],
     is_here: bool,
     writer: &mut W,
 ) -> Result<(), WriteFault> {
-    let arrow: &[u8] = if is_here { b"> " } else { b"  " };
-    put_all(
-        &[
-            arrow,
-            decimal(u64::from(number)).as_slice(),
-            b"  ",
-            text,
-            b"\n",
-        ],
-        writer,
-    )
+    let number = decimal(u64::from(number));
+    put(arrow(is_here), writer)?;
+    put(number.as_slice(), writer)?;
+    put_text(number.as_slice().len(), text.trim_ascii_end(), writer)?;
+    put(b"\n", writer)
 }
 
-// Writes the lines of the source around the place where the run stands.
-fn put_lines<A: Allocator, W: Output>(stand: &Stand<A>, writer: &mut W) -> Result<(), WriteFault> {
+// Writes the lines of the source around the place where the run stands, at most so many before it and behind it; none where no line
+// stands there.
+fn put_lines<A: Allocator, W: Output>(
+    stand: &Stand<A>,
+    around: u16,
+    writer: &mut W,
+) -> Result<(), WriteFault> {
     let pc = stand.history.machine().regs().pc;
     let Some(statement) = statement_at(stand.scene.program.statements(), pc) else {
-        put(b"no line of the source stands at ", writer)?;
-        put_address(pc, writer)?;
-        return put(b"\n", writer);
+        return Ok(());
     };
     let here = statement.line;
     let mut number = 1u16;
     for text in stand.scene.lines {
-        if number.saturating_add(LINES_AROUND) >= here
-            && number <= here.saturating_add(LINES_AROUND)
-        {
+        if number.saturating_add(around) >= here && number <= here.saturating_add(around) {
             put_source_line(number, *text, number == here, writer)?;
         }
         number = number.saturating_add(1);
     }
     Ok(())
+}
+
+// Writes the lines around the place, or that there are none.
+fn put_list<A: Allocator, W: Output>(stand: &Stand<A>, writer: &mut W) -> Result<(), WriteFault> {
+    let pc = stand.history.machine().regs().pc;
+    if statement_at(stand.scene.program.statements(), pc).is_none() {
+        put(b"no line of the source stands at ", writer)?;
+        put_address(pc, writer)?;
+        return put(b"\n", writer);
+    }
+    put_lines(stand, LINES_LISTED, writer)
 }
 
 // The letter of a register.
@@ -307,6 +554,20 @@ fn put_span<W: Output>(span: Span, writer: &mut W) -> Result<(), WriteFault> {
     put_address(span.last, writer)
 }
 
+// Writes the line of the source at an address, behind a comma, where lines are told and one stands there.
+fn put_line_there<A: Allocator, W: Output>(
+    stand: &Stand<A>,
+    address: u16,
+    writer: &mut W,
+) -> Result<(), WriteFault> {
+    let statements = stand.scene.program.statements();
+    if matches!(stand.detail, Detail::Plain) || statement_at(statements, address).is_none() {
+        return Ok(());
+    }
+    put(b", ", writer)?;
+    put_place(&stand.scene, address, writer)
+}
+
 // Writes breakpoints and what is watched.
 fn put_stops<A: Allocator, W: Output>(stand: &Stand<A>, writer: &mut W) -> Result<(), WriteFault> {
     if stand.breaks.is_empty() && stand.watches.is_empty() {
@@ -314,8 +575,7 @@ fn put_stops<A: Allocator, W: Output>(stand: &Stand<A>, writer: &mut W) -> Resul
     }
     for place in stand.breaks {
         put_break(*place, writer)?;
-        put(b", ", writer)?;
-        put_place(&stand.scene, place.address, writer)?;
+        put_line_there(stand, place.address, writer)?;
         put(b"\n", writer)?;
     }
     for span in stand.watches {
@@ -331,7 +591,7 @@ fn put_where<A: Allocator, W: Output>(stand: &Stand<A>, writer: &mut W) -> Resul
     put_stand(stand, writer)?;
     for entry in stand.entries.iter().rev() {
         put(b"called by ", writer)?;
-        put_place(&stand.scene, entry.call, writer)?;
+        put_spot(stand, entry.call, writer)?;
         put(b", step ", writer)?;
         put_number(entry.position, writer)?;
         put(b"\n", writer)?;
@@ -423,7 +683,7 @@ fn put_shown<A: Allocator, W: Output>(
         Show::Address(address) => put_value_at(machine, address, writer),
         Show::Memory(span) => put_memory(machine, span.first, span.last, writer),
         Show::Screen => print(&machine.view(), writer),
-        Show::Lines => put_lines(stand, writer),
+        Show::Lines => put_list(stand, writer),
         Show::Stops => put_stops(stand, writer),
         Show::Help => put(HELP, writer),
     }
@@ -461,16 +721,17 @@ fn put_span_line<W: Output>(what: &[u8], span: Span, writer: &mut W) -> Result<(
 }
 
 // Writes the answer.
-fn put_answer<A: Allocator, W: Output>(
+fn put_answer<A: Allocator, B: Allocator + Copy, W: Output>(
+    alloc: B,
     stand: &Stand<A>,
     outcome: Outcome,
     writer: &mut W,
 ) -> Result<(), WriteFault> {
     match outcome {
         Outcome::Nothing => Ok(()),
-        Outcome::Moved | Outcome::Reached => put_stop(stand, writer),
+        Outcome::Moved | Outcome::Reached => put_stop(alloc, stand, writer),
         Outcome::Stopped(cause) => {
-            put_stop(stand, writer)?;
+            put_stop(alloc, stand, writer)?;
             put_cause(cause, stand.most, writer)
         }
         Outcome::NoneEarlier => put(
@@ -504,7 +765,7 @@ fn sheet_of<A: Allocator + Copy>(
     outcome: Outcome,
 ) -> Result<Vec<u8, A>, WriteFault> {
     let mut sheet = Vec::new(alloc);
-    put_answer(stand, outcome, &mut ToWrite::new(&mut sheet))?;
+    put_answer(alloc, stand, outcome, &mut ToWrite::new(&mut sheet))?;
     Ok(sheet)
 }
 

@@ -132,7 +132,7 @@ fn told(alloc: Global, inspector: &mut Inspector<'_>, line: &[u8]) -> Vec<u8>
 {
     let mut sheet = Vec::new(alloc);
     // Where memory is wanted, what is there is shown.
-    let _ = inspector.answer(line, &mut ToWrite::new(&mut sheet));
+    let _ = inspector.answer_beside(line, &mut ToWrite::new(&mut sheet));
     sheet
 }
 

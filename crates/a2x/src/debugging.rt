@@ -19,7 +19,7 @@ use std::alloc::Global;
 use std::cell::Cell;
 
 // The options of `debug`, of which those of each run are left.
-static DEBUG_OPTIONS: [Row; 4] = [
+static DEBUG_OPTIONS: [Row; 5] = [
     Row {
         name: "--tui",
         kind: Kind::Flag,
@@ -27,6 +27,10 @@ static DEBUG_OPTIONS: [Row; 4] = [
     Row {
         name: "--keep",
         kind: Kind::Value,
+    },
+    Row {
+        name: "--plain",
+        kind: Kind::Flag,
     },
     Row {
         name: "--keys",
@@ -38,8 +42,8 @@ static DEBUG_OPTIONS: [Row; 4] = [
     },
 ];
 
-// How many copies of the machine are kept without `--keep`: some 64 MB of them.
-const USUALLY_KEPT: usize = 540;
+/// How many copies of the machine are kept without `--keep`: some 64 MB of them.
+pub const USUALLY_KEPT: usize = 540;
 
 // The fewest that are spread over each run.
 const LEAST_KEPT: u32 = 20;
@@ -51,6 +55,8 @@ struct Asked {
     are_up: bool,
     // How many copies of the machine are kept at most.
     kept: usize,
+    // Whether answers have no lines and names of the source.
+    is_plain: bool,
 }
 
 // The number of copies that an option has; or the status, where its fault is told.
@@ -80,18 +86,20 @@ fn asked_in<E: Output>(found: &[Found<'_>], complaints: &mut E) -> Result<Asked,
     let mut asked = Asked {
         are_up: false,
         kept: USUALLY_KEPT,
+        is_plain: false,
     };
     for option in found {
         match option.name {
             "--keep" => asked.kept = kept_in(option, complaints)?,
+            "--plain" => asked.is_plain = true,
             _ => asked.are_up = true,
         }
     }
     Ok(asked)
 }
 
-// Where panes can be drawn, if the terminal has room for them.
-fn wall_of(terminal: Option<Terminal>, columns: Option<&Cell<usize>>) -> Option<Wall<'_>> {
+/// Where panes can be drawn, if the terminal has room for them.
+pub fn wall_of(terminal: Option<Terminal>, columns: Option<&Cell<usize>>) -> Option<Wall<'_>> {
     match (terminal, columns) {
         (Some(terminal), Some(columns))
             if terminal.rows >= u16::from(LEAST_ROWS)
@@ -107,8 +115,9 @@ fn wall_of(terminal: Option<Terminal>, columns: Option<&Cell<usize>>) -> Option<
     }
 }
 
-// Answers the lines of a session over a run, in panes from its start where these are up.
-fn debug_in<R: Input, W: Output, E: Output>(
+/// Answers the lines of a session over a run, in panes from its start where these are up; the status: 4 or 5 where something fails, which
+/// is told.
+pub fn debug_in<R: Input, W: Output, E: Output>(
     alloc: Global,
     panes: &mut Panes<'_, '_>,
     are_up: bool,
@@ -138,6 +147,43 @@ fn tell_no_wall<E: Output>(complaints: &mut E) {
     )
 }
 
+/// How the lines of a session are taken.
+pub fn lines_in<'a>(prompts: bool, columns: Option<&'a Cell<usize>>, has_panes: bool) -> Lines<'a> {
+    let prompt = if prompts {
+        Prompt::Debugger
+    } else {
+        Prompt::Nothing
+    };
+    Lines {
+        prompt,
+        columns,
+        has_panes,
+        keys: None,
+    }
+}
+
+// The run of a source at its start, told plainly where that is asked for; or the status, where a fault is told.
+fn inspector_of<'a, E: Output>(
+    alloc: Global,
+    source: &'a [u8],
+    order: &Order,
+    asked: Asked,
+    complaints: &mut E,
+) -> Result<Inspector<'a>, u8>
+    ensures { IfErr result (λ status. status ≤ 5) }
+{
+    let (keys, free, limit) = (&order.keys, order.free, order.limit);
+    match Inspector::new(alloc, source, keys, free, limit, asked.kept) {
+        Ok(mut inspector) => {
+            if asked.is_plain {
+                inspector.tell_plainly();
+            }
+            Ok(inspector)
+        }
+        Err(fault) => Err(told(fault, complaints)),
+    }
+}
+
 // Answers the debugger's lines over the run of a source.
 fn debug<R: Input, W: Output, E: Output>(
     alloc: Global,
@@ -158,25 +204,8 @@ fn debug<R: Input, W: Output, E: Output>(
         tell_no_wall(complaints);
         return 2;
     }
-    let lines = Lines {
-        prompt: if prompts {
-            Prompt::Debugger
-        } else {
-            Prompt::Nothing
-        },
-        columns: columns.as_ref(),
-        has_panes: wall.is_some(),
-        keys: None,
-    };
-    let inspector = Inspector::new(
-        alloc,
-        source,
-        &order.keys,
-        order.free,
-        order.limit,
-        asked.kept,
-    );
-    match inspector {
+    let lines = lines_in(prompts, columns.as_ref(), wall.is_some());
+    match inspector_of(alloc, source, order, asked, complaints) {
         Ok(inspector) => debug_in(
             alloc,
             &mut Panes::new(alloc, inspector, wall),
@@ -186,16 +215,16 @@ fn debug<R: Input, W: Output, E: Output>(
             output,
             complaints,
         ),
-        Err(fault) => told(fault, complaints),
+        Err(status) => status,
     }
 }
 
 /// Answers the debugger's lines of `input` on `output`, each before the next is read, over the run of the file that the words
 /// name, up to the input's end or `quit`. `prompts` says whether a prompt stands before each line. The lines are edited where the
-/// words tell of a terminal that gives each byte, `--tui` begins with panes, and `--keep` says how many copies of the machine are
-/// kept. The status is 1 where the source is refused, 2
-/// where the words are, no file is named or panes have no room, 4 where the file does not open or a read or a write fails, and 5
-/// for want of memory, each told on `complaints`.
+/// words tell of a terminal that gives each byte, `--tui` begins with panes, `--plain` leaves lines of the source out of the
+/// answers, and `--keep` says how many copies of the machine are kept. The status is 1 where the source is refused, 2 where the
+/// words are, no file is named or panes have no room, 4 where the file does not open or a read or a write fails, and 5 for want of
+/// memory, each told on `complaints`.
 pub fn debug_of<S: Shelf, R: Input, W: Output, E: Output>(
     alloc: Global,
     word: &Word,

@@ -1,7 +1,7 @@
 use Rattle.std.proofs.Common.{◌≡◌, ℕ, List, ap, ◌∙◌, subst}
 use Rattle.a2_history.specs.Going.{Track}
 use Rattle.a2_inspect.specs.Inspections.{Inspection, IsObeyed, meant}
-use Rattle.a2_inspect.proofs.inspector.InspectorPartner.answer.Goals as goal
+use Rattle.a2_inspect.proofs.inspector.Inspector.answer_in.Goals as goal
 
 noted : (seen obeyed : Inspection) (track : Track) (line said : List ℕ) → seen ≡ obeyed → track ≡ seen.track → line ≡ said
     → record seen { track = track; last = line } ≡ record obeyed { last = said }
