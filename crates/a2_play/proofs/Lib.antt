@@ -1,4 +1,6 @@
+pub mod Earlier
 pub mod Keys
+pub mod Remade
 pub mod Runs
 pub mod Worlds
 pub mod Written

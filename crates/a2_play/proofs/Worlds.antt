@@ -11,7 +11,7 @@ use Rattle.a2_play.specs.Played.{code_of_play, start, world_with_keys, NoneAbove
 use Rattle.a2_play.proofs.Keys.{keys_at-past}
 
 module _ (program : Assembled) where
-  before-same : (xs ys : List Typed) (n : ℕ) → ((i : ℕ) → i < n → keys_at xs i ≡ keys_at ys i)
+  pub before-same : (xs ys : List Typed) (n : ℕ) → ((i : ℕ) → i < n → keys_at xs i ≡ keys_at ys i)
       → world_before_keys (code_of_play program) (start program) xs n ≡ world_before_keys (code_of_play program) (start program) ys n
   unfolding world_before_keys
   before-same xs ys zero h = refl
@@ -24,7 +24,7 @@ module _ (program : Assembled) where
   world-more log n k m h e = with-more (code_of_play program) (start program) log n k m e (λ i l g. keys_at-past log n i h l)
 
   -- a key typed behind so many steps
-  push-before : (log : List Typed) (t : Typed) (i : ℕ) → i < t.steps → keys_at (log ++ t ∷ []) i ≡ keys_at log i
+  pub push-before : (log : List Typed) (t : Typed) (i : ℕ) → i < t.steps → keys_at (log ++ t ∷ []) i ≡ keys_at log i
   push-before log t i l =
       keys_at-append log (t ∷ []) i ∙ ap (λ ks. keys_at log i ++ ks) (keys_at-not t i (λ e. omega (arith, l, e))) ∙ append-nil (keys_at log i)
 

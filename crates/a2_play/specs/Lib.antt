@@ -1,3 +1,5 @@
+pub mod Agains
+pub mod Backs
 pub mod Paces
 pub mod Played
 pub mod Records

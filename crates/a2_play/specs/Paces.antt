@@ -25,3 +25,8 @@ slower Max = Max
 abbrev pub due : Pace → ℕ → ℕ
 due (Cycles cycles) micros = cycles * min micros 250_000 / 1_000_000
 due Max micros = 1_000_000
+
+-- a second's cycles; where there is no pace, an Apple II's
+abbrev pub second : Pace → ℕ
+second (Cycles cycles) = cycles
+second Max = 1_022_727

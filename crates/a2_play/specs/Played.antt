@@ -1,5 +1,5 @@
 -- A machine that is played: its world is that of the program's meaning under the keys typed at the steps where they were typed.
-use Rattle.std.specs.Prelude.{◌≡◌, ◌⊎◌, ℕ, ◌<◌, ◌≤◌, Bool, true, false, List, [], ◌∷◌, ◌++◌, Option, Some, None, if◌then◌else◌}
+use Rattle.std.specs.Prelude.{◌≡◌, ◌⊎◌, ℕ, ◌<◌, ◌≤◌, Bool, true, false, List, [], ◌∷◌, ◌++◌, All, length, Option, Some, None, if◌then◌else◌}
 use Rattle.a2_hex.specs.Images.{held}
 use Rattle.a2_asm.specs.Assembled.{Assembled}
 use Rattle.a2_services.specs.World.{World}
@@ -9,9 +9,9 @@ use Rattle.a2_machine.specs.Meaning.{Code, stuck}
 use Rattle.a2_machine.specs.ByteRun.{bytes}
 use Rattle.a2_machine.specs.ProgramGuard.{guard_of_program}
 use Rattle.a2_machine.specs.Start.{start_world}
-use Rattle.a2_machine.specs.State.{Device, MachineState, world_of_state, code_of}
+use Rattle.a2_machine.specs.State.{Device, MachineState, world_of_state, code_of, most_steps}
 use Rattle.a2_typed.specs.declared.strokes.Typed.{Typed}
-use Rattle.a2_typed.specs.Typed.{with_keys, world_with_keys as run_with_keys}
+use Rattle.a2_typed.specs.Typed.{keys_at, with_keys, world_with_keys as run_with_keys}
 
 -- a machine, and the keys that were typed at it
 pub record Play : Type 0 where
@@ -34,12 +34,19 @@ abbrev pub NoneAbove : ℕ → List Typed → Type 0
 NoneAbove n [] = Unit {0}
 NoneAbove n (t ∷ ts) = (t.steps ≤ n) × NoneAbove n ts
 
+-- behind so many steps no key was typed, or those that waited then had room
+abbrev pub Fits : Assembled → List Typed → ℕ → Type 0
+Fits program log n = (keys_at log n ≡ []) ⊎ (length (world_with_keys program log n).memory.devices.keys ≤ 4096)
+
 -- a program is played: the machine stands where its meaning comes to under the keys of the log, by none of whose steps it was stuck
 pub record IsPlayed (program : Assembled) (play : Play) : Type 0 where
   pub holds : world_of_state play.machine.state ≡ world_with_keys program play.log play.machine.state.steps
   pub went : (k : ℕ) → k < play.machine.state.steps → stuck (code_of_play program) (world_with_keys program play.log k) ≡ None
   pub guarded : play.machine.state.guard ≡ Some (guard_of_program program)
   pub past : NoneAbove play.machine.state.steps play.log
+  pub few : play.machine.state.steps ≤ most_steps
+  pub codes : All (λ t. t.key < 128) play.log
+  pub fits : (k : ℕ) → Fits program play.log k
 
 -- a program with what is played of it
 pub record Sitting : Type 0 where

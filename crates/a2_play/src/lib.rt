@@ -5,6 +5,7 @@
 
 ghost use Rattle.a2_play.specs.Replays.{ReplayIsPlay};
 
+mod again;
 mod clock;
 mod pace;
 mod panel;
@@ -14,10 +15,11 @@ mod session;
 mod spelling;
 
 pub use clock::Clock;
-pub use pace::{Pace, due};
+pub use pace::{Pace, due, second};
+pub use panel::Room;
 pub use player::Player;
 pub use record::{Record, RecordFault, put_record, record_of};
-pub use session::{Session, play};
+pub use session::{Leave, Session, play};
 pub use spelling::put_keys;
 
 /// Two plays of a program with the same keys, typed behind the same steps, stand at the same world behind as many steps: so a replay

@@ -76,3 +76,13 @@ pub fn due(pace: Pace, micros: u64) -> u64
         Pace::Max => STRETCH,
     }
 }
+
+/// The cycles of a second at a pace; at `Max` those of an Apple II, 1,022,727.
+pub fn second(pace: Pace) -> u64
+    ensures { result ≡ paces.second pace }
+{
+    match pace {
+        Pace::Cycles(cycles) => u64::from(cycles),
+        Pace::Max => u64::from(APPLE),
+    }
+}

@@ -1,7 +1,9 @@
 //! What stands beside the screen.
 
+ghost use Rattle.std.specs.Prelude.{◌≤◌};
+
 use crate::pace::Pace;
-use a2_machine::{Cause, Machine, write_cause, write_registers};
+use a2_machine::{Cause, Machine, write_registers};
 use a2_stream::{Output, ToWrite, WriteFault, put, put_all};
 use a2_text::decimal;
 use std::alloc::{Allocator, Global};
@@ -25,35 +27,61 @@ pub enum State {
 pub struct Face {
     pub state: State,
     pub pace: Pace,
+    /// The cycles that were made in the last second.
+    pub speed: u64,
     pub saves: bool,
-    /// The steps, where the machine does not go.
-    pub steps: Option<u64>,
+    /// What is told of the last order, if anything is.
+    pub notice: Option<&'static [u8]>,
 }
 
-/// The columns of a row, and the place of a row's first.
-const WIDTH: usize = 36;
+/// The rows and columns of the terminal: 24 and 80 at least.
+#[derive(Clone, Copy, Debug, PartialEq, Eq)]
+pub struct Room {
+    pub rows: u16,
+    pub columns: u16,
+}
 
-const COLUMN: &[u8] = b";43H\x1B[0m\x1B[K";
+/// The first column of a row of the panel, and the columns that are left free beside it.
+const COLUMN: &[u8] = b";43H\x1B[0m";
 
-/// The row of the state, of the pace, of the orders, of the saved keys, of the registers, and of what a stop means.
-const STATE_ROW: u8 = 3;
+const BESIDE: u16 = 44;
 
-const PACE_ROW: u8 = 4;
+/// The columns of the registers, behind which the counts stand in a row of their own.
+const REGISTERS: usize = 33;
 
-const ORDER_ROW: u8 = 6;
+/// The least and the most columns of a row.
+const LEAST_WIDTH: u16 = 36;
 
-const SAVE_ROW: u8 = 15;
+const MOST_WIDTH: u16 = 255;
 
-const REGISTER_ROW: u8 = 17;
+/// The rows of the state, of the pace, of the speed, of the orders, of the saved keys, of the registers, of what can be done, and of what
+/// a stop means, and the least and the most rows of the terminal.
+const STATE_ROW: u16 = 3;
 
-const STOP_ROW: u8 = 20;
+const PACE_ROW: u16 = 4;
 
-const LAST_ROW: u8 = 24;
+const SPEED_ROW: u16 = 5;
 
-const ORDERS: [&[u8]; 8] = [
+const ORDER_ROW: u16 = 6;
+
+const SAVE_ROW: u16 = 16;
+
+const REGISTER_ROW: u16 = 17;
+
+const NOTICE_ROW: u16 = 19;
+
+const STOP_ROW: u16 = 20;
+
+const LEAST_ROWS: u16 = 24;
+
+const MOST_ROWS: u16 = 64;
+
+const ORDERS: [&[u8]; 10] = [
     b"Ctrl-] q  quits",
     b"Ctrl-] p  halts, and goes on",
     b"Ctrl-] s  makes one step",
+    b"Ctrl-] b  goes back a second",
+    b"Ctrl-] d  goes into the debugger",
     b"Ctrl-] +  goes faster",
     b"Ctrl-] -  goes slower",
     b"Ctrl-] r  begins again",
@@ -61,19 +89,48 @@ const ORDERS: [&[u8]; 8] = [
     b"Ctrl-] l  draws all again",
 ];
 
+impl Room {
+    // The columns of a row of the panel.
+    fn width(self) -> usize {
+        usize::from(
+            self.columns
+                .saturating_sub(BESIDE)
+                .clamp(LEAST_WIDTH, MOST_WIDTH),
+        )
+    }
+
+    // The last row.
+    fn last_row(self) -> u16
+        ensures { result ≤ 64 }
+    {
+        self.rows.clamp(LEAST_ROWS, MOST_ROWS)
+    }
+}
+
 // Writes a row of the panel, whatever was there.
-fn put_row<W: Output>(row: u8, text: &[u8], writer: &mut W) -> Result<(), WriteFault> {
+fn put_row<W: Output>(row: u16, text: &[u8], writer: &mut W) -> Result<(), WriteFault> {
     put_all(
-        &[b"\x1B[", decimal(u64::from(row)).as_slice(), COLUMN, text],
+        &[
+            b"\x1B[",
+            decimal(u64::from(row)).as_slice(),
+            COLUMN,
+            text,
+            b"\x1B[K",
+        ],
         writer,
     )
 }
 
-// Writes a text over the rows from this one to the one before the last of these.
-fn put_rows<W: Output>(rows: Range<u8>, text: &[u8], writer: &mut W) -> Result<(), WriteFault> {
+// Writes a text over rows of so many columns, from this one to the one before the last of these.
+fn put_rows<W: Output>(
+    rows: Range<u16>,
+    width: usize,
+    text: &[u8],
+    writer: &mut W,
+) -> Result<(), WriteFault> {
     let mut rest = text.trim_ascii();
     for row in rows {
-        let (front, behind) = rest.split_at(rest.len().min(WIDTH));
+        let (front, behind) = rest.split_at(rest.len().min(width));
         put_row(row, front, writer)?;
         rest = behind;
     }
@@ -90,54 +147,67 @@ fn state_text(state: State) -> &'static [u8] {
     }
 }
 
-// Writes the pace.
-fn put_pace<W: Output>(pace: Pace, writer: &mut W) -> Result<(), WriteFault> {
-    match pace {
-        Pace::Cycles(cycles) => {
-            put_row(PACE_ROW, decimal(u64::from(cycles)).as_slice(), writer)?;
-            put(b" cycles a second", writer)
-        }
-        Pace::Max => put_row(PACE_ROW, b"as fast as it goes", writer),
+// What is told below the registers: of the last order, or what can be done behind a stop.
+fn notice_text(face: &Face) -> &'static [u8] {
+    match (face.notice, face.state) {
+        (Some(notice), _) => notice,
+        (None, State::Stopped(_)) => b"Ctrl-] b goes back, Ctrl-] d debugs",
+        (None, _) => b"",
     }
 }
 
-// Writes the registers, where the machine does not go.
-fn put_registers<A: Allocator, W: Output>(
+// Writes a number of cycles, and what it is.
+fn put_cycles<W: Output>(
+    row: u16,
+    cycles: u64,
+    what: &[u8],
+    writer: &mut W,
+) -> Result<(), WriteFault> {
+    put_row(row, decimal(cycles).as_slice(), writer)?;
+    put(what, writer)
+}
+
+// Writes the pace, and how fast it went.
+fn put_pace<W: Output>(face: &Face, writer: &mut W) -> Result<(), WriteFault> {
+    match face.pace {
+        Pace::Cycles(cycles) => {
+            put_cycles(PACE_ROW, u64::from(cycles), b" cycles a second", writer)?
+        }
+        Pace::Max => put_row(PACE_ROW, b"as fast as it goes", writer)?,
+    }
+    put_cycles(SPEED_ROW, face.speed, b" in the last second", writer)
+}
+
+/// Writes the registers, the steps and the cycles into the panel.
+pub fn put_counts<A: Allocator, W: Output>(
     alloc: Global,
-    face: &Face,
     machine: &Machine<A>,
     writer: &mut W,
 ) -> Result<(), WriteFault> {
     let mut line = Vec::new(alloc);
-    if face.steps.is_some() {
-        write_registers(machine, &mut ToWrite::new(&mut line))?;
-    }
-    put_rows(REGISTER_ROW..STOP_ROW - 1, line.as_slice(), writer)
+    write_registers(machine, &mut ToWrite::new(&mut line))?;
+    put_rows(REGISTER_ROW..NOTICE_ROW, REGISTERS, line.as_slice(), writer)
 }
 
-/// Writes the panel beside the screen. `told` says of a stop what it means.
-pub fn put_panel<A: Allocator, W: Output>(
-    alloc: Global,
+/// Writes the panel beside the screen, but for the counts. `told` says of a stop what it means.
+pub fn put_panel<W: Output>(
     face: &Face,
-    machine: &Machine<A>,
     told: &[u8],
+    room: Room,
     writer: &mut W,
 ) -> Result<(), WriteFault> {
     put_row(1, b"a2x play", writer)?;
     put_row(STATE_ROW, state_text(face.state), writer)?;
-    put_pace(face.pace, writer)?;
-    for (row, order) in (ORDER_ROW..SAVE_ROW - 1).zip(ORDERS) {
+    put_pace(face, writer)?;
+    for (row, order) in (ORDER_ROW..SAVE_ROW).zip(ORDERS) {
         put_row(row, order, writer)?;
     }
-    put_row(
-        SAVE_ROW,
-        if face.saves {
-            b"the keys are told at the end"
-        } else {
-            b""
-        },
-        writer,
-    )?;
-    put_registers(alloc, face, machine, writer)?;
-    put_rows(STOP_ROW..LAST_ROW, told, writer)
+    let saved: &[u8] = if face.saves {
+        b"the keys are told at the end"
+    } else {
+        b""
+    };
+    put_row(SAVE_ROW, saved, writer)?;
+    put_row(NOTICE_ROW, notice_text(face), writer)?;
+    put_rows(STOP_ROW..room.last_row() + 1, room.width(), told, writer)
 }

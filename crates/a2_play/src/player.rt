@@ -2,23 +2,31 @@
 
 ghost use Rattle.std.specs.Prelude.{◌≡◌, ◌↔◌, true, ◌<◌, ◌++◌, ◌∷◌, [], length, vec_len, vec_capacity, IfOk, IfErr};
 ghost use Rattle.a2_asm.specs.Assembled.{Assembled};
-ghost use Rattle.a2_play.specs.Played.{IsPlayed, IsStuckBy, machine_after, after_key};
+ghost use Rattle.a2_play.specs.Backs.{IsBack};
+ghost use Rattle.a2_play.specs.Played.{IsPlayed, IsStuckBy, after_key};
 
+use crate::again::{begin, bring, seek, type_at};
 use a2_asm::Program;
-use a2_bus::Keys;
-use a2_machine::{Cause, Machine};
+use a2_cpu::Breakpoints;
+use a2_machine::{Cause, Machine, Stop};
 use a2_typed::Typed;
 use std::alloc::{AllocError, Allocator, Global};
 use std::marker::Model;
 
 /// The most runs of the machine in one call.
-const MOST_RUNS: u32 = 64;
+const MOST_RUNS: u32 = 100_000;
 
-/// The most cycles of an instruction: so many steps fewer than cycles are due go by no instruction too far.
+/// The most cycles of an instruction, and of a service but for WAIT: so many steps fewer than cycles are due go by none too far.
 const MOST_CYCLES: u64 = 7;
 
 /// The most steps of one run.
 const MOST_STEPS: u64 = 1_000_000;
+
+/// The service that takes as many cycles as A says.
+const WAIT: u16 = 0xFCA8;
+
+/// The most steps between two looks at the cycles of a run that is made again.
+const PIECE: u64 = 4_096;
 
 /// A machine, and the keys that were typed at it. Contracts see both.
 #[derive(Drop)]
@@ -27,24 +35,18 @@ pub struct Player<A: Allocator = Global> {
     log: Vec<Typed, A>,
 }
 
-// A key alone.
-fn one_key(key: u8) -> Keys
-    requires { key < 128 }
-    ensures { result ≡ key ∷ [] }
-{
-    let mut keys = Keys::new();
-    // There is room for a first key.
-    let _ = keys.push(key);
-    keys
-}
+// Where WAIT is called.
+#[derive(Drop)]
+struct AtWait;
 
-// Types a key where there is room: whether there was.
-fn type_at<A: Allocator>(machine: &mut Machine<A>, key: u8) -> bool
-    requires { key < 128 }
-    ensures room { (result ≡ true) ↔ (length machine.old.state.bus.devices.keys < 4096) }
-    ensures typed { machine.new ≡ machine_after result key machine.old }
-{
-    machine.type_keys(&one_key(key)).is_ok()
+impl Breakpoints for AtWait {
+    ghost use Rattle.std.specs.Prelude.{◌==◌};
+
+    ghost is_breakpoint = { λ at address. address == 0xFCA8 };
+
+    fn is_breakpoint(&self, address: u16) -> bool {
+        address == WAIT
+    }
 }
 
 // Notes a key where there is room.
@@ -88,8 +90,7 @@ impl<A: Allocator> Player<A> {
         ensures log { self.new.log ≡ [] }
         ensures steps { self.new.machine.state.steps ≡ 0 }
     {
-        self.machine.boot(program.image(), program.entry());
-        self.machine.guard(program);
+        begin(&mut self.machine, program);
         self.log.clear();
     }
 
@@ -140,24 +141,64 @@ impl<A: Allocator> Player<A> {
         }
     }
 
-    /// Makes steps until so many cycles were made since the start, or a cause holds: that then. At most 64,000,064 steps are
-    /// made.
+    // Makes at most so many steps, 1 or more, up to a call of WAIT, and answers as `run`.
+    fn run_to_wait(&mut self, steps: u32) -> Option<Cause>
+        ensures log { self.new.log ≡ self.old.log }
+        ensures stuck { IsStuckBy self.new.machine.state result }
+        ensures played { (program : Assembled) → IsPlayed program self.old → IsPlayed program self.new }
+    {
+        let before = self.machine.steps();
+        match self.machine.run_to(steps, &AtWait) {
+            Stop::Breakpoint => None,
+            Stop::Cause(Cause::Limit) if self.machine.steps() > before => None,
+            Stop::Cause(cause) => Some(cause),
+        }
+    }
+
+    // How many steps go by no instruction beyond so many cycles, which were not made yet.
+    fn steps_to(&self, cycles: u64) -> u32 {
+        if self.machine.regs().pc == WAIT {
+            return 1;
+        }
+        let left = cycles.saturating_sub(self.machine.cycles());
+        (left.saturating_sub(1) / MOST_CYCLES).min(MOST_STEPS) as u32 + 1
+    }
+
+    /// Makes steps until so many cycles were made since the start, or a cause holds: that then. At most 100,000 stretches are made,
+    /// each of 1,000,001 steps at most and up to a call of WAIT.
     pub fn run_to(&mut self, cycles: u64) -> Option<Cause>
         ensures log { self.new.log ≡ self.old.log }
         ensures stuck { IsStuckBy self.new.machine.state result }
         ensures played { (program : Assembled) → IsPlayed program self.old → IsPlayed program self.new }
     {
         for _ in 0..MOST_RUNS {
-            let made = self.machine.cycles();
-            if made >= cycles {
+            if self.machine.cycles() >= cycles {
                 return None;
             }
-            let steps = ((cycles - made) / MOST_CYCLES).min(MOST_STEPS) as u32;
-            if let Some(cause) = self.run(steps + 1) {
+            let steps = self.steps_to(cycles);
+            if let Some(cause) = self.run_to_wait(steps) {
                 return Some(cause);
             }
         }
         None
+    }
+
+    /// Goes back to the first position, in steps, that is at most so many cycles behind where it stands; keys that were typed there or
+    /// later are forgotten. `program` is the one that is played. The run is made again for it, from its start.
+    pub fn go_back(&mut self, program: &Program<A>, cycles: u64)
+        requires { IsPlayed program.now self.old }
+        ensures back { IsBack program.now cycles self.old self.new }
+        ensures played { IsPlayed program.now self.new }
+    {
+        let end = self.machine.steps();
+        let goal = self.machine.cycles().saturating_sub(cycles);
+        begin(&mut self.machine, program);
+        let before = seek(&mut self.machine, self.log.as_slice(), goal, end, PIECE);
+        begin(&mut self.machine, program);
+        bring(&mut self.machine, self.log.as_slice(), before);
+        let _ = seek(&mut self.machine, self.log.as_slice(), goal, end, 1);
+        let position = self.machine.steps();
+        self.log.retain(|typed| typed.steps < position);
     }
 
     // Makes steps until so many were made since the start: whether that could be.

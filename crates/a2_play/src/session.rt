@@ -4,8 +4,8 @@ ghost use Rattle.std.specs.Prelude.{◌≡◌, ◌<◌};
 ghost use Rattle.a2_play.specs.Played.{IsPlayed};
 
 use crate::Clock;
-use crate::pace::{Pace, due};
-use crate::panel::{Face, State, put_panel};
+use crate::pace::{Pace, due, second};
+use crate::panel::{Face, Room, State, put_counts, put_panel};
 use crate::player::Player;
 use a2_ansi::{Colours, Shot, put_changes};
 use a2_asm::Program;
@@ -23,6 +23,9 @@ const FRAME: u64 = 33_333;
 /// The time for which flashing characters stand one way.
 const BLINK: u64 = 500_000;
 
+/// The time over which the speed is told.
+const SECOND: u64 = 1_000_000;
+
 /// The most stretches of cycles between two looks for keys at `Pace::Max`.
 const MOST_STRETCHES: u32 = 10_000;
 
@@ -35,6 +38,22 @@ const RETURN: u8 = 0x0D;
 /// What rings the terminal's bell.
 const BELL: &[u8] = b"\x07";
 
+/// Why a session leaves the terminal.
+#[derive(Clone, Copy, Debug, PartialEq, Eq)]
+pub enum Leave {
+    /// It is over.
+    Over,
+    /// The debugger is asked for; the session can be gone on with behind it.
+    Debug,
+}
+
+/// What was made up to a time.
+#[derive(Clone, Copy)]
+struct Mark {
+    micros: u64,
+    cycles: u64,
+}
+
 /// A session with a source's program. Contracts see the program, and the machine with the keys that were typed at it: it always
 /// stands where the program's meaning comes to under these keys, each behind the steps where it was typed.
 #[derive(Drop)]
@@ -45,17 +64,24 @@ pub struct Session<'a> {
     state: State,
     pace: Pace,
     colours: Colours,
+    room: Room,
     /// The cycles that are due since the start.
     goal: u64,
     /// When these were reckoned, and when the screen was drawn.
     reckoned: u64,
     drawn: u64,
+    /// What the speed is reckoned from, and that of the last second.
+    mark: Mark,
+    speed: u64,
     is_ordered: bool,
     saves: bool,
-    is_over: bool,
+    leave: Option<Leave>,
     rings: bool,
+    notice: Option<&'static [u8]>,
     shot: Option<Shot>,
     face: Option<Face>,
+    /// The steps whose counts are drawn.
+    counted: Option<u64>,
 }
 
 impl<'a> Model for Session<'a> {
@@ -69,13 +95,14 @@ impl<'a> Model for Session<'a> {
 }
 
 impl<'a> Session<'a> {
-    /// A session of this source's program, that goes on with this player.
+    /// A session of this source's program, that goes on with this player, at a terminal with this room.
     pub fn new(
         source: &'a [u8],
         program: &'a Program,
         player: Player,
         pace: Pace,
         colours: Colours,
+        room: Room,
     ) -> Session<'a>
         requires { IsPlayed program.now player }
         ensures { result ≡ record { program = program.now; play = player } }
@@ -87,15 +114,23 @@ impl<'a> Session<'a> {
             state: State::Going,
             pace,
             colours,
+            room,
             goal: 0,
             reckoned: 0,
             drawn: 0,
+            mark: Mark {
+                micros: 0,
+                cycles: 0,
+            },
+            speed: 0,
             is_ordered: false,
             saves: false,
-            is_over: false,
+            leave: None,
             rings: false,
+            notice: None,
             shot: None,
             face: None,
+            counted: None,
         }
     }
 
@@ -120,6 +155,37 @@ impl<'a> Session<'a> {
         }
     }
 
+    /// Tells something beside the screen, until the next order.
+    pub fn notice(&mut self, notice: &'static [u8])
+        ensures { self.new ≡ self.old }
+    {
+        self.notice = Some(notice);
+    }
+
+    // Forgets what is drawn, so that all is drawn again.
+    fn forget(&mut self) {
+        self.shot = None;
+        self.face = None;
+        self.counted = None;
+    }
+
+    // Begins again, with no key typed.
+    fn restart(&mut self) {
+        self.player.restart(self.program);
+        self.goal = 0;
+        self.state = State::Going;
+    }
+
+    // Goes back a second. It goes on from there where it went, and else is halted.
+    fn go_back(&mut self) {
+        self.player.go_back(self.program, second(self.pace));
+        self.goal = self.player.machine().cycles();
+        self.state = match self.state {
+            State::Going | State::Waiting => State::Going,
+            State::Paused | State::Stopped(_) => State::Paused,
+        };
+    }
+
     // Where the machine stands behind a run or a step, for which there is this cause.
     fn note(&mut self, cause: Option<Cause>, otherwise: State, waiting: State) {
         self.state = match cause {
@@ -131,8 +197,10 @@ impl<'a> Session<'a> {
 
     // Does an order.
     fn obey(&mut self, order: Order) {
+        self.notice = None;
         match (order, self.state) {
-            (Order::Quit, _) => self.is_over = true,
+            (Order::Quit, _) => self.leave = Some(Leave::Over),
+            (Order::Debug, _) => self.leave = Some(Leave::Debug),
             (Order::Pause, State::Paused) => self.state = State::Going,
             (Order::Pause, State::Going | State::Waiting) => self.state = State::Paused,
             (Order::Step, State::Going | State::Waiting | State::Paused) => {
@@ -142,16 +210,10 @@ impl<'a> Session<'a> {
             (Order::Pause | Order::Step, State::Stopped(_)) => {}
             (Order::Faster, _) => self.pace = self.pace.faster(),
             (Order::Slower, _) => self.pace = self.pace.slower(),
-            (Order::Restart, _) => {
-                self.player.restart(self.program);
-                self.goal = 0;
-                self.state = State::Going;
-            }
+            (Order::Back, _) => self.go_back(),
+            (Order::Restart, _) => self.restart(),
             (Order::Save, _) => self.saves = true,
-            (Order::Redraw, _) => {
-                self.shot = None;
-                self.face = None;
-            }
+            (Order::Redraw, _) => self.forget(),
         }
     }
 
@@ -160,7 +222,11 @@ impl<'a> Session<'a> {
         requires { key < 128 }
     {
         match self.state {
-            State::Stopped(_) => self.is_over = self.is_over || key == RETURN,
+            State::Stopped(_) => {
+                if key == RETURN {
+                    self.leave = Some(Leave::Over);
+                }
+            }
             _ => {
                 if !self.player.type_key(key)? {
                     self.rings = true;
@@ -203,6 +269,19 @@ impl<'a> Session<'a> {
         }
     }
 
+    // Reckons the speed, once a second.
+    fn reckon_speed(&mut self, now: u64) {
+        if now.saturating_sub(self.mark.micros) < SECOND {
+            return;
+        }
+        let cycles = self.player.machine().cycles();
+        self.speed = cycles.saturating_sub(self.mark.cycles);
+        self.mark = Mark {
+            micros: now,
+            cycles,
+        };
+    }
+
     // Whether the machine goes as fast as it can, and it is no time yet for a draw.
     fn is_ahead(&self, now: u64) -> bool {
         self.pace == Pace::Max
@@ -215,11 +294,9 @@ impl<'a> Session<'a> {
         Face {
             state: self.state,
             pace: self.pace,
+            speed: self.speed,
             saves: self.saves,
-            steps: match self.state {
-                State::Going | State::Waiting => None,
-                State::Paused | State::Stopped(_) => Some(self.player.machine().steps()),
-            },
+            notice: self.notice,
         }
     }
 }
@@ -254,10 +331,25 @@ fn put_face<W: Output>(
     if session.face == Some(face) {
         return Ok(());
     }
-    let machine = session.player.machine();
-    let told = stop_text(alloc, session, machine.regs().pc)?;
-    put_panel(alloc, &face, machine, told.as_slice(), writer)?;
+    let pc = session.player.machine().regs().pc;
+    let told = stop_text(alloc, session, pc)?;
+    put_panel(&face, told.as_slice(), session.room, writer)?;
     session.face = Some(face);
+    Ok(())
+}
+
+// Writes registers and counts, where steps were made.
+fn put_steps<W: Output>(
+    alloc: Global,
+    session: &mut Session<'_>,
+    writer: &mut W,
+) -> Result<(), RunFault> {
+    let machine = session.player.machine();
+    let steps = Some(machine.steps());
+    if session.counted != steps {
+        put_counts(alloc, machine, writer)?;
+        session.counted = steps;
+    }
     Ok(())
 }
 
@@ -272,8 +364,10 @@ fn draw<W: Output>(
     let shot = Shot::new(&session.player.machine().view(), is_lit);
     let mut frame = Vec::new(alloc);
     let mut writer = ToWrite::new(&mut frame);
+    session.reckon_speed(now);
     put_changes(&session.shot, &shot, session.colours, &mut writer)?;
     put_face(alloc, session, &mut writer)?;
+    put_steps(alloc, session, &mut writer)?;
     if session.rings {
         put(BELL, &mut writer)?;
     }
@@ -306,15 +400,15 @@ fn take_turn<R: Input, W: Output, C: Clock>(
         now = clock.micros();
         session.go_on(now);
     }
-    if now.saturating_sub(session.drawn) >= FRAME || session.is_over {
+    if now.saturating_sub(session.drawn) >= FRAME || session.leave.is_some() {
         draw(alloc, session, now, output)?;
     }
     Ok(())
 }
 
-/// Plays until the session is ended: reads what was typed, does what it says, makes the cycles that are due by `clock`, and
-/// draws what changed, at most thirty times a second. A read of `input` is to give what was typed, or nothing within the
-/// tenth of a second, or at `Pace::Max` at once. Refused where a read or write fails, and for want of memory: the session
+/// Plays until the session leaves the terminal: reads what was typed, does what it says, makes the cycles that are due by `clock`, and
+/// draws what changed, at most thirty times a second, beginning with all of it. A read of `input` is to give what was typed, or nothing
+/// within the tenth of a second, or at `Pace::Max` at once. Refused where a read or write fails, and for want of memory: the session
 /// ends there.
 pub fn play<R: Input, W: Output, C: Clock>(
     alloc: Global,
@@ -322,15 +416,17 @@ pub fn play<R: Input, W: Output, C: Clock>(
     clock: &mut C,
     input: &mut R,
     output: &mut W,
-) -> Result<(), RunFault> {
+) -> Result<Leave, RunFault> {
     let now = clock.micros();
     session.reckoned = now;
+    session.leave = None;
+    session.forget();
     draw(alloc, session, now, output)?;
     for _ in 0..u64::MAX {
-        if session.is_over {
-            break;
+        if let Some(leave) = session.leave {
+            return Ok(leave);
         }
         take_turn(alloc, session, clock, input, output)?;
     }
-    Ok(())
+    Ok(Leave::Over)
 }

@@ -27,9 +27,10 @@ arrow_of letter = if letter == 0x43 then Key 0x15 else if letter == 0x44 then Ke
 abbrev pub order_named : ℕ → Stroke
 order_named letter =
     if letter == 0x51 then Order order.Quit else if letter == 0x50 then Order order.Pause else if letter == 0x53 then Order order.Step
-    else if (letter == 0x2B) || (letter == 0x3D) then Order order.Faster else if letter == 0x2D then Order order.Slower
+    else if letter == 0x42 then Order order.Back else if (letter == 0x2B) || (letter == 0x3D) then Order order.Faster
+    else if letter == 0x2D then Order order.Slower
     else if letter == 0x52 then Order order.Restart else if letter == 0x4B then Order order.Save
-    else if letter == 0x4C then Order order.Redraw else if letter == 0x1D then Key 0x1D else Nothing
+    else if letter == 0x44 then Order order.Debug else if letter == 0x4C then Order order.Redraw else if letter == 0x1D then Key 0x1D else Nothing
 
 abbrev pub order_of : ℕ → Stroke
 order_of byte = order_named (capital byte)

@@ -27,6 +27,8 @@ pub enum Order {
     Pause,
     /// Makes one step, and halts.
     Step,
+    /// Goes back a second.
+    Back,
     /// Doubles the pace.
     Faster,
     /// Halves it.
@@ -35,6 +37,8 @@ pub enum Order {
     Restart,
     /// Tells at the end which keys were typed.
     Save,
+    /// Goes into the debugger, and comes back.
+    Debug,
     /// Draws the whole screen again.
     Redraw,
 }
@@ -73,10 +77,12 @@ fn order_of(byte: u8) -> Stroke
         b'Q' => Stroke::Order(Order::Quit),
         b'P' => Stroke::Order(Order::Pause),
         b'S' => Stroke::Order(Order::Step),
+        b'B' => Stroke::Order(Order::Back),
         b'+' | b'=' => Stroke::Order(Order::Faster),
         b'-' => Stroke::Order(Order::Slower),
         b'R' => Stroke::Order(Order::Restart),
         b'K' => Stroke::Order(Order::Save),
+        b'D' => Stroke::Order(Order::Debug),
         b'L' => Stroke::Order(Order::Redraw),
         PREFIX => Stroke::Key(PREFIX),
         _ => Stroke::Nothing,

@@ -30,6 +30,7 @@ mod terminal;
 mod tests;
 mod tools;
 mod tracing;
+mod turning;
 mod typing;
 mod words;
 

@@ -4,25 +4,33 @@ ghost use Rattle.std.specs.Prelude.{◌≡◌, ◌<◌, ◌≤◌, ◌↔◌, So
 ghost use Rattle.std.specs.Str.Parse.{digits_value};
 ghost use Rattle.a2_ansi.specs.declared.colours.Colours.{Colours as DeclaredColours};
 ghost use Rattle.a2_play.specs.declared.pace.Pace.{Pace as DeclaredPace};
-ghost use Rattle.a2x.specs.PlayWords.{IsPaceNumber, IsPace, AreColours, PlayAsked, AsksPlay, play_asked_of, no_play_asked};
+ghost use Rattle.a2x.specs.PlayWords.{IsPaceNumber, IsPace, AreColours, PlayAsked, AsksPlay, AsksNoSession, play_asked_of, no_play_asked};
 
-use crate::program::{tell, tell_option, tell_value, text_of};
+use crate::lines::{Terminal, terminal_in};
+use crate::program::{behind, tell, tell_option, tell_value, text_of};
 use crate::tools::{told, written};
+use crate::turning::debug_here;
 use a2_ansi::Colours;
 use a2_asm::Program;
 use a2_desk::Desk;
 use a2_explain::tell_stop;
 use a2_host::Shelf;
 use a2_machine::{Cause, Machine, write_cause, write_registers};
-use a2_play::{Clock, Pace, Player, Session, play, put_keys, put_record};
+use a2_play::{Clock, Leave, Pace, Player, Room, Session, play, put_keys, put_record};
 use a2_run::{RunFault, program_of, status};
 use a2_stream::{Input, Output, WriteFault, put};
+use a2_text::decimal;
 use std::alloc::{Allocator, Global};
 
 /// What puts a terminal's other screen up, without a cursor, and what takes it down.
 const ENTER: &[u8] = b"\x1B[?1049h\x1B[?25l\x1B[2J";
 
 const LEAVE: &[u8] = b"\x1B[0m\x1B[?25h\x1B[?1049l";
+
+/// The least rows and columns of a terminal: those of the Apple's screen, and what stands beside it.
+const LEAST_ROWS: u16 = 24;
+
+const LEAST_COLUMNS: u16 = 80;
 
 /// Who sits there.
 #[derive(Clone, Copy)]
@@ -38,11 +46,10 @@ pub struct Seat {
 pub struct PlayOrder<'a> {
     pub file: &'a str,
     pub pace: Pace,
-    pub colours: Colours,
+    /// The colours, where they are not those that the terminal has.
+    pub colours: Option<Colours>,
     /// The file that takes the keys with their steps.
     pub record_to: Option<&'a str>,
-    /// Whether the terminal gives each key as it is typed.
-    pub is_raw: bool,
 }
 
 /// Why words ask for no session.
@@ -113,12 +120,9 @@ fn take<'a>(order: &mut PlayOrder<'a>, words: &'a [String]) -> Result<&'a [Strin
     ensures fewer { IfOk result (λ rest. length rest.now < length words.now) }
     ensures asked { IfOk result (λ rest. (asked : PlayAsked) → AsksPlay (play_asked_of order.old) (map string_bytes words.now) asked
         ↔ AsksPlay (play_asked_of order.new) (map string_bytes rest.now) asked) }
+    ensures refused { IfErr result (λ misfit. (asked : PlayAsked) → AsksPlay (play_asked_of order.old) (map string_bytes words.now) asked → ⊥) }
 {
     match words {
-        [word, rest @ ..] if word.as_str() == "--raw" => {
-            order.is_raw = true;
-            Ok(rest)
-        }
         [word, value, rest @ ..] if word.as_str() == "--pace" => {
             let Some(pace) = pace_named(value.as_str()) else {
                 return Err(PlayMisfit::Pace(value.as_str()));
@@ -130,7 +134,7 @@ fn take<'a>(order: &mut PlayOrder<'a>, words: &'a [String]) -> Result<&'a [Strin
             let Some(colours) = colours_named(value.as_str()) else {
                 return Err(PlayMisfit::Colours(value.as_str()));
             };
-            order.colours = colours;
+            order.colours = Some(colours);
             Ok(rest)
         }
         [word, value, rest @ ..] if word.as_str() == "--record" => {
@@ -149,18 +153,18 @@ fn take<'a>(order: &mut PlayOrder<'a>, words: &'a [String]) -> Result<&'a [Strin
     }
 }
 
-/// What the `words` behind `play` ask for: the options `--pace N`, `--colours C`, `--record T` and `--raw`, of two of one name the later,
-/// and a file. Refused are words that ask for no session: the first that cannot stand is told.
+/// What the `words` behind `play` ask for: the options `--pace N`, `--colours C` and `--record T`, of two of one name the later, and a
+/// file. Refused are words that ask for no session, and they alone: the first that cannot stand is told.
 pub fn play_order(words: &[String]) -> Result<PlayOrder<'_>, PlayMisfit<'_>>
     ensures asked { IfOk result (λ order. AsksPlay no_play_asked (map string_bytes words.now) (play_asked_of order)) }
     ensures named { IfOk result (λ order. 0 < length order.file.now) }
+    ensures refused { IfErr result (λ misfit. AsksNoSession (map string_bytes words.now)) }
 {
     let mut order = PlayOrder {
         file: "",
         pace: Pace::apple(),
-        colours: Colours::Palette,
+        colours: None,
         record_to: None,
-        is_raw: false,
     };
     let mut rest = words;
     while !rest.is_empty() {
@@ -246,18 +250,29 @@ fn recorded<D: Desk, E: Output>(
     }
 }
 
-// Plays on the terminal's other screen, which is taken down behind every end.
-fn played<R: Input, W: Output, C: Clock>(
+// Plays on the terminal's other screen, which is taken down behind every end, and for the debugger.
+fn played<R: Input, W: Output, E: Output, C: Clock>(
     alloc: Global,
+    source: &[u8],
     session: &mut Session<'_>,
+    terminal: Terminal,
     clock: &mut C,
     input: &mut R,
     output: &mut W,
+    complaints: &mut E,
 ) -> Result<(), RunFault> {
-    put(ENTER, output)?;
-    let answer = play(alloc, session, clock, input, output);
-    put(LEAVE, output)?;
-    answer
+    for _ in 0..u64::MAX {
+        put(ENTER, output)?;
+        let answer = play(alloc, session, clock, input, output);
+        put(LEAVE, output)?;
+        match answer? {
+            Leave::Over => break,
+            Leave::Debug => {
+                debug_here(alloc, source, session, terminal, input, output, complaints)?
+            }
+        }
+    }
+    Ok(())
 }
 
 // Tells behind a session where it stands, and why it stopped; the status.
@@ -291,6 +306,7 @@ pub fn play_source<D: Desk, R: Input, W: Output, E: Output, C: Clock>(
     alloc: Global,
     source: &[u8],
     order: &PlayOrder<'_>,
+    terminal: Terminal,
     desk: &mut D,
     clock: &mut C,
     input: &mut R,
@@ -307,8 +323,27 @@ pub fn play_source<D: Desk, R: Input, W: Output, E: Output, C: Clock>(
         Ok(player) => player,
         Err(_) => return told(RunFault::Memory, complaints),
     };
-    let mut session = Session::new(source, &program, player, order.pace, order.colours);
-    let answer = played(alloc, &mut session, clock, input, output);
+    let mut session = Session::new(
+        source,
+        &program,
+        player,
+        order.pace,
+        order.colours.unwrap_or(terminal.colours),
+        Room {
+            rows: terminal.rows,
+            columns: terminal.columns,
+        },
+    );
+    let answer = played(
+        alloc,
+        source,
+        &mut session,
+        terminal,
+        clock,
+        input,
+        output,
+        complaints,
+    );
     let kept = recorded(&session, order.record_to, desk, complaints);
     if let Err(fault) = answer {
         return told(fault, complaints);
@@ -345,8 +380,28 @@ fn tell_misfit<E: Output>(misfit: PlayMisfit<'_>, complaints: &mut E) {
     }
 }
 
-// Tells why nobody can play here, if so.
-fn tell_seat<E: Output>(seat: Seat, is_raw: bool, complaints: &mut E) -> bool {
+// Tells that a terminal is too small.
+fn tell_small<E: Output>(terminal: Terminal, complaints: &mut E) {
+    tell(
+        &[
+            b"play: the terminal has ",
+            decimal(u64::from(terminal.columns)).as_slice(),
+            b" columns of ",
+            decimal(u64::from(terminal.rows)).as_slice(),
+            b" rows: 80 of 24 are wanted",
+        ],
+        complaints,
+    )
+}
+
+// The terminal at which somebody can play; or the status, where it is told why nobody can.
+fn terminal_for<E: Output>(
+    seat: Seat,
+    terminal: Option<Terminal>,
+    complaints: &mut E,
+) -> Result<Terminal, u8>
+    ensures { IfErr result (λ status. status ≤ 5) }
+{
     if !seat.types || !seat.sees {
         tell(
             &[
@@ -354,13 +409,20 @@ fn tell_seat<E: Output>(seat: Seat, is_raw: bool, complaints: &mut E) -> bool {
             ],
             complaints,
         );
-    } else if !is_raw {
+        return Err(2);
+    }
+    let Some(terminal) = terminal else {
         tell(
             &[b"play: the terminal is not set to give each key: start it by a2x-play F"],
             complaints,
         );
+        return Err(2);
+    };
+    if terminal.rows < LEAST_ROWS || terminal.columns < LEAST_COLUMNS {
+        tell_small(terminal, complaints);
+        return Err(2);
     }
-    seat.types && seat.sees && is_raw
+    Ok(terminal)
 }
 
 // Tells that the keys would take the place of the source, where they would.
@@ -387,8 +449,8 @@ fn spares_source<D: Desk, E: Output>(
     }
 }
 
-/// Plays the file that the words behind `play` name. The status is 2 where they are refused, and where nobody sits there; as of
-/// [`play_source`] else.
+/// Plays the file that the words name, of which the first is `play`. The status is 2 where they are refused, and where nobody sits
+/// there; as of [`play_source`] else.
 pub fn play_of<S: Shelf, D: Desk, R: Input, W: Output, E: Output, C: Clock>(
     alloc: Global,
     words: &[String],
@@ -403,22 +465,22 @@ pub fn play_of<S: Shelf, D: Desk, R: Input, W: Output, E: Output, C: Clock>(
     ensures done { IfOk result (λ status. status ≤ 5) }
     ensures refused { IfErr result (λ status. status ≤ 5) }
 {
-    let order = match play_order(words) {
+    let (terminal, words) = terminal_in(words);
+    let order = match play_order(behind(words)) {
         Ok(order) => order,
         Err(misfit) => {
             tell_misfit(misfit, complaints);
             return Err(2);
         }
     };
-    if !tell_seat(seat, order.is_raw, complaints) {
-        return Err(2);
-    }
+    let terminal = terminal_for(seat, terminal, complaints)?;
     spares_source(&order, desk, complaints)?;
     let source = text_of(alloc, Some(order.file), shelf, input, complaints)?;
     Ok(play_source(
         alloc,
         source.as_slice(),
         &order,
+        terminal,
         desk,
         clock,
         input,

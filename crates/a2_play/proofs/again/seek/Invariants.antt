@@ -1,0 +1,10 @@
+use Rattle.a2_asm.specs.Assembled.{Assembled}
+use Rattle.a2_play.specs.Agains.{IsAgain, IsSlower}
+use Rattle.a2_play.proofs.Remade.{IsSeeking}
+use Rattle.a2_play.proofs.again.seek.Given as goal
+
+-- where it stands behind so many pieces at most
+abbrev pub invariant-loop : goal.invariant-loop
+invariant-loop g l =
+    (program : Assembled) → IsAgain program l.log l.end l.fn.machine.state → IsSlower program l.log l.goal l.fn.machine.state.steps
+    → IsSeeking program l.log l.goal l.end l.piece l.counter l.before l.machine.state
