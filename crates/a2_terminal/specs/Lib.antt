@@ -3,3 +3,4 @@ pub mod Presses
 pub mod Calls
 pub mod Monitors
 pub mod Waits
+pub mod Besides

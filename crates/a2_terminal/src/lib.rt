@@ -3,10 +3,14 @@
 //! How it is called is shown in CALLING.md.
 #![tactic(auto)]
 
+mod beside;
+mod kept;
 mod laws;
 mod look;
 mod monitor;
 mod press;
+mod source;
 
+pub use beside::Annotated;
 pub use laws::waiting_is_typing;
 pub use monitor::Monitor;

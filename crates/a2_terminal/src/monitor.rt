@@ -18,6 +18,7 @@ ghost use Rattle.a2_terminal.specs.declared.press.Press.TheVariants.{Key};
 
 use crate::look::{Look, put_screen};
 use crate::press::{Press, keys_of, press_of};
+use a2_asm::Program;
 use a2_bus::Keys;
 use a2_hex::{HexFault, load_lines};
 use a2_machine::{Cause, Machine};
@@ -100,26 +101,40 @@ fn reply<A: Allocator, W: Output>(
     put_all(&[fault.text().as_bytes(), b"\n"], writer)
 }
 
+/// A machine with what a text holds.
+#[derive(Drop)]
+struct Loaded<A: Allocator> {
+    machine: Machine<A>,
+    // That of a source; none where the text is object lines.
+    program: Option<Program<A>>,
+}
+
 // A machine with a source's program.
-fn with_source<A: Allocator + Copy>(alloc: A, text: &[u8]) -> Result<Machine<A>, RunFault>
-    ensures made { IfOk result (λ machine. (program : Assembled) × IsProgramOf text.now program × IsStarted true program [] machine.state) }
+fn with_source<A: Allocator + Copy>(alloc: A, text: &[u8]) -> Result<Loaded<A>, RunFault>
+    ensures made { IfOk result (λ loaded. (program : Assembled) × IsProgramOf text.now program × IsStarted true program [] loaded.machine.state) }
     ensures refused { IfErr result (λ fault. RefusesText text.now fault) }
 {
     let program = program_of(alloc, text)?;
-    Ok(started(alloc, &program, &Keys::new(), true)?)
+    Ok(Loaded {
+        machine: started(alloc, &program, &Keys::new(), true)?,
+        program: Some(program),
+    })
 }
 
 // A machine with what a text holds: object lines, or else a source.
-fn with_text<A: Allocator + Copy>(alloc: A, text: &[u8]) -> Result<Machine<A>, RunFault>
-    ensures begun { IfOk result (λ machine. IsBegun text.now
-        (record { world = world_of_state machine.state; steps = machine.state.steps; next = 0 })) }
+fn with_text<A: Allocator + Copy>(alloc: A, text: &[u8]) -> Result<Loaded<A>, RunFault>
+    ensures begun { IfOk result (λ loaded. IsBegun text.now
+        (record { world = world_of_state loaded.machine.state; steps = loaded.machine.state.steps; next = 0 })) }
     ensures refused { IfErr result (λ fault. IsTurnedDown text.now fault) }
 {
     match load_lines(alloc, text) {
         Ok(image) => {
             let mut machine = Machine::new(alloc)?;
             machine.boot(&image, FIRST_ENTRY);
-            Ok(machine)
+            Ok(Loaded {
+                machine,
+                program: None,
+            })
         }
         Err(HexFault::Memory) => Err(RunFault::Memory),
         Err(_) => with_source(alloc, text),
@@ -154,12 +169,28 @@ impl<'a, A: Allocator + Copy> Monitor<'a, A> {
         ensures wait { IfOk result (λ monitor. monitor.wait ≡ None) }
         ensures refused { IfErr result (λ fault. IsTurnedDown text.now fault) }
     {
-        let machine = with_text(alloc, text)?;
-        Ok(Monitor {
-            session: Session::new(machine),
+        let (monitor, _) = Monitor::with_program(alloc, keyboard, text)?;
+        Ok(monitor)
+    }
+
+    // The same with the program, where the text is a source.
+    pub(crate) fn with_program(
+        alloc: A,
+        keyboard: Option<&'a Cell<bool>>,
+        text: &[u8],
+    ) -> Result<(Monitor<'a, A>, Option<Program<A>>), RunFault>
+        ensures begun { IfOk result (λ (monitor, _). IsBegun text.now (sitting_of monitor.session)) }
+        ensures live { IfOk result (λ (monitor, _). monitor.is_live ≡ is_some keyboard.entry) }
+        ensures wait { IfOk result (λ (monitor, _). monitor.wait ≡ None) }
+        ensures refused { IfErr result (λ fault. IsTurnedDown text.now fault) }
+    {
+        let loaded = with_text(alloc, text)?;
+        let monitor = Monitor {
+            session: Session::new(loaded.machine),
             keyboard,
             wait: None,
-        })
+        };
+        Ok((monitor, loaded.program))
     }
 }
 
@@ -239,6 +270,13 @@ fn left_where(waits: bool, limit: u32, made: u64) -> Option<u32>
 }
 
 impl<A: Allocator> Monitor<'_, A> {
+    /// Whether a program waits for a key, so that the next line is one.
+    pub(crate) fn is_waiting(&self) -> bool
+        ensures { result ≡ is_some self.now.wait }
+    {
+        self.wait.is_some()
+    }
+
     // Notes whether a program waits, and how many steps it may still make.
     fn note(&mut self, wait: Option<u32>)
         ensures { self.new ≡ record self.old { wait = wait } }

@@ -126,6 +126,10 @@ Before F:
   --record T  at the end T has each key with its step, whole or not at all:
               a2x run --replay T F makes the run again
   --colours C lo-res in full colours, in those of 256, or none
+
+Keys are the program's; Ctrl-] and a letter is an order: q quits, p halts and
+goes on, s makes a step, b goes back a second, d goes into the debugger, + and
+- change the pace, r begins again, k tells the keys at the end, l draws again
 ";
 
 // The option that promises alone have.
@@ -142,6 +146,15 @@ Before F:
               most N, else N of them; without it 16777216, and else 1000000
 ";
 
+// The option that the Monitor alone has.
+const MON_OPTIONS: &[u8] = b"
+F is object lines or a source, with which the session begins. Beside the bytes
+and instructions of a source stand its names and lines, but where this stands,
+before F or behind it:
+
+  --plain     the answers alone
+";
+
 // The options that the debugger alone has.
 const DEBUG_OPTIONS: &[u8] = b"
 Options of a run, and of the debugger alone, before F:
@@ -149,6 +162,7 @@ Options of a run, and of the debugger alone, before F:
   --tui       panes of source, registers, stack, memory and screen, drawn
               again behind each line, at a terminal of 80 columns of 24
               rows or more: a2x-debug --tui F
+  --plain     no answer has lines of F but that of list
   --keep N    keeps at most N copies of the machine, 124 KB each, by which
               the run goes back, 20 and more; without it 540
 ";
@@ -199,6 +213,7 @@ fn own_options(tool: Tool) -> &'static [u8] {
         Tool::Profile => PROFILE_OPTIONS,
         Tool::Fmt => FMT_OPTIONS,
         Tool::Play => PLAY_OPTIONS,
+        Tool::Mon => MON_OPTIONS,
         Tool::Debug => DEBUG_OPTIONS,
         Tool::Import => IMPORT_OPTIONS,
         Tool::Promise => PROMISE_OPTIONS,

@@ -2,7 +2,7 @@
 
 ghost use Rattle.std.specs.Prelude.{◌≡◌, ◌≢◌, ◌≤◌, codes, IfSome, IfOk, IfErr};
 
-use crate::asked::named_file;
+use crate::asked::{held_in, named_file};
 use crate::checking::check_of;
 use crate::debugging::debug_of;
 use crate::film::{FilmFault, FilmOrder, is_film_limit, parted, window_of};
@@ -19,7 +19,7 @@ use crate::release::put_version;
 use crate::replay::{asks_replay, replay_of};
 use crate::running::run_of;
 use crate::table::{Tool, Word, nearest, word_named};
-use crate::terminal::mon;
+use crate::terminal::{Loaded, mon};
 use crate::tests::{exam_in, tell_words, test};
 use crate::tools::{film, told, written};
 use crate::tracing::trace_of;
@@ -28,6 +28,7 @@ use a2_desk::Desk;
 use a2_film::{ScriptFault, chapters_of};
 use a2_host::Shelf;
 use a2_manual::{manual, near, topic};
+use a2_options::{Kind, Row};
 use a2_play::Clock;
 use a2_run::{ReadingFault, RunFault, read_front, read_text};
 use a2_stream::{Input, Output, put, put_all};
@@ -284,31 +285,39 @@ pub fn tell_lines_come<E: Output>(name: &[u8], complaints: &mut E) -> u8
     2
 }
 
+// The options of `mon`, and what stands before a file whose name begins with `-`.
+static MON_OPTIONS: [Row; 2] = [
+    Row {
+        name: "--plain",
+        kind: Kind::Flag,
+    },
+    Row {
+        name: "--",
+        kind: Kind::End,
+    },
+];
+
 // Answers Monitor lines over what a file holds.
 fn talk_over<S: Shelf, R: Input, W: Output, E: Output>(
     alloc: Global,
     name: &str,
+    is_plain: bool,
     prompts: bool,
     terminal: Option<Terminal>,
     shelf: &mut S,
     input: &mut R,
     output: &mut W,
     complaints: &mut E,
-) -> u8
-    ensures { result ≤ 5 }
+) -> Result<u8, u8>
+    ensures done { IfOk result (λ status. status ≤ 5) }
+    ensures refused { IfErr result (λ status. status ≤ 5) }
 {
-    match loaded_text(alloc, name, shelf, complaints) {
-        Ok(text) => mon(
-            alloc,
-            Some(text.as_slice()),
-            prompts,
-            terminal,
-            input,
-            output,
-            complaints,
-        ),
-        Err(status) => status,
-    }
+    let text = loaded_text(alloc, name, shelf, complaints)?;
+    let loaded = Loaded {
+        text: Some(text.as_slice()),
+        is_plain,
+    };
+    Ok(mon(alloc, loaded, prompts, terminal, input, output, complaints))
 }
 
 // Answers Monitor lines, over a file where the words name one.
@@ -321,17 +330,25 @@ fn talk_of<S: Shelf, R: Input, W: Output, E: Output>(
     input: &mut R,
     output: &mut W,
     complaints: &mut E,
-) -> u8
-    ensures { result ≤ 5 }
+) -> Result<u8, u8>
+    ensures done { IfOk result (λ status. status ≤ 5) }
+    ensures refused { IfErr result (λ status. status ≤ 5) }
 {
     let (terminal, words) = terminal_in(words);
-    match named_file(word, words, complaints) {
-        Ok(Some(name)) if is_input(name) => tell_lines_come(word.name.as_bytes(), complaints),
-        Ok(Some(name)) => talk_over(
-            alloc, name, prompts, terminal, shelf, input, output, complaints,
+    let held = held_in(alloc, word, &MON_OPTIONS, words, complaints)?;
+    let is_plain = !held.found.is_empty();
+    match named_file(word, held.others.as_slice(), complaints)? {
+        Some(name) if is_input(name) => Err(tell_lines_come(word.name.as_bytes(), complaints)),
+        Some(name) => talk_over(
+            alloc, name, is_plain, prompts, terminal, shelf, input, output, complaints,
         ),
-        Ok(None) => mon(alloc, None, prompts, terminal, input, output, complaints),
-        Err(status) => status,
+        None => {
+            let loaded = Loaded {
+                text: None,
+                is_plain,
+            };
+            Ok(mon(alloc, loaded, prompts, terminal, input, output, complaints))
+        }
     }
 }
 
@@ -613,19 +630,11 @@ fn act<S: Shelf, D: Desk, C: Clock, R: Input, W: Output, E: Output>(
             Err(_) => Err(tell_words(complaints)),
         },
         Tool::Promise => promise_of(alloc, word, words, shelf, input, output, complaints),
-        Tool::Mon => Ok(talk_of(
+        Tool::Mon => talk_of(
             alloc, word, words, seat.types, shelf, input, output, complaints,
-        )),
+        ),
         Tool::Play => play_of(
-            alloc,
-            behind(words),
-            seat,
-            shelf,
-            desk,
-            clock,
-            input,
-            output,
-            complaints,
+            alloc, words, seat, shelf, desk, clock, input, output, complaints,
         ),
         Tool::Fmt => Ok(fmt_of(alloc, behind(words), shelf, desk, input, output, complaints)),
         Tool::Import => Ok(import_of(alloc, behind(words), shelf, input, output, complaints)),

@@ -111,7 +111,7 @@ pub static WORDS: [Word; 14] = [
     },
     Word {
         name: "mon",
-        arguments: "[F]",
+        arguments: "[--plain] [F]",
         runs: false,
         says: "answers Monitor lines as they are typed",
         tool: Tool::Mon,

@@ -8,7 +8,7 @@ use a2_run::RunFault;
 use a2_stream::{Input, Output};
 use a2_syntax::Fault;
 use a2_talk::TalkFault;
-use a2_terminal::Monitor;
+use a2_terminal::{Annotated, Monitor};
 use std::alloc::Global;
 use std::cell::Cell;
 
@@ -22,6 +22,15 @@ pub fn ended<E: Output>(answer: Result<(), TalkFault>, complaints: &mut E) -> u8
         Err(TalkFault::Write) => told(RunFault::Write, complaints),
         Err(TalkFault::Endless) => told(RunFault::Script(Fault::TooLarge(0)), complaints),
     }
+}
+
+/// What a session of the Monitor begins with.
+#[derive(Clone, Copy)]
+pub struct Loaded<'a> {
+    /// Object lines or a source, if anything is loaded.
+    pub text: Option<&'a [u8]>,
+    /// Whether names and lines of a source are left out of the answers.
+    pub is_plain: bool,
 }
 
 // The Monitor with a text, or with nothing.
@@ -44,13 +53,50 @@ fn keyboard_of(terminal: Option<Terminal>) -> Option<Cell<bool>> {
     }
 }
 
-/// Answers the Monitor lines of `input` on `output`, each before the next is read, up to its end or `quit`. What `text`
-/// holds, object lines or a source, is loaded first. `prompts` says whether a prompt stands before each line, and `terminal` which
+// Answers lines over a text, with names and lines beside where that is a source.
+fn talk_beside<R: Input, W: Output, E: Output>(
+    alloc: Global,
+    keyboard: Option<&Cell<bool>>,
+    text: &[u8],
+    lines: Lines<'_>,
+    input: &mut R,
+    output: &mut W,
+    complaints: &mut E,
+) -> u8
+    ensures { result ≤ 5 }
+{
+    match Annotated::with(alloc, keyboard, text) {
+        Ok(mut monitor) => talked(alloc, &mut monitor, lines, input, output, complaints),
+        Err(fault) => told(fault, complaints),
+    }
+}
+
+// Answers lines over a text, or over nothing.
+fn talk_alone<R: Input, W: Output, E: Output>(
+    alloc: Global,
+    keyboard: Option<&Cell<bool>>,
+    text: Option<&[u8]>,
+    lines: Lines<'_>,
+    input: &mut R,
+    output: &mut W,
+    complaints: &mut E,
+) -> u8
+    ensures { result ≤ 5 }
+{
+    match monitor_with(alloc, keyboard, text) {
+        Ok(mut monitor) => talked(alloc, &mut monitor, lines, input, output, complaints),
+        Err(fault) => told(fault, complaints),
+    }
+}
+
+/// Answers the Monitor lines of `input` on `output`, each before the next is read, up to its end or `quit`. What the text
+/// holds, object lines or a source, is loaded first; names and lines of a source are told beside what they stand at, but where
+/// the session is plain. `prompts` says whether a prompt stands before each line, and `terminal` which
 /// one gives each byte as it is typed, so that lines are edited, and a program that waits for a key takes it from there. The status
 /// is 1 where the source is refused, 4 where a read or a write fails, and 5 for want of memory, each told on `complaints`.
 pub fn mon<R: Input, W: Output, E: Output>(
     alloc: Global,
-    text: Option<&[u8]>,
+    loaded: Loaded<'_>,
     prompts: bool,
     terminal: Option<Terminal>,
     input: &mut R,
@@ -61,6 +107,7 @@ pub fn mon<R: Input, W: Output, E: Output>(
 {
     let columns = columns_of(terminal);
     let keyboard = keyboard_of(terminal);
+    let keys = keyboard.as_ref();
     let lines = Lines {
         prompt: if prompts {
             Prompt::Monitor
@@ -69,10 +116,12 @@ pub fn mon<R: Input, W: Output, E: Output>(
         },
         columns: columns.as_ref(),
         has_panes: false,
-        keys: keyboard.as_ref(),
+        keys,
     };
-    match monitor_with(alloc, keyboard.as_ref(), text) {
-        Ok(mut monitor) => talked(alloc, &mut monitor, lines, input, output, complaints),
-        Err(fault) => told(fault, complaints),
+    match loaded.text {
+        Some(text) if !loaded.is_plain => {
+            talk_beside(alloc, keys, text, lines, input, output, complaints)
+        }
+        text => talk_alone(alloc, keys, text, lines, input, output, complaints),
     }
 }
