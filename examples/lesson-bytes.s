@@ -2,6 +2,9 @@
         ORG     $06
         DFB     200,100,50
         ORG     $300
+;: ensures word $09 = old $06 + old $07 + old $08
+;: changes A, $09..$0A
+SUM
         LDA     #0
         STA     $0A
         LDA     $06
