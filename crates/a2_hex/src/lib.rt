@@ -15,4 +15,4 @@ pub use image::{Image, RAM_END};
 pub use load::load_lines;
 pub use numbers::{address_of, byte_of};
 pub use store::{StoreLine, count_bytes, first_byte, store_line};
-pub use write::{write_lines, written_lines_load};
+pub use write::{append_run, write_lines, written_lines_load};

@@ -11,7 +11,7 @@ ghost use Rattle.a2_hex.specs.Gathering.{Gathers};
 
 use crate::image::Image;
 use a2_stream::{Output, WriteFault, put};
-use a2_text::{hex_pair, hex_word};
+use a2_text::{append, hex_pair, hex_word};
 use arrayvec::ArrayVec;
 use std::alloc::Allocator;
 
@@ -34,25 +34,18 @@ fn begun<A: Allocator>(image: &Image<A>, address: u16) -> Option<u8>
     }
 }
 
-// Appends bytes that fit.
-fn append(line: &mut ArrayVec<u8, LINE_LEN>, bytes: &[u8])
-    requires { array_vec_len line.old + length bytes.now ≤ 29 }
-    ensures { line.new.items ≡ line.old.items ++ bytes.now }
-{
-    line.try_extend_from_slice(bytes).unwrap();
-}
-
-// Appends the bytes from an address up to a gap, but at most so many, each with a blank before it.
-fn append_run<A: Allocator>(
+/// Adds the bytes of `image` from `address` up to a gap, but at most `most`, behind `line`, each as two digits with a blank
+/// before it. No address is above `$FFFF`, and the line has room for so many.
+pub fn append_run<A: Allocator, const N: usize>(
     image: &Image<A>,
     address: u16,
     most: u16,
-    line: &mut ArrayVec<u8, LINE_LEN>,
+    line: &mut ArrayVec<u8, N>,
 )
     requires address { address + most ≤ 65536 }
-    requires room { array_vec_len line.old + 3 * most ≤ 28 }
+    requires room { array_vec_len line.old + 3 * most ≤ N }
     ensures items { line.new.items ≡ line.old.items ++ flat_map text.after_blank (text.run (held image.now) address most) }
-    ensures room { array_vec_len line.new ≤ 28 }
+    ensures few { array_vec_len line.new ≤ array_vec_len line.old + 3 * most }
 {
     for i in 0..most {
         let Some(byte) = image.get(address + i) else {

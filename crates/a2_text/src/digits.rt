@@ -5,6 +5,7 @@ ghost use Rattle.std.specs.Fmt.{decimal as decimal_of};
 ghost use Rattle.a2_text.specs.Digits as digits;
 
 use crate::numbers::capital;
+use crate::room::append;
 use arrayvec::ArrayVec;
 
 /// The two capital hexadecimal digits of a byte.
@@ -32,9 +33,7 @@ fn collected(bytes: &[u8]) -> ArrayVec<u8, 20>
     ensures { result.items ≡ bytes.now }
 {
     let mut all = ArrayVec::new();
-    match all.try_extend_from_slice(bytes) {
-        Ok(()) | Err(_) => {}
-    }
+    append(&mut all, bytes);
     all
 }
 
