@@ -4,6 +4,7 @@
 #![tactic(auto)]
 
 mod digits;
+mod json;
 mod lines;
 mod numbers;
 mod refusal;
@@ -11,6 +12,7 @@ mod room;
 mod words;
 
 pub use digits::{decimal, hex_pair, hex_word};
+pub use json::json_escape;
 pub use lines::cut;
 pub use numbers::{capital, is_blank, number_in};
 pub use refusal::{RefusalText, refusal_text};
