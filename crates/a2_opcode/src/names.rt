@@ -1,9 +1,10 @@
 //! The mnemonics' names.
 
-ghost use Rattle.std.specs.Prelude.{◌≡◌, ◌≢◌, map, Some, IfSome};
+ghost use Rattle.std.specs.Prelude.{◌≡◌, ◌<◌, map, Some, IfSome};
 ghost use Rattle.a2_text.specs.Bytes.{capital as capital_of};
 ghost use Rattle.a2_opcode.specs.declared.Mnemonic.{Mnemonic as DeclaredMnemonic};
 ghost use Rattle.a2_opcode.specs.Names.{name_of};
+ghost use Rattle.a2_opcode.specs.Entries.{place_by};
 
 use crate::Mnemonic;
 use a2_text::capital;
@@ -68,17 +69,41 @@ static MNEMONICS: [Mnemonic; 56] = [
     Mnemonic::Tya,
 ];
 
-// The mnemonic with a name in capitals.
-fn spelled(letters: &[u8]) -> Option<Mnemonic>
-    ensures found { IfSome result (λ m. name_of m ≡ letters.now) }
-    ensures only { (m : DeclaredMnemonic) → name_of m ≡ letters.now → result ≡ Some m }
+// Where the mnemonic with a name stands among all, by its letters as `place_of` weighs them, in which no two have the same
+// weight; 0 where none has.
+static PLACES: [u8; 256] = [
+    0, 0, 0, 0, 0, 0, 0, 0, 0, 0, 0, 0, 0, 0, 0, 41, 0, 0, 0, 20, 0, 0, 0, 0, 0, 0, 0, 0, 0, 0, 0,
+    0, 0, 0, 0, 4, 0, 0, 0, 0, 0, 0, 0, 53, 0, 42, 0, 0, 0, 5, 0, 29, 0, 55, 0, 0, 0, 0, 0, 0, 0,
+    0, 52, 0, 0, 0, 48, 0, 0, 49, 0, 0, 0, 0, 0, 0, 0, 0, 0, 43, 0, 0, 21, 13, 0, 22, 14, 0, 0, 0,
+    0, 0, 0, 0, 1, 0, 0, 54, 6, 0, 0, 15, 0, 8, 0, 7, 0, 0, 0, 44, 0, 0, 45, 0, 0, 35, 0, 0, 0, 0,
+    30, 0, 0, 31, 0, 0, 0, 46, 0, 0, 0, 0, 17, 0, 0, 0, 0, 0, 50, 24, 16, 51, 0, 0, 9, 0, 0, 0, 0,
+    0, 0, 0, 0, 0, 0, 37, 0, 0, 0, 0, 36, 10, 0, 0, 0, 0, 0, 0, 2, 0, 23, 0, 0, 0, 27, 0, 0, 11, 0,
+    0, 0, 0, 0, 0, 0, 0, 18, 0, 0, 19, 0, 0, 0, 0, 0, 0, 0, 0, 0, 0, 38, 0, 25, 0, 0, 26, 0, 0, 0,
+    34, 0, 0, 0, 0, 0, 0, 0, 0, 33, 0, 0, 0, 0, 0, 0, 12, 0, 0, 0, 0, 39, 0, 0, 0, 0, 0, 0, 0, 0,
+    0, 28, 0, 0, 3, 0, 0, 0, 0, 40, 0, 0, 0, 32, 47, 0, 0,
+];
+
+// Where the one mnemonic stands that may have these letters.
+fn place_of(letters: [u8; 3]) -> usize
+    ensures is { result ≡ place_by letters }
+    ensures within { result < 56 }
 {
-    for mnemonic in &MNEMONICS {
-        if mnemonic.name().as_bytes() == letters {
-            return Some(*mnemonic);
-        }
+    let [a, b, c] = letters;
+    let weight = 6 * usize::from(a) + 10 * usize::from(b) + 3 * usize::from(c);
+    usize::from(PLACES[weight % 256])
+}
+
+// The mnemonic with a name in capitals.
+fn spelled(letters: [u8; 3]) -> Option<Mnemonic>
+    ensures found { IfSome result (λ m. name_of m ≡ letters) }
+    ensures only { (m : DeclaredMnemonic) → name_of m ≡ letters → result ≡ Some m }
+{
+    let mnemonic = MNEMONICS[place_of(letters)];
+    if mnemonic.name().as_bytes() == letters.as_slice() {
+        Some(mnemonic)
+    } else {
+        None
     }
-    None
 }
 
 impl Mnemonic {
@@ -154,7 +179,6 @@ impl Mnemonic {
         let [a, b, c] = text else {
             return None;
         };
-        let letters = [capital(*a), capital(*b), capital(*c)];
-        spelled(&letters)
+        spelled([capital(*a), capital(*b), capital(*c)])
     }
 }
