@@ -11,3 +11,4 @@ pub mod ListedLaws
 pub mod EachReading
 pub mod Deciding
 pub mod Reader
+pub mod PlainLaws

@@ -230,7 +230,7 @@ IsOperandOf-one m pieces a b h k = elim (cases_Bool (is_shift m)) [
 IsText-one : (ps : List (List ℕ)) (a b : List ℕ) → IsText ps a → IsText ps b → a ≡ b
 IsText-one ps a b (q, text, piece, e, h, some, is) k = sym (text-same ps piece q text a e h is b k)
 
-IsOperation-one : {A : Type 0} → (o : Operation) (ps : List (List ℕ)) (a b : Body A) → IsOperation o ps a → IsOperation o ps b → a ≡ b
+pub IsOperation-one : {A : Type 0} → (o : Operation) (ps : List (List ℕ)) (a b : Body A) → IsOperation o ps a → IsOperation o ps b → a ≡ b
 IsOperation-one {A} operations.Org ps a b h k =
     let x = org-is ps a h in
     let y = org-is ps b k in

@@ -96,7 +96,7 @@ quote-stops : (q : ℕ) → is_quotable q q ≡ false
 quote-stops q = grind (arith, nat_tests)
 
 -- the piece at the front
-IsRun-front : (xs : List ℕ) → 0 < run_len xs → IsNameRun (take (run_len xs) xs) (drop (run_len xs) xs)
+pub IsRun-front : (xs : List ℕ) → 0 < run_len xs → IsNameRun (take (run_len xs) xs) (drop (run_len xs) xs)
 IsRun-front xs h =
     let n = length-take-le (run_len xs) xs (prefix_len-le-length is_name_byte xs) in
     (omega (arith, n), AllPass-front is_name_byte xs, ends (drop (run_len xs) xs) (Stops-drop is_name_byte xs))

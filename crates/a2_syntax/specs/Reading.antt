@@ -4,14 +4,16 @@ use Rattle.std.specs.List.{prefix_len, list_any}
 use Rattle.a2_text.specs.Signs.{sign}
 use Rattle.a2_syntax.specs.Names.{is_name_byte}
 use Rattle.a2_syntax.specs.Numbers.{is_quote, is_quotable}
-use Rattle.a2_syntax.specs.Pieces.{is_sign, is_mark}
+use Rattle.a2_syntax.specs.Pieces.{is_sign, is_mark, Spells}
 use Rattle.a2_syntax.specs.Relations.{TheOne}
-use Rattle.a2_syntax.specs.Grammar.{IsPart, AreMoreTerms}
+use Rattle.a2_syntax.specs.Grammar.{IsPart, AreMoreTerms, AreExprs}
+use Rattle.a2_syntax.specs.declared.source.Term.TheVariants.{Number}
 use Rattle.a2_syntax.specs.declared.source.Signed.{Signed}
 use Rattle.a2_syntax.specs.declared.operation.Operation.{Operation}
 use Rattle.a2_syntax.specs.declared.operation.Operation.TheVariants.{Instr}
 use Rattle.a2_syntax.specs.declared.source.Part.{Part}
 use Rattle.a2_syntax.specs.declared.source.Part.TheVariants.{Whole}
+use Rattle.a2_syntax.specs.declared.source.Expr.{Expr}
 
 abbrev pub run_len : List ℕ → ℕ
 run_len text = prefix_len is_name_byte text
@@ -62,3 +64,11 @@ BeginsComma (p ∷ ps) = p ≡ codes ","
 abbrev pub IsInstr : Operation → Type 0
 IsInstr (Instr m) = Unit {0}
 IsInstr directive = ⊥
+
+-- the expression that is one number
+abbrev pub number_expr : {A : Type 0} → ℕ → Expr A
+number_expr n = record { part = Whole; terms = record { minus = false; term = Number n } ∷ [] }
+
+-- the pieces of a text are these expressions, with commas between them
+abbrev pub SpellsExprs : {A : Type 0} → List ℕ → List (Expr A) → Type 0
+SpellsExprs text es = (pieces : List (List ℕ)) × Spells text pieces × AreExprs pieces es

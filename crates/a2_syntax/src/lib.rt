@@ -13,6 +13,7 @@ mod operand;
 mod operation;
 mod parser;
 mod piece;
+mod plain;
 mod source;
 mod term;
 mod word;

@@ -8,6 +8,7 @@ ghost use Rattle.a2_syntax.specs.Grammar.{IsBody, may_stand, IsLine};
 use crate::body::operation_body;
 use crate::operation::named;
 use crate::piece::{front_run, is_gap, is_over, pieces};
+use crate::plain::plain_body;
 use crate::source::{Body, Line};
 use crate::term::name_of;
 use crate::word::is_name;
@@ -34,6 +35,10 @@ fn body<'a, A: Allocator + Copy>(
     let Some(operation) = named(word) else {
         return Ok(None);
     };
+    let plain = plain_body(alloc, operation, after)?;
+    if let Some(body) = plain {
+        return Ok(Some(body));
+    }
     if !pieces(after, found)? {
         return Ok(None);
     }

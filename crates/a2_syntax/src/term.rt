@@ -30,7 +30,7 @@ fn character(quote: u8, others: &[u8]) -> Option<u16>
 }
 
 // The number that a piece spells.
-fn number(piece: &[u8]) -> Option<u16>
+pub(crate) fn number(piece: &[u8]) -> Option<u16>
     ensures { result ≡ numbers.number piece.now }
 {
     let (first, others) = piece.split_first()?;

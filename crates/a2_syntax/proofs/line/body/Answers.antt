@@ -8,6 +8,7 @@ use Rattle.a2_syntax.specs.Reading.{run_len}
 use Rattle.a2_syntax.specs.Grammar.{IsBody, IsOperation}
 use Rattle.a2_syntax.proofs.PieceLaws.{behind-within}
 use Rattle.a2_syntax.proofs.LineLaws.{IsBody-over, IsBody-no_gap, IsBody-no_operation, IsBody-no_pieces, IsBody-operation, Spells-short}
+use Rattle.a2_syntax.proofs.PlainLaws.{the-operation}
 use Rattle.a2_syntax.proofs.line.body.Goals as goal
 
 abbrev now : List (Bor (List ℕ)) → List (List ℕ)
@@ -43,6 +44,11 @@ operation_body-requires g c =
       few = omega (arith, most, few, ap length c.as_slice.ensures.value);
       short = subst P (sym c.as_slice.ensures.value) (All-weaker (λ p. length p ≤ length after) (λ p. length p ≤ 255) (λ p h. omega (arith, most, h)) (now c.pieces.new.found.items) (Spells-short after (now c.pieces.new.found.items) spells));
     }
+
+pub returns-in-Some-plain : goal.returns-in-Some-plain
+returns-in-Some-plain g c =
+    let (pieces, spells, does) = rw c.in-Some-plain.is at c.in_ok-plain.ensures in
+    IsBody-operation c.args.text.now c.behind_blanks-here.result.now c.front_run.result.0.now c.front_run.result.1.now c.in-Some.operation pieces (Some c.in-Some-plain.body) c.behind_blanks-here.ensures (sym c.is_over.ensures ∙ c.if-is_over.false) c.front_run.ensures.word c.front_run.ensures.rest (sym c.is_gap.ensures ∙ c.if-not-is_gap.false) (sym (rw c.in-Some.is at c.named.ensures.found)) spells (the-operation c.in-Some.operation pieces c.in-Some-plain.body does)
 
 pub returns : goal.returns
 returns g c =

@@ -1,0 +1,91 @@
+//! Lists of plain numbers, which are read without the pieces of their text.
+
+ghost use Rattle.std.specs.Prelude.{◌≡◌, ◌≤◌, List, ℕ, length, IfOk, IfSome};
+ghost use Rattle.a2_syntax.specs.Pieces.{Spells};
+ghost use Rattle.a2_syntax.specs.Grammar.{IsOperation};
+ghost use Rattle.a2_syntax.specs.Reading.{number_expr, SpellsExprs};
+
+use crate::operation::Operation;
+use crate::piece::{front_run, is_over};
+use crate::source::{Body, Expr, Exprs, Part, Signed, Term, Terms};
+use crate::term::number;
+use a2_text::behind_blanks;
+use std::alloc::{AllocError, Allocator};
+
+// How many commas a text has.
+fn commas(text: &[u8]) -> usize
+    ensures { result ≤ length text.now }
+{
+    let mut count = 0;
+    for c in text {
+        if *c == b',' {
+            count += 1;
+        }
+    }
+    count
+}
+
+// The expression that is one number.
+fn one_number<A: Allocator>(alloc: A, number: u16) -> Result<Expr<A>, AllocError>
+    ensures { IfOk result (λ e. e ≡ number_expr number) }
+{
+    let mut terms = Vec::with_capacity(alloc, 1)?;
+    terms.push_reserved(Signed {
+        minus: false,
+        term: Term::Number(number),
+    });
+    Ok(Expr {
+        part: Part::Whole,
+        terms: Terms::of(terms),
+    })
+}
+
+// The expressions that a text of decimal numbers with commas between them is; none where it is another text.
+fn numbers<A: Allocator + Copy>(alloc: A, text: &[u8]) -> Result<Option<Exprs<A>>, AllocError>
+    requires { length text.now ≤ 255 }
+    ensures { IfOk result (λ o. IfSome o (λ es. SpellsExprs text.now es)) }
+{
+    let mut found = Vec::with_capacity(alloc, commas(text) + 1)?;
+    let mut rest = text;
+    'numbers: loop {
+        let (digits, behind) = front_run(behind_blanks(rest));
+        let Some(n) = number(digits) else {
+            return Ok(None);
+        };
+        found.push(one_number(alloc, n)?)?;
+        let next = behind_blanks(behind);
+        if is_over(next) {
+            return Ok(Some(Exprs::of(found)));
+        }
+        let Some((sign, more)) = next.split_first() else {
+            return Ok(None);
+        };
+        if *sign != b',' {
+            return Ok(None);
+        }
+        rest = more;
+    }
+}
+
+// What DFB or DW does with decimal numbers alone behind it; none where it is another operation, or another text.
+pub(crate) fn plain_body<A: Allocator + Copy>(
+    alloc: A,
+    operation: Operation,
+    text: &[u8],
+) -> Result<Option<Body<A>>, AllocError>
+    requires { length text.now ≤ 255 }
+    ensures { IfOk result (λ o. IfSome o (λ body.
+        (pieces : List (List ℕ)) × Spells text.now pieces × IsOperation operation pieces body)) }
+{
+    match operation {
+        Operation::Dfb => match numbers(alloc, text)? {
+            Some(es) => Ok(Some(Body::Dfb(es))),
+            None => Ok(None),
+        },
+        Operation::Dw => match numbers(alloc, text)? {
+            Some(es) => Ok(Some(Body::Dw(es))),
+            None => Ok(None),
+        },
+        _ => Ok(None),
+    }
+}
