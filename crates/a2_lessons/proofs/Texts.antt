@@ -64,13 +64,14 @@ entry_of text =
     if is_some (read_source text) && (not (is_some (layout_refusal (source_of text))) && is_in_ram text)
     then laid.first_instruction (source_rows (source_of text)) else None
 
-record IsAccepted (text : List ℕ) (entry : ℕ) : Type 0 where
-  read : IsSource text (source_of text)
-  accepted : layout_refusal (source_of text) ≡ None
-  in_ram : is_in_ram text ≡ true
-  begins : laid.first_instruction (source_rows (source_of text)) ≡ Some entry
+-- the text is read, not refused, and its code lies in RAM
+pub record IsAccepted (text : List ℕ) (entry : ℕ) : Type 0 where
+  pub read : IsSource text (source_of text)
+  pub accepted : layout_refusal (source_of text) ≡ None
+  pub in_ram : is_in_ram text ≡ true
+  pub begins : laid.first_instruction (source_rows (source_of text)) ≡ Some entry
 
-accepted : (text : List ℕ) (entry : ℕ) → entry_of text ≡ Some entry → IsAccepted text entry
+pub accepted : (text : List ℕ) (entry : ℕ) → entry_of text ≡ Some entry → IsAccepted text entry
 accepted text entry e = go (read_source text) (layout_refusal (source_of text)) (is_in_ram text) refl refl refl e
   where
     never : {Y : Type 0} → None ≡ Some entry → Y
@@ -89,7 +90,7 @@ accepted text entry e = go (read_source text) (layout_refusal (source_of text)) 
     }
 
 -- no fault refuses such a text
-not_refused : (text : List ℕ) (entry : ℕ) → IsAccepted text entry → (f : Fault) → IsRefused text f → ⊥
+pub not_refused : (text : List ℕ) (entry : ℕ) → IsAccepted text entry → (f : Fault) → IsRefused text f → ⊥
 not_refused text entry is f (inl refusal) = refused-none text f (source_of text) refusal is.read
 not_refused text entry is f (inr (other, it, e)) =
     false≢true (ap is_some (sym is.accepted ∙ refusal-of (source_of text) f (subst (λ s. IsLayoutRefusal s f) (one-source text other (source_of text) it is.read) e)))

@@ -1,0 +1,64 @@
+-- The example is proved, as a2-prove proves each.
+use Rattle.std.specs.Prelude.{◌≡◌, ◌<◌, ℕ, ◌+◌, ◌*◌, ◌%◌, List, [], ◌∷◌, Some, refl}
+use Rattle.std.proofs.Common.{arith, true≢false}
+use Rattle.a2_opcode.specs.declared.Mnemonic.TheVariants.{Asl, Rts}
+use Rattle.a2_opcode.specs.declared.Mode.TheVariants.{Accumulator, Implied}
+use Rattle.a2_asm.specs.declared.program.Statement.{Statement}
+use Rattle.a2_machine.proofs.Computing.{computing}
+use Rattle.a2_lessons.specs.Routines.{op}
+use Rattle.a2_lessons.proofs.Keeping.{kept}
+use Rattle.a2_lessons.proofs.Reading.{reading}
+use Rattle.a2_lessons.proofs.Texts.{entry_of, statements_of}
+use Rattle.a2_rules.specs.Doubling.{doubling, double, DoublingIsProved}
+use Rattle.a2_rules.proofs.Kept.{After, code_of, proved}
+use Rattle.a2_rules.proofs.Meeting.{Meets, home}
+use Rattle.a2_rules.proofs.Proving.{bytes_after}
+use Rattle.a2_rules.proofs.Saying.{all_say}
+
+listing : List Statement
+listing =
+    record { line = 4; addr = 0x300; length = 1; instr = Some (op Asl Accumulator 0) }
+    ∷ record { line = 5; addr = 0x301; length = 1; instr = Some (op Rts Implied 0) } ∷ []
+
+read : entry_of doubling ≡ Some 0x300
+unfolding reading
+read = refl
+
+stated : statements_of doubling ≡ listing
+unfolding reading listing
+stated = refl
+
+doubled : (a : ℕ) → a < 128 → (2 * a + 0) % 256 ≡ 2 * a
+doubled a low = omega (arith, low)
+
+meets : Meets (code_of listing) 0x300 0xFD (λ w. all_say double.wanted w w) (After double [])
+unfolding computing listing
+meets w bytes before = (
+  1,
+  (
+    _,
+    refl,
+    (
+      _,
+      record {
+        step = refl;
+        to = home 0xFD w;
+        registers = refl;
+        memory = refl;
+        home = refl;
+        decimal = refl;
+      },
+      record {
+        says = (doubled w.registers.a before.0, tt);
+        a = λ no. absurd (true≢false no);
+        x = λ no. refl;
+        y = λ no. refl;
+        rest = kept [] w.memory _ _ refl refl;
+        bytes = record { a = omega arith; x = bytes.x; y = bytes.y; ram = bytes_after [] w.memory _ (λ q. bytes.ram q) tt refl };
+      },
+    ),
+  ),
+)
+
+pub doubling_is_proved : DoublingIsProved
+doubling_is_proved = proved doubling listing 0x300 double [] read stated refl refl refl meets

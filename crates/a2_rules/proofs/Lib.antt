@@ -1,0 +1,9 @@
+pub mod Bits
+pub mod Saying
+pub mod Valuing
+pub mod Telling
+pub mod Meeting
+pub mod Proving
+pub mod Bytes
+pub mod Kept
+pub mod Doubling

@@ -1,0 +1,253 @@
+-- What a phrase says of two worlds, in sums and comparisons of naturals: by this proofs speak of it.
+use Rattle.std.specs.Prelude.{◌≡◌, ◌≢◌, ◌⊎◌, ◌<◌, ◌≤◌, ℕ, zero, suc, ◌+◌, ◌-◌, ◌*◌, ◌/◌, ◌%◌, ◌^◌, pos, Bool, true, false, ◌&&◌, ◌||◌, not, nat_lt, min, max, List, [], ◌∷◌, Option, Some, None, if◌then◌else◌}
+use Rattle.a2_bus.specs.Memory.{ram_byte}
+use Rattle.a2_cpu.specs.Arithmetic.{by_digits, differ}
+use Rattle.a2_cpu.specs.Registers.{one_if}
+use Rattle.a2_services.specs.World.{World}
+use Rattle.a2_promise.specs.declared.expr.Atom.{Atom}
+use Rattle.a2_promise.specs.declared.expr.Atom.TheVariants as atom
+use Rattle.a2_promise.specs.declared.expr.Function.TheVariants as function
+use Rattle.a2_promise.specs.declared.expr.Operation.{Operation}
+use Rattle.a2_promise.specs.declared.expr.Operation.TheVariants as operation
+use Rattle.a2_rules.specs.Phrases.{Phrase, number, held, old, of, pair, choice}
+use Rattle.a2_lessons.specs.Routines.{word}
+
+-- Numbers
+
+abbrev pub part : Atom → World → ℕ
+part atom.A w = w.registers.a
+part atom.X w = w.registers.x
+part atom.Y w = w.registers.y
+part atom.Carry w = one_if w.registers.flags.c
+part atom.Zero w = one_if w.registers.flags.z
+part atom.Negative w = one_if w.registers.flags.n
+part atom.Overflow w = one_if w.registers.flags.v
+part _ w = 0
+
+abbrev pub is_part : Atom → Bool
+is_part atom.S = false
+is_part atom.Decimal = false
+is_part atom.Interrupt = false
+is_part atom.Cycles = false
+is_part atom.Steps = false
+is_part _ = true
+
+-- a number that is never below 0, and one as the difference of two
+pub record View : Type 0 where
+  pub plain : ℕ
+  pub up : ℕ
+  pub down : ℕ
+
+abbrev pub same : ℕ → View
+same n = record { plain = n; up = n; down = 0 }
+
+-- whether a number may be below 0
+abbrev pub minus : Phrase → Bool
+minus (old e) = minus e
+minus (pair operation.Minus x y) = true
+minus (pair operation.Plus x y) = minus x || minus y
+minus _ = false
+
+abbrev pub joined : Operation → Bool → View → View → View
+joined operation.Plus below x y = record { plain = x.plain + y.plain; up = x.up + y.up; down = x.down + y.down }
+joined operation.Minus below x y = record { plain = 0; up = x.up + y.down; down = x.down + y.up }
+joined operation.Times below x y = same (x.plain * y.plain)
+joined operation.Over below x y = same (x.plain / y.plain)
+joined operation.Modulo below x y = same ((if below then x.up + (y.plain - 1) * x.down else x.plain) % y.plain)
+joined operation.BitAnd below x y = same (by_digits 8 ◌&&◌ x.plain y.plain)
+joined operation.BitOr below x y = same (by_digits 8 ◌||◌ x.plain y.plain)
+joined operation.BitXor below x y = same (by_digits 8 differ x.plain y.plain)
+joined operation.Min below x y = same (min x.plain y.plain)
+joined operation.Max below x y = same (max x.plain y.plain)
+joined _ below x y = same 0
+
+abbrev pub view : Phrase → World → World → View
+view (number (pos n)) w v = same n
+view (held a) w v = same (part a v)
+view (old e) w v = view e w w
+view (of function.Byte e) w v = same (ram_byte v.memory (view e w v).plain)
+view (of function.Word e) w v = same (word v.memory (view e w v).plain)
+view (pair op x y) w v = joined op (minus x) (view x w v) (view y w v)
+view _ w v = same 0
+
+-- a number that both are not above
+abbrev pub most_of : Operation → ℕ → ℕ → ℕ
+most_of operation.Plus m n = m + n
+most_of operation.Minus m n = m + n
+most_of operation.Times m n = m * n
+most_of operation.Over m n = m
+most_of operation.Modulo m n = n
+most_of operation.Min m n = m
+most_of operation.Max m n = m + n
+most_of _ m n = 255
+
+abbrev pub most : Phrase → ℕ
+most (number (pos n)) = n
+most (held a) = 255
+most (old e) = most e
+most (of function.Byte e) = 255
+most (of function.Word e) = 65535
+most (pair op x y) = most_of op (most x) (most y)
+most _ = 0
+
+-- a divisor is a number that is written, and not 0
+abbrev pub divides : Phrase → Bool
+divides (number (pos (suc n))) = true
+divides _ = false
+
+abbrev pub both_plain : Phrase → Phrase → Bool
+both_plain x y = not (minus x) && not (minus y)
+
+abbrev pub is_word : ℕ → Bool
+is_word n = nat_lt n 65536
+
+abbrev pub is_byte : ℕ → Bool
+is_byte n = nat_lt n 256
+
+abbrev pub in_range : ℕ → Bool
+in_range n = nat_lt n (2 ^ 63)
+
+-- whether the numbers of an operation are such that the rules speak of it
+abbrev pub may_join : Operation → Phrase → Phrase → Bool
+may_join operation.Plus x y = in_range (most x + most y)
+may_join operation.Minus x y = in_range (most x + most y)
+may_join operation.Times x y = both_plain x y && in_range (most x * most y)
+may_join operation.Over x y = not (minus x) && divides y
+may_join operation.Modulo x y = divides y
+may_join operation.BitAnd x y = both_plain x y && (is_byte (most x) && is_byte (most y))
+may_join operation.BitOr x y = both_plain x y && (is_byte (most x) && is_byte (most y))
+may_join operation.BitXor x y = both_plain x y && (is_byte (most x) && is_byte (most y))
+may_join operation.Min x y = both_plain x y
+may_join operation.Max x y = both_plain x y
+may_join _ x y = false
+
+-- whether a phrase is a number of which the rules speak
+abbrev pub counts : Phrase → Bool
+counts (number (pos n)) = true
+counts (held a) = is_part a
+counts (old e) = counts e
+counts (of function.Byte e) = counts e && (not (minus e) && nat_lt (most e) 49152)
+counts (of function.Word e) = counts e && (not (minus e) && nat_lt (most e) 49151)
+counts (pair op x y) = counts x && (counts y && may_join op x y)
+counts _ = false
+
+-- Facts
+
+-- what is so where a fact holds, and where it does not
+pub record Claim : Type 1 where
+  pub says : Type 0
+  pub denies : Type 0
+
+abbrev pub flag_is : Bool → Claim
+flag_is flag = record { says = flag ≡ true; denies = flag ≡ false }
+
+abbrev pub nothing : Claim
+nothing = record { says = ⊥; denies = ⊥ }
+
+abbrev pub flag : Atom → World → Claim
+flag atom.Carry v = flag_is v.registers.flags.c
+flag atom.Zero v = flag_is v.registers.flags.z
+flag atom.Negative v = flag_is v.registers.flags.n
+flag atom.Overflow v = flag_is v.registers.flags.v
+flag _ v = nothing
+
+abbrev pub is_flag : Atom → Bool
+is_flag atom.Carry = true
+is_flag atom.Zero = true
+is_flag atom.Negative = true
+is_flag atom.Overflow = true
+is_flag _ = false
+
+-- whether a phrase is a fact that is no flag
+abbrev pub is_fact : Phrase → Bool
+is_fact (old e) = is_fact e
+is_fact (pair operation.Equal x y) = true
+is_fact (pair operation.Less x y) = true
+is_fact (pair operation.AtMost x y) = true
+is_fact (choice c x y) = true
+is_fact _ = false
+
+-- a phrase that is written as true or false
+abbrev pub constant : Phrase → Option Bool
+constant (number (pos zero)) = Some false
+constant (number (pos (suc zero))) = Some true
+constant _ = None
+
+-- both hold, or neither
+abbrev pub agree : Claim → Claim → Claim
+agree x y = record {
+  says = (x.says → y.says) × (x.denies → y.denies);
+  denies = (x.says → y.denies) × (x.denies → y.says);
+}
+
+abbrev pub equal : Bool → View → View → Claim
+equal true x y = record { says = x.up + y.down ≡ y.up + x.down; denies = x.up + y.down ≢ y.up + x.down }
+equal false x y = record { says = x.plain ≡ y.plain; denies = x.plain ≢ y.plain }
+
+abbrev pub less : Bool → View → View → Claim
+less true x y = record { says = x.up + y.down < y.up + x.down; denies = y.up + x.down ≤ x.up + y.down }
+less false x y = record { says = x.plain < y.plain; denies = y.plain ≤ x.plain }
+
+abbrev pub at_most : Bool → View → View → Claim
+at_most true x y = record { says = x.up + y.down ≤ y.up + x.down; denies = y.up + x.down < x.up + y.down }
+at_most false x y = record { says = x.plain ≤ y.plain; denies = y.plain < x.plain }
+
+abbrev pub compared : Operation → Bool → View → View → Claim
+compared operation.Equal below x y = equal below x y
+compared operation.Less below x y = less below x y
+compared operation.AtMost below x y = at_most below x y
+compared _ below x y = nothing
+
+-- both, one of two, not, if; or one of two by a third
+abbrev pub choose : Option Bool → Option Bool → Claim → Claim → Claim → Claim
+choose None (Some false) c x y = record { says = c.says × x.says; denies = c.denies ⊎ x.denies }
+choose (Some true) None c x y = record { says = c.says ⊎ y.says; denies = c.denies × y.denies }
+choose (Some false) (Some true) c x y = record { says = c.denies; denies = c.says }
+choose None (Some true) c x y = record { says = c.says → x.says; denies = c.says × x.denies }
+choose _ _ c x y = record {
+  says = (c.says → x.says) × (c.denies → y.says);
+  denies = (c.says → x.denies) × (c.denies → y.denies);
+}
+
+abbrev pub one_of : Bool → Claim → Claim → Claim
+one_of true x y = x
+one_of false x y = y
+
+abbrev pub claim : Phrase → World → World → Claim
+claim (number (pos zero)) w v = record { says = ⊥; denies = Unit {0} }
+claim (number (pos (suc n))) w v = record { says = Unit {0}; denies = ⊥ }
+claim (held a) w v = flag a v
+claim (old e) w v = claim e w w
+claim (pair op x y) w v =
+    one_of (is_fact x || is_fact y) (agree (claim x w v) (claim y w v)) (compared op (minus x || minus y) (view x w v) (view y w v))
+claim (choice c x y) w v = choose (constant x) (constant y) (claim c w v) (claim x w v) (claim y w v)
+claim _ w v = nothing
+
+abbrev pub is_equal : Operation → Bool
+is_equal operation.Equal = true
+is_equal _ = false
+
+abbrev pub compares : Operation → Bool
+compares operation.Equal = true
+compares operation.Less = true
+compares operation.AtMost = true
+compares _ = false
+
+-- whether a phrase is a fact of which the rules speak
+abbrev pub tells : Phrase → Bool
+tells (number (pos zero)) = true
+tells (number (pos (suc zero))) = true
+tells (held a) = is_flag a
+tells (old e) = tells e
+tells (pair op x y) = if is_fact x || is_fact y then is_equal op && (tells x && tells y) else compares op && (counts x && counts y)
+tells (choice c x y) = tells c && (tells x && tells y)
+tells _ = false
+
+-- of each of several
+abbrev pub all_tell : List Phrase → Bool
+all_tell [] = true
+all_tell (p ∷ more) = tells p && all_tell more
+
+abbrev pub all_say : List Phrase → World → World → Type 0
+all_say [] w v = Unit {0}
+all_say (p ∷ more) w v = (claim p w v).says × all_say more w v

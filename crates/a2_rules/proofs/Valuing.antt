@@ -1,0 +1,456 @@
+-- The value of an expression, in moments of two worlds of bytes, is what its phrase says of them.
+use Rattle.std.specs.Prelude.{◌≡◌, ◌⊎◌, ◌<◌, ◌≤◌, ℕ, zero, suc, ◌+◌, ◌-◌, ◌*◌, ◌/◌, ◌%◌, ◌^◌, ℤ, pos, negsuc, ◌+ℤ◌, ◌-ℤ◌, int_lt, int_le, Bool, true, false, ◌&&◌, ◌||◌, not, nat_lt, min, max, bit_and, bit_or, bit_xor, List, Option, Some, None, if◌then◌else◌, slice_get, map, length, refl}
+use Rattle.std.specs.Int.{int_rem_euclid}
+use Rattle.std.specs.List.{range_with_len}
+use Rattle.std.proofs.Common.{sym, ap, ap₂, ◌∙◌, arith, inl, inr, true≢false, div-le_self}
+use Rattle.std.proofs.lemmas.Bool.Decides.{nat_tests}
+use Rattle.std.proofs.lemmas.Int.{ints, int_rem_euclid_is}
+use Rattle.std.proofs.lemmas.Nat.{mul-le, mod_below}
+use Rattle.std.proofs.lemmas.List.FromFn.{length-map-range_with_len, get_or-map-range_with_len}
+use Rattle.std.proofs.lemmas.Option.{slice_get-get_or}
+use Rattle.a2_bus.specs.Memory.{Memory, ram_byte, ram_end}
+use Rattle.a2_cpu.specs.Arithmetic.{by_digits, differ}
+use Rattle.a2_cpu.specs.Registers.{one_if}
+use Rattle.a2_cpu.proofs.Digits.{and_is, or_is, xor_is}
+use Rattle.a2_services.specs.World.{World}
+use Rattle.a2_promise.specs.declared.expr.Atom.{Atom}
+use Rattle.a2_promise.specs.declared.expr.Atom.TheVariants as atom
+use Rattle.a2_promise.specs.declared.expr.Expr.{Expr}
+use Rattle.a2_promise.specs.declared.expr.Expr.TheVariants.{Number, Held, Bound, Old', Of', Pair', Choice', Each', Sum'}
+use Rattle.a2_promise.specs.declared.expr.Function.TheVariants as function
+use Rattle.a2_promise.specs.declared.expr.Operation.{Operation}
+use Rattle.a2_promise.specs.declared.expr.Operation.TheVariants as operation
+use Rattle.a2_promise.specs.Values.{digit, fits, limited, word_in, held as held_atom, byte_value, word_value, byte_at, word_at, bitwise, operated, made_of, operated_on, value_of}
+use Rattle.a2_trial.specs.Kept.{bytes_of, moment}
+use Rattle.a2_rules.specs.Phrases.{Phrase, number, held, bound, old, of, pair, choice, each, sum, phrase_of}
+use Rattle.a2_lessons.specs.Routines.{word}
+use Rattle.a2_rules.specs.Worlds.{OnlyBytes}
+use Rattle.a2_rules.proofs.Bits.{digits_small}
+use Rattle.a2_rules.proofs.Saying.{part, is_part, View, same, minus, joined, view, most_of, most, divides, both_plain, is_byte, in_range, may_join, counts}
+
+-- Tests
+
+pub both : (x y : Bool) → (x && y) ≡ true → (x ≡ true) × (y ≡ true)
+both true y h = (refl, h)
+both false y h = absurd (true≢false (sym h))
+
+pub no : (x : Bool) → not x ≡ true → x ≡ false
+no true h = absurd (true≢false (sym h))
+no false h = refl
+
+pub neither : (x y : Bool) → (x || y) ≡ false → (x ≡ false) × (y ≡ false)
+neither true y h = absurd (true≢false h)
+neither false y h = (refl, h)
+
+pub below : (m n : ℕ) → nat_lt m n ≡ true → m < n
+below m n h = grind (arith, nat_tests, h)
+
+is_below : (m n : ℕ) → m < n → nat_lt m n ≡ true
+is_below m n h = grind (arith, nat_tests, h)
+
+-- Numbers as differences
+
+-- a number and what it is the difference of
+abbrev pub Is : ℤ → ℕ → ℕ → Type 0
+Is z up down = z +ℤ pos down ≡ pos up
+
+natural : (z : ℤ) (n : ℕ) → Is z n 0 → z ≡ pos n
+natural z n is = omega (arith, ints, is)
+
+fits_is : (z : ℤ) (u d : ℕ) → Is z u d → u < 2 ^ 63 → d < 2 ^ 63 → fits z ≡ true
+fits_is (pos n) u d is lu ld = let less : n < 2 ^ 63 = omega (arith, ints, is, lu) in is_below n (2 ^ 63) less
+fits_is (negsuc n) u d is lu ld = let less : n < 2 ^ 63 = omega (arith, ints, is, ld) in is_below n (2 ^ 63) less
+
+limited_is : (z : ℤ) (u d : ℕ) → Is z u d → u < 2 ^ 63 → d < 2 ^ 63 → limited z ≡ Some z
+limited_is z u d is lu ld = ap (λ b. let o : Option ℤ = if b then Some z else None in o) (fits_is z u d is lu ld)
+
+plus_is : (x y : ℤ) (u d v e : ℕ) → Is x u d → Is y v e → Is (x +ℤ y) (u + v) (d + e)
+plus_is x y u d v e a b = omega (arith, ints, a, b)
+
+minus_is : (x y : ℤ) (u d v e : ℕ) → Is x u d → Is y v e → Is (x -ℤ y) (u + e) (d + v)
+minus_is x y u d v e a b = omega (arith, ints, a, b)
+
+-- Comparisons
+
+pub at_most_is : (x y : ℤ) (u d v e : ℕ) → Is x u d → Is y v e → u + e ≤ v + d → int_le x y ≡ true
+at_most_is x y u d v e a b h = grind (arith, ints, a, b, h)
+
+pub more_is : (x y : ℤ) (u d v e : ℕ) → Is x u d → Is y v e → v + d < u + e → int_le x y ≡ false
+more_is x y u d v e a b h = grind (arith, ints, a, b, h)
+
+pub less_is : (x y : ℤ) (u d v e : ℕ) → Is x u d → Is y v e → u + e < v + d → int_lt x y ≡ true
+less_is x y u d v e a b h = grind (arith, ints, a, b, h)
+
+pub at_least_is : (x y : ℤ) (u d v e : ℕ) → Is x u d → Is y v e → v + d ≤ u + e → int_lt x y ≡ false
+at_least_is x y u d v e a b h = grind (arith, ints, a, b, h)
+
+-- A phrase that counts
+
+-- a value is the number that a view shows, and not above a bound; where it is never below 0, it is the plain one
+pub record Counts (signed : Bool) (x : View) (top : ℕ) (o : Option ℤ) : Type 0 where
+  pub z : ℤ
+  pub is : o ≡ Some z
+  pub sum : Is z x.up x.down
+  pub up : x.up ≤ top
+  pub down : x.down ≤ top
+  pub plain : signed ≡ false → (x.plain ≡ x.up) × (x.down ≡ 0)
+
+counted : (n top : ℕ) (o : Option ℤ) → o ≡ Some (pos n) → n ≤ top → Counts false (same n) top o
+counted n top o is h =
+    record { z = pos n; is = is; sum = omega (arith, ints); up = h; down = omega arith; plain = λ e. (refl, refl) }
+
+-- a number that is never below 0
+record Plain (x : View) (top : ℕ) (o : Option ℤ) : Type 0 where
+  is : o ≡ Some (pos x.plain)
+  small : x.plain ≤ top
+
+plain_of : (signed : Bool) (x : View) (top : ℕ) (o : Option ℤ) → Counts signed x top o → signed ≡ false → Plain x top o
+plain_of signed x top o h e =
+    let p = h.plain e in
+    let low = h.up in
+    let sum = h.sum in
+    let up_is = p.0 in
+    let down_is = p.1 in
+    let zero_down : Is h.z x.plain 0 = omega (arith, ints, sum, up_is, down_is) in
+    record { is = h.is ∙ ap (λ z. Some z) (natural h.z x.plain zero_down); small = omega (arith, low, up_is) }
+
+-- Operations of numbers that are never below 0
+
+module _ (a b : ℕ) where
+  times_value : a * b < 2 ^ 63 → operated operation.Times (pos a) (pos b) ≡ Some (pos (a * b))
+  times_value h = limited_is (pos (a * b)) (a * b) 0 (omega (arith, ints)) h (omega arith)
+
+  above : 0 < b → int_lt (pos 0) (pos b) ≡ true
+  above h = less_is (pos 0) (pos b) 0 0 b 0 (omega (arith, ints)) (omega (arith, ints)) (omega (arith, h))
+
+  over_value : 0 < b → operated operation.Over (pos a) (pos b) ≡ Some (pos (a / b))
+  over_value h = ap (λ v. let o : Option ℤ = if v then Some (pos (a / b)) else None in o) (above h)
+
+  word_value_is : a < 65536 → word_in (pos a) ≡ Some a
+  word_value_is h = ap (λ v. let o : Option ℕ = if v then Some a else None in o) (is_below a 65536 h)
+
+  min_value : operated operation.Min (pos a) (pos b) ≡ Some (pos (min a b))
+  min_value = go (less_or b a)
+    where
+      less_or : (m n : ℕ) → (m < n) ⊎ (n ≤ m)
+      less_or m n = grind arith
+
+      go : (b < a) ⊎ (a ≤ b) → operated operation.Min (pos a) (pos b) ≡ Some (pos (min a b))
+      go (inl h) =
+          let e : b ≡ min a b = omega (arith, h) in
+          ap (λ v. Some (if v then pos b else pos a)) (less_is (pos b) (pos a) b 0 a 0 (omega (arith, ints)) (omega (arith, ints)) (omega (arith, h)))
+          ∙ ap (λ n. Some (pos n)) e
+      go (inr h) =
+          let e : a ≡ min a b = omega (arith, h) in
+          ap (λ v. Some (if v then pos b else pos a)) (at_least_is (pos b) (pos a) b 0 a 0 (omega (arith, ints)) (omega (arith, ints)) (omega (arith, h)))
+          ∙ ap (λ n. Some (pos n)) e
+
+  max_value : operated operation.Max (pos a) (pos b) ≡ Some (pos (max a b))
+  max_value = go (less_or a b)
+    where
+      less_or : (m n : ℕ) → (m < n) ⊎ (n ≤ m)
+      less_or m n = grind arith
+
+      go : (a < b) ⊎ (b ≤ a) → operated operation.Max (pos a) (pos b) ≡ Some (pos (max a b))
+      go (inl h) =
+          let e : b ≡ max a b = omega (arith, h) in
+          ap (λ v. Some (if v then pos b else pos a)) (less_is (pos a) (pos b) a 0 b 0 (omega (arith, ints)) (omega (arith, ints)) (omega (arith, h)))
+          ∙ ap (λ n. Some (pos n)) e
+      go (inr h) =
+          let e : a ≡ max a b = omega (arith, h) in
+          ap (λ v. Some (if v then pos b else pos a)) (at_least_is (pos a) (pos b) a 0 b 0 (omega (arith, ints)) (omega (arith, ints)) (omega (arith, h)))
+          ∙ ap (λ n. Some (pos n)) e
+
+bits_value : (f : ℕ → ℕ → ℕ) (d : Bool → Bool → Bool) (a b : ℕ) → f a b ≡ by_digits 8 d a b → a < 256 → b < 256
+    → bitwise f (word_in (pos a)) (word_in (pos b)) ≡ Some (pos (by_digits 8 d a b))
+bits_value f d a b is la lb =
+    ap₂ (λ x y. bitwise f x y) (word_value_is a 0 (omega (arith, la))) (word_value_is b 0 (omega (arith, lb))) ∙ ap (λ n. Some (pos n)) is
+
+remainder : (z : ℤ) (u d n : ℕ) → Is z u d → 0 < n → operated operation.Modulo z (pos n) ≡ Some (pos ((u + (n - 1) * d) % n))
+remainder z u d n is h =
+    ap (λ v. let o : Option ℤ = if v then Some (int_rem_euclid z (pos n)) else None in o) (above 0 n h)
+    ∙ ap (λ r. Some r) (int_rem_euclid_is z (pos n) n d (u + (n - 1) * d) h refl whole)
+  where
+    turned : (n : ℕ) → 0 < n → d * n ≡ (n - 1) * d + d
+    turned zero low = let bad : ⊥ = omega (arith, low) in absurd bad
+    turned (suc m) low =
+        let e : d * suc m ≡ m * d + d = grind arith in
+        let f : suc m - 1 ≡ m = omega arith in
+        e ∙ ap (λ k. k * d + d) (sym f)
+
+    whole : z +ℤ pos (d * n) ≡ pos (u + (n - 1) * d)
+    whole = let e = turned n h in omega (arith, ints, is, e)
+
+-- what is known of a divisor
+abbrev Divisor : Bool → View → Bool → Type 0
+Divisor divides y signed = divides ≡ true → (0 < y.plain) × (signed ≡ false)
+
+module _ (p q : Phrase) (x y : View) (ox oy : Option ℤ) (hx : Counts (minus p) x (most p) ox) (hy : Counts (minus q) y (most q) oy) where
+  on : (op : Operation) (zx zy : ℤ) → ox ≡ Some zx → oy ≡ Some zy → operated_on op ox oy ≡ operated op zx zy
+  on op zx zy ex ey = ap₂ (λ a b. operated_on op a b) ex ey
+
+  plain_x : minus p ≡ false → Plain x (most p) ox
+  plain_x e = plain_of (minus p) x (most p) ox hx e
+
+  plain_y : minus q ≡ false → Plain y (most q) oy
+  plain_y e = plain_of (minus q) y (most q) oy hy e
+
+  apart : both_plain p q ≡ true → (minus p ≡ false) × (minus q ≡ false)
+  apart h = let two = both (not (minus p)) (not (minus q)) h in (no (minus p) two.0, no (minus q) two.1)
+
+  -- an operation of two that are never below 0
+  of_plain : (op : Operation) (n top : ℕ) → minus p ≡ false → minus q ≡ false
+      → operated op (pos x.plain) (pos y.plain) ≡ Some (pos n) → n ≤ top → Counts false (same n) top (operated_on op ox oy)
+  of_plain op n top ep eq is low =
+      counted n top (operated_on op ox oy) (on op (pos x.plain) (pos y.plain) (plain_x ep).is (plain_y eq).is ∙ is) low
+
+  sum_small : in_range (most p + most q) ≡ true → most p + most q < 2 ^ 63
+  sum_small h = below (most p + most q) (2 ^ 63) h
+
+  plus : may_join operation.Plus p q ≡ true
+      → Counts (minus p || minus q) (joined operation.Plus (minus p) x y) (most p + most q) (operated_on operation.Plus ox oy)
+  plus h =
+      let small = sum_small h in
+      let a = hx.up in
+      let b = hx.down in
+      let c = hy.up in
+      let d = hy.down in
+      record {
+        z = hx.z +ℤ hy.z;
+        is = on operation.Plus hx.z hy.z hx.is hy.is
+            ∙ limited_is (hx.z +ℤ hy.z) (x.up + y.up) (x.down + y.down) (plus_is hx.z hy.z x.up x.down y.up y.down hx.sum hy.sum)
+            (omega (arith, small, a, c)) (omega (arith, small, b, d));
+        sum = plus_is hx.z hy.z x.up x.down y.up y.down hx.sum hy.sum;
+        up = omega (arith, a, c);
+        down = omega (arith, b, d);
+        plain = λ e. plain e;
+      }
+    where
+      plain : (minus p || minus q) ≡ false → (x.plain + y.plain ≡ x.up + y.up) × (x.down + y.down ≡ 0)
+      plain e =
+          let two = neither (minus p) (minus q) e in
+          let a = (hx.plain two.0).0 in
+          let b = (hx.plain two.0).1 in
+          let c = (hy.plain two.1).0 in
+          let d = (hy.plain two.1).1 in
+          (omega (arith, a, c), omega (arith, b, d))
+
+  difference : may_join operation.Minus p q ≡ true
+      → Counts true (joined operation.Minus (minus p) x y) (most p + most q) (operated_on operation.Minus ox oy)
+  difference h =
+      let small = sum_small h in
+      let a = hx.up in
+      let b = hx.down in
+      let c = hy.up in
+      let d = hy.down in
+      record {
+        z = hx.z -ℤ hy.z;
+        is = on operation.Minus hx.z hy.z hx.is hy.is
+            ∙ limited_is (hx.z -ℤ hy.z) (x.up + y.down) (x.down + y.up) (minus_is hx.z hy.z x.up x.down y.up y.down hx.sum hy.sum)
+            (omega (arith, small, a, d)) (omega (arith, small, b, c));
+        sum = minus_is hx.z hy.z x.up x.down y.up y.down hx.sum hy.sum;
+        up = omega (arith, a, d);
+        down = omega (arith, b, c);
+        plain = λ e. absurd (true≢false e);
+      }
+
+  product : may_join operation.Times p q ≡ true
+      → Counts false (same (x.plain * y.plain)) (most p * most q) (operated_on operation.Times ox oy)
+  product h =
+      let two = both (both_plain p q) (in_range (most p * most q)) h in
+      let es = apart two.0 in
+      let most_is = mul-le x.plain y.plain (most p) (most q) (plain_x es.0).small (plain_y es.1).small in
+      let small : most p * most q < 2 ^ 63 = below (most p * most q) (2 ^ 63) two.1 in
+      of_plain operation.Times (x.plain * y.plain) (most p * most q) es.0 es.1
+      (times_value x.plain y.plain (omega (arith, most_is, small))) most_is
+
+  quotient : may_join operation.Over p q ≡ true → Divisor (divides q) y (minus q)
+      → Counts false (same (x.plain / y.plain)) (most p) (operated_on operation.Over ox oy)
+  quotient h divisor =
+      let two = both (not (minus p)) (divides q) h in
+      let some = divisor two.1 in
+      let ep = no (minus p) two.0 in
+      let low = (plain_x ep).small in
+      let less = div-le_self x.plain y.plain in
+      of_plain operation.Over (x.plain / y.plain) (most p) ep some.1 (over_value x.plain y.plain some.0) (omega (arith, low, less))
+
+  rest : may_join operation.Modulo p q ≡ true → Divisor (divides q) y (minus q)
+      → Counts false (joined operation.Modulo (minus p) x y) (most q) (operated_on operation.Modulo ox oy)
+  rest h divisor = go (minus p) refl
+    where
+      some : (0 < y.plain) × (minus q ≡ false)
+      some = divisor h
+
+      value : (signed : Bool) → minus p ≡ signed
+          → operated_on operation.Modulo ox oy ≡ Some (pos ((if signed then x.up + (y.plain - 1) * x.down else x.plain) % y.plain))
+      value true e =
+          on operation.Modulo hx.z (pos y.plain) hx.is (plain_y some.1).is ∙ remainder hx.z x.up x.down y.plain hx.sum some.0
+      value false e =
+          on operation.Modulo (pos x.plain) (pos y.plain) (plain_x e).is (plain_y some.1).is
+          ∙ remainder (pos x.plain) x.plain 0 y.plain (omega (arith, ints)) some.0
+          ∙ ap (λ n. Some (pos (n % y.plain))) no_more
+        where
+          no_more : x.plain + (y.plain - 1) * 0 ≡ x.plain
+          no_more = grind arith
+
+      go : (signed : Bool) → minus p ≡ signed
+          → Counts false (same ((if signed then x.up + (y.plain - 1) * x.down else x.plain) % y.plain)) (most q) (operated_on operation.Modulo ox oy)
+      go signed e =
+          let less = mod_below (if signed then x.up + (y.plain - 1) * x.down else x.plain) y.plain some.0 in
+          let low = (plain_y some.1).small in
+          counted ((if signed then x.up + (y.plain - 1) * x.down else x.plain) % y.plain) (most q) (operated_on operation.Modulo ox oy)
+          (value signed e) (omega (arith, less, low))
+
+  bytes : (both_plain p q && (is_byte (most p) && is_byte (most q))) ≡ true
+      → (minus p ≡ false) × (minus q ≡ false) × (x.plain < 256) × (y.plain < 256)
+  bytes h =
+      let two = both (both_plain p q) (is_byte (most p) && is_byte (most q)) h in
+      let es = apart two.0 in
+      let small = both (is_byte (most p)) (is_byte (most q)) two.1 in
+      let a = below (most p) 256 small.0 in
+      let b = below (most q) 256 small.1 in
+      let lx = (plain_x es.0).small in
+      let ly = (plain_y es.1).small in
+      (es.0, es.1, omega (arith, a, lx), omega (arith, b, ly))
+
+  bits : (op : Operation) (f : ℕ → ℕ → ℕ) (d : Bool → Bool → Bool)
+      → ((a b : ℕ) → a < 256 → b < 256 → f a b ≡ by_digits 8 d a b)
+      → ((a b : ℕ) → operated op (pos a) (pos b) ≡ bitwise f (word_in (pos a)) (word_in (pos b)))
+      → (both_plain p q && (is_byte (most p) && is_byte (most q))) ≡ true
+      → Counts false (same (by_digits 8 d x.plain y.plain)) 255 (operated_on op ox oy)
+  bits op f d law is h =
+      let known = bytes h in
+      let small = digits_small d x.plain y.plain in
+      of_plain op (by_digits 8 d x.plain y.plain) 255 known.0 known.1
+      (is x.plain y.plain ∙ bits_value f d x.plain y.plain (law x.plain y.plain known.2 known.3) known.2 known.3) (omega (arith, small))
+
+  least : may_join operation.Min p q ≡ true → Counts false (same (min x.plain y.plain)) (most p) (operated_on operation.Min ox oy)
+  least h =
+      let es = apart h in
+      let low = (plain_x es.0).small in
+      of_plain operation.Min (min x.plain y.plain) (most p) es.0 es.1 (min_value x.plain y.plain) (omega (arith, low))
+
+  greatest : may_join operation.Max p q ≡ true
+      → Counts false (same (max x.plain y.plain)) (most p + most q) (operated_on operation.Max ox oy)
+  greatest h =
+      let es = apart h in
+      let lx = (plain_x es.0).small in
+      let ly = (plain_y es.1).small in
+      of_plain operation.Max (max x.plain y.plain) (most p + most q) es.0 es.1 (max_value x.plain y.plain) (omega (arith, lx, ly))
+
+  joins : (op : Operation) → may_join op p q ≡ true → Divisor (divides q) y (minus q)
+      → Counts (minus (pair op p q)) (joined op (minus p) x y) (most_of op (most p) (most q)) (operated_on op ox oy)
+  joins operation.Plus h divisor = plus h
+  joins operation.Minus h divisor = difference h
+  joins operation.Times h divisor = product h
+  joins operation.Over h divisor = quotient h divisor
+  joins operation.Modulo h divisor = rest h divisor
+  joins operation.BitAnd h divisor = bits operation.BitAnd bit_and ◌&&◌ and_is (λ a b. refl) h
+  joins operation.BitOr h divisor = bits operation.BitOr bit_or ◌||◌ or_is (λ a b. refl) h
+  joins operation.BitXor h divisor = bits operation.BitXor bit_xor differ xor_is (λ a b. refl) h
+  joins operation.Min h divisor = least h
+  joins operation.Max h divisor = greatest h
+  joins operation.Bit h divisor = absurd (true≢false (sym h))
+  joins operation.Equal h divisor = absurd (true≢false (sym h))
+  joins operation.Less h divisor = absurd (true≢false (sym h))
+  joins operation.AtMost h divisor = absurd (true≢false (sym h))
+
+-- Numbers of a moment
+
+memory_byte : (memory : Memory) (a : ℕ) → a < ram_end → slice_get (bytes_of memory) a ≡ Some (ram_byte memory a)
+unfolding bytes_of
+memory_byte memory a low =
+    let here : a < length (map (ram_byte memory) (range_with_len 0 ram_end)) = omega (arith, low, length-map-range_with_len (ram_byte memory) 0 ram_end) in
+    slice_get-get_or (map (ram_byte memory) (range_with_len 0 ram_end)) a 0 here
+    ∙ ap (λ v. Some v) (get_or-map-range_with_len (ram_byte memory) 0 ram_end a a 0 low (omega arith))
+
+byte_counts : (v : World) (x : View) (top : ℕ) (o : Option ℤ) → ((a : ℕ) → ram_byte v.memory a < 256) → Plain x top o → top < ram_end
+    → Counts false (same (ram_byte v.memory x.plain)) 255 (made_of function.Byte (bytes_of v.memory) o)
+byte_counts v x top o is_byte h low =
+    let small = h.small in
+    let here : x.plain < ram_end = omega (arith, small, low) in
+    let byte = is_byte x.plain in
+    counted (ram_byte v.memory x.plain) 255 (made_of function.Byte (bytes_of v.memory) o)
+    (ap (λ z. made_of function.Byte (bytes_of v.memory) z) h.is
+    ∙ ap (λ a. byte_at (bytes_of v.memory) a) (word_value_is x.plain 0 (omega (arith, here)))
+    ∙ ap byte_value (memory_byte v.memory x.plain here)) (omega (arith, byte))
+
+word_counts : (v : World) (x : View) (top : ℕ) (o : Option ℤ) → ((a : ℕ) → ram_byte v.memory a < 256) → Plain x top o → top + 1 < ram_end
+    → Counts false (same (word v.memory x.plain)) 65535 (made_of function.Word (bytes_of v.memory) o)
+word_counts v x top o is_byte h low =
+    let small = h.small in
+    let here : x.plain < ram_end = omega (arith, small, low) in
+    let behind : x.plain + 1 < ram_end = omega (arith, small, low) in
+    let next : (x.plain + 1) % 65536 ≡ x.plain + 1 = omega (arith, behind) in
+    let first = is_byte x.plain in
+    let second = is_byte (x.plain + 1) in
+    counted (word v.memory x.plain) 65535 (made_of function.Word (bytes_of v.memory) o)
+    (ap (λ z. made_of function.Word (bytes_of v.memory) z) h.is
+    ∙ ap (λ a. word_at (bytes_of v.memory) a) (word_value_is x.plain 0 (omega (arith, here)))
+    ∙ ap₂ word_value (memory_byte v.memory x.plain here)
+    (ap (λ a. slice_get (bytes_of v.memory) a) next ∙ memory_byte v.memory (x.plain + 1) behind)) (omega (arith, first, second))
+
+flag_counts : (b : Bool) → Counts false (same (one_if b)) 255 (Some (digit b))
+flag_counts true = counted 1 255 (Some (pos 1)) refl (omega arith)
+flag_counts false = counted 0 255 (Some (pos 0)) refl (omega arith)
+
+part_counts : (a : Atom) (start v : World) (steps : ℕ) → OnlyBytes v → is_part a ≡ true
+    → Counts false (same (part a v)) 255 (Some (held_atom a (moment start v steps)))
+part_counts atom.A start v steps bytes h = let low = bytes.a in counted v.registers.a 255 (Some (pos v.registers.a)) refl (omega (arith, low))
+part_counts atom.X start v steps bytes h = let low = bytes.x in counted v.registers.x 255 (Some (pos v.registers.x)) refl (omega (arith, low))
+part_counts atom.Y start v steps bytes h = let low = bytes.y in counted v.registers.y 255 (Some (pos v.registers.y)) refl (omega (arith, low))
+part_counts atom.Carry start v steps bytes h = flag_counts v.registers.flags.c
+part_counts atom.Zero start v steps bytes h = flag_counts v.registers.flags.z
+part_counts atom.Negative start v steps bytes h = flag_counts v.registers.flags.n
+part_counts atom.Overflow start v steps bytes h = flag_counts v.registers.flags.v
+part_counts atom.S start v steps bytes h = absurd (true≢false (sym h))
+part_counts atom.Decimal start v steps bytes h = absurd (true≢false (sym h))
+part_counts atom.Interrupt start v steps bytes h = absurd (true≢false (sym h))
+part_counts atom.Cycles start v steps bytes h = absurd (true≢false (sym h))
+part_counts atom.Steps start v steps bytes h = absurd (true≢false (sym h))
+
+divisor_of : (q : Phrase) (w v : World) → Divisor (divides q) (view q w v) (minus q)
+divisor_of (number (pos zero)) w v h = absurd (true≢false (sym h))
+divisor_of (number (pos (suc n))) w v h = (omega arith, refl)
+divisor_of (number (negsuc n)) w v h = absurd (true≢false (sym h))
+divisor_of (held a) w v h = absurd (true≢false (sym h))
+divisor_of (bound n) w v h = absurd (true≢false (sym h))
+divisor_of (old e) w v h = absurd (true≢false (sym h))
+divisor_of (of f e) w v h = absurd (true≢false (sym h))
+divisor_of (pair op p q) w v h = absurd (true≢false (sym h))
+divisor_of (choice c p q) w v h = absurd (true≢false (sym h))
+divisor_of (each name n e) w v h = absurd (true≢false (sym h))
+divisor_of (sum name n e) w v h = absurd (true≢false (sym h))
+
+-- WHAT COUNTS: the value of an expression is the number of its phrase
+pub count : (e : Expr) (w v : World) (steps : ℕ) (names : List ℤ) → OnlyBytes w → OnlyBytes v → counts (phrase_of e) ≡ true
+    → Counts (minus (phrase_of e)) (view (phrase_of e) w v) (most (phrase_of e)) (value_of e (moment w w 0) (moment w v steps) names)
+count (Number (pos n)) w v steps names bw bv h = counted n n (Some (pos n)) refl (omega arith)
+count (Number (negsuc n)) w v steps names bw bv h = absurd (true≢false (sym h))
+count (Held a) w v steps names bw bv h = part_counts a w v steps bv h
+count (Bound n) w v steps names bw bv h = absurd (true≢false (sym h))
+count (Old' p e) w v steps names bw bv h = count e w w 0 names bw bw h
+count (Of' function.Byte p e) w v steps names bw bv h =
+    let two = both (counts (phrase_of e)) (not (minus (phrase_of e)) && nat_lt (most (phrase_of e)) 49152) h in
+    let more = both (not (minus (phrase_of e))) (nat_lt (most (phrase_of e)) 49152) two.1 in
+    byte_counts v (view (phrase_of e) w v) (most (phrase_of e)) (value_of e (moment w w 0) (moment w v steps) names) bv.ram
+    (plain_of (minus (phrase_of e)) (view (phrase_of e) w v) (most (phrase_of e)) (value_of e (moment w w 0) (moment w v steps) names)
+    (count e w v steps names bw bv two.0) (no (minus (phrase_of e)) more.0)) (below (most (phrase_of e)) 49152 more.1)
+count (Of' function.Word p e) w v steps names bw bv h =
+    let two = both (counts (phrase_of e)) (not (minus (phrase_of e)) && nat_lt (most (phrase_of e)) 49151) h in
+    let more = both (not (minus (phrase_of e))) (nat_lt (most (phrase_of e)) 49151) two.1 in
+    let low = below (most (phrase_of e)) 49151 more.1 in
+    word_counts v (view (phrase_of e) w v) (most (phrase_of e)) (value_of e (moment w w 0) (moment w v steps) names) bv.ram
+    (plain_of (minus (phrase_of e)) (view (phrase_of e) w v) (most (phrase_of e)) (value_of e (moment w w 0) (moment w v steps) names)
+    (count e w v steps names bw bv two.0) (no (minus (phrase_of e)) more.0)) (omega (arith, low))
+count (Of' function.Signed p e) w v steps names bw bv h = absurd (true≢false (sym h))
+count (Of' function.Abs p e) w v steps names bw bv h = absurd (true≢false (sym h))
+count (Pair' op p x q y) w v steps names bw bv h =
+    let two = both (counts (phrase_of x)) (counts (phrase_of y) && may_join op (phrase_of x) (phrase_of y)) h in
+    let more = both (counts (phrase_of y)) (may_join op (phrase_of x) (phrase_of y)) two.1 in
+    joins (phrase_of x) (phrase_of y) (view (phrase_of x) w v) (view (phrase_of y) w v)
+    (value_of x (moment w w 0) (moment w v steps) names) (value_of y (moment w w 0) (moment w v steps) names)
+    (count x w v steps names bw bv two.0) (count y w v steps names bw bv more.0) op more.1 (divisor_of (phrase_of y) w v)
+count (Choice' p c q x r y) w v steps names bw bv h = absurd (true≢false (sym h))
+count (Each' name p n q e) w v steps names bw bv h = absurd (true≢false (sym h))
+count (Sum' name p n q e) w v steps names bw bv h = absurd (true≢false (sym h))

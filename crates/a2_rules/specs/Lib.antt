@@ -1,0 +1,4 @@
+pub mod Worlds
+pub mod Phrases
+pub mod Promised
+pub mod Doubling

@@ -1,0 +1,12 @@
+//! Rules by which it is proved that a routine keeps what it promises in comments: proofs that `./a2-prove` writes are made of them.
+//! They are definitions and lemmas; the one call does nothing, its contract is a theorem of a routine, as an example.
+//!
+//! How it is called is shown in CALLING.md.
+#![tactic(auto)]
+
+ghost use Rattle.a2_rules.specs.Doubling.{DoublingIsProved};
+
+/// A theorem, and no code: in every world of bytes in which A is below 128, the routine of `doubling` doubles A, and all else stays.
+pub fn doubling_is_proved()
+    ensures { DoublingIsProved }
+{}
