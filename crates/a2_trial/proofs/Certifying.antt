@@ -1,13 +1,15 @@
 -- A state that is tried: what promises see of a board, and a promise that is kept behind the routine's own RTS.
-use Rattle.std.specs.Prelude.{◌≡◌, ◌⊎◌, ◌<◌, ℕ, zero, suc, ◌+◌, ◌-◌, ◌||◌, Bool, true, false, IsTrue, List, [], length, replicate, Some, None, slice_get, refl}
+use Rattle.std.specs.Prelude.{◌≡◌, ◌⊎◌, ◌<◌, ◌≤◌, ℕ, suc, ◌+◌, ◌-◌, ◌||◌, Bool, true, false, IsTrue, List, [], length, Some, None, slice_get, slice_index, refl}
 use Rattle.std.proofs.Common.{sym, ap, ap₂, ◌∙◌, subst, arith, inl, inr, true≢false}
+use Rattle.std.proofs.lemmas.Bool.{cases_lt}
+use Rattle.std.proofs.lemmas.List.{get_or_past}
 use Rattle.std.proofs.lemmas.List.FromFn.{fill_by_all}
 use Rattle.std.proofs.lemmas.Option.{slice_get_within}
 use Rattle.a2_text.specs.Bytes.{is_among}
 use Rattle.a2_bus.specs.BusState.{BusState, board_access}
 use Rattle.a2_bus.specs.Memory.{ram_byte, ram_end}
 use Rattle.a2_bus.specs.View.{memory_of}
-use Rattle.a2_bus.proofs.Viewing.{byte_seen}
+use Rattle.a2_bus.proofs.Viewing.{byte_seen, memory_of-agrees}
 use Rattle.a2_cpu.specs.GuardedBusStep.{guarded_bus_step}
 use Rattle.a2_cpu.specs.Registers.{Registers}
 use Rattle.a2_cpu.specs.View.{guarded_answer_of, left_by, state_of}
@@ -23,10 +25,15 @@ use Rattle.a2_promise.specs.Looks.{Known}
 use Rattle.a2_promise.specs.Values.{Moment}
 use Rattle.a2_uses.specs.declared.Part.{Part}
 use Rattle.a2_uses.specs.declared.Part.TheVariants.{A as part_a, X as part_x, Y as part_y}
+use Rattle.a2_reads.specs.Calls.{GoesBack}
 use Rattle.a2_reads.specs.Parts.{held}
+use Rattle.a2_reads.specs.Reads.{AgreeOn}
 use Rattle.a2_reads.specs.Runs.{known_behind}
-use Rattle.a2_reads.specs.Uses.{parts_behind}
+use Rattle.a2_reads.specs.Uses.{Near, parts_behind}
+use Rattle.a2_reads.proofs.Calling.{calls}
+use Rattle.a2_reads.proofs.Running.{runs}
 use Rattle.a2_trial.specs.declared.parts.Parts.{Parts}
+use Rattle.a2_trial.specs.But.{IsBut}
 use Rattle.a2_trial.specs.Certifying.{AreRegistersKept, IsStateTried}
 use Rattle.a2_trial.specs.Judging.{all_hold}
 use Rattle.a2_trial.specs.Kept.{IsKept, LookAtKnown, bytes_of, code, is_own, known_by, may_change, may_store, moment}
@@ -50,12 +57,6 @@ stepped registers bus size opcode there new_registers new_bus cycles before told
     let made : IsStepMade None registers bus new_registers new_bus cycles =
     instruction_step None registers bus size low refl new_registers new_bus (answer.Next cycles) told left_registers left_bus in
     made.world before
-
--- no mark is set in marks that are all clear
-pub clear : (n a : ℕ) → is_set (replicate n false) a ≡ false
-clear zero a = refl
-clear (suc n) zero = refl
-clear (suc n) (suc a) = clear n a
 
 not_allowed : (changes : Changes) (a : ℕ) → is_own a ≡ false → may_store changes a ≡ false → is_allowed changes a ≡ false
 not_allowed changes a own may = ap₂ (λ one other. one || other) may own
@@ -129,6 +130,45 @@ module _ (known marks : List Bool) (parts last : Parts) (promise : Promise) (fir
       registers = λ part may. stayed part (same part may);
       rest = λ a low own may. inl (not_stored code (world_of first first_bus 0) n a (sym (home.walk.stored a) ∙ unmarked a own may));
     }
+
+    -- behind the RTS each byte is as before that is not marked as stored at
+    module _ (first_size : length first_bus.bytes ≡ ram_end) (size : length behind_bus.bytes ≡ ram_end) where
+      near : Near (knows_part parts) (AgreeOn (is_set known)) (world_of first first_bus 0) (world_of first first_bus 0)
+      near =
+          let board = memory_of-agrees first_bus first_size in
+          record {
+            registers = record { s = refl; pc = refl; parts = λ part known. refl };
+            cycles = refl;
+            memory = record {
+              left_pages = (board.first_page, board.second_page);
+              right_pages = (board.first_page, board.second_page);
+              devices = refl;
+              bytes = λ a low known. refl;
+            };
+          }
+
+      back : GoesBack code (world_of first first_bus 0) n
+      back = calls code (knows_part parts) (is_set known) (world_of first first_bus 0) (world_of first first_bus 0) n near home.comes
+
+      stays : (a : ℕ) → is_set marks a ≡ false → ram_byte (world_at code (world_of first first_bus 0) n).memory a ≡ ram_byte (memory_of first_bus) a
+      stays a out =
+          (runs code (knows_part parts) (is_set known) (world_of first first_bus 0) (world_of first first_bus 0) n near home.comes.reads home.comes.needs).1.rest a
+          (not_stored code (world_of first first_bus 0) n a (sym (home.walk.stored a) ∙ out))
+
+      same_byte : (a : ℕ) → is_set marks a ≡ false → (a < ram_end) ⊎ (ram_end ≤ a) → slice_index behind_bus.bytes a ≡ slice_index first_bus.bytes a
+      same_byte a out (inl low) =
+          byte_seen behind_bus a size low ∙ ap (λ (w : World). ram_byte w.memory a) at_end ∙ ap (λ m. ram_byte m a) back.memory ∙ stays a out
+          ∙ sym (byte_seen first_bus a first_size low)
+      same_byte a out (inr past) =
+          get_or_past behind_bus.bytes a 0 (subst (λ k. k ≤ a) (sym size) past)
+          ∙ sym (get_or_past first_bus.bytes a 0 (subst (λ k. k ≤ a) (sym first_size) past))
+
+      pub left_by_walk : behind_bus.devices ≡ first_bus.devices → IsBut (is_set marks) behind_bus first_bus
+      left_by_walk devices = record {
+        size = size ∙ sym first_size;
+        bytes = λ a out. same_byte a out (cases_lt a ram_end);
+        devices = devices;
+      }
 
 -- so a promise is kept that is looked at as the program does
 pub kept_by : (known marks : List Bool) (parts first_parts last last_parts : Parts) (promise : Promise) (most : ℕ) (first : Registers)

@@ -1,44 +1,40 @@
 -- A promise that is kept in each state of its inputs is kept in every world.
-use Rattle.std.specs.Prelude.{◌≡◌, ◌⊎◌, ◌<◌, ℕ, zero, suc, ◌+◌, ◌-◌, ◌%◌, ◌||◌, ◌&&◌, Bool, true, false, not, IsTrue, List, map, None, Result, Ok, refl}
+use Rattle.std.specs.Prelude.{◌≡◌, ◌⊎◌, ◌<◌, ℕ, zero, suc, ◌+◌, ◌-◌, ◌%◌, ◌&&◌, Bool, true, false, not, IsTrue, map, None, Ok, refl}
 use Rattle.std.specs.List.{list_any}
-use Rattle.std.proofs.Common.{sym, ap, ap₂, ◌∙◌, subst, arith, inl, inr, true≢false}
+use Rattle.std.proofs.Common.{sym, ap, ap₂, ◌∙◌, subst, inl, inr, true≢false}
 use Rattle.a2_text.specs.Bytes.{is_among}
-use Rattle.a2_opcode.specs.declared.Mode.{Mode}
 use Rattle.a2_opcode.specs.declared.Mode.TheVariants.{Implied}
-use Rattle.a2_opcode.specs.declared.Mnemonic.{Mnemonic}
 use Rattle.a2_opcode.specs.declared.Mnemonic.TheVariants.{Rts}
 use Rattle.a2_opcode.specs.declared.Row.{Row}
-use Rattle.a2_bus.specs.Memory.{Memory, memory_access, ram_byte, ram_end}
+use Rattle.a2_bus.specs.Memory.{memory_access, ram_byte, ram_end}
 use Rattle.a2_cpu.specs.Effect.{effect_of}
 use Rattle.a2_cpu.specs.Instruction.{branch_cycles, next_address, performed}
-use Rattle.a2_cpu.specs.Place.{Place, base_address, crosses_page, place_of}
+use Rattle.a2_cpu.specs.Place.{base_address, crosses_page, place_of}
 use Rattle.a2_cpu.specs.Registers.{Registers, one_if}
 use Rattle.a2_cpu.specs.Stores.{IsNotIn}
 use Rattle.a2_services.specs.World.{World}
 use Rattle.a2_services.specs.Services.{service_at}
-use Rattle.a2_machine.specs.declared.Cause.{Cause}
-use Rattle.a2_machine.specs.Meaning.{Code, Decoded, found_at_pc, next, world_at}
+use Rattle.a2_machine.specs.Meaning.{Code, Decoded, found_at_pc, world_at}
 use Rattle.a2_promise.specs.declared.promises.Changes.{Changes}
 use Rattle.a2_promise.specs.declared.promises.Promise.{Promise}
-use Rattle.a2_promise.specs.Looks.{AgreeAt, Known, ValuesDependOnLooks}
+use Rattle.a2_promise.specs.Looks.{AgreeAt, ValuesDependOnLooks}
 use Rattle.a2_uses.specs.declared.Part.{Part}
 use Rattle.a2_uses.specs.declared.Part.TheVariants.{A as part_a, X as part_x, Y as part_y}
 use Rattle.a2_reads.specs.Calls.{ComesToRts, GoesBack, caller}
-use Rattle.a2_reads.specs.Counting.{HasNumber, state_at}
-use Rattle.a2_reads.specs.Parts.{held, MatchAt, is_part}
+use Rattle.a2_reads.specs.Counting.{HasNumber}
+use Rattle.a2_reads.specs.Parts.{held, is_part}
 use Rattle.a2_reads.specs.Reads.{AgreeOn}
-use Rattle.a2_reads.specs.Runs.{RunsAlike, known_behind, stores_in, step_stores}
+use Rattle.a2_reads.specs.Runs.{known_behind, stores_in, step_stores}
 use Rattle.a2_reads.specs.Stays.{is_register}
 use Rattle.a2_reads.specs.Uses.{Near, found_sets, parts_behind}
 use Rattle.a2_reads.proofs.Agreeing.{among_or}
 use Rattle.a2_reads.proofs.Calling.{calls}
 use Rattle.a2_reads.proofs.Counting.{counted}
-use Rattle.a2_reads.proofs.Running.{done_at, next_is, runs}
+use Rattle.a2_reads.proofs.Running.{next_is, runs}
 use Rattle.a2_reads.proofs.Staying.{staying}
-use Rattle.a2_trial.specs.Judging.{all_hold}
-use Rattle.a2_trial.specs.States.{Trial, Enters, known_bytes, known_parts, state_of, value_in, values_of, with_values}
-use Rattle.a2_trial.specs.Kept.{IsEnsured, IsKept, IsRequired, Keeps, code, is_own, known_by, may_change, may_store, moment}
-use Rattle.a2_trial.specs.Everywhere.{HoldsInEveryState, IsTried, PromisesHoldEverywhere}
+use Rattle.a2_trial.specs.States.{Trial, known_bytes, known_parts, value_in, values_of, with_values}
+use Rattle.a2_trial.specs.Kept.{IsKept, IsRequired, Keeps, code, known_by, may_change, moment}
+use Rattle.a2_trial.specs.Everywhere.{IsTried, PromisesHoldEverywhere}
 use Rattle.a2_trial.proofs.Moments.{AreAlike, agree, same_hold}
 use Rattle.a2_trial.proofs.States.{near, with_inputs}
 

@@ -1,14 +1,11 @@
 -- Steps of a routine on its way, up to the RTS of its own.
-use Rattle.std.specs.Prelude.{◌≡◌, ◌≢◌, ◌⊎◌, ◌<◌, ℕ, zero, suc, ◌+◌, ◌-◌, ◌==◌, ◌||◌, Bool, true, false, IsTrue, List, [], ◌∷◌, ◌++◌, length, None, Ok, refl}
+use Rattle.std.specs.Prelude.{◌≡◌, ◌≢◌, ◌⊎◌, ◌<◌, ℕ, zero, suc, ◌+◌, ◌==◌, ◌||◌, Bool, true, false, List, [], ◌∷◌, ◌++◌, length, None, Ok, refl}
 use Rattle.std.specs.List.{list_any}
 use Rattle.std.proofs.Common.{sym, ap, ◌∙◌, subst, arith, inl, inr, true≢false}
 use Rattle.std.proofs.lemmas.Bool.Decides.{nat_tests}
 use Rattle.a2_text.specs.Bytes.{is_among}
-use Rattle.a2_opcode.specs.Table.{length_of}
 use Rattle.a2_opcode.specs.declared.Instr.{Instr}
 use Rattle.a2_opcode.specs.declared.Mnemonic.TheVariants.{Rts}
-use Rattle.a2_opcode.specs.declared.Mode.TheVariants.{Implied}
-use Rattle.a2_opcode.specs.Table.{IsRowFor}
 use Rattle.a2_bus.specs.BusState.{BusState}
 use Rattle.a2_bus.specs.Memory.{Memory, ram_end}
 use Rattle.a2_cpu.specs.Registers.{Registers}
@@ -16,17 +13,16 @@ use Rattle.a2_cpu.specs.Stores.{IsNotIn}
 use Rattle.a2_services.specs.World.{World, world_of}
 use Rattle.a2_services.specs.Services.{service_at}
 use Rattle.a2_machine.specs.Meaning.{Code, Decoded, found_at_pc, next, stuck, world_at}
-use Rattle.a2_machine.specs.ByteRun.{bytes}
 use Rattle.a2_machine.proofs.Outcomes.{no_return, no_service}
 use Rattle.a2_promise.specs.declared.promises.Changes.{Changes}
 use Rattle.a2_uses.specs.declared.Part.{Part}
 use Rattle.a2_uses.specs.Reads.{pull_address}
 use Rattle.a2_reads.specs.Calls.{ComesToRts}
-use Rattle.a2_reads.specs.Fetches.{addresses_from, fetch_reads}
-use Rattle.a2_reads.specs.Parts.{is_part, with_parts}
-use Rattle.a2_reads.specs.Reads.{AgreeOn, Knows, with_bytes}
-use Rattle.a2_reads.specs.Runs.{RunReads, StepReads, known_behind, step_stores, stores_in}
-use Rattle.a2_reads.specs.Uses.{RunNeeds, found_needs, found_sets, parts_behind}
+use Rattle.a2_reads.specs.Fetches.{fetch_reads}
+use Rattle.a2_reads.specs.Parts.{is_part}
+use Rattle.a2_reads.specs.Reads.{AgreeOn, Knows}
+use Rattle.a2_reads.specs.Runs.{StepReads, known_behind, step_stores, stores_in}
+use Rattle.a2_reads.specs.Uses.{found_needs, found_sets, parts_behind}
 use Rattle.a2_reads.proofs.Calling.{not_refused}
 use Rattle.a2_reads.proofs.Fetching.{fetches}
 use Rattle.a2_reads.proofs.Running.{stuck_is}

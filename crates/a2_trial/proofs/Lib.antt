@@ -2,6 +2,7 @@ pub mod States
 pub mod Moments
 pub mod Everywhere
 pub mod Marks
+pub mod But
 pub mod Standing
 pub mod Walking
 pub mod Home

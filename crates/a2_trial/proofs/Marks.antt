@@ -1,5 +1,5 @@
 -- Marks, and registers and flags that are known.
-use Rattle.std.specs.Prelude.{◌≡◌, ◌≢◌, ◌<◌, ℕ, zero, suc, ◌+◌, ◌==◌, ◌||◌, Bool, true, false, IsTrue, List, [], ◌∷◌, length, slice_set, refl}
+use Rattle.std.specs.Prelude.{◌≡◌, ◌≢◌, ◌<◌, ℕ, zero, suc, ◌==◌, ◌||◌, Bool, true, false, IsTrue, List, [], ◌∷◌, length, slice_set, refl}
 use Rattle.std.proofs.Common.{sym, ap, ◌∙◌, subst, arith, true≢false}
 use Rattle.std.proofs.lemmas.Bool.Decides.{nat_tests}
 use Rattle.a2_text.specs.Bytes.{is_among}
@@ -66,10 +66,10 @@ same_number m n is = go (m == n) refl is
     go true e _ = grind (arith, nat_tests, e)
     go false _ bad = absurd (true≢false (sym bad))
 
-pub one_marked : (old : List Bool) (changes : Changes) (a : ℕ) → a < length old → is_allowed changes a ≡ true → a ≢ 0x1FE → a ≢ 0x1FF
-    → AreMarked old (slice_set old a true) changes (a ∷ [])
-one_marked old changes a low allowed first second = record {
-  marks = λ b. marked old a b low ∙ ap (λ v. v || is_set old b) (or_none (a == b));
+pub one_marked : (old new : List Bool) (changes : Changes) (a : ℕ) → ((b : ℕ) → is_set new b ≡ ((a == b) || is_set old b))
+    → is_allowed changes a ≡ true → a ≢ 0x1FE → a ≢ 0x1FF → AreMarked old new changes (a ∷ [])
+one_marked old new changes a marks allowed first second = record {
+  marks = λ b. marks b ∙ ap (λ v. v || is_set old b) (or_none (a == b));
   allowed = λ b among. subst (λ n. MayStore changes n) (sym (same_number a b among)) (allowed, first, second);
 }
   where

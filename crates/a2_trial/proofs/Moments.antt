@@ -1,5 +1,5 @@
 -- What a promise says is the same of two worlds that are alike at what it looks at.
-use Rattle.std.specs.Prelude.{◌≡◌, ◌⊎◌, ◌<◌, ◌≤◌, ℕ, ◌-◌, pos, ◌&&◌, Bool, true, false, IsTrue, List, [], ◌∷◌, map, length, Option, Some, None, slice_get, refl}
+use Rattle.std.specs.Prelude.{◌≡◌, ◌⊎◌, ◌<◌, ◌≤◌, ℕ, ◌-◌, pos, ◌&&◌, Bool, IsTrue, List, [], ◌∷◌, map, length, Some, None, slice_get, refl}
 use Rattle.std.specs.List.{range_with_len}
 use Rattle.std.proofs.Common.{sym, ap, ap₂, ◌∙◌, arith, inl, inr}
 use Rattle.std.proofs.lemmas.List.FromFn.{length-map-range_with_len, get_or-map-range_with_len}

@@ -1,5 +1,5 @@
 -- The example's promise is kept: the run is looked at before its first step.
-use Rattle.std.specs.Prelude.{◌≡◌, ◌⊎◌, ◌<◌, ℕ, zero, suc, ◌+◌, ◌-◌, ◌%◌, Bool, true, false, IsTrue, List, [], ◌∷◌, None, Some, Result, Ok, refl}
+use Rattle.std.specs.Prelude.{◌≡◌, ◌⊎◌, ◌<◌, ℕ, ◌-◌, Bool, true, false, IsTrue, List, [], None, Some, Ok, refl}
 use Rattle.std.proofs.Common.{sym, ◌∙◌, ap, subst, arith, inl, inr}
 use Rattle.a2_opcode.specs.declared.Mnemonic.TheVariants.{Rts}
 use Rattle.a2_opcode.specs.declared.Mode.TheVariants.{Implied}
@@ -15,7 +15,6 @@ use Rattle.a2_promise.specs.Looks.{Known}
 use Rattle.a2_promise.specs.Values.{Moment}
 use Rattle.a2_uses.specs.declared.Part.{Part}
 use Rattle.a2_reads.specs.Calls.{ComesToRts}
-use Rattle.a2_reads.specs.Reads.{AgreeOn}
 use Rattle.a2_reads.specs.Parts.{held}
 use Rattle.a2_reads.specs.Runs.{known_behind, stores_in}
 use Rattle.a2_reads.specs.Uses.{parts_behind}
@@ -23,7 +22,7 @@ use Rattle.a2_reads.proofs.Calling.{not_refused}
 use Rattle.a2_reads.proofs.Running.{stuck_is}
 use Rattle.a2_trial.specs.Judging.{all_hold}
 use Rattle.a2_trial.specs.Kept.{IsKept, LookAtKnown, code, known_by, moment}
-use Rattle.a2_trial.specs.Everywhere.{HoldsInEveryState, IsTried}
+use Rattle.a2_trial.specs.Everywhere.{IsTried}
 use Rattle.a2_trial.specs.Returning.{AnRtsKeepsAll, returning}
 use Rattle.a2_trial.specs.States.{known_bytes, known_parts, state_of}
 

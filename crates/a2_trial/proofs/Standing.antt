@@ -1,6 +1,6 @@
 -- The instruction that stands at an address.
 use Rattle.std.specs.Prelude.{◌≡◌, ◌<◌, ◌≤◌, ℕ, zero, suc, ◌+◌, ◌%◌, List, [], ◌∷◌, length, Option, Some, None, IfSome, slice_get, refl}
-use Rattle.std.proofs.Common.{sym, ap, ◌∙◌, subst, arith, take}
+use Rattle.std.proofs.Common.{sym, ap, ◌∙◌, arith, take}
 use Rattle.std.proofs.lemmas.Option.{slice_get_within}
 use Rattle.a2_opcode.specs.declared.Instr.{Instr}
 use Rattle.a2_opcode.specs.Encoding.{IsFetchedFrom, Shows}

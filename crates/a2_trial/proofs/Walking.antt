@@ -1,12 +1,9 @@
 -- A step of a routine on its way, and many.
-use Rattle.std.specs.Prelude.{◌≡◌, ◌≢◌, ◌⊎◌, ◌<◌, ◌≤◌, ℕ, zero, suc, ◌+◌, ◌-◌, ◌%◌, ◌==◌, ◌||◌, ◌&&◌, Bool, true, false, not, IsTrue, List, [], ◌∷◌, ◌++◌, length, Option, Some, None, Result, Ok, Err, slice_get, slice_set, refl}
-use Rattle.std.specs.List.{list_all, list_any}
-use Rattle.std.proofs.Common.{sym, ap, ap₂, ◌∙◌, subst, arith, inl, inr, true≢false}
+use Rattle.std.specs.Prelude.{◌≡◌, ◌<◌, ℕ, ◌+◌, ◌-◌, ◌&&◌, Bool, true, false, List, [], ◌∷◌, ◌++◌, length, Option, Some, None, Ok, slice_get, refl}
+use Rattle.std.specs.List.{list_all}
+use Rattle.std.proofs.Common.{sym, ap, ◌∙◌, subst, arith, true≢false}
 use Rattle.a2_text.specs.Bytes.{is_among}
 use Rattle.a2_opcode.specs.declared.Instr.{Instr}
-use Rattle.a2_opcode.specs.declared.Mode.{Mode}
-use Rattle.a2_opcode.specs.declared.Mnemonic.{Mnemonic}
-use Rattle.a2_opcode.specs.declared.Mnemonic.TheVariants.{Rts}
 use Rattle.a2_opcode.specs.declared.Row.{Row}
 use Rattle.a2_opcode.specs.Encoding.{Fetched, fetched, instruction, no_byte, undocumented, bytes_from, value_of}
 use Rattle.a2_opcode.specs.Table.{row_of, length_of, IsRowFor}
@@ -22,28 +19,26 @@ use Rattle.a2_cpu.specs.Stores.{stores_of}
 use Rattle.a2_cpu.specs.StepStores.{none_if, stores_at}
 use Rattle.a2_cpu.specs.GuardedBusStep.{guarded_bus_step}
 use Rattle.a2_cpu.specs.View.{guarded_answer_of, left_by, state_of}
-use Rattle.a2_cpu.specs.declared.GuardedStep.{GuardedStep}
 use Rattle.a2_cpu.specs.declared.GuardedStep.TheVariants as answer
 use Rattle.a2_services.specs.World.{World, world_of}
-use Rattle.a2_services.specs.Services.{service_at}
 use Rattle.a2_machine.specs.declared.Cause.{Cause}
-use Rattle.a2_machine.specs.Meaning.{Decoded, cause_of_refusal, found_at_pc, next, stuck, world_at}
-use Rattle.a2_machine.specs.ByteRun.{bytes, decoded_or_cause}
+use Rattle.a2_machine.specs.Meaning.{Decoded, cause_of_refusal, found_at_pc}
+use Rattle.a2_machine.specs.ByteRun.{decoded_or_cause}
 use Rattle.a2_machine.specs.Outcome.{IsStepMade}
 use Rattle.a2_machine.proofs.Outcomes.{fetched-world, found-admitted, instruction_step, no_return, no_service, stores-world}
 use Rattle.a2_uses.specs.declared.Part.{Part}
 use Rattle.a2_uses.specs.Parts.{mode_needs, needs, sets_parts}
 use Rattle.a2_uses.specs.Reads.{effect_reads, pointer_reads, reads_of}
 use Rattle.a2_reads.specs.Fetches.{addresses_from, fetch_reads, operand_addresses}
-use Rattle.a2_reads.specs.Parts.{is_part, with_parts}
-use Rattle.a2_reads.specs.Reads.{Knows, with_bytes}
-use Rattle.a2_reads.specs.Runs.{StepReads, found_reads, found_stores, step_reads, step_stores}
+use Rattle.a2_reads.specs.Parts.{with_parts}
+use Rattle.a2_reads.specs.Reads.{Knows}
+use Rattle.a2_reads.specs.Runs.{found_reads, found_stores, step_reads, step_stores}
 use Rattle.a2_reads.specs.Uses.{found_needs, found_sets}
 use Rattle.a2_reads.proofs.Boards.{boards}
 use Rattle.a2_reads.proofs.Fetching.{steps_by_bytes}
-use Rattle.a2_reads.proofs.Running.{cause_at, stuck_is}
+use Rattle.a2_reads.proofs.Running.{stuck_is}
 use Rattle.a2_trial.specs.Kept.{code}
-use Rattle.a2_trial.specs.Walking.{IsStep, AreMarked, StandsAt, is_set, known_now, knows_part}
+use Rattle.a2_trial.specs.Walking.{IsStep, AreMarked, StandsAt, known_now, knows_part}
 use Rattle.a2_promise.specs.declared.promises.Changes.{Changes}
 use Rattle.a2_trial.specs.declared.parts.Parts.{Parts}
 

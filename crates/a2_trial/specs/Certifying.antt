@@ -15,8 +15,9 @@ use Rattle.a2_trial.specs.declared.inputs.Input.{Input}
 use Rattle.a2_trial.specs.declared.inputs.Input.TheVariants.{Byte}
 use Rattle.a2_trial.specs.declared.parts.Parts.{Parts}
 use Rattle.a2_trial.specs.declared.walk.Walk.{Walk}
+use Rattle.a2_trial.specs.But.{IsBut}
 use Rattle.a2_trial.specs.Kept.{IsKept, IsRequired, LookAtKnown, known_by, may_change, moment}
-use Rattle.a2_trial.specs.States.{values_of, with_values}
+use Rattle.a2_trial.specs.States.{has_byte, values_of, with_values}
 use Rattle.a2_trial.specs.Walking.{is_set, knows_part}
 
 -- the state of a number
@@ -24,6 +25,12 @@ abbrev pub start_of : Case → ℕ → World
 start_of case number =
     with_values case.inputs.now (state_at (map values_of case.inputs.now) number)
     (world_of (registers_at case.promise.now.address) case.base.now 0)
+
+-- The boards are ready for a state: that before it is as the base, the one on its way too but for the inputs, and nothing is marked.
+pub record IsReady (base : BusState) (inputs : List Input) (before space : BusState) (stored : List Bool) : Type 0 where
+  pub before_is : before ≡ base
+  pub space_is : IsBut (has_byte inputs) space base
+  pub clear : (a : ℕ) → is_set stored a ≡ false
 
 -- a state stands before a routine, and is where it sets out
 pub record IsEntered (start : World) (parts : Parts) (before : BusState) (walk : Walk) (stored : List Bool) : Type 0 where

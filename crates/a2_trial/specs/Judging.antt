@@ -1,5 +1,5 @@
 -- Whether clauses of a promise hold. This project's profile.
-use Rattle.std.specs.Prelude.{◌≡◌, ℤ, pos, Bool, true, false, not, List, [], ◌∷◌, Option, Some, None}
+use Rattle.std.specs.Prelude.{ℤ, pos, Bool, false, not, List, [], ◌∷◌, Option, Some, None}
 use Rattle.std.specs.List.{list_all}
 use Rattle.a2_promise.specs.Values.{Moment, value_of, is_zero}
 use Rattle.a2_promise.specs.declared.promises.Clause.{Clause}

@@ -19,7 +19,6 @@ use Rattle.a2_uses.specs.declared.Part.TheVariants.{A as part_a, X as part_x, Y 
 use Rattle.a2_reads.specs.Calls.{ComesToRts, GoesBack}
 use Rattle.a2_reads.specs.Parts.{held}
 use Rattle.a2_reads.specs.Runs.{known_behind, stores_in}
-use Rattle.a2_reads.specs.Stays.{is_register}
 use Rattle.a2_reads.specs.Uses.{parts_behind}
 use Rattle.a2_trial.specs.Judging.{all_hold, no_names}
 

@@ -3,6 +3,7 @@ pub mod States
 pub mod Kept
 pub mod Everywhere
 pub mod Walking
+pub mod But
 pub mod Returning
 pub mod Looking
 pub mod Certifying

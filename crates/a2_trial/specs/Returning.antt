@@ -1,6 +1,6 @@
 -- A promise that is kept in every state, as an example: a routine that is an RTS alone, of which nothing is said but that all else
 -- stays. This project's own.
-use Rattle.std.specs.Prelude.{◌≡◌, ◌==◌, List, [], ◌∷◌}
+use Rattle.std.specs.Prelude.{◌≡◌, ◌==◌, [], ◌∷◌}
 use Rattle.a2_page.specs.Grid.{IsGrid}
 use Rattle.a2_bus.specs.Memory.{Memory, ram_byte}
 use Rattle.a2_cpu.specs.Registers.{registers_at}

@@ -1,5 +1,5 @@
 -- The states of inputs in which a routine is entered. This project's own.
-use Rattle.std.specs.Prelude.{◌≡◌, ℕ, ◌%◌, ◌==◌, ◌||◌, Bool, true, false, IsTrue, if◌then◌else◌, List, [], ◌∷◌, map}
+use Rattle.std.specs.Prelude.{◌≡◌, ℕ, ◌%◌, ◌==◌, ◌||◌, Bool, true, false, IsTrue, List, [], ◌∷◌, map}
 use Rattle.a2_page.specs.Grid.{IsGrid}
 use Rattle.a2_bus.specs.Memory.{ram_byte, with_ram}
 use Rattle.a2_cpu.specs.Registers.{StatusFlags, one_if}

@@ -1,5 +1,5 @@
 -- What is known where a routine is on its way, and a step of it, for the contracts of the crate's own functions.
-use Rattle.std.specs.Prelude.{◌≡◌, ◌≢◌, ◌≤◌, ℕ, ◌+◌, ◌-◌, ◌||◌, ◌==◌, Bool, true, false, IsTrue, List, ◌∷◌, length, Option, Some, None, slice_get}
+use Rattle.std.specs.Prelude.{◌≡◌, ◌≢◌, ◌≤◌, ℕ, ◌+◌, ◌-◌, ◌||◌, Bool, true, false, IsTrue, List, ◌∷◌, length, Some, None, slice_get}
 use Rattle.a2_text.specs.Bytes.{is_among}
 use Rattle.a2_opcode.specs.declared.Mode.TheVariants.{Implied}
 use Rattle.a2_opcode.specs.declared.Mnemonic.TheVariants.{Rts}
@@ -10,7 +10,7 @@ use Rattle.a2_opcode.specs.declared.Row.{Row}
 use Rattle.a2_bus.specs.BusState.{BusState}
 use Rattle.a2_bus.specs.Memory.{ram_end}
 use Rattle.a2_cpu.specs.Registers.{Registers}
-use Rattle.a2_services.specs.World.{World, world_of}
+use Rattle.a2_services.specs.World.{world_of}
 use Rattle.a2_machine.specs.Meaning.{found_at_pc, next, world_at}
 use Rattle.a2_promise.specs.declared.promises.Changes.{Changes}
 use Rattle.a2_uses.specs.declared.Part.{Part}

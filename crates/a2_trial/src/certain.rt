@@ -1,9 +1,10 @@
 //! Whether a promise is kept in every state of its inputs, and so in every world.
 
-ghost use Rattle.std.specs.Prelude.{◌≡◌, ◌⊎◌, ◌||◌, ◌<◌, ℕ, false, [], map, is_some, IsTrue, IfOk, IfSome};
+ghost use Rattle.std.specs.Prelude.{◌≡◌, ◌⊎◌, ◌||◌, ◌<◌, ℕ, Bool, false, [], length, map, is_some, IsTrue, IfOk, IfSome};
 ghost use Rattle.std.specs.List.{list_all, list_any};
 ghost use Rattle.a2_hex.specs.Images.{held};
 ghost use Rattle.a2_bus.specs.Memory.{Memory, ram_end};
+ghost use Rattle.a2_bus.specs.PowerOn.{first_devices};
 ghost use Rattle.a2_cpu.specs.Live.{live_registers};
 ghost use Rattle.a2_cpu.specs.View.{registers_of};
 ghost use Rattle.a2_cpu.specs.Registers.{registers_at};
@@ -13,18 +14,21 @@ ghost use Rattle.a2_promise.specs.Values.{moment_of};
 ghost use Rattle.a2_uses.specs.declared.Part.{Part as DeclaredPart};
 ghost use Rattle.a2_reads.specs.Counting.{states_of, state_at};
 ghost use Rattle.a2_bus.specs.View.{memory_of};
+ghost use Rattle.a2_trial.specs.But.{IsBut};
 ghost use Rattle.a2_trial.specs.Kept.{bytes_of, code, IsKept};
-ghost use Rattle.a2_trial.specs.States.{has_part, holds_part, is_byte, values_of, with_value, with_values};
+ghost use Rattle.a2_trial.specs.States.{has_byte, has_part, holds_part, is_byte, values_of, with_value, with_values};
 ghost use Rattle.a2_trial.specs.Entering.{IsKeptEverywhere};
 ghost use Rattle.a2_trial.specs.Walking.{is_set, knows_part, no_parts};
-ghost use Rattle.a2_trial.specs.Certifying.{AreLaid, AreRegistersKept, IsEntered, is_input_in_ram, IsStateTried, start_of};
+ghost use Rattle.a2_trial.specs.Certifying.{AreLaid, AreRegistersKept, IsEntered, is_input_in_ram, IsReady, IsStateTried, start_of};
 
 use crate::inputs::Input;
 use crate::judge::all_hold;
 use crate::looks::{Sure, look_at_known};
 use crate::parts::Parts;
 use crate::promises_hold_everywhere;
+use crate::stored::{Stored, put_back};
 use crate::walk::{Walk, walk_home};
+use a2_bus::locations::KBD;
 use a2_bus::{AddressSpace, Bus};
 use a2_cpu::live::Live;
 use a2_cpu::run::guarded_step;
@@ -66,8 +70,9 @@ fn put_register(input: Input, value: u8, live: &mut Live)
 
 // Gives an input a value; false where it is a byte that is not in RAM.
 fn put_value(input: Input, value: u8, regs: &mut Regs, space: &mut AddressSpace<Global>) -> bool
-    ensures { IsTrue result → world_of (registers_of regs.new) space.new 0
+    ensures world { IsTrue result → world_of (registers_of regs.new) space.new 0
         ≡ with_value input value (world_of (registers_of regs.old) space.old 0) }
+    ensures rest { IsBut (λ a. is_byte a input) space.new space.old }
 {
     if let Input::Byte(address) = input {
         if address >= RAM_END {
@@ -89,8 +94,9 @@ fn put_state(
     regs: &mut Regs,
     space: &mut AddressSpace<Global>,
 ) -> bool
-    ensures { IsTrue result → world_of (registers_of regs.new) space.new 0
+    ensures world { IsTrue result → world_of (registers_of regs.new) space.new 0
         ≡ with_values inputs.now (state_at (map values_of inputs.now) number) (world_of (registers_of regs.old) space.old 0) }
+    ensures rest { IsBut (has_byte inputs.now) space.new space.old }
 {
     let [input, rest @ ..] = inputs else {
         return true;
@@ -98,6 +104,25 @@ fn put_state(
     let values = input.values();
     put_state(rest, number / values, regs, space)
         && put_value(*input, (number % values) as u8, regs, space)
+}
+
+// Makes the byte that an input is what it is in another RAM.
+fn put_back_input(input: Input, space: &mut AddressSpace<Global>, other: &AddressSpace<Global>)
+    ensures { (there : ℕ → Bool) → IsBut (λ a. is_byte a input || there a) space.old other.now → IsBut there space.new other.now }
+{
+    match input {
+        Input::Byte(address) => put_back(address, space, other),
+        _ => {}
+    }
+}
+
+// Makes the bytes that inputs are what they are in another RAM.
+fn put_back_inputs(inputs: &[Input], space: &mut AddressSpace<Global>, other: &AddressSpace<Global>)
+    ensures { IsBut (has_byte inputs.now) space.old other.now → space.new ≡ other.now }
+{
+    for input in inputs {
+        put_back_input(*input, space, other);
+    }
 }
 
 /// What a promise is judged by in a state.
@@ -133,20 +158,20 @@ fn enter(
     number: u64,
     before: &mut AddressSpace<Global>,
     walk: &mut Walk,
-    stored: &mut [bool],
+    stored: &Stored,
 ) -> bool
-    ensures { IsTrue result → IsEntered (start_of case.now number) case.now.parts before.new walk.new stored.new }
+    requires { IsReady case.now.base.now case.now.inputs.now before.old walk.old.space stored.now }
+    ensures entered { IsTrue result → IsEntered (start_of case.now number) case.now.parts before.new walk.new stored.now }
+    ensures rest { IsBut (has_byte case.now.inputs.now) before.new case.now.base.now }
 {
-    before.copy_from(case.base);
     let mut regs = Regs::start(case.promise.address);
     if !put_state(case.inputs, number, &mut regs, before) {
         return false;
     }
-    walk.space.copy_from(before);
+    put_back_inputs(case.inputs, &mut walk.space, before);
     walk.regs = regs;
     walk.parts = case.parts;
     walk.cycles = 0;
-    stored.fill(false);
     true
 }
 
@@ -207,8 +232,9 @@ fn sight_of<'a>(
     cycles: u32,
     steps: u32,
 ) -> Sight<'a, Global>
-    ensures { moment_of result
+    ensures moment { moment_of result
         ≡ record { registers = registers_of regs.now; bytes = bytes_of (memory_of space.now); cycles = cycles; steps = steps } }
+    ensures size { length space.now.bytes ≡ ram_end }
 {
     // For the prover, which learns from it how long RAM is.
     let _first = space.peek(0);
@@ -221,11 +247,12 @@ fn sight_of<'a>(
 }
 
 // Whether a promise is kept of the state before a routine, which is as it requires.
-fn is_kept(case: &Case, before: &AddressSpace<Global>, walk: &mut Walk, stored: &mut [bool]) -> bool
+fn is_kept(case: &Case, before: &AddressSpace<Global>, walk: &mut Walk, stored: &mut Stored) -> bool
     requires { IsEntered (world_of (registers_of walk.old.regs) walk.old.space 0) case.now.parts before.now
         walk.old stored.old }
-    ensures { IsTrue result → IsKept (is_set case.now.known.now) (knows_part case.now.parts) case.now.promise.now case.now.most
+    ensures kept { IsTrue result → IsKept (is_set case.now.known.now) (knows_part case.now.parts) case.now.promise.now case.now.most
         (world_of (registers_of walk.old.regs) walk.old.space 0) }
+    ensures rest { IsTrue result → walk.new.space.devices ≡ before.now.devices → IsBut (is_set stored.new) walk.new.space before.now }
 {
     let changes = &case.promise.changes;
     let regs = walk.regs;
@@ -241,7 +268,7 @@ fn is_kept(case: &Case, before: &AddressSpace<Global>, walk: &mut Walk, stored: 
     let known = known_at_entry(case);
     let behind = Sure {
         known: case.known,
-        stored,
+        stored: stored.marks(),
         parts: walk.parts,
     };
     let entry = sight_of(&regs, before, 0, 0);
@@ -254,17 +281,19 @@ fn is_kept(case: &Case, before: &AddressSpace<Global>, walk: &mut Walk, stored: 
 /// the promise requires: neither the routine nor the promise looks at what is not known, the routine comes to the RTS of its own
 /// within the steps that are enough, and stores only at what `changes` names or in the stack below its return address, what is
 /// promised holds behind the RTS, and a register that `changes` does not name is not set, or was known and is the same. False says
-/// nothing: also where a service is called, or a byte is stored at that is put back.
+/// nothing: also where a service is called, or a byte is stored at that is put back. Behind it each byte of RAM is as before that is
+/// not marked as stored at.
 pub fn is_tried(
     case: &Case,
     before: &AddressSpace<Global>,
     walk: &mut Walk,
-    stored: &mut [bool],
+    stored: &mut Stored,
 ) -> bool
     requires { IsEntered (world_of (registers_of walk.old.regs) walk.old.space 0) case.now.parts before.now
         walk.old stored.old }
-    ensures { IsTrue result → IsStateTried case.now.known.now case.now.parts case.now.promise.now case.now.most
+    ensures tried { IsTrue result → IsStateTried case.now.known.now case.now.parts case.now.promise.now case.now.most
         (world_of (registers_of walk.old.regs) walk.old.space 0) }
+    ensures rest { IsTrue result → walk.new.space.devices ≡ before.now.devices → IsBut (is_set stored.new) walk.new.space before.now }
 {
     let known = known_at_entry(case);
     let entry = sight_of(&walk.regs, before, 0, 0);
@@ -278,17 +307,41 @@ pub fn is_tried(
     is_kept(case, before, walk, stored)
 }
 
-// Whether it is so of the state of a number.
+// Whether keyboard and switches are as at the start.
+fn are_devices_first(space: &mut AddressSpace<Global>) -> bool
+    ensures first { IsTrue result → space.old.devices ≡ first_devices [] }
+    ensures kept { space.new ≡ space.old }
+{
+    let switches = space.view().switches;
+    if !switches.text || switches.mixed || switches.page2 || switches.hires {
+        return false;
+    }
+    space.waiting().is_empty() && space.read(KBD) == 0
+}
+
+// Whether it is so of the state of a number; then all is as before.
 fn is_state_tried(
     case: &Case,
     number: u64,
     before: &mut AddressSpace<Global>,
     walk: &mut Walk,
-    stored: &mut [bool],
+    stored: &mut Stored,
 ) -> bool
-    ensures { IsTrue result → IsStateTried case.now.known.now case.now.parts case.now.promise.now case.now.most (start_of case.now number) }
+    requires ready { IsReady case.now.base.now case.now.inputs.now before.old walk.old.space stored.old }
+    requires devices { case.now.base.now.devices ≡ first_devices [] }
+    ensures tried { IsTrue result → IsStateTried case.now.known.now case.now.parts case.now.promise.now case.now.most (start_of case.now number) }
+    ensures ready { IsTrue result → IsReady case.now.base.now case.now.inputs.now before.new walk.new.space stored.new }
 {
-    enter(case, number, before, walk, stored) && is_tried(case, before, walk, stored)
+    if !enter(case, number, before, walk, stored) || !is_tried(case, before, walk, stored) {
+        return false;
+    }
+    // No step touches a device, for none reads or stores above RAM: the prover is shown it here.
+    if !are_devices_first(&mut walk.space) {
+        return false;
+    }
+    stored.take_back(&mut walk.space, before);
+    put_back_inputs(case.inputs, before, case.base);
+    true
 }
 
 // Whether it is so of each number below one.
@@ -297,8 +350,10 @@ fn are_tried(
     states: u64,
     before: &mut AddressSpace<Global>,
     walk: &mut Walk,
-    stored: &mut [bool],
+    stored: &mut Stored,
 ) -> bool
+    requires ready { IsReady case.now.base.now case.now.inputs.now before.old walk.old.space stored.old }
+    requires devices { case.now.base.now.devices ≡ first_devices [] }
     ensures { IsTrue result → (number : ℕ) → number < states
         → IsStateTried case.now.known.now case.now.parts case.now.promise.now case.now.most (start_of case.now number) }
 {
@@ -422,12 +477,14 @@ pub fn holds_in_every_state(
         most,
     };
     let mut before = AddressSpace::new(alloc)?;
+    before.copy_from(&base);
     let mut walk = Walk {
         regs: Regs::start(promise.address),
         space: AddressSpace::new(alloc)?,
         parts,
         cycles: 0,
     };
-    let mut stored = vec![in alloc; false; usize::from(RAM_END)]?;
-    Ok(are_tried(&case, states, &mut before, &mut walk, stored.as_mut_slice()))
+    walk.space.copy_from(&base);
+    let mut stored = Stored::new(alloc)?;
+    Ok(are_tried(&case, states, &mut before, &mut walk, &mut stored))
 }

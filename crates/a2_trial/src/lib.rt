@@ -14,6 +14,7 @@ mod looks;
 mod parts;
 mod report;
 mod services;
+mod stored;
 mod trial;
 mod walk;
 mod within;
@@ -25,6 +26,7 @@ pub use inputs::Input;
 pub use judge::{Broken, Unmet};
 pub use parts::Parts;
 pub use report::{put_refusal, put_verdict};
+pub use stored::Stored;
 pub use trial::{Failure, Trials, Verdict, try_promise};
 pub use walk::{Walk, walk_home};
 

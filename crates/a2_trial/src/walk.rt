@@ -17,6 +17,7 @@ ghost use Rattle.a2_trial.specs.Walking.{known_now, knows_part, is_allowed, AreM
 use crate::ground::ENTRY_S;
 use crate::inputs::may_change;
 use crate::parts::Parts;
+use crate::stored::Stored;
 use a2_bus::locations::LAST_RETURN;
 use a2_bus::{AddressSpace, Bus};
 use a2_cpu::run::guarded_step;
@@ -43,23 +44,30 @@ pub(crate) fn is_known(known: &[bool], stored: &[bool], address: u16) -> bool
     is_set(stored, address) || is_set(known, address)
 }
 
+// Whether it is where a routine stands that stored so.
+fn is_known_now(known: &[bool], stored: &Stored, address: u16) -> bool
+    ensures { result ≡ known_now known.now stored.now address }
+{
+    is_known(known, stored.marks(), address)
+}
+
 // Whether what all of these hold is.
-fn are_known(known: &[bool], stored: &[bool], addresses: &[u16]) -> bool
+fn are_known(known: &[bool], stored: &Stored, addresses: &[u16]) -> bool
     ensures { result ≡ list_all (known_now known.now stored.now) addresses.now }
 {
     addresses
         .iter()
-        .all(|address| is_known(known, stored, *address))
+        .all(|address| is_known_now(known, stored, *address))
 }
 
 // Whether the bytes of an instruction of this mode are.
-fn is_fetch_known(known: &[bool], stored: &[bool], pc: u16, mode: Mode) -> bool
+fn is_fetch_known(known: &[bool], stored: &Stored, pc: u16, mode: Mode) -> bool
     ensures { IsTrue result → Knows (known_now known.now stored.now) (pc ∷ addresses_from (pc + 1) (length_of mode - 1)) }
 {
     let length = mode.length();
-    is_known(known, stored, pc)
-        && (length < 2 || is_known(known, stored, pc.wrapping_add(1)))
-        && (length < 3 || is_known(known, stored, pc.wrapping_add(2)))
+    is_known_now(known, stored, pc)
+        && (length < 2 || is_known_now(known, stored, pc.wrapping_add(1)))
+        && (length < 3 || is_known_now(known, stored, pc.wrapping_add(2)))
 }
 
 // The instruction at an address of RAM, if one stands there, and there are two bytes behind its first.
@@ -80,22 +88,17 @@ fn is_allowed_at(changes: &Changes, address: u16) -> bool
 }
 
 // Marks an address at which the routine stores; false where it may not, or the address is not in RAM or holds the return address.
-fn mark(stored: &mut [bool], changes: &Changes, address: u16) -> bool
+fn mark(stored: &mut Stored, changes: &Changes, address: u16) -> bool
     ensures { IsTrue result → AreMarked stored.old stored.new changes.now (address ∷ []) }
 {
     if !is_allowed_at(changes, address) || address == LAST_RETURN || address == LAST_RETURN + 1 {
         return false;
     }
-    let place = usize::from(address);
-    if place >= stored.len() {
-        return false;
-    }
-    stored[place] = true;
-    true
+    stored.mark(address)
 }
 
 // Marks all of these, two at most.
-fn mark_all(stored: &mut [bool], changes: &Changes, addresses: &[u16]) -> bool
+fn mark_all(stored: &mut Stored, changes: &Changes, addresses: &[u16]) -> bool
     ensures { IsTrue result → AreMarked stored.old stored.new changes.now addresses.now }
 {
     match addresses {
@@ -109,7 +112,7 @@ fn mark_all(stored: &mut [bool], changes: &Changes, addresses: &[u16]) -> bool
 // Whether what an instruction reads beside its own bytes is known.
 fn are_reads_known(
     known: &[bool],
-    stored: &[bool],
+    stored: &Stored,
     instr: Instr,
     regs: &Regs,
     space: &AddressSpace<Global>,
@@ -141,7 +144,7 @@ fn make_step(
     space: &mut AddressSpace<Global>,
     instr: Instr,
     known: &[bool],
-    stored: &mut [bool],
+    stored: &mut Stored,
     parts: &mut Parts,
     changes: &Changes,
 ) -> Option<u32>
@@ -170,7 +173,7 @@ fn make_step(
 }
 
 // Whether the instruction at PC is the RTS of the routine's own, before which S is as it was entered, and its bytes are known.
-fn is_home(known: &[bool], stored: &[bool], instr: Instr, regs: &Regs) -> bool
+fn is_home(known: &[bool], stored: &Stored, instr: Instr, regs: &Regs) -> bool
     ensures { IsTrue result → IsOwnRts known.now stored.now instr (registers_of regs.now) }
 {
     if regs.s != ENTRY_S {
@@ -197,7 +200,7 @@ pub struct Walk {
 pub fn walk_home(
     walk: &mut Walk,
     known: &[bool],
-    stored: &mut [bool],
+    stored: &mut Stored,
     changes: &Changes,
     most: u32,
 ) -> Option<u32>

@@ -2,8 +2,8 @@ use Rattle.a2_cpu.specs.View.{registers_of}
 use Rattle.a2_trial.proofs.Certifying.{board_bytes}
 use Rattle.a2_trial.proofs.certain.sight_of.Goals as goal
 
-pub returns : goal.returns
-returns c = λ i. record {
+pub returns-clause-moment : goal.returns-clause-moment
+returns-clause-moment c = λ i. record {
   registers = registers_of c.args.regs.now;
   bytes = board_bytes c.args.space.now c.peek-first.ensures.size i;
   cycles = c.args.cycles;

@@ -1,9 +1,8 @@
 use Rattle.std.specs.Prelude.{◌||◌}
 use Rattle.std.specs.List.{list_any}
-use Rattle.std.proofs.Common.{ap, sym, ◌∙◌, arith, take, length}
+use Rattle.std.proofs.Common.{ap, sym, ◌∙◌, take}
 use Rattle.std.proofs.lemmas.List.{take_all}
 use Rattle.std.proofs.lemmas.List.Folds.{list_any_more}
-use Rattle.a2_uses.specs.declared.Part.TheVariants.{A}
 use Rattle.a2_reads.specs.Parts.{is_part}
 use Rattle.a2_trial.specs.Walking.{knows_part}
 use Rattle.a2_trial.proofs.Marks.{learned}

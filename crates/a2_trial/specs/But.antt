@@ -1,0 +1,9 @@
+-- A board that is as another but for some bytes, for the contracts of the crate's own functions.
+use Rattle.std.specs.Prelude.{◌≡◌, ℕ, Bool, false, length, slice_index}
+use Rattle.a2_bus.specs.BusState.{BusState}
+
+-- a board is as another, but for the bytes at these addresses
+pub record IsBut (there : ℕ → Bool) (board other : BusState) : Type 0 where
+  pub size : length board.bytes ≡ length other.bytes
+  pub bytes : (a : ℕ) → there a ≡ false → slice_index board.bytes a ≡ slice_index other.bytes a
+  pub devices : board.devices ≡ other.devices
