@@ -166,7 +166,15 @@ impl<A: Allocator> AddressSpace<A> {
         self.ram[first..end].fill(byte);
     }
 
-    /// RAM, the 49,152 bytes from address 0 on, for a caller that reads and stores there alone.
+    /// RAM, the 49,152 bytes from address 0 on.
+    pub fn ram(&self) -> &[u8]
+        ensures bytes { result.now ≡ self.now.bytes }
+        ensures size { length self.now.bytes ≡ ram_end }
+    {
+        self.ram.as_slice()
+    }
+
+    /// The same, for a caller that reads and stores there alone.
     pub fn ram_mut(&mut self) -> &mut [u8]
         ensures* writes_back { sem 𝓛 (follows (the_row A.row A.Allocator) (Array byte 0)
             self.entry.ghost_name result.ghost_name (with_bytes self.old)) }

@@ -10,7 +10,7 @@ ghost use Rattle.a2_bus.specs.Memory.{ram_end, with_ram, peek as peek_of};
 ghost use Rattle.a2_bus.specs.View.{memory_of};
 ghost use Rattle.a2_cpu.specs.Spare.{spare_bits_of};
 ghost use Rattle.a2_hex.specs.Images.{held};
-ghost use Rattle.a2_machine.specs.Looks.{look_at, seen_after};
+ghost use Rattle.a2_machine.specs.Looks.{shown_at, seen_after};
 ghost use Rattle.a2_machine.specs.Meaning.{stuck};
 ghost use Rattle.a2_machine.specs.ProgramGuard.{guard_of_program};
 ghost use Rattle.a2_machine.specs.Start.{start_world};
@@ -296,7 +296,7 @@ impl<A: Allocator> Machine<A> {
         observer: &mut O,
     ) -> Option<Stop>
         ensures made { Rattle.a2_machine.specs.State.IsMaking (B.is_breakpoint breakpoints.now) limit self.old self.new result }
-        ensures seen { observer.new ≡ seen_after O.seen (look_at (code_of self.old.state) (world_of_state self.old.state))
+        ensures seen { observer.new ≡ seen_after O.seen (shown_at (code_of self.old.state) (world_of_state self.old.state))
             observer.old (self.new.state.steps - self.old.state.steps) }
     {
         keeps_count(self.made);
@@ -362,7 +362,7 @@ impl<A: Allocator> Machine<A> {
     /// answers what `run` answers. This project's profile.
     pub fn run_observed<O: Observer>(&mut self, limit: u32, observer: &mut O) -> Cause
         ensures run { IsMachineRun limit self.old self.new result }
-        ensures seen { observer.new ≡ seen_after O.seen (look_at (code_of self.old.state) (world_of_state self.old.state))
+        ensures seen { observer.new ≡ seen_after O.seen (shown_at (code_of self.old.state) (world_of_state self.old.state))
             observer.old (self.new.state.steps - self.old.state.steps) }
     {
         cause_in(self.run_by(limit, &NoBreakpoints, observer))
@@ -385,7 +385,7 @@ impl<A: Allocator> Machine<A> {
         observer: &mut O,
     ) -> Stop
         ensures run { IsRunTo (B.is_breakpoint breakpoints.now) limit self.old self.new result }
-        ensures seen { observer.new ≡ seen_after O.seen (look_at (code_of self.old.state) (world_of_state self.old.state))
+        ensures seen { observer.new ≡ seen_after O.seen (shown_at (code_of self.old.state) (world_of_state self.old.state))
             observer.old (self.new.state.steps - self.old.state.steps) }
     {
         if let Some(stop) = self.make(u64::from(limit), breakpoints, observer) {

@@ -12,14 +12,14 @@ use Rattle.a2_asm.specs.Programs.{IsSound}
 use Rattle.a2_machine.specs.declared.Cause.{Cause}
 use Rattle.a2_machine.specs.ByteRun.{bytes}
 use Rattle.a2_machine.specs.Meaning.{Code, End, IsEnd, stuck, world_at}
-use Rattle.a2_machine.specs.Looks.{look_at, seen_after}
+use Rattle.a2_machine.specs.Looks.{look_at, shown_at, seen_after}
 use Rattle.a2_machine.specs.State.{Device, MachineState, world_of_state, code_of, IsMachineRun}
 use Rattle.a2_run.specs.Meaning.{code_of_run, start_of_run}
 use Rattle.a2_run.specs.Started.{IsStarted, guard_of_run}
 use Rattle.a2_run.proofs.Runs.{meant}
 use Rattle.a2_profile.specs.declared.profile.Count.{Count}
 use Rattle.a2_profile.specs.Counts.{none, count_at, AreSummed}
-use Rattle.a2_profile.specs.Seeing.{is_small, turns, counted, in_words, with_look}
+use Rattle.a2_profile.specs.Seeing.{is_small, turns, counted, in_words, shown_to}
 use Rattle.a2_profile.specs.Run.{is_at, count_of, done_at, cycles_at, taken_at, AreCounts, IsProfile}
 use Rattle.a2_profile.proofs.CountLaws.{no_counts-at, no_counts-summed}
 use Rattle.a2_profile.proofs.Going.{step-later, ended_by, run-ends, EndAlike, same-world}
@@ -159,8 +159,8 @@ module _ (code : Code) (start : World) (n : ℕ) (counts : List Count) (h : IsCo
 
 -- where there are counts in the end, each step was seen
 counted-after : (code : Code) (start : World) (first : List Count) → start.cycles ≡ 0 → first ≡ replicate 65536 none → (n : ℕ) → n < 2 ^ 32
-    → (world_at code start n).cycles < 2 ^ 64 → length (seen_after with_look (look_at code start) first n) ≡ 65536
-    → IsCounted code start n (seen_after with_look (look_at code start) first n)
+    → (world_at code start n).cycles < 2 ^ 64 → length (seen_after shown_to (shown_at code start) first n) ≡ 65536
+    → IsCounted code start n (seen_after shown_to (shown_at code start) first n)
 unfolding seen_after
 counted-after code start first cycles empty zero few cheap size = counted-none code start first cycles empty
 counted-after code start first cycles empty (suc n) few cheap size =
@@ -168,7 +168,7 @@ counted-after code start first cycles empty (suc n) few cheap size =
     (counted-after code start first cycles empty n (omega (arith, few)) (omega (arith, cheap, step-later code start n)))
   where
     before : List Count
-    before = seen_after with_look (look_at code start) first n
+    before = seen_after shown_to (shown_at code start) first n
 
     next_count : Count
     next_count = in_words (counted (look_at code start n).cycles (turns (look_at code start n)) (count_at before (look_at code start n).pc))
@@ -188,7 +188,7 @@ pub record IsProfiled (old new : Device) (limit : ℕ) (counts : List Count) (ca
 
 pub profiled : (old new : Device) (limit : ℕ) (cause : Cause) (first counts : List Count) → old.state.steps ≡ 0 → old.state.cycles ≡ 0
     → first ≡ replicate 65536 none → limit < 2 ^ 32 → new.state.cycles < 2 ^ 64 → length counts ≡ 65536 → IsMachineRun limit old new cause
-    → counts ≡ seen_after with_look (look_at (code_of old.state) (world_of_state old.state)) first (new.state.steps - old.state.steps)
+    → counts ≡ seen_after shown_to (shown_at (code_of old.state) (world_of_state old.state)) first (new.state.steps - old.state.steps)
     → IsProfiled old new limit counts cause
 profiled old new limit cause first counts steps cycles empty few cheap size run seen = record {
   counts_are = record {

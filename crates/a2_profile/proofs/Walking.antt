@@ -16,7 +16,7 @@ use Rattle.a2_asm.specs.Programs.{IsSound}
 use Rattle.a2_machine.specs.declared.Cause.{Cause}
 use Rattle.a2_machine.specs.ByteRun.{bytes}
 use Rattle.a2_machine.specs.Meaning.{Code, IsEnd, world_at}
-use Rattle.a2_machine.specs.Looks.{look_at, seen_after}
+use Rattle.a2_machine.specs.Looks.{look_at, shown_at, seen_after}
 use Rattle.a2_machine.specs.State.{Device, MachineState, world_of_state, code_of, IsMachineRun}
 use Rattle.a2_run.specs.Meaning.{code_of_run, start_of_run}
 use Rattle.a2_run.specs.Started.{IsStarted, guard_of_run}
@@ -29,7 +29,7 @@ use Rattle.a2_profile.specs.Run.{over_steps, is_at}
 use Rattle.a2_profile.specs.Totals.{itself, nothing, totals_at, own_steps_in, own_cycles_in}
 use Rattle.a2_profile.specs.Routines.{begin_of, around, innermost, is_in, is_own, is_entry, cost, totals_of, AreTotals, IsRoutineProfile}
 use Rattle.a2_profile.specs.Seeing.{is_small}
-use Rattle.a2_profile.specs.Walks.{Walk, IsWalk, IsLow, most_steps, base, frame_at, inner, depth_of, seen_at, counted, noted, opened, left_below, has_room, with_made, lost, with_look, SeesAlike}
+use Rattle.a2_profile.specs.Walks.{Walk, IsWalk, IsLow, most_steps, base, frame_at, inner, depth_of, seen_at, counted, noted, opened, left_below, has_room, with_made, lost, shown_to, SeesAlike}
 use Rattle.a2_profile.specs.Walks as walks
 use Rattle.a2_profile.specs.Walked.{IsWalked}
 use Rattle.a2_profile.proofs.Going.{step-later, ended_by, run-ends, EndAlike, same-world}
@@ -295,8 +295,8 @@ module _ (code : Code) (start : World) (n : ℕ) (walk : Walk) (h : IsAlong code
 
 -- where there are totals in the end, each step was seen
 along-after : (code : Code) (start : World) (first : Walk) → IsBegun start first → (n : ℕ) → n ≤ most_steps
-    → length (seen_after with_look (look_at code start) first n).totals ≡ 65537
-    → IsAlong code start n (seen_after with_look (look_at code start) first n)
+    → length (seen_after shown_to (shown_at code start) first n).totals ≡ 65537
+    → IsAlong code start n (seen_after shown_to (shown_at code start) first n)
 unfolding seen_after
 along-after code start first begun zero few size = along-none code start first begun
 along-after code start first begun (suc n) few size =
@@ -306,7 +306,7 @@ along-after code start first begun (suc n) few size =
     look = look_at code start n
 
     before : Walk
-    before = seen_after with_look (look_at code start) first n
+    before = seen_after shown_to (shown_at code start) first n
 
     same-size : (a b : ℕ) → (a == b) ≡ true → a ≡ b
     same-size a b e = grind (arith, nat_tests, e)
@@ -330,7 +330,7 @@ along-after code start first begun (suc n) few size =
 
 pub walked : (old new : Device) (limit : ℕ) (cause : Cause) (first walk : Walk) → old.state.steps ≡ 0 → IsBegun (world_of_state old.state) first → limit < 2 ^ 32
     → IsWalk walk → IsMachineRun limit old new cause
-    → walk ≡ seen_after with_look (look_at (code_of old.state) (world_of_state old.state)) first (new.state.steps - old.state.steps)
+    → walk ≡ seen_after shown_to (shown_at (code_of old.state) (world_of_state old.state)) first (new.state.steps - old.state.steps)
     → IsWalked (code_of old.state) (world_of_state old.state) limit walk cause
 walked old new limit cause first walk steps begun few is_walk run seen = record {
   end = ended_by old new cause;

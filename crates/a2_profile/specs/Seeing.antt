@@ -1,13 +1,18 @@
 -- What an observer counts of the steps that it sees. No public clause cites this file.
 use Rattle.std.specs.Prelude.{ℕ, ◌+◌, ◌%◌, ◌^◌, ◌==◌, ◌&&◌, not, nat_lt, Bool, List, [], length, slice_set, if◌then◌else◌}
 use Rattle.a2_live.specs.declared.observer.Look.{Look}
+use Rattle.a2_live.specs.Shown.{Shown}
 use Rattle.a2_profile.specs.declared.profile.Count.{Count}
 use Rattle.a2_profile.specs.Counts.{count_at}
 
--- each number of a look is as small as an observer sees it
+-- numbers are as small as their types are
+abbrev pub are_small : ℕ → ℕ → ℕ → ℕ → ℕ → Bool
+are_small pc s next_pc next_s cycles =
+    nat_lt pc (2 ^ 16) && (nat_lt s (2 ^ 8) && (nat_lt next_pc (2 ^ 16) && (nat_lt next_s (2 ^ 8) && nat_lt cycles (2 ^ 32))))
+
+-- and so those of a look
 abbrev pub is_small : Look → Bool
-is_small look =
-    nat_lt look.pc (2 ^ 16) && (nat_lt look.s (2 ^ 8) && (nat_lt look.next_pc (2 ^ 16) && (nat_lt look.next_s (2 ^ 8) && nat_lt look.cycles (2 ^ 32))))
+is_small look = are_small look.pc look.s look.next_pc look.next_s look.cycles
 
 -- it does not go on two bytes further
 abbrev pub turns : Look → Bool
@@ -29,3 +34,7 @@ in_words count = record { times = count.times % 2 ^ 64; cycles = count.cycles % 
 abbrev pub with_look : List Count → Look → List Count
 with_look counts look =
     if is_small look then slice_set counts look.pc (in_words (counted look.cycles (turns look) (count_at counts look.pc))) else []
+
+-- and behind what is shown of a step
+abbrev pub shown_to : List Count → Shown → List Count
+shown_to counts shown = with_look counts shown.look

@@ -2,6 +2,7 @@
 use Rattle.std.specs.Prelude.{◌≡◌, ℕ, zero, suc, ◌+◌, ◌-◌, ◌*◌, ◌<◌, ◌≤◌, ◌==◌, ◌&&◌, nat_le, nat_lt, not, Bool, List, [], ◌∷◌, ◌++◌, length, take, slice_index_or, slice_set, if◌then◌else◌}
 use Rattle.std.specs.List.{All, AllPairs, count_by}
 use Rattle.a2_live.specs.declared.observer.Look.{Look}
+use Rattle.a2_live.specs.Shown.{Shown}
 use Rattle.a2_profile.specs.declared.walk.Frame.{Frame}
 use Rattle.a2_profile.specs.declared.walk.Opening.{Opening}
 use Rattle.a2_profile.specs.declared.walk.Totals.{Totals}
@@ -177,6 +178,10 @@ lost = record { frames = []; totals = []; openings = []; steps = 0; cycles = 0 }
 abbrev pub with_look : Walk → Look → Walk
 with_look walk look =
     if is_small look && (length walk.totals == 65537) then (if has_room walk then with_made look walk else walk) else lost
+
+-- and behind what is shown of a step
+abbrev pub shown_to : Walk → Shown → Walk
+shown_to walk shown = with_look walk shown.look
 
 -- the same is seen of all routines
 pub record SeesAlike (old new : Walk) : Type 0 where

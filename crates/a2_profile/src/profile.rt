@@ -2,7 +2,7 @@
 
 ghost use Rattle.std.specs.Prelude.{◌≡◌, ◌+◌, ◌^◌, ◌<◌, ◌≤◌, ◌↔◌, ℕ, length, replicate, IfOk, IsOk, OnOk, OnErr};
 ghost use Rattle.a2_profile.specs.Counts.{NoneTakenMore, AreSummed, count_at, steps_in, cycles_in, none, joined};
-ghost use Rattle.a2_profile.specs.Seeing.{with_look};
+ghost use Rattle.a2_profile.specs.Seeing.{shown_to};
 
 use a2_live::{Look, Observer};
 use std::alloc::{AllocError, Allocator, Global};
@@ -199,11 +199,11 @@ impl<A: Allocator> Counting<A> {
 }
 
 impl<A: Allocator> Observer for Counting<A> {
-    ghost seen = { with_look };
+    ghost seen = { shown_to };
 
     // No count of a run comes to 2^64.
     #[inline(always)]
-    fn see(&mut self, look: Look) {
+    fn see(&mut self, look: Look, _ram: &[u8]) {
         let index = usize::from(look.pc);
         let count = self.counts[index];
         let is_taken = look.next_pc != look.pc.wrapping_add(2);

@@ -1,7 +1,8 @@
 //! A walk through a run, which counts what is done in its routines.
 
-ghost use Rattle.std.specs.Prelude.{◌≡◌, ◌-◌, ◌<◌, ◌≤◌, ℕ, false, [], ◌∷◌, length, replicate, IfOk, if◌then◌else◌};
+ghost use Rattle.std.specs.Prelude.{◌≡◌, ◌-◌, ◌<◌, ◌≤◌, ℕ, true, false, [], ◌∷◌, length, replicate, IfOk, if◌then◌else◌};
 ghost use Rattle.std.specs.List.{All};
+ghost use Rattle.a2_profile.specs.Seeing.{are_small};
 ghost use Rattle.a2_profile.specs.Totals.{itself, nothing, totals_at, own_steps_in, own_cycles_in};
 ghost use Rattle.a2_profile.specs.Walks as walks;
 ghost use Rattle.a2_profile.specs.Walks.{SeesAlike, IsLow};
@@ -325,12 +326,21 @@ impl<A: Allocator> Walk<A> {
     }
 }
 
+// For the prover alone: these numbers are as small as their types.
+#[inline(always)]
+fn keeps_small(pc: u16, s: u8, next_pc: u16, next_s: u8, cycles: u32)
+    ensures { are_small pc s next_pc next_s cycles ≡ true }
+{
+    let _ = (pc, s, next_pc, next_s, cycles);
+}
+
 impl<A: Allocator> Observer for Walk<A> {
-    ghost seen = { walks.with_look };
+    ghost seen = { walks.shown_to };
 
     #[inline(always)]
-    fn see(&mut self, look: Look) {
+    fn see(&mut self, look: Look, _ram: &[u8]) {
         self.is_walk();
+        keeps_small(look.pc, look.s, look.next_pc, look.next_s, look.cycles);
         if self.has_room() {
             self.count_step(look.cycles);
             self.enter_by(look);
