@@ -1,20 +1,29 @@
 -- Steps that are made at once, along a run.
-use Rattle.std.specs.Prelude.{IfNone, IfSome}
-use Rattle.std.proofs.Common.{◌≡◌, ◌⊎◌, inl, inr, ℕ, zero, suc, ◌+◌, ◌-◌, ◌<◌, ◌≤◌, Bool, true, false, true≢false, List, ◌∷◌, drop, Option, Some, None, refl, sym, ap, ◌∙◌, arith}
+use Rattle.std.specs.Prelude.{IfNone, IfSome, ◌==◌, ◌||◌, nat_le, length, if◌then◌else◌}
+use Rattle.std.proofs.Common.{◌≡◌, ◌⊎◌, inl, inr, ℕ, zero, suc, ◌+◌, ◌-◌, ◌<◌, ◌≤◌, Bool, true, false, true≢false, List, [], ◌∷◌, drop, Option, Some, None, refl, sym, ap, ap₂, ◌∙◌, arith}
 use Rattle.std.proofs.lemmas.Bool.{ne_eqb, cond-false}
+use Rattle.a2_bus.specs.Memory.{ram_byte}
+use Rattle.a2_live.specs.Shown.{Shown}
 use Rattle.a2_services.specs.World.{World}
 use Rattle.a2_machine.specs.declared.Cause.{Cause}
 use Rattle.a2_machine.specs.ByteRun.{bytes}
+use Rattle.a2_machine.specs.Looks.{shown_between, shown_at, seen_after}
 use Rattle.a2_machine.specs.Meaning.{Code, stuck, next, world_at}
 use Rattle.a2_machine.specs.State.{MachineState, Device, world_of_state, code_of}
 use Rattle.a2_history.specs.declared.Halt.{Halt}
 use Rattle.a2_history.specs.declared.Halt.TheVariants.{Seen, Stopped}
 use Rattle.a2_history.specs.declared.Typed.{Typed}
-use Rattle.a2_history.specs.Courses.{Course, with_logged, arrived, world_on, NoneStuck}
-use Rattle.a2_history.specs.Going.{IsOn, Lasts}
+use Rattle.a2_history.specs.declared.lookout.Watcher.{Watcher}
+use Rattle.a2_history.specs.Courses.{Course, typed, with_keys, with_logged, arrived, world_on, NoneStuck}
+use Rattle.a2_history.specs.Going.{IsOn, shown_on, Warns}
 use Rattle.a2_history.specs.Gone.{IsGone}
-use Rattle.a2_history.specs.Bursts.{IsBurst, IsQuiet, Leaps}
+use Rattle.a2_history.specs.Bursts.{IsBurst, IsQuiet}
+use Rattle.a2_history.specs.Typing.{IsTypedBy}
 use Rattle.a2_history.proofs.Ways.{none-some}
+
+both_false : (u v : Bool) → (u || v) ≡ false → (u ≡ false) × (v ≡ false)
+both_false false v e = (refl, e)
+both_false true v e = absurd (true≢false e)
 
 -- one of a log that is typed elsewhere
 pub quiet-next : (log : List Typed) (i : ℕ) (t : Typed) (k : ℕ) (w : World) → drop i log ≡ t ∷ drop (i + 1) log → (t.position ≡ k → ⊥)
@@ -23,115 +32,191 @@ unfolding with_logged
 quiet-next log i t k w split ne =
     ap (λ xs. with_logged xs k w) split ∙ ap (λ v. with_logged (drop (i + 1) log) k v) (cond-false _ _ _ (ne_eqb t.position k ne))
 
--- a burst along a run, on which no keys were typed
-module _ (test : ℕ → Bool) (course : Course) (most : ℕ) (old new : Device) (on : IsOn course old.state) (guarded : old.state.guard ≡ course.origin.guard)
-    (made : IsBurst test most old new) (quiet : IsQuiet course.log old.state.steps new.state.steps) where
-  along : (k : ℕ) → k ≤ new.state.steps - old.state.steps
-      → world_on course (old.state.steps + k) ≡ world_at (code_of old.state) (world_of_state old.state) k
+-- keys change nothing that an observer is shown
+keys-shown : (keys : List ℕ) (v w : World) → shown_between v (with_keys keys w) ≡ shown_between v w
+unfolding with_keys ram_byte
+keys-shown keys v w = go (nat_le (length w.memory.devices.keys + length keys) 4096)
+  where
+    go : (b : Bool) → shown_between v (if b then typed keys w else w) ≡ shown_between v w
+    go true = refl
+    go false = refl
+
+logged-shown : (log : List Typed) (n : ℕ) (v w : World) → shown_between v (with_logged log n w) ≡ shown_between v w
+unfolding with_logged
+logged-shown [] n v w = refl
+logged-shown (t ∷ ts) n v w = logged-shown ts n v _ ∙ one (t.position == n)
+  where
+    one : (b : Bool) → shown_between v (if b then with_keys t.keys w else w) ≡ shown_between v w
+    one true = keys-shown t.keys v w
+    one false = refl
+
+-- who is shown the same is the same
+shown-alike : {O : Type 0} (seen : O → Shown → O) (f g : ℕ → Shown) (o : O) (n : ℕ) → ((k : ℕ) → k < n → f k ≡ g k)
+    → seen_after seen f o n ≡ seen_after seen g o n
+unfolding seen_after
+shown-alike seen f g o zero same = refl
+shown-alike seen f g o (suc n) same = ap₂ seen (shown-alike seen f g o n (λ k l. same k (omega (arith, l)))) (same n (omega arith))
+
+-- a burst along a run, on which no keys were typed, and the keys that were typed at its end
+module _ (course : Course) (most to : ℕ) (old mid new : Device) (on : IsOn course old.state) (guarded : old.state.guard ≡ course.origin.guard)
+    (made : IsBurst most old mid) (quiet : IsQuiet course.log old.state.steps to) (low : old.state.steps + most ≤ to)
+    (typed_by : IsTypedBy course.log mid.state new.state) where
+  abbrev pub start : World
+  start = world_of_state old.state
+
+  abbrev pub count : ℕ
+  count = mid.state.steps - old.state.steps
+
+  same-next : (w : World) → next (code_of course.origin) w ≡ next (code_of old.state) w
+  same-next w = ap (λ (c : Code). next c w) (sym (ap bytes guarded))
+
+  along : (k : ℕ) → k < count → world_on course (old.state.steps + k) ≡ world_at (code_of old.state) start k
   unfolding world_on arrived world_at
   along zero l = let e : old.state.steps + 0 ≡ old.state.steps = omega arith in ap (world_on course) e ∙ sym on.world
   along (suc k) l =
       let e : old.state.steps + suc k ≡ suc (old.state.steps + k) = omega arith in
-      quiet (old.state.steps + suc k) (omega arith) (omega (arith, l)) (arrived course (old.state.steps + suc k))
+      quiet (old.state.steps + suc k) (omega arith) (omega (arith, l, low, made.most_made)) (arrived course (old.state.steps + suc k))
       ∙ ap (arrived course) e
       ∙ ap (next (code_of course.origin)) (along k (omega (arith, l)))
-      ∙ ap (λ (c : Code). next c (world_at (code_of old.state) (world_of_state old.state) k)) (sym (ap bytes guarded))
+      ∙ same-next (world_at (code_of old.state) start k)
 
-  at : (j : ℕ) → old.state.steps ≤ j → j ≤ new.state.steps
-      → world_on course j ≡ world_at (code_of old.state) (world_of_state old.state) (j - old.state.steps)
-  at j l m =
-      let e : j ≡ old.state.steps + (j - old.state.steps) = omega (arith, l) in
-      ap (world_on course) e ∙ along (j - old.state.steps) (omega (arith, l, m))
+  arrives : (k : ℕ) → k < count → arrived course (suc (old.state.steps + k)) ≡ world_at (code_of old.state) start (suc k)
+  unfolding world_on arrived world_at
+  arrives k l = ap (next (code_of course.origin)) (along k l) ∙ same-next (world_at (code_of old.state) start k)
+
+  at-end : arrived course mid.state.steps ≡ world_of_state mid.state
+  at-end =
+      let e : mid.state.steps ≡ suc (old.state.steps + (count - 1)) = omega (arith, made.some) in
+      let f : suc (count - 1) ≡ count = omega (arith, made.some) in
+      ap (arrived course) e ∙ arrives (count - 1) (omega (arith, made.some)) ∙ ap (world_at (code_of old.state) start) f ∙ sym made.reached
 
   pub burst-on : IsOn course new.state
+  unfolding world_on
   burst-on = record {
-    world = made.reached ∙ sym (at new.state.steps (omega (arith, made.some)) (omega arith));
-    went = λ j l. go j l (split j);
+    world = typed_by.world ∙ ap (with_logged course.log mid.state.steps) (sym at-end) ∙ ap (world_on course) (sym typed_by.steps);
+    went = λ j l. go j (omega (arith, l, typed_by.steps)) (split j);
   }
     where
       split : (j : ℕ) → (j < old.state.steps) ⊎ (old.state.steps ≤ j)
       split j = grind arith
 
-      go : (j : ℕ) → j < new.state.steps → (j < old.state.steps) ⊎ (old.state.steps ≤ j) → stuck (code_of course.origin) (world_on course j) ≡ None
+      go : (j : ℕ) → j < mid.state.steps → (j < old.state.steps) ⊎ (old.state.steps ≤ j) → stuck (code_of course.origin) (world_on course j) ≡ None
       go j l (inl a) = on.went j a
       go j l (inr a) =
-          ap (stuck (code_of course.origin)) (at j a (omega (arith, l)))
-          ∙ ap (λ (c : Code). stuck c (world_at (code_of old.state) (world_of_state old.state) (j - old.state.steps))) (sym (ap bytes guarded))
+          let e : j ≡ old.state.steps + (j - old.state.steps) = omega (arith, a) in
+          ap (stuck (code_of course.origin)) (ap (world_on course) e ∙ along (j - old.state.steps) (omega (arith, a, l)))
+          ∙ ap (λ (c : Code). stuck c (world_at (code_of old.state) start (j - old.state.steps))) (sym (ap bytes guarded))
           ∙ made.going (j - old.state.steps) (omega (arith, a, l))
 
-  pub burst-leaps : (end : ℕ) → new.state.steps ≤ end → Leaps test course old.state.steps end new.state.steps
-  burst-leaps end l = record {
-    ahead = made.some;
-    within = l;
-    passed = λ k a b. ap (λ (w : World). test w.registers.pc) (at k (omega (arith, a)) (omega (arith, b)))
-        ∙ made.passed (k - old.state.steps) (omega (arith, a)) (omega (arith, a, b));
-  }
+  shown-along : (k : ℕ) → k < count → shown_at (code_of old.state) start k ≡ shown_on course (old.state.steps + k)
+  unfolding world_on
+  shown-along k l =
+      let e : suc (old.state.steps + k) ≡ old.state.steps + k + 1 = omega arith in
+      ap₂ shown_between (sym (along k l)) (sym (arrives k l))
+      ∙ sym (logged-shown course.log (suc (old.state.steps + k)) (world_on course (old.state.steps + k)) (arrived course (suc (old.state.steps + k))))
+      ∙ ap (λ n. shown_between (world_on course (old.state.steps + k)) (world_on course n)) e
 
--- a burst up to a position before which no keys were typed
-pub leapt-on : (test : ℕ → Bool) (course : Course) (most to : ℕ) (old new : Device) (r : Option Cause) → IsOn course old.state
-    → old.state.guard ≡ course.origin.guard → IfNone r (IsBurst test most old new) → IsQuiet course.log old.state.steps to → old.state.steps + most ≤ to
-    → IfNone r (IsOn course new.state)
-leapt-on test course most to old new None on guarded made quiet low =
-    burst-on test course most old new on guarded made (λ k a b. quiet k a (omega (arith, b, low, made.most_made)))
-leapt-on test course most to old new (Some cause) on guarded made quiet low = tt
-
-pub leapt : (test : ℕ → Bool) (course : Course) (most to end : ℕ) (old new : Device) (r : Option Cause) → IsOn course old.state
-    → old.state.guard ≡ course.origin.guard → IfNone r (IsBurst test most old new) → IsQuiet course.log old.state.steps to → old.state.steps + most ≤ to
-    → to ≤ end → IfNone r (Leaps test course old.state.steps end new.state.steps)
-leapt test course most to end old new None on guarded made quiet low high =
-    burst-leaps test course most old new on guarded made (λ k a b. quiet k a (omega (arith, b, low, made.most_made))) end
-    (omega (arith, low, high, made.most_made))
-leapt test course most to end old new (Some cause) on guarded made quiet low high = tt
-
--- one step
-pub step-leaps : (test : ℕ → Bool) (course : Course) (from end to : ℕ) (r : Option Cause) → from < end → IfNone r (to ≡ from + 1)
-    → IfNone r (Leaps test course from end to)
-step-leaps test course from end to None low one = record {
-  ahead = omega (arith, one);
-  within = omega (arith, one, low);
-  passed = λ k a b. absurd (omega (arith, a, b, one));
-}
-step-leaps test course from end to (Some cause) low one = tt
+  pub burst-shown : {O : Type 0} (seen : O → Shown → O) (before after : O) → after ≡ seen_after seen (shown_at (code_of old.state) start) before count
+      → after ≡ seen_after seen (λ k. shown_on course (old.state.steps + k)) before (new.state.steps - old.state.steps)
+  burst-shown seen before after is =
+      let e : count ≡ new.state.steps - old.state.steps = omega (arith, typed_by.steps) in
+      is ∙ shown-alike seen (shown_at (code_of old.state) start) (λ k. shown_on course (old.state.steps + k)) before count shown-along
+      ∙ ap (seen_after seen (λ k. shown_on course (old.state.steps + k)) before) e
 
 -- before a position that was reached some steps are made
-pub leap-way : (test : ℕ → Bool) (course : Course) (end : ℕ) (old new : Device) (r : Option Cause) → IsOn course old.state → old.state.steps < end
-    → NoneStuck course end → IfNone r (IsOn course new.state) → IfNone r (Leaps test course old.state.steps end new.state.steps)
+pub leap-way : (course : Course) (end : ℕ) (old new : Device) (r : Option Cause) → IsOn course old.state → old.state.steps < end
+    → NoneStuck course end → IfNone r (IsOn course new.state) → IfNone r (old.state.steps < new.state.steps) → IfNone r (new.state.steps ≤ end)
     → IfSome r (λ cause. stuck (code_of course.origin) (world_of_state old.state) ≡ Some cause)
-    → IsOn course new.state × Leaps test course old.state.steps end new.state.steps
-leap-way test course end old new None on l went made leaps told = (made, leaps)
-leap-way test course end old new (Some cause) on l went made leaps told =
+    → IsOn course new.state × (old.state.steps < new.state.steps) × (new.state.steps ≤ end)
+leap-way course end old new None on l went made ahead within told = (made, ahead, within)
+leap-way course end old new (Some cause) on l went made ahead within told =
     absurd (none-some cause (sym (went old.state.steps l) ∙ sym (ap (stuck (code_of course.origin)) on.world) ∙ told))
 
--- what is not seen behind a leap is seen nowhere on it
-pub unseen : (seen : World → Bool) (test : ℕ → Bool) (course : Course) (start from end to : ℕ) → Lasts seen test course start → start ≤ from
-    → Leaps test course from end to → NoneStuck course to → seen (world_on course to) ≡ false
-    → (k : ℕ) → from < k → k ≤ to → seen (world_on course k) ≡ false
-unseen seen test course start from end to lasts high leap went not k l m = go (to - k) k l (omega (arith, m))
-  where
-    told : (k : ℕ) → from < k → k < to → seen (world_on course (k + 1)) ≡ false → (b : Bool) → seen (world_on course k) ≡ b
-        → seen (world_on course k) ≡ false
-    told k l m behind false is = is
-    told k l m behind true is = absurd (true≢false (sym
-        (lasts k (omega (arith, high, l)) (λ j a. went j (omega (arith, a, m))) (leap.passed k l m) is) ∙ behind))
+-- who counts whether a step alarms and is not alarmed was shown none that does
+module _ {O : Type 0} (seen : O → Shown → O) (is_alarmed : O → Bool) (alarms : Shown → Bool) (Is : O → Type 0)
+    (step : (o : O) (shown : Shown) → Is o → Is (seen o shown) × (is_alarmed (seen o shown) ≡ (is_alarmed o || alarms shown))) where
+  stays : (f : ℕ → Shown) (o : O) (n : ℕ) → Is o → Is (seen_after seen f o n)
+  unfolding seen_after
+  stays f o zero is = is
+  stays f o (suc n) is = (step (seen_after seen f o n) (f n) (stays f o n is)).0
 
-    go : (d k : ℕ) → from < k → k + d ≡ to → seen (world_on course k) ≡ false
-    go zero k l e = let at : k ≡ to = omega (arith, e) in ap seen (ap (world_on course) at) ∙ not
-    go (suc d) k l e =
-        told k l (omega (arith, e)) (go d (k + 1) (omega (arith, l)) (omega (arith, e))) (seen (world_on course k)) refl
+  pub none-alarmed : (f : ℕ → Shown) (o : O) (n : ℕ) → Is o → is_alarmed (seen_after seen f o n) ≡ false → (k : ℕ) → k < n → alarms (f k) ≡ false
+  unfolding seen_after
+  none-alarmed f o zero is not k l = absurd (omega (arith, l))
+  none-alarmed f o (suc n) is not k l =
+      let parts = both_false (is_alarmed (seen_after seen f o n)) (alarms (f n)) (sym (step (seen_after seen f o n) (f n) (stays f o n is)).1 ∙ not) in
+      go (none-alarmed f o n is parts.0) parts.1 (split k l)
+    where
+      split : (k : ℕ) → k < suc n → (k < n) ⊎ (k ≡ n)
+      split k l = grind (arith, l)
 
--- nothing is seen up to a leap's end
-pub passed-leap : (seen : World → Bool) (test : ℕ → Bool) (course : Course) (start from end : ℕ) (state : MachineState) (r : Bool)
-    → Lasts seen test course start → start ≤ from → ((k : ℕ) → start < k → k ≤ from → seen (world_on course k) ≡ false)
-    → Leaps test course from end state.steps → IsOn course state → r ≡ seen (world_of_state state) → r ≡ false
-    → (k : ℕ) → start < k → k ≤ state.steps → seen (world_on course k) ≡ false
-passed-leap seen test course start from end state r lasts high before leap on is not k l m = go (split k)
+      go : ((j : ℕ) → j < n → alarms (f j) ≡ false) → alarms (f n) ≡ false → (k < n) ⊎ (k ≡ n) → alarms (f k) ≡ false
+      go before last (inl a) = before k a
+      go before last (inr e) = ap (λ j. alarms (f j)) e ∙ last
+
+-- so it is with a watcher
+module _ {L : Type 0} (alarms_by : L → Shown → Bool) where
+  abbrev pub watched : Watcher L → Shown → Watcher L
+  watched watcher shown = record watcher { is_alarmed = watcher.is_alarmed || alarms_by watcher.lookout.now shown }
+
+  pub none-watched : (f : ℕ → Shown) (before after : Watcher L) (n : ℕ) → after ≡ seen_after watched f before n → after.is_alarmed ≡ false
+      → (k : ℕ) → k < n → alarms_by before.lookout.now (f k) ≡ false
+  none-watched f before after n is not =
+      none-alarmed watched (λ o. o.is_alarmed) (alarms_by before.lookout.now) (λ o. o.lookout.now ≡ before.lookout.now)
+      (λ o shown same. (same, ap (λ l. o.is_alarmed || alarms_by l shown) same)) f before n refl
+      (sym (ap (λ (o : Watcher L). o.is_alarmed) is) ∙ not)
+
+-- where no step alarms nothing is seen
+pub unseen : (seen : World → Bool) (alarms : Shown → Bool) (course : Course) (start from to : ℕ) → Warns seen alarms course start → start ≤ from
+    → ((k : ℕ) → start < k → k ≤ from → seen (world_on course k) ≡ false) → NoneStuck course to
+    → ((k : ℕ) → k < to - from → alarms (shown_on course (from + k)) ≡ false) → (k : ℕ) → start < k → k ≤ to → seen (world_on course k) ≡ false
+unseen seen alarms course start from to warns high before went calm zero l m = absurd (omega (arith, l))
+unseen seen alarms course start from to warns high before went calm (suc k) l m =
+    go (λ a. unseen seen alarms course start from to warns high before went calm k a (omega (arith, m))) (split (suc k))
   where
-    split : (k : ℕ) → (k ≤ from) ⊎ (from < k)
+    split : (j : ℕ) → (j ≤ from) ⊎ (from < j)
+    split j = grind arith
+
+    next_is : suc k ≡ k + 1
+    next_is = omega arith
+
+    told : (start < k → seen (world_on course k) ≡ false) → from < suc k → (b : Bool) → seen (world_on course (k + 1)) ≡ b
+        → seen (world_on course (suc k)) ≡ false
+    told earlier a false is = ap (λ n. seen (world_on course n)) next_is ∙ is
+    told earlier a true is =
+        let e : from + (k - from) ≡ k = omega (arith, a) in
+        let new : (start < k) × (seen (world_on course k) ≡ true) =
+        warns k (omega (arith, a, high)) (λ j b. went j (omega (arith, b, m))) is
+        (ap (λ n. alarms (shown_on course n)) (sym e) ∙ calm (k - from) (omega (arith, a, m))) in
+        absurd (true≢false (sym new.1 ∙ earlier new.0))
+
+    go : (start < k → seen (world_on course k) ≡ false) → (suc k ≤ from) ⊎ (from < suc k) → seen (world_on course (suc k)) ≡ false
+    go earlier (inl a) = before (suc k) l a
+    go earlier (inr a) = told earlier a (seen (world_on course (k + 1))) refl
+
+-- steps that were made one by one up to a position within an end
+pub gone-further : (seen : World → Bool) (course : Course) (from to end here : ℕ) (halt : Halt) → to ≤ end → IsGone seen course from to here (Some halt)
+    → IsGone seen course from end here (Some halt)
+gone-further seen course from to end here Seen low gone =
+    record { ahead = gone.ahead; within = omega (arith, gone.within, low); passed = gone.passed; why_is = gone.why_is }
+gone-further seen course from to end here (Stopped cause) low gone =
+    record { ahead = gone.ahead; within = omega (arith, gone.within, low); passed = gone.passed; why_is = gone.why_is }
+
+-- and behind which nothing was seen
+pub gone-unseen : (seen : World → Bool) (course : Course) (start from to here : ℕ)
+    → ((k : ℕ) → start < k → k ≤ from → seen (world_on course k) ≡ false) → IsGone seen course from to here None
+    → (k : ℕ) → start < k → k ≤ here → seen (world_on course k) ≡ false
+gone-unseen seen course start from to here before gone k l m = go (split k)
+  where
+    split : (k : ℕ) → (k ≤ from) ⊎ ((from < k) × (k < here)) ⊎ ((from < k) × (here ≤ k))
     split k = grind arith
 
-    go : (k ≤ from) ⊎ (from < k) → seen (world_on course k) ≡ false
+    go : (k ≤ from) ⊎ ((from < k) × (k < here)) ⊎ ((from < k) × (here ≤ k)) → seen (world_on course k) ≡ false
     go (inl a) = before k l a
-    go (inr a) = unseen seen test course start from end state.steps lasts high leap on.went (ap seen (sym on.world) ∙ sym is ∙ not) k a m
+    go (inr (inl a)) = gone.passed k a.0 a.1
+    go (inr (inr a)) =
+        let e : here ≡ k = omega (arith, m, a.1) in
+        ap (λ n. seen (world_on course n)) (sym e) ∙ gone.why_is.1 (omega (arith, a.0, e))
 
 -- going on from a position, up to which nothing was seen
 pub gone-on : (seen : World → Bool) (course : Course) (start from end to : ℕ) (why : Option Halt) → start ≤ from

@@ -6,22 +6,15 @@ use Rattle.a2_machine.specs.State.{Device, world_of_state, code_of, PassesNone}
 use Rattle.a2_history.specs.declared.Typed.{Typed}
 use Rattle.a2_history.specs.Courses.{Course, with_logged, world_on}
 
--- some steps were made, at most so many, and none before the last came to a breakpoint
-pub record IsBurst (is_breakpoint : ℕ → Bool) (most : ℕ) (old new : Device) : Type 0 where
+-- some steps were made, at most so many
+pub record IsBurst (most : ℕ) (old new : Device) : Type 0 where
   pub some : old.state.steps < new.state.steps
   pub most_made : new.state.steps ≤ old.state.steps + most
   pub reached : world_of_state new.state ≡ world_at (code_of old.state) (world_of_state old.state) (new.state.steps - old.state.steps)
   pub going : (k : ℕ) → k < new.state.steps - old.state.steps
       → stuck (code_of old.state) (world_at (code_of old.state) (world_of_state old.state) k) ≡ None
-  pub passed : PassesNone is_breakpoint old.state (new.state.steps - old.state.steps)
   pub guard : new.state.guard ≡ old.state.guard
 
--- no keys of a log were typed behind one position and up to another
+-- no keys of a log were typed between two positions
 abbrev pub IsQuiet : List Typed → ℕ → ℕ → Type 0
-IsQuiet log from to = (k : ℕ) → from < k → k ≤ to → (world : World) → with_logged log k world ≡ world
-
--- steps were made from one position to another, within an end, and none between is at a breakpoint
-pub record Leaps (is_breakpoint : ℕ → Bool) (course : Course) (from end to : ℕ) : Type 0 where
-  pub ahead : from < to
-  pub within : to ≤ end
-  pub passed : (k : ℕ) → from < k → k < to → is_breakpoint (world_on course k).registers.pc ≡ false
+IsQuiet log from to = (k : ℕ) → from < k → k < to → (world : World) → with_logged log k world ≡ world

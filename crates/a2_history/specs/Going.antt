@@ -2,7 +2,9 @@
 use Rattle.std.specs.Prelude.{◌≡◌, ◌⊎◌, ℕ, ◌+◌, ◌<◌, ◌≤◌, Bool, true, false, nat_le, List, [], ◌∷◌, ◌++◌, filter, All, Option, Some, None}
 use Rattle.a2_services.specs.World.{World}
 use Rattle.a2_machine.specs.declared.Cause.TheVariants.{Limit}
+use Rattle.a2_live.specs.Shown.{Shown}
 use Rattle.a2_machine.specs.Meaning.{stuck}
+use Rattle.a2_machine.specs.Looks.{shown_between}
 use Rattle.a2_machine.specs.State.{MachineState, Device, world_of_state, code_of}
 use Rattle.a2_history.specs.declared.Halt.{Halt}
 use Rattle.a2_history.specs.declared.Halt.TheVariants.{Seen, Stopped}
@@ -40,11 +42,15 @@ pub record Advances (seen : World → Bool) (course : Course) (from end to : ℕ
   pub went : NoneStuck course to
   pub ends : EndsBy seen course from end to halt
 
--- what is seen behind a position, away from these addresses, is seen behind the next step too
-abbrev pub Lasts : (World → Bool) → (ℕ → Bool) → Course → ℕ → Type 0
-Lasts seen is_breakpoint course from =
-    (k : ℕ) → from < k → NoneStuck course (k + 1) → is_breakpoint (world_on course k).registers.pc ≡ false
-    → seen (world_on course k) ≡ true → seen (world_on course (k + 1)) ≡ true
+-- what an observer is shown of the step from a position
+abbrev pub shown_on : Course → ℕ → Shown
+shown_on course n = shown_between (world_on course n) (world_on course (n + 1))
+
+-- each step from a position on behind which something is newly seen is one that alarms
+abbrev pub Warns : (World → Bool) → (Shown → Bool) → Course → ℕ → Type 0
+Warns seen alarms course from =
+    (k : ℕ) → from ≤ k → NoneStuck course (k + 1) → seen (world_on course (k + 1)) ≡ true → alarms (shown_on course k) ≡ false
+    → (from < k) × (seen (world_on course k) ≡ true)
 
 -- the keys that were typed up to a position
 abbrev pub up_to : ℕ → List Typed → List Typed

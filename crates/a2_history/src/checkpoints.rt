@@ -12,9 +12,6 @@ use a2_spread::{STRIDE, is_kept, width_of};
 use std::alloc::{Allocator, Global};
 use std::marker::Model;
 
-// How often a stride is doubled at most: it is a fiftieth of 100,000,000 steps then.
-const DOUBLINGS: u32 = 11;
-
 /// Checkpoints at multiples of `STRIDE`, the earliest first.
 #[derive(Drop)]
 pub struct Checkpoints<A: Allocator = Global> {
@@ -36,33 +33,23 @@ impl<A: Allocator> Model for Checkpoints<A> {
 
 // The steps from one that is made to the next: `STRIDE`, doubled as long as that is at most a fiftieth of the steps so far. A copy takes
 // the time of thousands of steps.
-fn stride_at(position: u64) -> u64 {
+fn stride_at(position: u64) -> u64
+    ensures { 0 < result }
+{
     let mut stride = STRIDE;
-    for _ in 0..DOUBLINGS {
-        if stride <= position / 100 {
-            stride = stride.saturating_mul(2);
-        }
+    while stride <= position / 100 {
+        stride *= 2;
     }
     stride
 }
 
-// Whether a position is one of those, where it is a multiple of `STRIDE`.
-fn is_made_at(position: u64) -> bool {
-    match position.checked_rem(stride_at(position)) {
-        Some(rest) => rest == 0,
-        None => false,
-    }
-}
-
-// Whether one is to be made at a position, behind all that are held.
+// Whether one is to be made at a position: a multiple of the stride there, behind all that are held.
 fn is_due<A: Allocator>(held: &[Machine<A>], position: u64) -> bool {
-    if position % STRIDE != 0 {
-        return false;
-    }
-    match held.last() {
-        Some(newest) => newest.steps() < position && is_made_at(position),
-        None => is_made_at(position),
-    }
+    let is_behind = match held.last() {
+        Some(newest) => newest.steps() < position,
+        None => true,
+    };
+    is_behind && position % stride_at(position) == 0
 }
 
 // The index of the first that is not kept any more.

@@ -1,19 +1,19 @@
 //! A run: where it starts, and the keys that were typed on the way.
 
-ghost use Rattle.std.specs.Prelude.{◌≡◌, ◌≢◌, ◌+◌, ◌<◌, ◌≤◌, ◌∷◌, [], None, Some, length, if◌then◌else◌, IfSome, IfNone, IfOk, IfErr, OnOk, OnErr};
+ghost use Rattle.std.specs.Prelude.{◌≡◌, ◌+◌, ◌-◌, ◌<◌, ◌≤◌, ◌∷◌, [], None, Some, length, if◌then◌else◌, IfSome, IfNone, IfOk, IfErr, OnOk, OnErr};
 ghost use Rattle.a2_machine.specs.Meaning.{stuck};
-ghost use Rattle.a2_machine.specs.declared.Stop.TheVariants.{Cause as StopCause, Breakpoint};
+ghost use Rattle.a2_machine.specs.Looks.{shown_at, seen_after};
 ghost use Rattle.a2_machine.specs.State.{world_of_state, code_of};
 ghost use Rattle.a2_history.specs.Courses.{NoneStuck};
-ghost use Rattle.a2_history.specs.Going.{IsNewest, IsOn, with_typed};
-ghost use Rattle.a2_history.specs.Bursts.{IsBurst, IsQuiet, Leaps};
+ghost use Rattle.a2_history.specs.Going.{IsNewest, IsOn, shown_on, with_typed};
+ghost use Rattle.a2_history.specs.Bursts.{IsBurst, IsQuiet};
 ghost use Rattle.a2_history.specs.Typing.{IsTyped, IsTypedBy};
 ghost use Rattle.a2_history.specs.declared.fault.TypingFault.TheVariants.{Full};
 
 use crate::{Sight, Typed, TypingFault};
 use a2_bus::Keys;
-use a2_cpu::{Breakpoints, NoBreakpoints};
-use a2_machine::{Cause, Machine, Stop};
+use a2_live::{NoObserver, Observer};
+use a2_machine::{Cause, Machine};
 use a2_spread::STRIDE;
 use std::alloc::{AllocError, Allocator, Global};
 use std::marker::Model;
@@ -61,51 +61,42 @@ fn type_logged<A: Allocator>(machine: &mut Machine<A>, log: &[Typed])
     }
 }
 
-// The last position up to which, from one on, no keys of a log were typed later than there; an end at the latest.
+// The first position behind another at which keys of a log were typed; an end at the latest.
 fn quiet_end(log: &[Typed], from: u64, end: u64) -> u64
-    requires { from ≤ end }
-    ensures ahead { from ≤ result }
+    requires { from < end }
+    ensures ahead { from < result }
     ensures within { result ≤ end }
     ensures quiet { IsQuiet log.now from result }
 {
     let mut quiet = end;
     for typed in log {
-        if from < typed.position && typed.position <= quiet {
-            quiet = typed.position - 1;
+        if from < typed.position && typed.position < quiet {
+            quiet = typed.position;
         }
     }
     quiet
 }
 
-// The cause of a stop that is at no breakpoint.
-fn cause_in(stop: Stop) -> Cause
-    requires { stop ≢ Breakpoint }
-    ensures { StopCause result ≡ stop }
-{
-    match stop {
-        Stop::Cause(cause) => cause,
-        Stop::Breakpoint => unreachable!(),
-    }
-}
-
-// Makes some steps, at most so many, up to a breakpoint; or answers why there is none.
-fn burst<A: Allocator, B: Breakpoints>(
+// Makes some steps, at most so many, each of which the observer sees; or answers why there is none.
+fn burst<A: Allocator, O: Observer>(
     machine: &mut Machine<A>,
     most: u32,
-    breakpoints: &B,
+    observer: &mut O,
 ) -> Option<Cause>
     requires some { 0 < most }
     requires few { machine.old.state.steps + most ≤ 100_000_000 }
-    ensures made { IfNone result (IsBurst (B.is_breakpoint breakpoints.now) most machine.old machine.new) }
+    ensures made { IfNone result (IsBurst most machine.old machine.new) }
+    ensures seen { observer.new ≡ seen_after O.seen (shown_at (code_of machine.old.state) (world_of_state machine.old.state))
+        observer.old (machine.new.state.steps - machine.old.state.steps) }
     ensures stuck { IfSome result (λ cause. stuck (code_of machine.old.state) (world_of_state machine.old.state) ≡ Some cause) }
     ensures kept { IfSome result (λ _. machine.new ≡ machine.old) }
 {
     let from = machine.steps();
-    let stop = machine.run_to(most, breakpoints);
+    let cause = machine.run_observed(most, observer);
     if from < machine.steps() {
         return None;
     }
-    Some(cause_in(stop))
+    Some(cause)
 }
 
 // What was found so far: this position, where something is seen there.
@@ -159,21 +150,23 @@ impl<A: Allocator> Course<A> {
         cause
     }
 
-    /// Makes some steps, up to a breakpoint or an end at the latest, and types the keys that were typed behind the last; or answers why
-    /// there is none. No keys were typed behind the others, and it goes beyond no position at which a checkpoint may be made.
-    pub fn leap<B: Breakpoints>(
+    /// Makes some steps, up to an end at the latest, each of which the observer sees, and types the keys that were typed behind the last;
+    /// or answers why there is none. No keys were typed behind the others, and it goes beyond no position at which a checkpoint may be made.
+    pub fn leap<O: Observer>(
         &self,
         machine: &mut Machine<A>,
         end: u64,
-        breakpoints: &B,
+        observer: &mut O,
     ) -> Option<Cause>
         requires on { IsOn self.now machine.old.state }
         requires guard { machine.old.state.guard ≡ self.now.origin.guard }
         requires ahead { machine.old.state.steps < end }
         requires few { end ≤ 100_000_000 }
         ensures on { IfNone result (IsOn self.now machine.new.state) }
-        ensures leaps { IfNone result
-            (Leaps (B.is_breakpoint breakpoints.now) self.now machine.old.state.steps end machine.new.state.steps) }
+        ensures ahead { IfNone result (machine.old.state.steps < machine.new.state.steps) }
+        ensures within { IfNone result (machine.new.state.steps ≤ end) }
+        ensures seen { IfNone result (observer.new ≡ seen_after O.seen (λ k. shown_on self.now (machine.old.state.steps + k))
+            observer.old (machine.new.state.steps - machine.old.state.steps)) }
         ensures guard { machine.new.state.guard ≡ machine.old.state.guard }
         ensures stuck { IfSome result (λ cause. stuck (code_of self.now.origin) (world_of_state machine.old.state) ≡ Some cause) }
         ensures kept { IfSome result (λ _. machine.new ≡ machine.old) }
@@ -181,10 +174,11 @@ impl<A: Allocator> Course<A> {
         let from = machine.steps();
         let edge = (from - from % STRIDE + STRIDE).min(end);
         let quiet = quiet_end(self.log.as_slice(), from, edge);
-        if quiet == from {
-            return self.make_step(machine);
+        if let Some(cause) = burst(machine, (quiet - from) as u32, observer) {
+            return Some(cause);
         }
-        burst(machine, (quiet - from) as u32, breakpoints)
+        type_logged(machine, self.log.as_slice());
+        None
     }
 
     /// Brings a machine forwards to a position that was reached.
@@ -201,7 +195,7 @@ impl<A: Allocator> Course<A> {
         let mut from = machine.steps();
         while from < position {
             // No world on the way is stuck, so some steps are made.
-            let _ = self.leap(machine, position, &NoBreakpoints);
+            let _ = self.leap(machine, position, &mut NoObserver);
             from = machine.steps();
         }
     }

@@ -3,17 +3,17 @@
 ghost use Rattle.std.specs.Prelude.{◌≡◌, ◌+◌, ◌<◌, ◌≤◌, ℕ, min, [], length, IfOk, IfErr, OnOk, OnErr};
 ghost use Rattle.a2_machine.specs.State.{world_of_state};
 ghost use Rattle.a2_history.specs.Courses.{NoneStuck, with_keys};
-ghost use Rattle.a2_history.specs.Going.{here, Advances, Lasts, IsNewest, IsOn, AreOn, with_typed};
+ghost use Rattle.a2_history.specs.Going.{here, Advances, Warns, IsNewest, IsOn, AreOn, with_typed};
 ghost use Rattle.a2_history.specs.Gone.{IsGone, IsCauseAt};
 ghost use Rattle.a2_history.specs.Routines.{entered as entered_on, IsNewestOutside};
 ghost use Rattle.a2_history.specs.declared.fault.TypingFault.TheVariants.{Full};
 
 use crate::checkpoints::Checkpoints;
 use crate::course::Course;
+use crate::lookout::Watcher;
 use crate::routines::way_to;
-use crate::{Halt, Sight, TypingFault};
+use crate::{Halt, Lookout, Sight, TypingFault};
 use a2_bus::Keys;
-use a2_cpu::Breakpoints;
 use a2_machine::{Cause, Machine};
 use a2_routines::Entry;
 use std::alloc::{AllocError, Allocator, Global};
@@ -71,24 +71,10 @@ impl<A: Allocator + Copy> History<A> {
 
     /// Makes steps up to the first behind which `sight` is seen, which is not looked for before the first step; up to a world that is
     /// stuck; or `limit` of them, and none beyond position 100,000,000. Answers which it was, `Cause::Limit` only where no other cause
-    /// holds. Keys that were typed on the way are typed again.
-    pub fn advance<S: Sight>(&mut self, limit: u32, sight: &S) -> Halt
-        ensures course { self.new.course ≡ self.old.course }
-        ensures advances { Advances (S.is_seen sight.now) self.old.course self.old.position (min (self.old.position + limit) 100_000_000)
-            self.new.position result }
-    {
-        self.advance_in_bursts(limit, sight, &Everywhere)
-    }
-
-    /// The same, in bursts up to `breakpoints`: worlds between are not looked at, so it wants that what is seen away from these addresses
-    /// is seen behind the next step too. It takes less time the fewer they are.
-    pub fn advance_in_bursts<S: Sight, B: Breakpoints>(
-        &mut self,
-        limit: u32,
-        sight: &S,
-        breakpoints: &B,
-    ) -> Halt
-        requires { Lasts (S.is_seen sight.now) (B.is_breakpoint breakpoints.now) self.old.course self.old.position }
+    /// holds. Keys that were typed on the way are typed again. The steps are made in bursts, and worlds are looked at only where `lookout`
+    /// alarms: so it wants that each step alarms behind which something is newly seen.
+    pub fn advance<S: Sight, L: Lookout>(&mut self, limit: u32, sight: &S, lookout: &L) -> Halt
+        requires { Warns (S.is_seen sight.now) (L.alarms lookout.now) self.old.course self.old.position }
         ensures course { self.new.course ≡ self.old.course }
         ensures advances { Advances (S.is_seen sight.now) self.old.course self.old.position (min (self.old.position + limit) 100_000_000)
             self.new.position result }
@@ -102,26 +88,12 @@ impl<A: Allocator + Copy> History<A> {
             &mut self.checkpoints,
             end,
             sight,
-            breakpoints,
+            lookout,
         );
         match halt {
             Some(halt) => halt,
             None => Halt::Stopped(cause_at(&mut self.machine)),
         }
-    }
-}
-
-// Every address.
-#[derive(Drop)]
-struct Everywhere;
-
-impl Breakpoints for Everywhere {
-    ghost use Rattle.std.specs.Prelude.{true};
-
-    ghost is_breakpoint = { λ everywhere address. true };
-
-    fn is_breakpoint(&self, _address: u16) -> bool {
-        true
     }
 }
 
@@ -186,22 +158,22 @@ fn put_at<A: Allocator>(
     course.bring(machine, position);
 }
 
-// The same in bursts. What is seen behind one may have been seen before: then its steps are made one by one.
-fn burst_on<A: Allocator + Copy, S: Sight, B: Breakpoints>(
+// The same in bursts. Where a step of one alarms its steps are made again, one by one.
+fn burst_on<A: Allocator + Copy, S: Sight, L: Lookout>(
     alloc: A,
     course: &Course<A>,
     machine: &mut Machine<A>,
     checkpoints: &mut Checkpoints<A>,
     end: u64,
     sight: &S,
-    breakpoints: &B,
+    lookout: &L,
 ) -> Option<Halt>
     requires on { IsOn course.now machine.old.state }
     requires guard { machine.old.state.guard ≡ course.now.origin.guard }
     requires kept { AreOn course.now checkpoints.old }
     requires ahead { machine.old.state.steps ≤ end }
     requires few { end ≤ 100_000_000 }
-    requires lasts { Lasts (S.is_seen sight.now) (B.is_breakpoint breakpoints.now) course.now machine.old.state.steps }
+    requires warns { Warns (S.is_seen sight.now) (L.alarms lookout.now) course.now machine.old.state.steps }
     ensures on { IsOn course.now machine.new.state }
     ensures guard { machine.new.state.guard ≡ course.now.origin.guard }
     ensures kept { AreOn course.now checkpoints.new }
@@ -209,13 +181,21 @@ fn burst_on<A: Allocator + Copy, S: Sight, B: Breakpoints>(
 {
     let mut from = machine.steps();
     while from < end {
-        if let Some(cause) = course.leap(machine, end, breakpoints) {
+        let mut watcher = Watcher {
+            lookout,
+            is_alarmed: false,
+        };
+        if let Some(cause) = course.leap(machine, end, &mut watcher) {
             return Some(Halt::Stopped(cause));
         }
-        checkpoints.keep(alloc, machine);
-        if sight.is_seen(machine) {
+        if watcher.is_alarmed {
+            let to = machine.steps();
             put_at(course, machine, checkpoints, from);
-            return go_on(alloc, course, machine, checkpoints, end, sight);
+            if let Some(halt) = go_on(alloc, course, machine, checkpoints, to, sight) {
+                return Some(halt);
+            }
+        } else {
+            checkpoints.keep(alloc, machine);
         }
         from = machine.steps();
     }

@@ -7,6 +7,7 @@ mod checkpoints;
 mod course;
 mod fault;
 mod history;
+mod lookout;
 mod routines;
 mod sight;
 
@@ -15,6 +16,7 @@ use a2_machine::Cause;
 pub use a2_routines::{Entry, is_call};
 pub use fault::TypingFault;
 pub use history::History;
+pub use lookout::Lookout;
 pub use sight::{Nothing, Sight};
 
 /// Keys that were typed at a position.

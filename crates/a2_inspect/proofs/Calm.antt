@@ -1,7 +1,7 @@
 -- What a run keeps between the addresses that are marked.
-use Rattle.std.specs.Prelude.{IsTrue, ◌≢◌, is_some, length, take, get_or, slice_set, ◌||◌, ◌&&◌, ◌==◌, nat_le, nat_lt, if◌then◌else◌}
+use Rattle.std.specs.Prelude.{IsTrue, ◌≢◌, not, is_some, length, take, get_or, slice_set, ◌||◌, ◌&&◌, ◌==◌, nat_le, nat_lt, if◌then◌else◌}
 use Rattle.std.specs.List.{list_any}
-use Rattle.std.proofs.Common.{◌≡◌, ◌⊎◌, inl, inr, ℕ, zero, suc, ◌+◌, ◌-◌, ◌<◌, Bool, true, false, true≢false, List, [], ◌∷◌, Option, Some, None, Result, Ok, Err, refl, sym, ap, ap₂, subst, ◌∙◌, arith}
+use Rattle.std.proofs.Common.{◌≡◌, ◌⊎◌, inl, inr, ℕ, zero, suc, ◌+◌, ◌-◌, ◌<◌, ◌≤◌, Bool, true, false, true≢false, List, [], ◌∷◌, Option, Some, None, Result, Ok, Err, refl, sym, ap, ap₂, subst, ◌∙◌, arith}
 use Rattle.std.proofs.lemmas.Bool.{ne_eqb}
 use Rattle.std.proofs.lemmas.Bool.Decides.{nat_tests}
 use Rattle.std.proofs.lemmas.List.{get_or-set_same, get_or-set_other}
@@ -34,11 +34,12 @@ use Rattle.a2_machine.proofs.Marking.{among-low}
 use Rattle.a2_run.specs.Started.{guard_of_run}
 use Rattle.a2_history.specs.declared.Typed.{Typed}
 use Rattle.a2_history.specs.Courses.{Course, typed, with_keys, with_logged, arrived, world_on, NoneStuck}
-use Rattle.a2_history.specs.Going.{Lasts}
+use Rattle.a2_history.specs.Going.{Track, here, Warns}
 use Rattle.a2_places.specs.declared.places.Span.{Span}
 use Rattle.a2_inspect.specs.declared.stops.Break.{Break}
-use Rattle.a2_inspect.specs.Stops.{holds, is_hit, is_other, is_changed_from, is_changed_in, is_stop}
-use Rattle.a2_inspect.specs.Alerts.{is_marked, KeepsMemory, StandsCalm, IsCalm, MarksAllBut, AreAlerts}
+use Rattle.a2_inspect.specs.Inspections.{is_at, is_left}
+use Rattle.a2_inspect.specs.Stops.{Moment, moment_of, holds, is_hit, is_other, is_changed_from, is_span_changed, is_changed_in, is_stop}
+use Rattle.a2_inspect.specs.Alerts.{Alerts, is_marked, KeepsMemory, StandsCalm, IsCalm, MarksAllBut, AreAlerts, alarms, WarnsOfStops}
 
 or-true : (b : Bool) → (b || true) ≡ true
 or-true true = refl
@@ -88,31 +89,23 @@ calm-more statements memory old new i d low all made a unmarked = go (made a unm
     go (inl e) = all a e
     go (inr is) = subst (λ k. IsCalm statements memory k) (sym is.0) (calm-at statements memory i d low is.1)
 
--- a mark more
-pub marked-too : (marks : List Bool) (at a : ℕ) → at < length marks → is_marked (slice_set marks at true) a ≡ false → is_marked marks a ≡ false
-marked-too marks at a low unmarked = go (same-or-not a at)
-  where
-    go : (a ≡ at) ⊎ (a ≢ at) → is_marked marks a ≡ false
-    go (inl e) = absurd (true≢false (sym (ap (λ k. get_or (slice_set marks at true) k true) e ∙ get_or-set_same marks at true true low) ∙ unmarked))
-    go (inr ne) = sym (get_or-set_other marks at a true true ne) ∙ unmarked
-
 left-true : (u v : Bool) → (u || v) ≡ true → v ≡ false → u ≡ true
 left-true true v h e = refl
 left-true false v h e = absurd (true≢false (sym h ∙ e))
 
 pub marked-next : (breaks : List Break) (i : ℕ) (d : Break) (marks : List Bool) (at : ℕ) → i < length breaks → at ≡ (get_or breaks i d).address
-    → at < length marks → ((w : World) → list_any (is_hit w) (take i breaks) ≡ true → is_marked marks w.registers.pc ≡ true)
-    → (w : World) → list_any (is_hit w) (take (i + 1) breaks) ≡ true → is_marked (slice_set marks at true) w.registers.pc ≡ true
-marked-next breaks i d marks at low here in_range before w hit = go (same-or-not w.registers.pc at)
+    → at < length marks → ((m : Moment) → list_any (is_hit m) (take i breaks) ≡ true → is_marked marks m.pc ≡ true)
+    → (m : Moment) → list_any (is_hit m) (take (i + 1) breaks) ≡ true → is_marked (slice_set marks at true) m.pc ≡ true
+marked-next breaks i d marks at low here in_range before m hit = go (same-or-not m.pc at)
   where
-    go : (w.registers.pc ≡ at) ⊎ (w.registers.pc ≢ at) → is_marked (slice_set marks at true) w.registers.pc ≡ true
+    go : (m.pc ≡ at) ⊎ (m.pc ≢ at) → is_marked (slice_set marks at true) m.pc ≡ true
     go (inl e) = ap (λ k. get_or (slice_set marks at true) k true) e ∙ get_or-set_same marks at true true in_range
     go (inr ne) =
-        let away : (get_or breaks i d).address ≢ w.registers.pc = λ e. ne (sym (here ∙ e)) in
-        let other : ((get_or breaks i d).address == w.registers.pc) ≡ false = ne_eqb (get_or breaks i d).address w.registers.pc away in
-        let missed : is_hit w (get_or breaks i d) ≡ false = ap (λ v. v && holds (get_or breaks i d).condition w) other in
-        get_or-set_other marks at w.registers.pc true true ne
-        ∙ before w (left-true (list_any (is_hit w) (take i breaks)) _ (sym (any-taken (is_hit w) breaks i d low) ∙ hit) missed)
+        let away : (get_or breaks i d).address ≢ m.pc = λ e. ne (sym (here ∙ e)) in
+        let other : ((get_or breaks i d).address == m.pc) ≡ false = ne_eqb (get_or breaks i d).address m.pc away in
+        let missed : is_hit m (get_or breaks i d) ≡ false = ap (λ v. v && holds (get_or breaks i d).condition m) other in
+        get_or-set_other marks at m.pc true true ne
+        ∙ before m (left-true (list_any (is_hit m) (take i breaks)) _ (sym (any-taken (is_hit m) breaks i d low) ∙ hit) missed)
 
 -- keys change no byte
 keys-byte : (keys : List ℕ) (w : World) (a : ℕ) → ram_byte (with_keys keys w).memory a ≡ ram_byte w.memory a
@@ -225,18 +218,34 @@ module _ (course : Course) (laid : ℕ → ℕ) where
       subst (λ n. HoldsCode (code_of course.origin).protected laid (world_on course n).memory) (sym e)
       (holds-next (from + d) (holds-on d from holds (λ k l. went k (omega (arith, l)))) (went (from + d) (omega arith)))
 
--- where each byte is the same the same are changed
-same-from : (first n : ℕ) (now v w : World) → ((a : ℕ) → peek v.memory a ≡ peek w.memory a) → is_changed_from first n now v ≡ is_changed_from first n now w
-unfolding is_changed_from
-same-from first zero now v w same = refl
-same-from first (suc n) now v w same =
-    ap₂ (λ x y. x || y) (same-from first n now v w same) (ap (λ o. is_other o (peek now.memory (first + n))) (same (first + n)))
+same-number : (a : ℕ) → (a == a) ≡ true
+same-number a = grind (arith, nat_tests)
 
-same-changed : (watches : List Span) (now v w : World) → ((a : ℕ) → peek v.memory a ≡ peek w.memory a)
-    → list_any (is_changed_in now v) watches ≡ list_any (is_changed_in now w) watches
-same-changed [] now v w same = refl
-same-changed (s ∷ ss) now v w same =
-    ap₂ (λ x y. x || y) (same-from s.first (s.last + 1 - s.first) now v w same) (same-changed ss now v w same)
+-- what is as it was is not changed
+unchanged-from : (first n : ℕ) (ram : ℕ → Option ℕ) → is_changed_from first n ram ram ≡ false
+unfolding is_changed_from
+unchanged-from first zero ram = refl
+unchanged-from first (suc n) ram = ap₂ (λ x y. x || y) (unchanged-from first n ram) (same (ram (first + n)))
+  where
+    same : (o : Option ℕ) → is_other o o ≡ false
+    same None = refl
+    same (Some byte) = ap not (same-number byte)
+
+unchanged : (watches : List Span) (ram : ℕ → Option ℕ) → list_any (is_span_changed ram ram) watches ≡ false
+unchanged [] ram = refl
+unchanged (s ∷ ss) ram = ap₂ (λ x y. x || y) (unchanged-from s.first (s.last + 1 - s.first) ram) (unchanged ss ram)
+
+-- a test of two that fails, where one of them holds
+and-false : (u v : Bool) → (u && v) ≡ false → v ≡ true → u ≡ false
+and-false u v e is = sym (right u v is) ∙ e
+  where
+    right : (u v : Bool) → v ≡ true → (u && v) ≡ u
+    right true v is = is
+    right false v is = refl
+
+or-false : (u v : Bool) → (u || v) ≡ false → (u ≡ false) × (v ≡ false)
+or-false false v e = (refl, e)
+or-false true v e = absurd (true≢false e)
 
 -- where there is a byte is RAM
 byte-low : (m : Memory) (a byte : ℕ) → peek m a ≡ Some byte → a < ram_end
@@ -250,9 +259,9 @@ same-peek : (v w : World) (a : ℕ) → ram_byte v.memory a ≡ ram_byte w.memor
 same-peek v w a e = ap (λ (b : ℕ). if nat_lt a ram_end then Some b else None) e
 
 -- a run that goes on from a place, with its breakpoints, what is watched, and the addresses that are marked for them
-module _ (free : Bool) (program : Assembled) (course : Course) (from : ℕ) (breaks : List Break) (watches : List Span) (marks : List Bool)
+module _ (free : Bool) (program : Assembled) (course : Course) (from : ℕ) (breaks : List Break) (watches : List Span) (alerts : Alerts)
     (guarded : course.origin.guard ≡ guard_of_run free program)
-    (alerts : AreAlerts free program.statements (world_on course from).memory breaks watches marks) where
+    (are : AreAlerts free program.statements (world_on course from).memory breaks watches alerts) where
   code-is : free ≡ false → code_of course.origin ≡ bytes (Some (guard_of_program program))
   code-is e = ap bytes (guarded ∙ ap (λ b. guard_of_run b program) e)
 
@@ -260,7 +269,7 @@ module _ (free : Bool) (program : Assembled) (course : Course) (from : ℕ) (bre
   unfolding bytes guard_of_program
   code-among a low is = among-low ram_end (is_code program.statements) a low ∙ is
 
-  held : (k : ℕ) → from < k → NoneStuck course (k + 1) → free ≡ false → (a : ℕ) → a < ram_end → IsTrue (is_code program.statements a)
+  held : (k : ℕ) → from ≤ k → NoneStuck course (k + 1) → free ≡ false → (a : ℕ) → a < ram_end → IsTrue (is_code program.statements a)
       → ram_byte (world_on course k).memory a ≡ ram_byte (world_on course from).memory a
   held k l went e a low is =
       let at : from + (k - from) ≡ k = omega (arith, l) in
@@ -269,7 +278,7 @@ module _ (free : Bool) (program : Assembled) (course : Course) (from : ℕ) (bre
       (holds-on course (λ b. ram_byte (world_on course from).memory b) (k - from) from (λ b _. refl) (λ j m. went j (omega (arith, m, l)))) in
       h a (subst (λ (c : Code). IsTrue (is_among c.protected a)) (sym (code-is e)) (code-among a low is))
 
-  calm-step : (k : ℕ) → from < k → NoneStuck course (k + 1) → free ≡ false
+  calm-step : (k : ℕ) → from ≤ k → NoneStuck course (k + 1) → free ≡ false
       → IsCalm program.statements (world_on course from).memory (world_on course k).registers.pc
       → (a : ℕ) → ram_byte (world_on course (k + 1)).memory a ≡ ram_byte (world_on course k).memory a
   unfolding world_on arrived
@@ -287,22 +296,79 @@ module _ (free : Bool) (program : Assembled) (course : Course) (from : ℕ) (bre
       ∙ calm-next (guard_of_program program) (world_on course k) calm.harmless.code calm.harmless.row calm.none shown calm.harmless.known
       calm.harmless.keeps free a
 
-  pub lasts : Lasts (is_stop breaks watches (world_on course from)) (is_marked marks) course from
-  lasts k l went unmarked seen = go (list_any (is_hit (world_on course k)) breaks) refl seen
+  -- the same bytes are changed behind a step that stores nothing as before it, and so it is not the first
+  was-changed : (k : ℕ) → from ≤ k → ((a : ℕ) → ram_byte (world_on course (k + 1)).memory a ≡ ram_byte (world_on course k).memory a)
+      → list_any (is_changed_in (world_on course from) (world_on course (k + 1))) watches ≡ true
+      → (from < k) × (list_any (is_changed_in (world_on course from) (world_on course k)) watches ≡ true)
+  was-changed k l same changed = (later (split k l), before)
     where
-      watched : list_any (is_changed_in (world_on course from) (world_on course k)) watches ≡ true
-          → (watches ≡ []) ⊎ ((free ≡ false) × IsCalm program.statements (world_on course from).memory (world_on course k).registers.pc)
-          → is_stop breaks watches (world_on course from) (world_on course (k + 1)) ≡ true
-      watched changed (inl none) =
-          absurd (true≢false (sym changed ∙ ap (λ (ws : List Span). list_any (is_changed_in (world_on course from) (world_on course k)) ws) none))
-      watched changed (inr is) =
-          ap (λ v. list_any (is_hit (world_on course (k + 1))) breaks || v)
-          (same-changed watches (world_on course from) (world_on course (k + 1)) (world_on course k)
-          (λ a. same-peek (world_on course (k + 1)) (world_on course k) a (calm-step k l went is.0 is.1 a)) ∙ changed)
-          ∙ or-true (list_any (is_hit (world_on course (k + 1))) breaks)
+      ram : peek (world_on course (k + 1)).memory ≡ peek (world_on course k).memory
+      ram = λ i a. same-peek (world_on course (k + 1)) (world_on course k) a (same a) i
 
-      go : (b : Bool) → list_any (is_hit (world_on course k)) breaks ≡ b
-          → (b || list_any (is_changed_in (world_on course from) (world_on course k)) watches) ≡ true
-          → is_stop breaks watches (world_on course from) (world_on course (k + 1)) ≡ true
-      go true e _ = absurd (true≢false (sym (alerts.breaks_marked (world_on course k) e) ∙ unmarked))
-      go false e changed = watched changed (alerts.watched (world_on course k).registers.pc unmarked)
+      before : list_any (is_changed_in (world_on course from) (world_on course k)) watches ≡ true
+      before =
+          sym (ap (λ (r : ℕ → Option ℕ). list_any (is_span_changed (peek (world_on course from).memory) r) watches) ram) ∙ changed
+
+      split : (k : ℕ) → from ≤ k → (from ≡ k) ⊎ (from < k)
+      split k l = grind (arith, l)
+
+      later : (from ≡ k) ⊎ (from < k) → from < k
+      later (inl e) = absurd (true≢false
+          (sym (ap (λ n. list_any (is_changed_in (world_on course from) (world_on course n)) watches) e ∙ before)
+          ∙ unchanged watches (peek (world_on course from).memory)))
+      later (inr l) = l
+
+  pub warns : WarnsOfStops alerts breaks watches (record { course = course; position = from })
+  warns k l went seen calm = go (list_any (is_hit (moment_of (world_on course (k + 1)))) breaks) refl seen
+    where
+      pc : ℕ
+      pc = (world_on course k).registers.pc
+
+      off : ((is_marked alerts.stops (world_on course (k + 1)).registers.pc && list_any (is_hit (moment_of (world_on course (k + 1)))) breaks) ≡ false)
+          × ((is_marked alerts.stores pc && list_any (is_changed_in (world_on course from) (world_on course (k + 1))) watches) ≡ false)
+      off = or-false _ _ calm
+
+      seen-before : (from < k) × (list_any (is_changed_in (world_on course from) (world_on course k)) watches ≡ true)
+          → (from < k) × (is_stop breaks watches (world_on course from) (world_on course k) ≡ true)
+      seen-before was =
+          (was.0, ap (λ v. list_any (is_hit (moment_of (world_on course k))) breaks || v) was.1 ∙ or-true (list_any (is_hit (moment_of (world_on course k))) breaks))
+
+      watched : list_any (is_changed_in (world_on course from) (world_on course (k + 1))) watches ≡ true
+          → (watches ≡ []) ⊎ ((free ≡ false) × IsCalm program.statements (world_on course from).memory pc)
+          → (from < k) × (is_stop breaks watches (world_on course from) (world_on course k) ≡ true)
+      watched changed (inl none) =
+          absurd (true≢false (sym changed ∙ ap (λ (ws : List Span). list_any (is_changed_in (world_on course from) (world_on course (k + 1))) ws) none))
+      watched changed (inr is) = seen-before (was-changed k l (λ a. calm-step k l went is.0 is.1 a) changed)
+
+      go : (b : Bool) → list_any (is_hit (moment_of (world_on course (k + 1)))) breaks ≡ b
+          → (b || list_any (is_changed_in (world_on course from) (world_on course (k + 1))) watches) ≡ true
+          → (from < k) × (is_stop breaks watches (world_on course from) (world_on course k) ≡ true)
+      go true e _ =
+          absurd (true≢false (sym (are.breaks_marked (moment_of (world_on course (k + 1))) e)
+          ∙ and-false (is_marked alerts.stops (world_on course (k + 1)).registers.pc) _ off.0 e))
+      go false e changed = watched changed (are.watched pc (and-false (is_marked alerts.stores pc) _ off.1 changed))
+
+-- so it is from where the run stands
+pub warned : (free : Bool) (program : Assembled) (track : Track) (before : World) (breaks : List Break) (watches : List Span) (alerts : Alerts)
+    → before ≡ here track → track.course.origin.guard ≡ guard_of_run free program
+    → AreAlerts free program.statements before.memory breaks watches alerts → WarnsOfStops alerts breaks watches track
+warned free program track before breaks watches alerts is guarded are =
+    warns free program track.course track.position breaks watches alerts guarded
+    (subst (λ (w : World). AreAlerts free program.statements w.memory breaks watches alerts) is are)
+
+-- and up to where a routine is left
+pub warns-left : (s : ℕ) (alerts : Alerts) (breaks : List Break) (watches : List Span) (track : Track) → WarnsOfStops alerts breaks watches track
+    → Warns (is_left s (is_stop breaks watches (here track))) (λ shown. nat_le s shown.look.next_s || alarms alerts breaks watches (here track) shown)
+    track.course track.position
+warns-left s alerts breaks watches track stops k l went seen calm =
+    let off = or-false (nat_le s (world_on track.course (k + 1)).registers.s) _ calm in
+    let was = stops k l went (right (nat_le s (world_on track.course (k + 1)).registers.s) _ off.0 seen) off.1 in
+    (was.0, ap (λ v. nat_le s (world_on track.course k).registers.s || v) was.1 ∙ or-true (nat_le s (world_on track.course k).registers.s))
+  where
+    right : (u v : Bool) → u ≡ false → (u || v) ≡ true → v ≡ true
+    right false v e h = h
+    right true v e h = absurd (true≢false e)
+
+-- an address that no step comes to
+pub warns-at : (address : ℕ) (course : Course) (from : ℕ) → Warns (is_at address) (λ shown. shown.look.next_pc == address) course from
+warns-at address course from k l went seen calm = absurd (true≢false (sym seen ∙ calm))

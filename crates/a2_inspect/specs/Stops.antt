@@ -14,17 +14,37 @@ use Rattle.a2_inspect.specs.declared.stops.Condition.{Condition}
 use Rattle.a2_inspect.specs.declared.stops.Break.{Break}
 use Rattle.a2_places.specs.declared.places.Span.{Span}
 
--- what a register holds; of P the byte that PHP pushes
-abbrev pub in_register : Register → World → ℕ
-in_register A world = world.registers.a
-in_register X world = world.registers.x
-in_register Y world = world.registers.y
-in_register S world = world.registers.s
-in_register P world = byte_of_flags world.registers.flags
+-- what a stop may be about: the registers as bytes, of P the byte that PHP pushes, and the byte of RAM at each address
+pub record Moment : Type 0 where
+  pub pc : ℕ
+  pub a : ℕ
+  pub x : ℕ
+  pub y : ℕ
+  pub s : ℕ
+  pub p : ℕ
+  pub ram : ℕ → Option ℕ
 
-abbrev pub value_of : Subject → World → Option ℕ
-value_of (InRegister register) world = Some (in_register register world)
-value_of (InByte address) world = peek world.memory address
+abbrev pub moment_of : World → Moment
+moment_of world = record {
+  pc = world.registers.pc;
+  a = world.registers.a;
+  x = world.registers.x;
+  y = world.registers.y;
+  s = world.registers.s;
+  p = byte_of_flags world.registers.flags;
+  ram = peek world.memory;
+}
+
+abbrev pub in_register : Register → Moment → ℕ
+in_register A moment = moment.a
+in_register X moment = moment.x
+in_register Y moment = moment.y
+in_register S moment = moment.s
+in_register P moment = moment.p
+
+abbrev pub value_of : Subject → Moment → Option ℕ
+value_of (InRegister register) moment = Some (in_register register moment)
+value_of (InByte address) moment = moment.ram address
 
 abbrev pub compares : Relation → ℕ → ℕ → Bool
 compares Equal value than = value == than
@@ -37,35 +57,39 @@ abbrev pub compares_some : Relation → Option ℕ → ℕ → Bool
 compares_some relation None than = false
 compares_some relation (Some value) than = compares relation value than
 
-abbrev pub holds : Option Condition → World → Bool
-holds None world = true
-holds (Some c) world = compares_some c.relation (value_of c.subject world) c.value
+abbrev pub holds : Option Condition → Moment → Bool
+holds None moment = true
+holds (Some c) moment = compares_some c.relation (value_of c.subject moment) c.value
 
--- the world before a step at a breakpoint whose condition holds
-abbrev pub is_hit : World → Break → Bool
-is_hit world b = (b.address == world.registers.pc) && holds b.condition world
+-- before a step at a breakpoint whose condition holds
+abbrev pub is_hit : Moment → Break → Bool
+is_hit moment b = (b.address == moment.pc) && holds b.condition moment
 
 -- two bytes, which may be none, differ
 abbrev pub is_other : Option ℕ → Option ℕ → Bool
 is_other (Some one) (Some other) = not (one == other)
 is_other one other = false
 
--- the byte at an address is another than in this world
-abbrev pub is_changed : ℕ → World → World → Bool
-is_changed address now world = is_other (peek world.memory address) (peek now.memory address)
+-- the byte at an address is another than before
+abbrev pub is_changed : ℕ → (ℕ → Option ℕ) → (ℕ → Option ℕ) → Bool
+is_changed address before now = is_other (now address) (before address)
 
 -- one of so many bytes from an address on is
-unfoldable pub is_changed_from : ℕ → ℕ → World → World → Bool
-is_changed_from first zero now world = false
-is_changed_from first (suc n) now world = is_changed_from first n now world || is_changed (first + n) now world
+unfoldable pub is_changed_from : ℕ → ℕ → (ℕ → Option ℕ) → (ℕ → Option ℕ) → Bool
+is_changed_from first zero before now = false
+is_changed_from first (suc n) before now = is_changed_from first n before now || is_changed (first + n) before now
 
 -- one of the bytes from the first to the last is
+abbrev pub is_span_changed : (ℕ → Option ℕ) → (ℕ → Option ℕ) → Span → Bool
+is_span_changed before now span = is_changed_from span.first (span.last + 1 - span.first) before now
+
+-- one of them is another than in this world
 abbrev pub is_changed_in : World → World → Span → Bool
-is_changed_in now world span = is_changed_from span.first (span.last + 1 - span.first) now world
+is_changed_in now world span = is_span_changed (peek now.memory) (peek world.memory) span
 
 -- a world at a breakpoint, or in which a watched byte is another than now
 abbrev pub is_stop : List Break → List Span → World → World → Bool
-is_stop breaks watches now world = list_any (is_hit world) breaks || list_any (is_changed_in now world) watches
+is_stop breaks watches now world = list_any (is_hit (moment_of world)) breaks || list_any (is_changed_in now world) watches
 
 -- what is watched: at most 256 bytes
 abbrev pub watchable : Option Span → Option Span

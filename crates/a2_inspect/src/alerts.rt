@@ -1,15 +1,13 @@
-//! Where a run is looked at that is gone along in bursts.
+//! Which steps alarm of a run that is gone along in bursts.
 
-ghost use Rattle.std.specs.Prelude.{◌≡◌, ◌⊎◌, ℕ, true, false, length};
+ghost use Rattle.std.specs.Prelude.{◌≡◌, ◌⊎◌, ℕ, true, false, [], length, IfOk};
 ghost use Rattle.std.specs.List.{list_any};
-ghost use Rattle.a2_services.specs.World.{World};
 ghost use Rattle.a2_machine.specs.State.{world_of_state};
-ghost use Rattle.a2_inspect.specs.Stops.{is_hit};
+ghost use Rattle.a2_inspect.specs.Stops.{Moment, is_hit};
 ghost use Rattle.a2_inspect.specs.Alerts.{is_marked, KeepsMemory, IsHarmless, StandsCalm, IsCalm, MarksAllBut, AreAlerts};
 
 use crate::stops::Break;
 use a2_asm::{Program, Statement};
-use a2_cpu::Breakpoints;
 use a2_machine::Machine;
 use a2_opcode::{Mnemonic, Mode, Row, row_of};
 use a2_places::Span;
@@ -20,31 +18,22 @@ use std::marker::Model;
 /// How many addresses there are.
 const ADDRESSES: usize = 0x1_0000;
 
-/// For each address, whether worlds there are looked at.
+/// For each address, whether there is a breakpoint, and whether a step there may store.
 #[derive(Drop)]
 pub struct Alerts<A: Allocator = Global> {
-    marks: Vec<bool, A>,
+    stops: Vec<bool, A>,
+    stores: Vec<bool, A>,
 }
 
 impl<A: Allocator> Model for Alerts<A> {
-    ghost use Rattle.std.specs.Prelude.{◌≡◌, List, Bool, length};
+    ghost use Rattle.std.specs.Prelude.{◌≡◌, length};
+    ghost use Rattle.a2_inspect.specs.Alerts.{Alerts as Seen};
 
-    ghost Value = { List Bool };
+    ghost Value = { Seen };
 
-    ghost view = { λ a. a.marks.items };
+    ghost view = { λ a. record { stops = a.stops.items; stores = a.stores.items } };
 
-    ghost invariant = { λ a. length a.marks.items ≡ 65536 };
-}
-
-impl<A: Allocator> Breakpoints for Alerts<A> {
-    ghost use Rattle.a2_inspect.specs.Alerts.{is_marked};
-
-    ghost is_breakpoint = { λ marks address. is_marked marks address };
-
-    #[inline(always)]
-    fn is_breakpoint(&self, address: u16) -> bool {
-        self.marks[address as usize]
-    }
+    ghost invariant = { λ a. (length a.stops.items ≡ 65536) × (length a.stores.items ≡ 65536) };
 }
 
 // Whether an instruction stores nothing and pushes nothing, whatever its operand is.
@@ -116,8 +105,7 @@ fn calm_all<A: Allocator>(marks: &mut [bool], statements: &[Statement], machine:
 // Marks the addresses of breakpoints.
 fn mark_all(marks: &mut [bool], breaks: &[Break])
     requires { length marks.old ≡ 65536 }
-    ensures marked { (world : World) → list_any (is_hit world) breaks.now ≡ true → is_marked marks.new world.registers.pc ≡ true }
-    ensures others { (address : ℕ) → is_marked marks.new address ≡ false → is_marked marks.old address ≡ false }
+    ensures { (moment : Moment) → list_any (is_hit moment) breaks.now ≡ true → is_marked marks.new moment.pc ≡ true }
 {
     for place in breaks {
         marks[usize::from(place.address)] = true;
@@ -132,54 +120,53 @@ fn fill(marks: &mut [bool], mark: bool)
     marks.fill(mark);
 }
 
-// Marks what is to be marked where bytes are watched: all but where instructions stand that store nothing.
-fn mark_watched<A: Allocator>(
+// Marks where a step may store, if bytes are watched: everywhere but where instructions stand that store nothing.
+fn mark_stores<A: Allocator>(
     marks: &mut [bool],
     free: bool,
     statements: &[Statement],
     machine: &Machine<A>,
+    watches: &[Span],
 )
     requires { length marks.old ≡ 65536 }
     ensures { (address : ℕ) → is_marked marks.new address ≡ false
-        → (free ≡ false) × IsCalm statements.now (world_of_state machine.now.state).memory address }
+        → (watches.now ≡ []) ⊎ ((free ≡ false) × IsCalm statements.now (world_of_state machine.now.state).memory address) }
 {
-    fill(marks, true);
-    if !free {
+    fill(marks, !watches.is_empty());
+    if !free && !watches.is_empty() {
         calm_all(marks, statements, machine);
     }
 }
 
-// Marks breakpoints, and what is to be marked where bytes are watched.
-fn mark<A: Allocator>(
-    marks: &mut [bool],
-    free: bool,
-    statements: &[Statement],
-    machine: &Machine<A>,
-    breaks: &[Break],
-    watches: &[Span],
-)
+// Marks where there is a breakpoint.
+fn mark_stops(marks: &mut [bool], breaks: &[Break])
     requires { length marks.old ≡ 65536 }
-    ensures { AreAlerts free statements.now (world_of_state machine.now.state).memory breaks.now watches.now marks.new }
+    ensures { (moment : Moment) → list_any (is_hit moment) breaks.now ≡ true → is_marked marks.new moment.pc ≡ true }
 {
-    if watches.is_empty() {
-        fill(marks, false);
-    } else {
-        mark_watched(marks, free, statements, machine);
-    }
+    marks.fill(false);
     mark_all(marks, breaks);
+}
+
+// No address is marked.
+fn no_marks<A: Allocator>(alloc: A) -> Result<Vec<bool, A>, AllocError>
+    ensures { IfOk result (λ marks. length marks.items ≡ 65536) }
+{
+    vec![in alloc; false; ADDRESSES]
 }
 
 impl<A: Allocator + Copy> Alerts<A> {
     /// No address is marked. Refused only for want of memory.
     pub fn new(alloc: A) -> Result<Alerts<A>, AllocError> {
-        let marks = vec![in alloc; false; ADDRESSES]?;
-        Ok(Alerts { marks })
+        Ok(Alerts {
+            stops: no_marks(alloc)?,
+            stores: no_marks(alloc)?,
+        })
     }
 }
 
 impl<A: Allocator> Alerts<A> {
-    /// Marks the addresses of breakpoints; and where bytes are watched all others too, but those at which an instruction of a program
-    /// stands that is not free of the guard, as a machine holds it, and that stores nothing.
+    /// Marks the addresses of breakpoints; and where bytes are watched all at which a step may store: all but those at which an
+    /// instruction of a program stands that is not free of the guard, as a machine holds it, and that stores nothing.
     pub fn set<C: Allocator>(
         &mut self,
         free: bool,
@@ -190,7 +177,29 @@ impl<A: Allocator> Alerts<A> {
     )
         ensures { AreAlerts free program.now.statements (world_of_state machine.now.state).memory breaks.now watches.now self.new }
     {
-        let marks = self.marks.as_mut_slice();
-        mark(marks, free, program.statements(), machine, breaks, watches);
+        mark_stops(self.stops.as_mut_slice(), breaks);
+        mark_stores(
+            self.stores.as_mut_slice(),
+            free,
+            program.statements(),
+            machine,
+            watches,
+        );
+    }
+
+    /// Whether there is a breakpoint at an address.
+    #[inline(always)]
+    pub fn has_stop(&self, address: u16) -> bool
+        ensures { result ≡ is_marked self.now.stops address }
+    {
+        self.stops[usize::from(address)]
+    }
+
+    /// Whether a step at an address may store, where bytes are watched.
+    #[inline(always)]
+    pub fn may_store(&self, address: u16) -> bool
+        ensures { result ≡ is_marked self.now.stores address }
+    {
+        self.stores[usize::from(address)]
     }
 }

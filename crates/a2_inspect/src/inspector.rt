@@ -3,12 +3,13 @@
 ghost use Rattle.std.specs.Prelude.{◌≡◌, ◌==◌, ◌&&◌, ◌⊎◌, ◌-◌, ℕ, List, false, IfOk, IfErr};
 ghost use Rattle.a2_stream.specs.Stream.{SendsOrBreaks};
 ghost use Rattle.a2_machine.specs.State.{world_of_state};
-ghost use Rattle.a2_history.specs.Going.{here, Lasts};
+ghost use Rattle.a2_history.specs.Going.{here, Warns};
 ghost use Rattle.a2_history.specs.Routines.{entered};
 ghost use Rattle.a2_routines.specs.Routines.{is_call as is_call_of};
 ghost use Rattle.a2_asm.specs.Assembled.{Assembled};
 ghost use Rattle.a2_run.specs.Meaning.{IsProgramOf};
 ghost use Rattle.a2_run.specs.Started.{RefusesText, guard_of_run};
+ghost use Rattle.a2_inspect.specs.Alerts.{WarnsOfStops};
 ghost use Rattle.a2_inspect.specs.Stops.{is_stop, is_changed_in};
 ghost use Rattle.a2_inspect.specs.Inspections.{
   IsDone,
@@ -38,14 +39,13 @@ use crate::alerts::Alerts;
 use crate::order::{Order, Outcome, Refusal, Show};
 use crate::reading::order_of;
 use crate::sheet::{Detail, Stand, tell};
-use crate::sights::{At, Changed, Left, Stops};
+use crate::sights::{Alarm, At, Changed, Left, Stops};
 use crate::stops::Break;
 use crate::verbs::verb_of;
 use a2_asm::Program;
 use a2_bus::Keys;
-use a2_cpu::{Breakpoints, NoBreakpoints};
 use a2_explain::Scene;
-use a2_history::{Entry, Halt, History, Nothing, Sight, TypingFault, is_call};
+use a2_history::{Entry, Halt, History, Lookout, Nothing, Sight, TypingFault, is_call};
 use a2_machine::{Cause, Machine};
 use a2_places::Span;
 use a2_run::{RunFault, program_of, started};
@@ -82,7 +82,7 @@ pub struct Inspector<'a, A: Allocator = Global> {
     history: History<A>,
     // The machine before the order that was done last.
     before: Machine<A>,
-    // Where a run is looked at that goes on to a stop.
+    // Which steps alarm where a run goes on to a stop.
     alerts: Alerts<A>,
     // Whether the run is free of the guard.
     free: bool,
@@ -123,31 +123,24 @@ fn outcome_of(halt: Halt) -> Outcome {
     }
 }
 
-// Makes steps, at most so many, up to what is looked for.
-fn go_on<A: Allocator + Copy, S: Sight>(history: &mut History<A>, most: u32, sight: &S) -> Outcome
-    ensures { GoesOn (S.is_seen sight.now) most history.old history.new }
-{
-    outcome_of(history.advance(most, sight))
-}
-
-// The same in bursts.
-fn burst_on<A: Allocator + Copy, S: Sight, B: Breakpoints>(
+// Makes steps, at most so many, up to what is looked for, in bursts.
+fn go_on<A: Allocator + Copy, S: Sight, L: Lookout>(
     history: &mut History<A>,
     most: u32,
     sight: &S,
-    breakpoints: &B,
+    lookout: &L,
 ) -> Outcome
-    requires { Lasts (S.is_seen sight.now) (B.is_breakpoint breakpoints.now) history.old.course history.old.position }
+    requires { Warns (S.is_seen sight.now) (L.alarms lookout.now) history.old.course history.old.position }
     ensures { GoesOn (S.is_seen sight.now) most history.old history.new }
 {
-    outcome_of(history.advance_in_bursts(most, sight, breakpoints))
+    outcome_of(history.advance(most, sight, lookout))
 }
 
 // Makes so many steps.
 fn step<A: Allocator + Copy>(history: &mut History<A>, steps: u16) -> Outcome
     ensures { GoesOn (λ world. false) steps history.old history.new }
 {
-    match burst_on(history, u32::from(steps), &Nothing, &NoBreakpoints) {
+    match go_on(history, u32::from(steps), &Nothing, &Nothing) {
         Outcome::Stopped(Cause::Limit) => Outcome::Moved,
         outcome => outcome,
     }
@@ -182,21 +175,13 @@ fn note<A: Allocator>(before: &mut Machine<A>, history: &History<A>)
     before.copy_from(history.machine());
 }
 
-// Makes steps, at most so many, up to a stop, by the run of a program that is free of the guard or not.
-fn go<A: Allocator + Copy>(
-    history: &mut History<A>,
-    most: u32,
-    stops: Stops<A>,
-    program: &Program<A>,
-    free: bool,
-    alerts: &mut Alerts<A>,
-) -> Outcome
-    requires here { world_of_state stops.before.now.state ≡ here history.old }
-    requires guarded { history.old.course.origin.guard ≡ guard_of_run free program.now }
-    ensures { GoesOn (is_stop stops.entry.breaks.now stops.entry.watches.now (here history.old)) most history.old history.new }
+// Makes steps, at most so many, up to a stop.
+fn go<A: Allocator + Copy>(history: &mut History<A>, most: u32, alarm: Alarm<A, A>) -> Outcome
+    requires here { world_of_state alarm.stops.before.now.state ≡ here history.old }
+    requires warns { WarnsOfStops alarm.alerts.now alarm.stops.breaks.now alarm.stops.watches.now history.old }
+    ensures { GoesOn (is_stop alarm.entry.stops.breaks.now alarm.entry.stops.watches.now (here history.old)) most history.old history.new }
 {
-    alerts.set(free, program, stops.before, stops.breaks, stops.watches);
-    burst_on(history, most, &stops, alerts)
+    go_on(history, most, &alarm.stops, &alarm)
 }
 
 // Makes steps, at most so many, up to an address.
@@ -204,7 +189,7 @@ fn until<A: Allocator + Copy>(history: &mut History<A>, most: u32, address: u16)
     ensures { GoesOn (is_at address) most history.old history.new }
 {
     let at = At { address };
-    burst_on(history, most, &at, &at)
+    go_on(history, most, &at, &at)
 }
 
 // Makes steps, at most so many, until a routine is left, by the stack pointer before its JSR, or to a stop.
@@ -212,40 +197,45 @@ fn leave<A: Allocator + Copy>(
     history: &mut History<A>,
     most: u32,
     s: u8,
-    stops: Stops<A>,
+    alarm: Alarm<A, A>,
 ) -> Outcome
-    requires { world_of_state stops.before.now.state ≡ here history.old }
-    ensures { GoesOn (is_left s (is_stop stops.entry.breaks.now stops.entry.watches.now (here history.old))) most history.old history.new }
+    requires here { world_of_state alarm.stops.before.now.state ≡ here history.old }
+    requires warns { WarnsOfStops alarm.alerts.now alarm.stops.breaks.now alarm.stops.watches.now history.old }
+    ensures { GoesOn (is_left s (is_stop alarm.entry.stops.breaks.now alarm.entry.stops.watches.now (here history.old)))
+        most history.old history.new }
 {
-    go_on(history, most, &Left { s, stops })
+    let left = Left { s, alarm };
+    go_on(history, most, &left, &left)
 }
 
 // Makes a step, or those of the routine that a JSR enters.
-fn next<A: Allocator + Copy>(history: &mut History<A>, most: u32, stops: Stops<A>) -> Outcome
-    requires { world_of_state stops.before.now.state ≡ here history.old }
+fn next<A: Allocator + Copy>(history: &mut History<A>, most: u32, alarm: Alarm<A, A>) -> Outcome
+    requires here { world_of_state alarm.stops.before.now.state ≡ here history.old }
+    requires warns { WarnsOfStops alarm.alerts.now alarm.stops.breaks.now alarm.stops.watches.now history.old }
     ensures { GoesOver (is_call_of (here history.old)) (here history.old).registers.s
-        (is_stop stops.entry.breaks.now stops.entry.watches.now (here history.old)) most history.old history.new }
+        (is_stop alarm.entry.stops.breaks.now alarm.entry.stops.watches.now (here history.old)) most history.old history.new }
 {
     if is_call(history.machine()) {
         let s = history.machine().regs().s;
-        leave(history, most, s, stops)
+        leave(history, most, s, alarm)
     } else {
         step(history, 1)
     }
 }
 
 // Makes steps until the routine that was entered last is left.
-fn out<A: Allocator + Copy>(history: &mut History<A>, most: u32, stops: Stops<A>) -> Outcome
-    requires { world_of_state stops.before.now.state ≡ here history.old }
+fn out<A: Allocator + Copy>(history: &mut History<A>, most: u32, alarm: Alarm<A, A>) -> Outcome
+    requires here { world_of_state alarm.stops.before.now.state ≡ here history.old }
+    requires warns { WarnsOfStops alarm.alerts.now alarm.stops.breaks.now alarm.stops.watches.now history.old }
     ensures { GoesOut (innermost (entered history.old.course history.old.position))
-        (is_stop stops.entry.breaks.now stops.entry.watches.now (here history.old)) most history.old history.new
+        (is_stop alarm.entry.stops.breaks.now alarm.entry.stops.watches.now (here history.old)) most history.old history.new
         ⊎ (history.new ≡ history.old) }
 {
     let Ok(entries) = history.entered() else {
         return Outcome::Memory;
     };
     match entries.as_slice().last() {
-        Some(entry) => leave(history, most, entry.s, stops),
+        Some(entry) => leave(history, most, entry.s, alarm),
         None => Outcome::NoRoutine,
     }
 }
@@ -419,22 +409,22 @@ impl<'a, A: Allocator + Copy> Inspector<'a, A> {
             watches: self.watches.as_slice(),
             before: &self.before,
         };
+        let (program, free) = (&self.program, self.free);
+        self.alerts
+            .set(free, program, stops.before, stops.breaks, stops.watches);
+        let alarm = Alarm {
+            alerts: &self.alerts,
+            stops,
+        };
         match order {
             Order::Step(steps) => step(&mut self.history, steps),
-            Order::Next => next(&mut self.history, self.most, stops),
-            Order::Out => out(&mut self.history, self.most, stops),
+            Order::Next => next(&mut self.history, self.most, alarm),
+            Order::Out => out(&mut self.history, self.most, alarm),
             Order::Back(steps) => back(&mut self.history, steps),
             Order::GoBackOver => go_back_over(&mut self.history),
-            Order::Go => go(
-                &mut self.history,
-                self.most,
-                stops,
-                &self.program,
-                self.free,
-                &mut self.alerts,
-            ),
+            Order::Go => go(&mut self.history, self.most, alarm),
             Order::Until(address) => until(&mut self.history, self.most, address),
-            Order::GoBack => go_back_to_stop(&mut self.history, stops),
+            Order::GoBack => go_back_to_stop(&mut self.history, alarm.stops),
             Order::Who(span) => who(&mut self.history, span, &self.before),
             Order::Watch(span) => watch(&mut self.watches, span),
             Order::Break(place) => set(&mut self.breaks, place),

@@ -5,7 +5,7 @@ ghost use Rattle.a2_stream.specs.Stream.{SendsOrBreaks};
 
 use crate::inspector::{MOST_BREAKS, MOST_WATCHES};
 use crate::order::{Outcome, Refusal, Show};
-use crate::stops::{Break, Condition, Register, Relation, Subject, in_register};
+use crate::stops::{Break, Condition, Moment, Register, Relation, Subject, in_register};
 use a2_cpu::{Regs, Status};
 use a2_explain::{Scene, meaning, put_address, put_number, put_place, statement_at};
 use a2_history::{Entry, History};
@@ -647,7 +647,7 @@ fn put_register<A: Allocator, W: Output>(
     writer: &mut W,
 ) -> Result<(), WriteFault> {
     put_all(&[letter_of(register), b" has "], writer)?;
-    put_byte(in_register(register, machine), writer)
+    put_byte(in_register(register, &Moment::of(machine)), writer)
 }
 
 // Writes PC.

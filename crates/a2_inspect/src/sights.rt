@@ -1,8 +1,9 @@
 //! What is looked for in a run.
 
-use crate::stops::{Break, are_changed, is_at_break, is_changed_in};
-use a2_cpu::Breakpoints;
-use a2_history::Sight;
+use crate::alerts::Alerts;
+use crate::stops::{Break, Moment, are_changed, is_at_break, is_changed_in, ram_of};
+use a2_history::{Lookout, Sight};
+use a2_live::Look;
 use a2_machine::Machine;
 use a2_places::Span;
 use std::alloc::Allocator;
@@ -23,14 +24,14 @@ impl Sight for At {
     }
 }
 
-impl Breakpoints for At {
+impl Lookout for At {
     ghost use Rattle.std.specs.Prelude.{◌==◌};
 
-    ghost is_breakpoint = { λ at address. address == at.address };
+    ghost alarms = { λ at shown. shown.look.next_pc == at.address };
 
     #[inline(always)]
-    fn is_breakpoint(&self, address: u16) -> bool {
-        address == self.address
+    fn alarms(&self, look: Look, _ram: &[u8]) -> bool {
+        look.next_pc == self.address
     }
 }
 
@@ -49,27 +50,93 @@ impl<B: Allocator> Sight for Stops<'_, B> {
     ghost is_seen = { λ stops world. is_stop stops.breaks.now stops.watches.now (world_of_state stops.before.now.state) world };
 
     fn is_seen<A: Allocator>(&self, machine: &Machine<A>) -> bool {
-        is_at_break(self.breaks, machine) || are_changed(self.watches, self.before, machine)
+        is_at_break(self.breaks, &Moment::of(machine))
+            || are_changed(self.watches, ram_of(self.before), ram_of(machine))
+    }
+}
+
+/// What alarms on the way to a stop: a step to a breakpoint whose condition holds, and one that may have stored where a watched byte is
+/// another.
+#[derive(Drop)]
+pub struct Alarm<'a, A: Allocator, B: Allocator> {
+    pub alerts: &'a Alerts<A>,
+    pub stops: Stops<'a, B>,
+}
+
+impl<A: Allocator, B: Allocator> Alarm<'_, A, B> {
+    ghost use Rattle.std.specs.Prelude.{◌≡◌, ◌&&◌, slice_get};
+    ghost use Rattle.std.specs.List.{list_any};
+    ghost use Rattle.a2_bus.specs.Memory.{peek};
+    ghost use Rattle.a2_machine.specs.State.{world_of_state};
+    ghost use Rattle.a2_inspect.specs.Alerts.{is_marked, moment_behind};
+    ghost use Rattle.a2_inspect.specs.Stops.{is_hit, is_span_changed};
+
+    // Whether a step comes to a breakpoint whose condition holds.
+    #[inline(always)]
+    fn comes_to_break(&self, look: Look, ram: &[u8]) -> bool
+        ensures { result ≡ (is_marked self.now.alerts.now.stops look.next_pc
+            && list_any (is_hit (moment_behind (record { look = look; ram = slice_get ram.now }))) self.now.stops.breaks.now) }
+    {
+        self.alerts.has_stop(look.next_pc)
+            && is_at_break(self.stops.breaks, &Moment::behind(look, ram))
+    }
+
+    // Whether a step may have stored, and a watched byte is another behind it.
+    #[inline(always)]
+    fn leaves_change(&self, look: Look, ram: &[u8]) -> bool
+        ensures { result ≡ (is_marked self.now.alerts.now.stores look.pc
+            && list_any (is_span_changed (peek (world_of_state self.now.stops.before.now.state).memory) (slice_get ram.now))
+            self.now.stops.watches.now) }
+    {
+        self.alerts.may_store(look.pc)
+            && are_changed(self.stops.watches, ram_of(self.stops.before), ram)
+    }
+}
+
+impl<A: Allocator, B: Allocator> Lookout for Alarm<'_, A, B> {
+    ghost use Rattle.a2_machine.specs.State.{world_of_state};
+    ghost use Rattle.a2_inspect.specs.Alerts.{alarms as alarms_of};
+
+    ghost alarms = { λ alarm shown. alarms_of alarm.alerts.now alarm.stops.breaks.now alarm.stops.watches.now
+        (world_of_state alarm.stops.before.now.state) shown };
+
+    #[inline(always)]
+    fn alarms(&self, look: Look, ram: &[u8]) -> bool {
+        self.comes_to_break(look, ram) || self.leaves_change(look, ram)
     }
 }
 
 /// Worlds in which a routine is left, by the stack pointer before its JSR; and those of stops.
 #[derive(Drop)]
-pub struct Left<'a, B: Allocator> {
+pub struct Left<'a, A: Allocator, B: Allocator> {
     pub s: u8,
-    pub stops: Stops<'a, B>,
+    pub alarm: Alarm<'a, A, B>,
 }
 
-impl<B: Allocator> Sight for Left<'_, B> {
+impl<A: Allocator, B: Allocator> Sight for Left<'_, A, B> {
     ghost use Rattle.a2_machine.specs.State.{world_of_state};
     ghost use Rattle.a2_inspect.specs.Stops.{is_stop};
     ghost use Rattle.a2_inspect.specs.Inspections.{is_left};
 
-    ghost is_seen = { λ left world. is_left left.s (is_stop left.stops.breaks.now left.stops.watches.now
-        (world_of_state left.stops.before.now.state)) world };
+    ghost is_seen = { λ left world. is_left left.s (is_stop left.alarm.stops.breaks.now left.alarm.stops.watches.now
+        (world_of_state left.alarm.stops.before.now.state)) world };
 
-    fn is_seen<A: Allocator>(&self, machine: &Machine<A>) -> bool {
-        machine.regs().s >= self.s || self.stops.is_seen(machine)
+    fn is_seen<C: Allocator>(&self, machine: &Machine<C>) -> bool {
+        machine.regs().s >= self.s || self.alarm.stops.is_seen(machine)
+    }
+}
+
+impl<A: Allocator, B: Allocator> Lookout for Left<'_, A, B> {
+    ghost use Rattle.std.specs.Prelude.{◌||◌, nat_le};
+    ghost use Rattle.a2_machine.specs.State.{world_of_state};
+    ghost use Rattle.a2_inspect.specs.Alerts.{alarms as alarms_of};
+
+    ghost alarms = { λ left shown. nat_le left.s shown.look.next_s || alarms_of left.alarm.alerts.now left.alarm.stops.breaks.now
+        left.alarm.stops.watches.now (world_of_state left.alarm.stops.before.now.state) shown };
+
+    #[inline(always)]
+    fn alarms(&self, look: Look, ram: &[u8]) -> bool {
+        look.next_s >= self.s || self.alarm.alarms(look, ram)
     }
 }
 
@@ -87,6 +154,6 @@ impl<B: Allocator> Sight for Changed<'_, B> {
     ghost is_seen = { λ changed world. is_changed_in_of (world_of_state changed.before.now.state) world changed.span };
 
     fn is_seen<A: Allocator>(&self, machine: &Machine<A>) -> bool {
-        is_changed_in(&self.span, self.before, machine)
+        is_changed_in(&self.span, ram_of(self.before), ram_of(machine))
     }
 }

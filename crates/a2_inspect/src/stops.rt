@@ -1,10 +1,13 @@
 //! Where a run stops for whoever looks: breakpoints with their conditions, and bytes that are watched.
 
-ghost use Rattle.std.specs.Prelude.{◌≡◌, ◌||◌};
+ghost use Rattle.std.specs.Prelude.{◌≡◌, ◌||◌, slice_get};
 ghost use Rattle.std.specs.List.{list_any};
+ghost use Rattle.a2_bus.specs.Memory.{peek};
 ghost use Rattle.a2_machine.specs.State.{world_of_state};
+ghost use Rattle.a2_inspect.specs.Alerts.{told, moment_behind};
 ghost use Rattle.a2_inspect.specs.Stops as stop;
 
+use a2_live::Look;
 use a2_machine::Machine;
 use a2_places::Span;
 use std::alloc::Allocator;
@@ -56,27 +59,88 @@ pub struct Break {
     pub condition: Option<Condition>,
 }
 
-/// What a register holds.
-pub fn in_register<A: Allocator>(register: Register, machine: &Machine<A>) -> u8
-    ensures { result ≡ stop.in_register register (world_of_state machine.now.state) }
+/// What a stop may be about: the registers as bytes, and RAM.
+#[derive(Drop)]
+pub struct Moment<'a> {
+    pub pc: u16,
+    pub a: u8,
+    pub x: u8,
+    pub y: u8,
+    pub s: u8,
+    /// The flags, as the byte that PHP pushes.
+    pub p: u8,
+    /// The 49,152 bytes from address 0 on.
+    pub ram: &'a [u8],
+}
+
+impl<'a> Moment<'a> {
+    /// That of a machine.
+    pub fn of<A: Allocator>(machine: &'a Machine<A>) -> Moment<'a>
+        ensures { told result ≡ stop.moment_of (world_of_state machine.now.state) }
+    {
+        let regs = machine.regs();
+        Moment {
+            pc: regs.pc,
+            a: regs.a,
+            x: regs.x,
+            y: regs.y,
+            s: regs.s,
+            p: regs.p.pushed(),
+            ram: ram_of(machine),
+        }
+    }
+
+    /// That behind a step, as an observer is shown it.
+    #[inline(always)]
+    pub fn behind(look: Look, ram: &'a [u8]) -> Moment<'a>
+        ensures { told result ≡ moment_behind (record { look = look; ram = slice_get ram.now }) }
+    {
+        Moment {
+            pc: look.next_pc,
+            a: look.next_a,
+            x: look.next_x,
+            y: look.next_y,
+            s: look.next_s,
+            p: look.next_p,
+            ram,
+        }
+    }
+}
+
+/// A machine's RAM.
+pub fn ram_of<A: Allocator>(machine: &Machine<A>) -> &[u8]
+    ensures { slice_get result.now ≡ peek (world_of_state machine.now.state).memory }
 {
-    let regs = machine.regs();
+    machine.space().ram()
+}
+
+// The byte of RAM at an address, where there is one.
+fn byte_at(ram: &[u8], address: u16) -> Option<u8>
+    ensures { result ≡ slice_get ram.now address }
+{
+    ram.get(usize::from(address)).copied()
+}
+
+/// What a register holds.
+pub fn in_register(register: Register, moment: &Moment) -> u8
+    ensures { result ≡ stop.in_register register (told moment.now) }
+{
     match register {
-        Register::A => regs.a,
-        Register::X => regs.x,
-        Register::Y => regs.y,
-        Register::S => regs.s,
-        Register::P => regs.p.pushed(),
+        Register::A => moment.a,
+        Register::X => moment.x,
+        Register::Y => moment.y,
+        Register::S => moment.s,
+        Register::P => moment.p,
     }
 }
 
 // What a condition is about, where there is such a byte.
-fn value_of<A: Allocator>(subject: Subject, machine: &Machine<A>) -> Option<u8>
-    ensures { result ≡ stop.value_of subject (world_of_state machine.now.state) }
+fn value_of(subject: Subject, moment: &Moment) -> Option<u8>
+    ensures { result ≡ stop.value_of subject (told moment.now) }
 {
     match subject {
-        Subject::InRegister(register) => Some(in_register(register, machine)),
-        Subject::InByte(address) => machine.peek(address),
+        Subject::InRegister(register) => Some(in_register(register, moment)),
+        Subject::InByte(address) => byte_at(moment.ram, address),
     }
 }
 
@@ -94,23 +158,23 @@ fn compares(relation: Relation, value: u8, than: u16) -> bool
 }
 
 // Whether a condition holds, where there is one.
-fn holds<A: Allocator>(condition: Option<Condition>, machine: &Machine<A>) -> bool
-    ensures { result ≡ stop.holds condition (world_of_state machine.now.state) }
+fn holds(condition: Option<Condition>, moment: &Moment) -> bool
+    ensures { result ≡ stop.holds condition (told moment.now) }
 {
     let Some(condition) = condition else {
         return true;
     };
-    match value_of(condition.subject, machine) {
+    match value_of(condition.subject, moment) {
         Some(value) => compares(condition.relation, value, condition.value),
         None => false,
     }
 }
 
-// Whether a machine is at a breakpoint whose condition holds.
-fn is_hit<A: Allocator>(place: &Break, machine: &Machine<A>) -> bool
-    ensures { result ≡ stop.is_hit (world_of_state machine.now.state) place.now }
+// Whether a breakpoint is there and its condition holds.
+fn is_hit(place: &Break, moment: &Moment) -> bool
+    ensures { result ≡ stop.is_hit (told moment.now) place.now }
 {
-    place.address == machine.regs().pc && holds(place.condition, machine)
+    place.address == moment.pc && holds(place.condition, moment)
 }
 
 // Whether two bytes, which may be none, differ.
@@ -123,52 +187,37 @@ fn is_other(one: Option<u8>, other: Option<u8>) -> bool
     }
 }
 
-// Whether this was found before, or the byte at an address is another than in the machine `before`.
-fn is_changed_too<A: Allocator, B: Allocator>(
-    was: bool,
-    address: u16,
-    before: &Machine<B>,
-    machine: &Machine<A>,
-) -> bool
-    ensures { result ≡ (was || stop.is_changed address (world_of_state before.now.state) (world_of_state machine.now.state)) }
+// Whether this was found before, or the byte at an address is another than before.
+fn is_changed_too(was: bool, address: u16, before: &[u8], ram: &[u8]) -> bool
+    ensures { result ≡ (was || stop.is_changed address (slice_get before.now) (slice_get ram.now)) }
 {
-    was || is_other(machine.peek(address), before.peek(address))
+    was || is_other(byte_at(ram, address), byte_at(before, address))
 }
 
-/// Whether one of these bytes is another than in the machine `before`.
-pub fn is_changed_in<A: Allocator, B: Allocator>(
-    span: &Span,
-    before: &Machine<B>,
-    machine: &Machine<A>,
-) -> bool
-    ensures { result ≡ stop.is_changed_in (world_of_state before.now.state) (world_of_state machine.now.state) span.now }
+/// Whether one of these bytes of RAM is another than before.
+pub fn is_changed_in(span: &Span, before: &[u8], ram: &[u8]) -> bool
+    ensures { result ≡ stop.is_span_changed (slice_get before.now) (slice_get ram.now) span.now }
 {
     let first = u32::from(span.first);
     let mut is_changed = false;
     for offset in 0..(u32::from(span.last) + 1).saturating_sub(first) {
-        is_changed = is_changed_too(is_changed, (first + offset) as u16, before, machine);
+        is_changed = is_changed_too(is_changed, (first + offset) as u16, before, ram);
     }
     is_changed
 }
 
-/// Whether a machine is at one of these breakpoints whose condition holds.
-pub fn is_at_break<A: Allocator>(breaks: &[Break], machine: &Machine<A>) -> bool
-    ensures { result ≡ list_any (stop.is_hit (world_of_state machine.now.state)) breaks.now }
+/// Whether one of these breakpoints is there and its condition holds.
+pub fn is_at_break(breaks: &[Break], moment: &Moment) -> bool
+    ensures { result ≡ list_any (stop.is_hit (told moment.now)) breaks.now }
 {
-    breaks.iter().any(|place| is_hit(place, machine))
+    breaks.iter().any(|place| is_hit(place, moment))
 }
 
-/// Whether one of the watched bytes is another than in the machine `before`.
-pub fn are_changed<A: Allocator, B: Allocator>(
-    watches: &[Span],
-    before: &Machine<B>,
-    machine: &Machine<A>,
-) -> bool
-    ensures { result ≡ list_any (stop.is_changed_in (world_of_state before.now.state) (world_of_state machine.now.state)) watches.now }
+/// Whether one of the watched bytes of RAM is another than before.
+pub fn are_changed(watches: &[Span], before: &[u8], ram: &[u8]) -> bool
+    ensures { result ≡ list_any (stop.is_span_changed (slice_get before.now) (slice_get ram.now)) watches.now }
 {
-    watches
-        .iter()
-        .any(|span| is_changed_in(span, before, machine))
+    watches.iter().any(|span| is_changed_in(span, before, ram))
 }
 
 /// The addresses, where they may be watched together: at most 256.

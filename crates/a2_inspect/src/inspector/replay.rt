@@ -3,9 +3,8 @@
 ghost use Rattle.std.specs.Prelude.{◌≡◌, ◌↔◌, ◌-◌, min, true, false, OnOk, OnErr};
 ghost use Rattle.a2_inspect.specs.Inspections.{GoesOn, with_keys_typed};
 
-use super::{Inspector, burst_on, note};
+use super::{Inspector, go_on, note};
 use a2_bus::Keys;
-use a2_cpu::NoBreakpoints;
 use a2_history::{Nothing, TypingFault};
 use std::alloc::Allocator;
 
@@ -23,7 +22,7 @@ impl<A: Allocator + Copy> Inspector<'_, A> {
         let ahead = position
             .saturating_sub(self.history.position())
             .min(MOST_POSITION) as u32;
-        let _ = burst_on(&mut self.history, ahead, &Nothing, &NoBreakpoints);
+        let _ = go_on(&mut self.history, ahead, &Nothing, &Nothing);
         note(&mut self.before, &self.history);
         self.history.position() == position
     }

@@ -3,10 +3,10 @@ use Rattle.a2_services.specs.World.{World}
 use Rattle.a2_history.specs.Courses.{with_logged}
 use Rattle.a2_history.proofs.course.quiet_end.Given as goal
 
--- of those so far none was typed behind the one and up to the other
+-- of those so far none was typed between the two
 abbrev pub invariant-loop-typed : goal.invariant-loop-typed
 invariant-loop-typed l = record {
-  ahead : l.from ≤ l.quiet;
+  ahead : l.from < l.quiet;
   within : l.quiet ≤ l.end;
-  quiet : (k : ℕ) → l.from < k → k ≤ l.quiet → (w : World) → with_logged l.log k w ≡ with_logged (drop l.typed-index l.log) k w;
+  quiet : (k : ℕ) → l.from < k → k < l.quiet → (w : World) → with_logged l.log k w ≡ with_logged (drop l.typed-index l.log) k w;
 }

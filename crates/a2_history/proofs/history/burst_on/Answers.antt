@@ -1,33 +1,61 @@
-use Rattle.std.proofs.Common.{arith, sym, ◌∙◌}
-use Rattle.a2_history.proofs.Leaping.{passed-leap, gone-on}
+use Rattle.std.proofs.Common.{◌≡◌, ◌+◌, ◌-◌, ◌<◌, ℕ, Bool, false, arith, sym, ap, ◌∙◌}
+use Rattle.a2_live.specs.Shown.{Shown}
+use Rattle.a2_history.specs.Going.{shown_on}
+use Rattle.a2_history.proofs.Leaping.{none-watched, unseen, gone-further, gone-unseen, gone-on}
 use Rattle.a2_history.proofs.history.burst_on.Goals as goal
+use Rattle.a2_history.proofs.history.burst_on.Goals.{then-watcher+in_default-go_on, else-watcher}
 
-pub put_at-requires-clause-kept : goal.put_at-requires-clause-kept
-put_at-requires-clause-kept g c = c.keep.ensures c.args.course.now c.in_default.ensures.on c.loop-from.invariant.kept
-
-pub go_on-requires-clause-kept : goal.go_on-requires-clause-kept
-go_on-requires-clause-kept g c = c.keep.ensures c.args.course.now c.in_default.ensures.on c.loop-from.invariant.kept
-
-pub returns-then-is_seen-clause-gone : goal.returns-then-is_seen-clause-gone
-returns-then-is_seen-clause-gone g c =
-    gone-on (g.S.Sight.is_seen c.args.sight.now) c.args.course.now c.args.machine.now.state.steps c.put_at.new.machine.state.steps c.args.end
-    c.go_on.new.machine.state.steps c.go_on.result (omega (arith, c.put_at.ensures.steps, c.loop-from.invariant.further))
-    (λ k l m. c.loop-from.invariant.passed k l (omega (arith, m, c.put_at.ensures.steps))) c.go_on.ensures.gone
+pub returns-in-Some-go_on-clause-gone : goal.returns-in-Some-go_on-clause-gone
+returns-in-Some-go_on-clause-gone g c =
+    let seen = g.S.Sight.is_seen c.args.sight.now in
+    let start = c.args.machine.now.state.steps in
+    let from = c.put_at.new.machine.state.steps in
+    let here = c.go_on.new.machine.state.steps in
+    let before = c.loop-from.invariant in
+    gone-on seen c.args.course.now start from c.args.end here _ (omega (arith, c.put_at.ensures.steps, before.further))
+    (λ k l m. before.passed k l (omega (arith, m, c.put_at.ensures.steps)))
+    (gone-further seen c.args.course.now from c.steps-to.result c.args.end here c.in-Some-go_on.halt
+    (omega (arith, c.steps-to.ensures, c.in_default.ensures.within)) c.in-Some-go_on.ensures.gone)
 
 pub loop-from-preserved : goal.loop-from-preserved
 loop-from-preserved g c =
+    let course = c.args.course.now in
+    let seen = g.S.Sight.is_seen c.args.sight.now in
+    let start = c.args.machine.now.state.steps in
     let before = c.loop-from.invariant in
-    let leap = c.in_default.ensures.leaps in
+    let leap = c.in_default.ensures in
     let at = c.steps-from-in-loop-from.ensures in
-    record {
-      on = c.in_default.ensures.on;
-      guard = c.leap.ensures.guard ∙ before.guard;
-      kept = c.keep.ensures c.args.course.now c.in_default.ensures.on before.kept;
-      steps = sym at;
-      further = omega (arith, at, before.further, before.steps, leap.ahead);
-      within = omega (arith, at, leap.within);
-      passed = λ k l m. passed-leap (g.S.Sight.is_seen c.args.sight.now) (g.B.Breakpoints.is_breakpoint c.args.breakpoints.now) c.args.course.now
-          c.args.machine.now.state.steps c.loop-from.machine.state.steps c.args.end c.leap.new.machine.state c.is_seen.result c.requires.lasts
-          (omega (arith, before.further, before.steps)) (λ j a b. before.passed j a (omega (arith, b, before.steps))) leap c.in_default.ensures.on
-          c.is_seen.ensures c.if-is_seen.false k l (omega (arith, m, at));
-    }
+    elim c.if-watcher.branch [
+      | then-watcher+in_default-go_on w ↦
+          let gone = w.in_default-go_on.ensures.gone in
+          let from = w.put_at.new.machine.state.steps in
+          let here = w.go_on.new.machine.state.steps in
+          let same : c.steps-from-in-loop-from.result ≡ here = at ∙ ap (λ (d : Rattle.a2_machine.specs.State.Device). d.state.steps) w.machine-is in
+          record {
+            on = rw (w.machine-is) w.go_on.ensures.on;
+            guard = rw (w.machine-is) w.go_on.ensures.guard;
+            kept = rw (w.checkpoints-is) w.go_on.ensures.kept;
+            steps = sym at;
+            further = omega (arith, same, gone.ahead, w.put_at.ensures.steps, before.further);
+            within = omega (arith, same, gone.within, w.steps-to.ensures, leap.within);
+            passed = λ k l m. gone-unseen seen course start from w.steps-to.result here
+                (λ j a b. before.passed j a (omega (arith, b, w.put_at.ensures.steps))) gone k l (omega (arith, m, same));
+          }
+      | else-watcher w ↦
+          let to = c.leap.new.machine.state.steps in
+          let from = c.loop-from.machine.state.steps in
+          let same : c.steps-from-in-loop-from.result ≡ to = at ∙ ap (λ (d : Rattle.a2_machine.specs.State.Device). d.state.steps) w.machine-is in
+          let alarms : Shown → Bool = g.L.Lookout.alarms c.args.lookout.now in
+          let calm : (k : ℕ) → k < to - from → alarms (shown_on course (from + k)) ≡ false =
+          none-watched g.L.Lookout.alarms (λ k. shown_on course (from + k)) _ _ (to - from) leap.seen w.if-watcher.false in
+          record {
+            on = rw (w.machine-is) leap.on;
+            guard = rw (w.machine-is) (c.leap.ensures.guard ∙ before.guard);
+            kept = rw (w.checkpoints-is) (w.keep.ensures course leap.on before.kept);
+            steps = sym at;
+            further = omega (arith, same, before.further, before.steps, leap.ahead);
+            within = omega (arith, same, leap.within);
+            passed = λ k l m. unseen seen alarms course start from to c.requires.warns (omega (arith, before.further, before.steps))
+                (λ j a b. before.passed j a (omega (arith, b, before.steps))) leap.on.went calm k l (omega (arith, m, same));
+          }
+    ]

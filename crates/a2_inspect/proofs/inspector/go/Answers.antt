@@ -1,17 +1,16 @@
-use Rattle.std.proofs.Common.{subst}
+use Rattle.std.proofs.Common.{sym, subst}
 use Rattle.a2_services.specs.World.{World}
-use Rattle.a2_inspect.specs.Alerts.{AreAlerts}
-use Rattle.a2_inspect.proofs.Calm.{lasts}
+use Rattle.a2_history.specs.Going.{Warns}
+use Rattle.a2_inspect.specs.Stops.{is_stop}
+use Rattle.a2_inspect.specs.Alerts.{alarms}
 use Rattle.a2_inspect.proofs.inspector.go.Goals as goal
 
-pub burst_on-requires : goal.burst_on-requires
-burst_on-requires g c =
-    let program = c.args.program.now in
-    let breaks = c.args.stops.breaks.now in
-    let watches = c.args.stops.watches.now in
-    rw c.requires.here
-    (lasts c.args.free program c.args.history.now.course c.args.history.now.position breaks watches c.set.new.self c.requires.guarded
-    (subst (λ (w : World). AreAlerts c.args.free program.statements w.memory breaks watches c.set.new.self) c.requires.here c.set.ensures))
+pub go_on-requires : goal.go_on-requires
+go_on-requires g c =
+    let stops = c.args.alarm.stops in
+    let track = c.args.history.now in
+    subst (λ (w : World). Warns (is_stop stops.breaks.now stops.watches.now w) (alarms c.args.alarm.alerts.now stops.breaks.now stops.watches.now w)
+    track.course track.position) (sym c.requires.here) c.requires.warns
 
 pub returns : goal.returns
-returns g c = rw (← c.requires.here) c.burst_on.ensures
+returns g c = rw (← c.requires.here) c.go_on.ensures
