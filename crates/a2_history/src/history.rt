@@ -2,7 +2,7 @@
 
 ghost use Rattle.std.specs.Prelude.{◌≡◌, ◌+◌, ◌<◌, ◌≤◌, ℕ, min, [], length, IfOk, IfErr, OnOk, OnErr};
 ghost use Rattle.a2_machine.specs.State.{world_of_state};
-ghost use Rattle.a2_history.specs.Courses.{NoneStuck, with_keys};
+ghost use Rattle.a2_history.specs.Courses.{Course as Seen, NoneStuck, with_keys};
 ghost use Rattle.a2_history.specs.Going.{here, Advances, Warns, IsNewest, IsOn, AreOn, with_typed};
 ghost use Rattle.a2_history.specs.Gone.{IsGone, IsCauseAt};
 ghost use Rattle.a2_history.specs.Routines.{entered as entered_on, IsNewestOutside};
@@ -29,7 +29,7 @@ pub struct History<A: Allocator = Global> {
     alloc: A,
     course: Course<A>,
     machine: Machine<A>,
-    // A machine that looks at earlier worlds.
+    // A machine that looks at earlier worlds, and stays where a burst begins.
     scout: Machine<A>,
     checkpoints: Checkpoints<A>,
 }
@@ -85,6 +85,7 @@ impl<A: Allocator + Copy> History<A> {
             self.alloc,
             &self.course,
             &mut self.machine,
+            &mut self.scout,
             &mut self.checkpoints,
             end,
             sight,
@@ -158,11 +159,21 @@ fn put_at<A: Allocator>(
     course.bring(machine, position);
 }
 
-// The same in bursts. Where a step of one alarms its steps are made again, one by one.
+// Puts a machine where another is.
+fn put_as<A: Allocator>(machine: &mut Machine<A>, other: &Machine<A>)
+    ensures on { (course : Seen) → IsOn course other.now.state → IsOn course machine.new.state }
+    ensures steps { machine.new.state.steps ≡ other.now.state.steps }
+    ensures guard { machine.new.state.guard ≡ machine.old.state.guard }
+{
+    machine.restore(other);
+}
+
+// The same in bursts. Where a step of one alarms its steps are made again, one by one, from where the scout stayed.
 fn burst_on<A: Allocator + Copy, S: Sight, L: Lookout>(
     alloc: A,
     course: &Course<A>,
     machine: &mut Machine<A>,
+    scout: &mut Machine<A>,
     checkpoints: &mut Checkpoints<A>,
     end: u64,
     sight: &S,
@@ -178,9 +189,11 @@ fn burst_on<A: Allocator + Copy, S: Sight, L: Lookout>(
     ensures guard { machine.new.state.guard ≡ course.now.origin.guard }
     ensures kept { AreOn course.now checkpoints.new }
     ensures gone { IsGone (S.is_seen sight.now) course.now machine.old.state.steps end machine.new.state.steps result }
+    ensures scout { scout.new.state.guard ≡ scout.old.state.guard }
 {
     let mut from = machine.steps();
     while from < end {
+        put_as(scout, machine);
         let mut watcher = Watcher {
             lookout,
             is_alarmed: false,
@@ -190,7 +203,7 @@ fn burst_on<A: Allocator + Copy, S: Sight, L: Lookout>(
         }
         if watcher.is_alarmed {
             let to = machine.steps();
-            put_at(course, machine, checkpoints, from);
+            put_as(machine, scout);
             if let Some(halt) = go_on(alloc, course, machine, checkpoints, to, sight) {
                 return Some(halt);
             }

@@ -9,11 +9,11 @@ pub returns-in-Some-go_on-clause-gone : goal.returns-in-Some-go_on-clause-gone
 returns-in-Some-go_on-clause-gone g c =
     let seen = g.S.Sight.is_seen c.args.sight.now in
     let start = c.args.machine.now.state.steps in
-    let from = c.put_at.new.machine.state.steps in
+    let from = c.put_as-then-watcher.new.machine.state.steps in
     let here = c.go_on.new.machine.state.steps in
     let before = c.loop-from.invariant in
-    gone-on seen c.args.course.now start from c.args.end here _ (omega (arith, c.put_at.ensures.steps, before.further))
-    (λ k l m. before.passed k l (omega (arith, m, c.put_at.ensures.steps)))
+    gone-on seen c.args.course.now start from c.args.end here _ (omega (arith, c.put_as-then-watcher.ensures.steps, before.further))
+    (λ k l m. before.passed k l (omega (arith, m, c.put_as-then-watcher.ensures.steps)))
     (gone-further seen c.args.course.now from c.steps-to.result c.args.end here c.in-Some-go_on.halt
     (omega (arith, c.steps-to.ensures, c.in_default.ensures.within)) c.in-Some-go_on.ensures.gone)
 
@@ -28,7 +28,7 @@ loop-from-preserved g c =
     elim c.if-watcher.branch [
       | then-watcher+in_default-go_on w ↦
           let gone = w.in_default-go_on.ensures.gone in
-          let from = w.put_at.new.machine.state.steps in
+          let from = w.put_as-then-watcher.new.machine.state.steps in
           let here = w.go_on.new.machine.state.steps in
           let same : c.steps-from-in-loop-from.result ≡ here = at ∙ ap (λ (d : Rattle.a2_machine.specs.State.Device). d.state.steps) w.machine-is in
           record {
@@ -36,10 +36,11 @@ loop-from-preserved g c =
             guard = rw (w.machine-is) w.go_on.ensures.guard;
             kept = rw (w.checkpoints-is) w.go_on.ensures.kept;
             steps = sym at;
-            further = omega (arith, same, gone.ahead, w.put_at.ensures.steps, before.further);
+            scout = c.put_as.ensures.guard ∙ before.scout;
+            further = omega (arith, same, gone.ahead, w.put_as-then-watcher.ensures.steps, before.further);
             within = omega (arith, same, gone.within, w.steps-to.ensures, leap.within);
             passed = λ k l m. gone-unseen seen course start from w.steps-to.result here
-                (λ j a b. before.passed j a (omega (arith, b, w.put_at.ensures.steps))) gone k l (omega (arith, m, same));
+                (λ j a b. before.passed j a (omega (arith, b, w.put_as-then-watcher.ensures.steps))) gone k l (omega (arith, m, same));
           }
       | else-watcher w ↦
           let to = c.leap.new.machine.state.steps in
@@ -53,6 +54,7 @@ loop-from-preserved g c =
             guard = rw (w.machine-is) (c.leap.ensures.guard ∙ before.guard);
             kept = rw (w.checkpoints-is) (w.keep.ensures course leap.on before.kept);
             steps = sym at;
+            scout = c.put_as.ensures.guard ∙ before.scout;
             further = omega (arith, same, before.further, before.steps, leap.ahead);
             within = omega (arith, same, leap.within);
             passed = λ k l m. unseen seen alarms course start from to c.requires.warns (omega (arith, before.further, before.steps))

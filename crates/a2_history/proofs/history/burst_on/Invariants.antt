@@ -12,6 +12,7 @@ invariant-loop-from g l = record {
   steps : l.machine.state.steps ≡ l.from;
   further : l.fn.machine.state.steps ≤ l.from;
   within : l.from ≤ l.end;
+  scout : l.scout.state.guard ≡ l.fn.scout.state.guard;
   passed : (k : ℕ) → l.fn.machine.state.steps < k → k ≤ l.from → g.S.Sight.is_seen l.sight (world_on l.course k) ≡ false;
 }
 
