@@ -7,7 +7,6 @@
 mod answering;
 mod debugging;
 mod fault;
-mod gathered;
 mod laws;
 mod limits;
 mod run;
