@@ -1,0 +1,173 @@
+"""The Rattle kit: where it checks a crate, and what it says of it."""
+
+import fcntl
+import os
+import re
+import shutil
+import subprocess
+
+from .writing import BELOW, CRATE, function_of
+
+PROVED = re.compile(r"^fn \w+::(\w+): proved", re.MULTILINE)
+ERROR = re.compile(
+    r"^\./(?:proofs|specs)/([\w/]+)\.antt:(\d+):\d+: error: (.*?)(?=^\./|^fn |^logic|^crate |^statements|^library|\Z)",
+    re.MULTILINE | re.DOTALL,
+)
+VALUES = re.compile(r"goal fails, at (.*?)\. It read", re.DOTALL)
+
+
+# Files that are open as long as this process lives.
+LOCKS = []
+
+
+class NoKit(Exception):
+    """Why the kit can't be asked."""
+
+
+def needs(top):
+    """The crates that the rules stand on, lowest first, with their lines in crates.txt."""
+    lines = {}
+    for line in (top / "crates.txt").read_text(encoding="utf-8").splitlines():
+        name, _, below = line.partition("#")[0].partition(":")
+        if name.strip():
+            lines[name.strip()] = below.split()
+    found = {}
+
+    def take(name):
+        for below in lines[name]:
+            if below in lines and below not in found:
+                take(below)
+        found[name] = lines[name]
+
+    take("a2_rules")
+    return found
+
+
+def is_built(top, crates, mark):
+    """Whether the library of each crate is there, and nothing is younger than the mark that was left when they were built."""
+    if not mark.exists():
+        return False
+    files = [top / "crates.txt", *(top / "crates" / name / "out/rlib/stamp" for name in crates)]
+    for name in crates:
+        files += [file for part in ("src", "specs", "proofs") for file in (top / "crates" / name / part).rglob("*")]
+    return all(file.exists() and file.stat().st_mtime <= mark.stat().st_mtime for file in files)
+
+
+def run(words, folder):
+    how = {"stdin": subprocess.DEVNULL, "stdout": subprocess.PIPE, "stderr": subprocess.STDOUT, "errors": "replace"}
+    said = subprocess.run(words, cwd=folder, text=True, **how)
+    return said.returncode, said.stdout
+
+
+def build_rules(top, room, tell):
+    """Proves what the rules stand on, and the rules, where that is to be done. Other calls wait for the room until this one ends."""
+    if shutil.which("rt") is None:
+        raise NoKit("the Rattle kit, which proves, is missing: no rt is on the path. ./a2x promise tries promises without it")
+    room.mkdir(parents=True, exist_ok=True)
+    keep_others_out(room / "lock")
+    mark = room / "built"
+    if is_built(top, needs(top), mark):
+        return
+    tell("the rules and what they stand on are proved first, which takes minutes, or an hour where nothing is built yet")
+    status, said = run(["../../tests/rt", "lib"], top / "crates/a2_rules")
+    if status:
+        (room / "rules.log").write_text(said, encoding="utf-8")
+        raise NoKit("the rules are not proved: what the kit said stands in out/prove/rules.log")
+    mark.touch()
+
+
+def keep_others_out(file):
+    """Waits until no other call uses the room."""
+    LOCKS.append(file.open("w", encoding="utf-8"))
+    fcntl.flock(LOCKS[-1], fcntl.LOCK_EX)
+
+
+def link(source, target):
+    """A folder again, its files by links where that can be."""
+
+    def one(a, b):
+        try:
+            os.link(a, b)
+        except OSError:
+            shutil.copy2(a, b)
+
+    if not target.exists() and source.exists():
+        shutil.copytree(source, target, copy_function=one)
+
+
+def make_room(top, room):
+    """A folder in which the kit finds the crates as they are built, and room for one more."""
+    shutil.rmtree(room / "crates", ignore_errors=True)
+    crates = needs(top)
+    text = ""
+    for name, below in crates.items():
+        for part in ("src", "specs", "proofs", "out/rlib"):
+            target = room / "crates" / name / part
+            target.parent.mkdir(parents=True, exist_ok=True)
+            link(top / "crates" / name / part, target)
+        text += f"{name}: {' '.join(below)}\n"
+    (room / "crates.txt").write_text(text + f"{CRATE}: {BELOW}\n", encoding="utf-8")
+    shutil.copy2(top / "HANDLES", room / "HANDLES")
+    return room / "crates" / CRATE
+
+
+def check(folder):
+    """What the kit says of a crate."""
+    return run(["rt", "check"], folder)[1]
+
+
+class Answers:
+    """What the kit said, by routines."""
+
+    def __init__(self, said, folder):
+        self.said, self.folder = said, folder
+        self.proved = set(PROVED.findall(said))
+        self.errors = {}
+        for module, line, says in ERROR.findall(said):
+            self.errors.setdefault(module, []).append((int(line), says.strip()))
+
+    def is_proved(self, written, needed):
+        """Whether the kit says that a routine is proved, and finds nothing wrong in what its proof stands on."""
+        modules = {"Program", *(it.module for it in needed)}
+        return function_of(written) in self.proved and not modules & set(self.errors)
+
+    def keep(self, file):
+        """Keeps what the kit said in a file; its name."""
+        file.write_text(self.said, encoding="utf-8")
+        return file
+
+    def mark_at(self, module, line):
+        """The number of the mark that the line of an error stands before."""
+        lines = (self.folder / f"proofs/{module}.antt").read_text(encoding="utf-8").split("\n")
+        for text in lines[line - 1 : line + 60]:
+            found = re.search(r"-- @(\d+)", text)
+            if found:
+                return int(found[1])
+        return None
+
+    def reasons(self, written):
+        """Why a proof is not one, told of the source."""
+        reasons = []
+        for line, says in self.errors.get(written.module, []):
+            at = self.mark_at(written.module, line)
+            what = written.marks[at] if at is not None else "the proof"
+            values = VALUES.search(says)
+            reasons.append(f"{what}: fails at {readable(values[1])}" if values else f"{what}: this does not follow")
+        return list(dict.fromkeys(reasons))
+
+
+def readable(text):
+    """Values of the prover in the words of a promise."""
+    places = (
+        (r"\(stepped code .*?\)\.registers\.([axy])\b", lambda m: m[1].upper()),
+        (r"ram_byte \(stepped code .*?\)\.memory (\d+)", lambda m: f"${int(m[1]):02X}"),
+        (r"`?\b(?:ram_byte )?w\.memory(?:\.plain)? (\d+)`?", lambda m: f"old ${int(m[1]):02X}"),
+        (r"`?\b(?:ram_byte )?[uv]\d+\.memory(?:\.plain)? (\d+)`?", lambda m: f"${int(m[1]):02X}"),
+        (r"\bw\.registers\.([axy])\b", lambda m: "old " + m[1].upper()),
+        (r"\b[uv]\d+\.registers\.([axy])\b", lambda m: m[1].upper()),
+        (r"\bone_if w\.registers\.flags\.([nvzc])\b", lambda m: "old " + m[1].upper()),
+    )
+    for pattern, words in places:
+        text = re.sub(pattern, words, text)
+    text = " ".join(text.replace("`", "").split())
+    return text if len(text) < 200 else text[:200] + " .."

@@ -1,0 +1,170 @@
+"""The promises of a source: which lines belong to which label."""
+
+from dataclasses import dataclass, field
+
+from .language import Reader
+from .refusal import Refusal
+
+OUTSIDE = "this stands in no routine: lines with requires, ensures or changes before a label begin one"
+KINDS = ("requires", "ensures", "changes", "invariant", "decreases", "note")
+# Lines that speak of the run as a whole: they are of `./a2x promise`.
+OF_RUN = ("keys", "stops", "screen", "prints", "cycles", "steps", "memory", "registers")
+
+
+@dataclass
+class Clause:
+    line: int
+    column: int
+    text: str
+    expr: tuple
+
+
+@dataclass
+class Changes:
+    registers: set = field(default_factory=set)
+    # from one address up to another, both among them
+    ranges: list = field(default_factory=list)
+
+    def addresses(self):
+        return [a for first, last in self.ranges for a in range(first, last + 1)]
+
+
+@dataclass
+class Within:
+    """What is said at a label within a routine."""
+
+    label: str
+    line: int
+    address: int
+    invariants: list
+    measures: list
+
+
+@dataclass
+class Promise:
+    name: str
+    line: int
+    address: int
+    wanted: list
+    promised: list
+    changes: Changes
+    within: list = field(default_factory=list)
+
+
+@dataclass
+class Block:
+    """The lines before a label."""
+
+    first: int = 0
+    clauses: dict = field(default_factory=lambda: {kind: [] for kind in KINDS})
+    changes: Changes = field(default_factory=Changes)
+    refused: Refusal = None
+
+    @property
+    def is_within(self):
+        return not (self.clauses["requires"] or self.clauses["ensures"] or self.clauses["changes"])
+
+
+def promise_in(text):
+    """What stands behind ;: in a line, and how many bytes stand before that."""
+    rest = text.lstrip(" \t")
+    return (rest[2:], len(text) - len(rest) + 2) if rest.startswith(";:") else None
+
+
+def take_changes(reader, changes):
+    if reader.took("nothing"):
+        return reader.ended()
+    while True:
+        take_change(reader, changes)
+        if not reader.took(","):
+            return reader.ended()
+
+
+def take_change(reader, changes):
+    for register in "AXY":
+        if reader.took(register):
+            changes.registers.add(register)
+            return
+    if reader.took("S"):
+        reader.refuse("S is as it should be where a routine returns: it is not among what changes")
+    if any(reader.took(flag) for flag in "CZNVDI"):
+        return
+    first = reader.address()
+    last = reader.address() if reader.took("..") else first
+    if last < first:
+        reader.refuse("the last address is below the first")
+    changes.ranges.append((first, last))
+
+
+def take_line(block, number, rest, offset, names):
+    """Takes up a line of a promise; what begins with another word is left to others."""
+    word = rest.split()[0] if rest.split() else ""
+    if word in OF_RUN:
+        return
+    block.first = block.first or number
+    start = len(rest) - len(rest.lstrip(" \t")) + len(word)
+    reader = Reader(rest[start:], number, offset + start, names)
+    try:
+        if word not in KINDS:
+            says = "a line of a promise begins with requires, ensures, changes, invariant, decreases or note"
+            raise Refusal(number, says, offset + start - len(word) + 1)
+        block.clauses[word].append(None)
+        if word == "changes":
+            take_changes(reader, block.changes)
+            return
+        piece = reader.expression()
+        expr = reader.number(piece) if word == "decreases" else reader.fact(piece)
+        reader.ended()
+        text = rest[start:]
+        block.clauses[word][-1] = Clause(number, offset + len(rest) - len(text.lstrip(" \t")) + 1, text.strip(), expr)
+    except Refusal as refused:
+        block.refused = block.refused or refused
+
+
+def close(found, program, block, line):
+    """Adds what the lines before a line are."""
+    if not block.first:
+        return
+    label = line.label if line else ""
+    address = program.places.get(line.number) if line else None
+    if block.refused:
+        found.append((label, block.refused))
+    elif not label:
+        found.append(("", Refusal(block.first, "a promise stands before the line of a label", 1)))
+    elif program.instruction_at(address) is None:
+        says = "a promise stands before a routine, and no instruction begins at this label"
+        found.append((label, Refusal(block.first, says, 1)))
+    elif block.is_within:
+        attach(found, block, label, line.number, address)
+    else:
+        promise = Promise(label, line.number, address, block.clauses["requires"], block.clauses["ensures"], block.changes)
+        add_within(promise, block, label, line.number, address)
+        found.append((label, promise))
+
+
+def add_within(promise, block, label, line, address):
+    invariants, measures = block.clauses["invariant"] + block.clauses["note"], block.clauses["decreases"]
+    if invariants or measures:
+        promise.within.append(Within(label, line, address, invariants, measures))
+
+
+def attach(found, block, label, line, address):
+    if not found:
+        found.append((label, Refusal(block.first, OUTSIDE, 1)))
+    elif isinstance(found[-1][1], Promise):
+        add_within(found[-1][1], block, label, line, address)
+
+
+def promises_of(texts, lines, program):
+    """Each promise of a source's lines, or why lines are none, with the label that they stand before."""
+    by_number = {line.number: line for line in lines}
+    found, block = [], Block()
+    for number, text in enumerate(texts, 1):
+        said = promise_in(text)
+        if said:
+            take_line(block, number, *said, program.names)
+        elif number in by_number:
+            close(found, program, block, by_number[number])
+            block = Block()
+    close(found, program, block, None)
+    return found

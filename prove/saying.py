@@ -1,0 +1,268 @@
+"""What an expression says of two worlds, as the prover reads it: the very terms that `view` and `claim` of
+crates/a2_rules/proofs/Saying.antt compute, and of which expressions they speak."""
+
+from .terms import par
+
+COMPARED = {"Equal": ("≡", "≢"), "Less": ("<", "≤"), "AtMost": ("≤", "<")}
+REGISTERS = ("A", "X", "Y")
+FLAGS = {"Carry": "C", "Zero": "Z", "Negative": "N", "Overflow": "V"}
+OTHERS = {"Cycles": "cycles", "Steps": "steps", "Decimal": "D", "Interrupt": "I"}
+BY_IF = "a number by if can't be proved: write if P then A = E else A = E"
+BYTES = {"BitAnd": "◌&&◌", "BitOr": "◌||◌", "BitXor": "differ"}
+OPERATORS = {"Plus": "+", "Times": "*", "Over": "/"}
+
+
+def is_minus(e):
+    """Whether a number may be below 0."""
+    if e[0] == "old":
+        return is_minus(e[1])
+    return e[0] == "pair" and (e[1] == "Minus" or e[1] == "Plus" and (is_minus(e[2]) or is_minus(e[3])))
+
+
+def is_fact(e):
+    """Whether an expression says that something holds, and is no flag."""
+    if e[0] == "old":
+        return is_fact(e[1])
+    return e[0] == "choice" or e[0] == "pair" and e[1] in COMPARED
+
+
+def is_flag(e):
+    """Whether an expression says that something holds."""
+    return is_fact(e) or e[0] == "held" and e[1] not in REGISTERS or e[0] == "old" and is_flag(e[1]) or e[0] == "each"
+
+
+def constant(e):
+    return {("number", 0): False, ("number", 1): True}.get(e)
+
+
+def shape(e):
+    """What a choice is: and, or, not, if, or one of two."""
+    return {
+        (None, False): "and",
+        (True, None): "or",
+        (False, True): "not",
+        (None, True): "if",
+    }.get((constant(e[2]), constant(e[3])), "choice")
+
+
+# Which expressions can be proved
+
+
+def most(e):
+    """A number that an expression is not above."""
+    kind = e[0]
+    if kind == "number":
+        return e[1]
+    if kind == "old":
+        return most(e[1])
+    if kind == "of":
+        return 255 if e[1] == "Byte" else 65535
+    if kind == "pair":
+        m, n = most(e[2]), most(e[3])
+        return {"Plus": m + n, "Minus": m + n, "Times": m * n, "Over": m, "Modulo": n, "Min": m, "Max": m + n}.get(e[1], 255)
+    return 255
+
+
+def why_no_number(e):
+    """Why the rules do not speak of a number; None if they do."""
+    kind = e[0]
+    if kind == "number":
+        return None
+    if kind == "held":
+        if e[1] in REGISTERS or e[1] in FLAGS:
+            return None
+        return f"{OTHERS.get(e[1], e[1])} can't be proved: A, X, Y and the flags C, Z, N, V can"
+    if kind == "old":
+        return why_no_number(e[1])
+    if kind == "of":
+        return why_no_number(e[2]) or why_no_place(e)
+    if kind == "pair":
+        return why_no_number(e[2]) or why_no_number(e[3]) or why_not_joined(e)
+    if kind == "choice":
+        return BY_IF
+    return "for all and sum can't be proved: name each byte"
+
+
+def why_no_place(e):
+    if e[1] not in ("Byte", "Word"):
+        return f"{e[1].lower()} can't be proved: say it by comparisons of the byte"
+    if is_minus(e[2]):
+        return "an address that is a difference can't be proved: write it as a sum"
+    if most(e[2]) >= (0xC000 if e[1] == "Byte" else 0xBFFF):
+        return "this address may lie at $C000 or above: only bytes of RAM can be proved"
+    return None
+
+
+def why_not_joined(e):
+    _, op, x, y = e
+    if op in COMPARED:
+        return "a comparison can't be proved as a number"
+    if op == "Bit":
+        return "bit can't be proved: write it by / and %, as A / 8 % 2 for bit 3 of A"
+    if op in ("Over", "Modulo") and not (y[0] == "number" and y[1] > 0):
+        return "a quotient is proved only by a number that is written, and above 0"
+    if op in ("Times", "Over", "Min", "Max", *BYTES) and (is_minus(x) or op != "Over" and is_minus(y)):
+        return "a difference may stand in a sum, before % and at a comparison: elsewhere it can't be proved"
+    if op in BYTES and (most(x) > 255 or most(y) > 255):
+        return "bits are proved of bytes only"
+    if op in ("Plus", "Minus", "Times") and most(e) >= 2**63:
+        return "this number may be too great"
+    return None
+
+
+def why_no_fact(e):
+    """Why the rules do not speak of a fact; None if they do."""
+    kind = e[0]
+    if kind == "number":
+        return None
+    if kind == "held":
+        return None if e[1] in FLAGS else f"{OTHERS.get(e[1], e[1])} can't be proved: the flags C, Z, N, V can"
+    if kind == "old":
+        return why_no_fact(e[1])
+    if kind == "pair" and e[1] in COMPARED:
+        if (is_fact(e[2]) or is_fact(e[3])) and not (is_flag(e[2]) and is_flag(e[3])):
+            return BY_IF
+        if is_fact(e[2]) or is_fact(e[3]):
+            return why_no_fact(e[2]) or why_no_fact(e[3])
+        return why_no_number(e[2]) or why_no_number(e[3])
+    if kind == "choice":
+        return why_no_fact(e[1]) or why_no_fact(e[2]) or why_no_fact(e[3])
+    return "for all and sum can't be proved: name each byte"
+
+
+# Terms
+
+
+class Words:
+    """Terms of an expression, of the worlds that these names stand for: the one it speaks of, and the one at the entry."""
+
+    def __init__(self, new, old):
+        self.new, self.old = new, old
+
+    def at_entry(self):
+        return Words(self.old, self.old)
+
+    def part(self, atom):
+        if atom in REGISTERS:
+            return f"{self.new}.registers.{atom.lower()}"
+        return f"(one_if {self.flag(atom)})"
+
+    def flag(self, atom):
+        return f"{self.new}.registers.flags.{FLAGS[atom].lower()}"
+
+    def byte(self, address):
+        return f"ram_byte {self.new}.memory {par(address)}"
+
+    def word(self, address):
+        return f"word {self.new}.memory {par(address)}"
+
+    # Numbers
+
+    def plain(self, e):
+        kind = e[0]
+        if kind == "number":
+            return str(e[1])
+        if kind == "held":
+            return self.part(e[1])
+        if kind == "old":
+            return self.at_entry().plain(e[1])
+        if kind == "of":
+            return (self.byte if e[1] == "Byte" else self.word)(self.plain(e[2]))
+        return self.joined(*e[1:])
+
+    def joined(self, op, x, y):
+        if op in OPERATORS:
+            return f"({self.plain(x)} {OPERATORS[op]} {self.plain(y)})"
+        if op in BYTES:
+            return f"(by_digits 8 {BYTES[op]} {par(self.plain(x))} {par(self.plain(y))})"
+        if op == "Modulo":
+            m = y[1]
+            over = f"({self.up(x)} + {m - 1} * {par(self.down(x))})" if is_minus(x) else self.plain(x)
+            return f"({over} % {m})"
+        return f"({op.lower()} {par(self.plain(x))} {par(self.plain(y))})"
+
+    def up(self, e):
+        if e[0] == "old" and is_minus(e):
+            return self.at_entry().up(e[1])
+        if e[0] == "pair" and e[1] == "Minus":
+            return f"({self.up(e[2])} + {self.down(e[3])})"
+        if e[0] == "pair" and e[1] == "Plus":
+            return f"({self.up(e[2])} + {self.up(e[3])})"
+        return self.plain(e)
+
+    def down(self, e):
+        if e[0] == "old" and is_minus(e):
+            return self.at_entry().down(e[1])
+        if e[0] == "pair" and e[1] == "Minus":
+            return f"({self.down(e[2])} + {self.up(e[3])})"
+        if e[0] == "pair" and e[1] == "Plus":
+            return f"({self.down(e[2])} + {self.down(e[3])})"
+        return "0"
+
+    def sides(self, x, y):
+        """What a comparison compares."""
+        if is_minus(x) or is_minus(y):
+            return f"({self.up(x)} + {self.down(y)})", f"({self.up(y)} + {self.down(x)})"
+        return self.plain(x), self.plain(y)
+
+    # Facts
+
+    def says(self, e, holds=True):
+        """That a fact holds, or that it does not."""
+        kind = e[0]
+        if kind == "number":
+            return "Unit {0}" if bool(e[1]) == holds else "⊥"
+        if kind == "held":
+            return f"{self.flag(e[1])} ≡ {'true' if holds else 'false'}"
+        if kind == "old":
+            return self.at_entry().says(e[1], holds)
+        if kind == "pair":
+            return self.pair_says(e, holds)
+        return self.choice_says(e, holds)
+
+    def pair_says(self, e, holds):
+        _, op, x, y = e
+        if is_fact(x) or is_fact(y):
+            return f"({self.implies(x, True, y, holds)}) × ({self.implies(x, False, y, not holds)})"
+        left, right = self.sides(x, y)
+        if holds or op == "Equal":
+            return f"{left} {COMPARED[op][0 if holds else 1]} {right}"
+        return f"{right} {COMPARED[op][1]} {left}"
+
+    def implies(self, x, x_holds, y, y_holds):
+        return f"({self.says(x, x_holds)}) → ({self.says(y, y_holds)})"
+
+    def two(self, sign, x, x_holds, y, y_holds):
+        return f"({self.says(x, x_holds)}) {sign} ({self.says(y, y_holds)})"
+
+    def choice_says(self, e, holds):
+        _, by, one, other = e
+        kind = shape(e)
+        if kind == "and":
+            return self.two("×" if holds else "⊎", by, holds, one, holds)
+        if kind == "or":
+            return self.two("⊎" if holds else "×", by, holds, other, holds)
+        if kind == "not":
+            return self.says(by, not holds)
+        if kind == "if":
+            return self.implies(by, True, one, True) if holds else self.two("×", by, True, one, False)
+        return f"({self.implies(by, True, one, holds)}) × ({self.implies(by, False, other, holds)})"
+
+
+# Literals
+
+
+def phrase(e):
+    """An expression as a phrase of specs/Phrases.antt."""
+    kind = e[0]
+    if kind == "number":
+        return f"(number (pos {e[1]}))"
+    if kind == "held":
+        return f"(held atom.{e[1]})"
+    if kind == "old":
+        return f"(old {phrase(e[1])})"
+    if kind == "of":
+        return f"(of function.{e[1]} {phrase(e[2])})"
+    if kind == "pair":
+        return f"(pair operation.{e[1]} {phrase(e[2])} {phrase(e[3])})"
+    return f"(choice {phrase(e[1])} {phrase(e[2])} {phrase(e[3])})"

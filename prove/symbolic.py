@@ -1,0 +1,348 @@
+"""What instructions do to a state of which little is known by value: registers, flags and bytes as terms, and facts about them
+that the prover's arithmetic wants."""
+
+import copy
+import re
+
+from .refusal import Refusal
+from .saying import BYTES, FLAGS, Words
+from .terms import add, modulo, par
+
+ONES = re.compile(r"0*1+0*")
+INDEXED = ("ZeroPageX", "ZeroPageY", "AbsoluteX", "AbsoluteY")
+
+
+class State:
+    """A place in a proof: `steps` steps behind the prover's world `world`, in terms of the world that the variable `base` is."""
+
+    def __init__(self, base, world, pc, s):
+        self.base, self.world, self.pc, self.s = base, world, pc, s
+        self.steps = 0
+        # the loop at whose top it stands
+        self.top = None
+        # the facts that `base` holds bytes, and that what may not be changed is as at the entry; None where `base` is that world
+        self.bytes, self.keep = "bytes", None
+        self.registers = {it: f"{base}.registers.{it.lower()}" for it in "AXY"}
+        self.flags = {it: ("unknown", f"{base}.registers.flags.{it.lower()}") for it in "NVZC"}
+        # bytes that were stored, by their addresses; and the stores in their order
+        self.memory, self.stores = {}, []
+        # names of facts for the arithmetic; lines that are still to be written; what stands behind each name
+        self.facts, self.lines, self.known = [], [], []
+        # how it came here, and how many branches that are not known lie behind it
+        self.path, self.depth = [], 0
+        # facts that a term is 0
+        self.zeros = {}
+        # what a loop's top was, where a round of it is under way; and what was known at the entry of the routine
+        self.loop = None
+        self.ground = ([], [])
+
+    def copy(self):
+        made = copy.copy(self)
+        for name in ("registers", "flags", "memory", "stores", "facts", "lines", "known", "path", "zeros"):
+            setattr(made, name, copy.copy(getattr(self, name)))
+        return made
+
+    @property
+    def at(self):
+        """The way here, told."""
+        return (" where " + ", ".join(self.path)) if self.path else ""
+
+    def arithmetic(self):
+        return f"(omega (arith, {', '.join(self.facts)}))" if self.facts else "(omega arith)"
+
+    @property
+    def facts_listed(self):
+        return ", ".join(["arith", *self.facts])
+
+
+class StateWords(Words):
+    """Terms of an expression behind what was done up to a state."""
+
+    def __init__(self, run, state):
+        super().__init__(state.base, "w")
+        self.run, self.state = run, state
+
+    def part(self, atom):
+        if atom in self.state.registers:
+            return str(self.state.registers[atom])
+        return str(self.run.flag_number(self.state, FLAGS[atom]))
+
+    def byte(self, address):
+        if str(address).isdigit():
+            return str(self.run.cell(self.state, int(address)))
+        return super().byte(address)
+
+
+class Run:
+    """Steps of a program; facts are named in the order in which they are found."""
+
+    def __init__(self, program):
+        self.program = program
+        self.names = 0
+        self.touched = set()
+
+    def fresh(self, letter):
+        self.names += 1
+        return f"{letter}{self.names}"
+
+    def fact(self, state, term):
+        """Has the arithmetic know what a term proves."""
+        if any(term == known for _, known in state.known):
+            return
+        name = self.fresh("f")
+        state.known.append((name, term))
+        state.lines.append((name, term))
+        state.facts.append(name)
+
+    def cell(self, state, address):
+        if address in state.memory:
+            return state.memory[address]
+        self.fact(state, f"{state.bytes}.ram {address}")
+        return f"(ram_byte {state.base}.memory {address})"
+
+    # Flags: ('known', b), ('sum', t) for 256 ≤ t, ('le', m, n), ('odd', t), ('eq', m, n), ('unknown', term), ('opaque',)
+
+    @staticmethod
+    def test(flag):
+        """The comparison that a flag is, and of what."""
+        kind = flag[0]
+        if kind == "sum":
+            return "le", 256, flag[1]
+        if kind == "odd":
+            return "eq", f"({flag[1]} % 2)", 1
+        return flag
+
+    def flag_number(self, state, letter):
+        """A flag as 0 or 1."""
+        flag = state.flags[letter]
+        kind = flag[0]
+        if kind == "known":
+            return int(flag[1])
+        if kind == "unknown":
+            self.fact(state, f"bit_small {par(flag[1])}")
+            return f"(one_if {flag[1]})"
+        if kind == "opaque":
+            raise Refusal(0, f"what {letter} is here can't be proved")
+        if kind == "odd":
+            self.fact(state, f"odd_bit {par(flag[1])}")
+            return f"(one_if ({par(flag[1])} % 2 == 1))"
+        test, m, n = self.test(flag)
+        self.fact(state, f"{test}_bit {par(m)} {par(n)}")
+        return f"(one_if (nat_le {par(m)} {par(n)}))" if test == "le" else f"(one_if ({par(m)} == {par(n)}))"
+
+    def judge(self, state, term):
+        """N and Z of a result."""
+        is_known = isinstance(term, int)
+        state.flags["Z"] = ("known", term == 0) if is_known else ("eq", term, 0)
+        state.flags["N"] = ("known", term > 127) if is_known else ("le", 128, term)
+
+    # Places
+
+    def address(self, state, it):
+        if it.mode in ("ZeroPage", "Absolute"):
+            address = it.value
+        elif it.mode in INDEXED:
+            index = state.registers[it.mode[-1]]
+            if not isinstance(index, int):
+                says = f"{it.mnemonic} by an index {it.mode[-1]} that is not known here can't be proved yet"
+                raise Refusal(it.line, says + ", but for LDA of an absolute address")
+            address = (it.value + index) & (255 if it.mode.startswith("Zero") else 0xFFFF)
+        else:
+            raise Refusal(it.line, f"{it.mnemonic} through a pointer can't be proved yet")
+        if address >= 0xC000:
+            raise Refusal(it.line, f"${address:04X} lies above RAM: what keys and switches give can't be proved")
+        return address
+
+    def read(self, state, it):
+        if it.mode == "Immediate":
+            return it.value
+        if it.mode == "Accumulator":
+            return state.registers["A"]
+        return self.cell(state, self.address(state, it))
+
+    def write(self, state, it, term):
+        if it.mode == "Accumulator":
+            state.registers["A"] = term
+        else:
+            self.store(state, it, self.address(state, it), term)
+
+    def store(self, state, it, address, term):
+        if self.program.is_code(address):
+            raise Refusal(it.line, f"it stores at ${address:04X}, where its own code stands")
+        if 0x400 <= address < 0xC00:
+            raise Refusal(it.line, f"a store at ${address:04X}, on a text page, can't be proved yet")
+        state.memory[address] = term
+        state.stores.append((address, term))
+        self.touched.add(address)
+
+    # Instructions
+
+    def step(self, state, it):
+        """One instruction that is no branch."""
+        state.steps += 1
+        behind = it.address + it.length
+        state.pc = behind
+        if it.mnemonic == "JMP" and it.mode == "Absolute":
+            state.pc = it.value
+        elif it.mnemonic == "JSR":
+            self.store(state, it, 0x100 + state.s, (behind - 1) >> 8)
+            self.store(state, it, 0xFF + state.s, (behind - 1) & 255)
+            state.s -= 2
+            state.pc = it.value
+        else:
+            action = getattr(self, "do_" + it.mnemonic.lower(), None)
+            if action is None:
+                raise Refusal(it.line, f"{it.mnemonic} can't be proved yet")
+            action(state, it)
+
+    def load(self, state, register, term):
+        state.registers[register] = term
+        self.judge(state, term)
+
+    def change(self, state, it, term):
+        self.write(state, it, term)
+        self.judge(state, term)
+
+    def add(self, state, it, byte):
+        total = add(state.registers["A"], byte, self.flag_number(state, "C"))
+        if isinstance(total, int):
+            state.flags["C"] = ("known", total > 255)
+        else:
+            self.fact(state, f"whole {par(total)} {state.arithmetic()}")
+            state.flags["C"] = ("sum", total)
+        state.flags["V"] = ("opaque",)
+        self.load(state, "A", modulo(total))
+
+    def compare(self, state, it, register):
+        held, byte = state.registers[register], self.read(state, it)
+        if isinstance(held, int) and isinstance(byte, int):
+            state.flags["C"] = ("known", byte <= held)
+            self.judge(state, (held - byte) & 255)
+        else:
+            state.flags["C"] = ("le", byte, held)
+            self.judge(state, modulo(f"({held} + 256 - {byte})"))
+
+    def bits(self, state, digit, x, y):
+        if isinstance(x, int) and isinstance(y, int):
+            return {"◌&&◌": x & y, "◌||◌": x | y, "differ": x ^ y}[digit]
+        term = f"(by_digits 8 {digit} {par(x)} {par(y)})"
+        self.fact(state, f"digits_small {digit} {par(x)} {par(y)}")
+        sum_of = arithmetic_of(digit, y) if isinstance(y, int) else None
+        if sum_of:
+            test = f"(λ n. by_digits 8 {digit} n {y} == {sum_of})"
+            self.fact(state, f"eq_yes _ _ (each_byte {test} refl {par(x)} {state.arithmetic()})")
+        return term
+
+    def shift_left(self, state, it, low):
+        byte = self.read(state, it)
+        is_known = isinstance(byte, int)
+        term = modulo(2 * byte + low) if is_known and isinstance(low, int) else modulo(f"(2 * {par(byte)} + {low})")
+        state.flags["C"] = ("known", byte > 127) if is_known else ("le", 128, byte)
+        self.change(state, it, term)
+
+    def shift_right(self, state, it, high):
+        byte = self.read(state, it)
+        is_known = isinstance(byte, int)
+        term = byte // 2 + 128 * high if is_known and isinstance(high, int) else f"({par(byte)} / 2 + 128 * {high})"
+        state.flags["C"] = ("known", bool(byte & 1)) if is_known else ("odd", byte)
+        self.change(state, it, term)
+
+    def do_bit(self, state, it):
+        byte = self.read(state, it)
+        is_known = isinstance(byte, int)
+        state.flags["N"] = ("known", byte > 127) if is_known else ("opaque",)
+        state.flags["V"] = ("known", bool(byte & 64)) if is_known else ("opaque",)
+        both = self.bits(state, "◌&&◌", state.registers["A"], byte)
+        state.flags["Z"] = ("known", both == 0) if isinstance(both, int) else ("eq", both, 0)
+
+    def do_adc(self, state, it):
+        self.add(state, it, self.read(state, it))
+
+    def do_sbc(self, state, it):
+        byte = self.read(state, it)
+        self.add(state, it, 255 - byte if isinstance(byte, int) else f"(255 - {byte})")
+
+    def do_asl(self, state, it):
+        self.shift_left(state, it, 0)
+
+    def do_rol(self, state, it):
+        self.shift_left(state, it, self.flag_number(state, "C"))
+
+    def do_lsr(self, state, it):
+        self.shift_right(state, it, 0)
+
+    def do_ror(self, state, it):
+        self.shift_right(state, it, self.flag_number(state, "C"))
+
+    def do_inc(self, state, it):
+        self.change(state, it, modulo(add(self.read(state, it), 1)))
+
+    def do_dec(self, state, it):
+        self.change(state, it, modulo(add(self.read(state, it), 255)))
+
+    def do_pha(self, state, it):
+        self.store(state, it, 0x100 + state.s, state.registers["A"])
+        state.s -= 1
+
+    def do_pla(self, state, it):
+        state.s += 1
+        self.load(state, "A", self.cell(state, 0x100 + state.s))
+
+    def do_nop(self, state, it):
+        pass
+
+
+def arithmetic_of(digit, mask):
+    """What an operation with a mask is in sums, of n, where the mask is one run of ones or zeros."""
+
+    def run(mask):
+        if not mask or not ONES.fullmatch(f"{mask:b}"):
+            return None
+        low = (mask & -mask).bit_length() - 1
+        return f"n / {1 << low} % {1 << mask.bit_count()} * {1 << low}"
+
+    if digit == "◌&&◌":
+        return run(mask) or (f"n - {run(255 - mask)}" if run(255 - mask) else None)
+    if digit == "◌||◌":
+        return f"n + {mask} - {run(mask)}" if run(mask) else None
+    return {255: "255 - n", 128: "(n + 128) % 256"}.get(mask)
+
+
+def loads(register):
+    return lambda self, state, it: self.load(state, register, self.read(state, it))
+
+
+def stores(register):
+    return lambda self, state, it: self.write(state, it, state.registers[register])
+
+
+def compares(register):
+    return lambda self, state, it: self.compare(state, it, register)
+
+
+def steps(register, by):
+    return lambda self, state, it: self.load(state, register, modulo(add(state.registers[register], by)))
+
+
+def moves(source, target):
+    return lambda self, state, it: self.load(state, target, state.registers[source])
+
+
+def sets(letter, is_set):
+    return lambda self, state, it: state.flags.__setitem__(letter, ("known", is_set))
+
+
+def combines(digit):
+    return lambda self, state, it: self.load(state, "A", self.bits(state, digit, state.registers["A"], self.read(state, it)))
+
+
+for mnemonic, action in {
+    **{"ld" + it.lower(): loads(it) for it in "AXY"},
+    **{"st" + it.lower(): stores(it) for it in "AXY"},
+    **{"cmp": compares("A"), "cpx": compares("X"), "cpy": compares("Y")},
+    **{"inx": steps("X", 1), "iny": steps("Y", 1), "dex": steps("X", 255), "dey": steps("Y", 255)},
+    **{"tax": moves("A", "X"), "tay": moves("A", "Y"), "txa": moves("X", "A"), "tya": moves("Y", "A")},
+    **{"clc": sets("C", False), "sec": sets("C", True), "clv": sets("V", False)},
+    **{"and": combines(BYTES["BitAnd"]), "ora": combines(BYTES["BitOr"]), "eor": combines(BYTES["BitXor"])},
+}.items():
+    setattr(Run, "do_" + mnemonic, action)

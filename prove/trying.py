@@ -1,0 +1,113 @@
+"""A promise is tried in some states before it is proved: so a wrong one gets a state in which it fails, and one whose `requires`
+no state meets is not proved."""
+
+import random
+
+from .machine import Machine, Stuck
+from .values import State, holds, value
+
+CORNERS = (0, 1, 2, 127, 128, 254, 255)
+STATES = 400
+TRIES = 60 * STATES
+STEPS = 100_000
+MOST_SHOWN = 12
+
+
+def cells_in(e):
+    """The addresses that an expression names."""
+    if e[0] == "of" and e[2][0] == "number":
+        return {e[2][1], e[2][1] + 1} if e[1] == "Word" else {e[2][1]}
+    return {a for part in e[1:] if isinstance(part, tuple) for a in cells_in(part)}
+
+
+def cells_of(promise):
+    """The addresses of RAM that a promise names."""
+    return {a for clause in promise.wanted + promise.promised for a in cells_in(clause.expr) if a < 0xC000}
+
+
+def inputs_of(program, promise):
+    cells = cells_of(promise)
+    for it in program.statements:
+        if it.is_instruction and it.mode in ("ZeroPage", "Absolute") and it.mnemonic not in ("JSR", "JMP"):
+            cells.add(it.value)
+    return sorted(a for a in cells if a < 0xC000)
+
+
+class States:
+    """Random states, with corner values among them."""
+
+    def __init__(self, program, promise):
+        self.random = random.Random(1)
+        self.cells = inputs_of(program, promise)
+        self.laid = {it.address + k: byte for it in program.statements for k, byte in enumerate(it.bytes)}
+        self.memory = None
+        self.count = 0
+
+    def byte(self, mood):
+        if mood == 0:
+            return self.random.choice(CORNERS)
+        return self.random.randrange(256 if mood == 1 else 12)
+
+    def next(self):
+        if self.count % 8 == 0:
+            self.memory = self.random.randbytes(65536)
+        self.count += 1
+        memory = bytearray(self.memory)
+        for address, byte in self.laid.items():
+            memory[address] = byte
+        memory[0x1FE], memory[0x1FF] = 0x68, 0xFF
+        mood = self.random.randrange(3)
+        for address in self.cells:
+            memory[address] = self.byte(mood)
+        registers = {letter: self.byte(self.random.randrange(2)) for letter in "AXY"} | {"S": 0xFD}
+        flags = {letter: self.random.randrange(2) for letter in "CZNVI"} | {"D": 0}
+        return State(registers, flags, memory)
+
+
+def shown(state, cells, letters="AXYC"):
+    parts = [f"{it}={state.registers[it] if it in state.registers else state.flags[it]}" for it in letters]
+    return ", ".join(parts + [f"${a:02X}={state.memory[a]}" for a in cells])
+
+
+def judge(promise, entry, behind, stored):
+    """What of the promise does not hold."""
+    for clause in promise.promised:
+        if not holds(clause.expr, entry, behind):
+            return f"line {clause.line}: ensures {clause.text}: it does not hold"
+    for letter in "AXY":
+        before, now = entry.registers[letter], behind.registers[letter]
+        if before != now and letter not in promise.changes.registers:
+            return f"{letter} does not stand behind changes, and is {now}, before {before}"
+    allowed = set(promise.changes.addresses())
+    for address in sorted(stored):
+        before, now = entry.memory[address], behind.memory[address]
+        if before != now and address not in allowed and not 0x100 <= address <= 0x1FD:
+            return f"${address:02X} does not stand behind changes, and is {now}, before {before}"
+    return None
+
+
+def fails_in(machine, promise, entry):
+    """What fails in a state; the state that the routine leaves."""
+    behind = State(dict(entry.registers), dict(entry.flags), bytearray(entry.memory))
+    try:
+        stored = machine.run(behind, promise.address, STEPS)
+    except Stuck as stuck:
+        return f"line {stuck.line}: {stuck.says}", behind
+    return judge(promise, entry, behind, stored), behind
+
+
+def failure(program, promise):
+    """What fails, and where; None if nothing does in the states that are tried."""
+    machine, states, met = Machine(program), States(program, promise), 0
+    for _ in range(TRIES):
+        entry = states.next()
+        if not all(holds(clause.expr, entry, entry) for clause in promise.wanted):
+            continue
+        met += 1
+        says, behind = fails_in(machine, promise, entry)
+        if says:
+            cells = sorted(cells_of(promise) | machine.looked_at)[:MOST_SHOWN]
+            return f"{says}; entered with {shown(entry, cells)}; left with {shown(behind, cells)}"
+        if met == STATES:
+            return None
+    return None if met else "no state was found that is as it requires"

@@ -1,0 +1,260 @@
+"""The crate in which the kit checks proofs: its statements, and its proofs, as files."""
+
+import re
+import shutil
+from dataclasses import dataclass
+
+from .saying import Words, phrase
+from .terms import list_of
+
+CRATE = "promised"
+# The crates that it stands on.
+BELOW = (
+    "a2_rules a2_lessons a2_trial a2_reads a2_uses a2_promise a2_run a2_monitor a2_debug a2_text a2_stream a2_opcode "
+    "a2_syntax a2_hex a2_asm a2_page a2_bus a2_cpu a2_live a2_services a2_machine"
+)
+S = 0xFD
+LINE = re.compile(r"[^\n]*\n|[^\n]+")
+
+STATEMENT_USES = """use Rattle.std.specs.Prelude.{ℕ, pos, true, false, List, [], ◌∷◌, codes}
+use Rattle.std.specs.List.{concat}
+use Rattle.a2_promise.specs.declared.expr.Atom.TheVariants as atom
+use Rattle.a2_promise.specs.declared.expr.Function.TheVariants as function
+use Rattle.a2_promise.specs.declared.expr.Operation.TheVariants as operation
+use Rattle.a2_rules.specs.Phrases.{number, held, old, of, pair, choice}
+use Rattle.a2_rules.specs.Promised.{Said}
+"""
+
+PROGRAM_USES = """use Rattle.std.specs.Prelude.{◌≡◌, List, [], ◌∷◌, Some, None, refl}
+use Rattle.a2_opcode.specs.declared.Mnemonic.TheVariants.{%s}
+use Rattle.a2_opcode.specs.declared.Mode.TheVariants.{%s}
+use Rattle.a2_asm.specs.declared.program.Statement.{Statement}
+use Rattle.a2_machine.specs.Meaning.{Code}
+use Rattle.a2_lessons.specs.Routines.{op}
+use Rattle.a2_lessons.proofs.Texts.{entry_of, statements_of}
+use Rattle.a2_lessons.proofs.Reading.{reading}
+use Rattle.a2_rules.proofs.Kept.{code_of}
+use Rattle.promised.specs.Statements.{text}
+"""
+
+PROOF_USES = """use Rattle.std.specs.Prelude.{◌≡◌, ◌≢◌, ◌<◌, ◌≤◌, ◌⊎◌, ℕ, ◌+◌, ◌*◌, ◌/◌, ◌%◌, ◌-◌, ◌&&◌, ◌||◌, ◌==◌, nat_le, nat_lt, min, max, Bool, true, false, List, [], ◌∷◌, refl}
+use Rattle.std.proofs.Common.{sym, ap, ap₂, ◌∙◌, arith, inl, inr, true≢false}
+use Rattle.std.proofs.lemmas.Bool.Decides.{nat_tests}
+use Rattle.a2_text.specs.Bytes.{is_among}
+use Rattle.a2_cpu.specs.Arithmetic.{by_digits, differ}
+use Rattle.a2_cpu.specs.Registers.{one_if}
+use Rattle.a2_bus.specs.Memory.{Memory, ram_byte}
+use Rattle.a2_services.specs.World.{World}
+use Rattle.a2_machine.proofs.Computing.{computing}
+use Rattle.a2_lessons.specs.Routines.{entered, Keeps, word}
+use Rattle.a2_lessons.proofs.Branching.{N, V, Z, C, with_flag}
+use Rattle.a2_lessons.proofs.Keeping.{kept, keeps_stores, keeps_on}
+use Rattle.a2_lessons.proofs.Carrying.{fits_word}
+use Rattle.a2_lessons.proofs.Indexing.{load_x, load_y, loaded_at}
+use Rattle.a2_rules.specs.Worlds.{OnlyBytes}
+use Rattle.a2_rules.proofs.Bits.{bit_small, digits_small}
+use Rattle.a2_rules.proofs.Meeting.{enter, stepped, home, Meets}
+use Rattle.a2_rules.proofs.Proving.{onto, fork, loops, call, bytes_after, whole, le_bit, odd_bit, eq_bit, le_yes, le_no, eq_yes, eq_no, each_byte, product_down, product_up, product_zero, product_ge, mul_swap, yes_le, no_le, yes_eq, no_eq, keeps_as, flag_yes, flag_no, weaken}
+use Rattle.promised.proofs.Program.{code}
+"""
+
+END_USES = """use Rattle.a2_rules.specs.Promised.{IsProved}
+use Rattle.a2_rules.proofs.Kept.{proved}
+use Rattle.promised.specs.Statements.{text, %s}
+use Rattle.promised.proofs.Program.{listing, read, stated}
+"""
+
+
+@dataclass
+class Written:
+    """A proof of a routine for an S: its text, what its marked lines prove, and on which proofs it stands."""
+
+    routine: object
+    s: int
+    text: str
+    marks: list
+    ways: int
+    changed: list
+    calls: set
+
+    @property
+    def name(self):
+        return f"{self.routine.name}_{self.s}"
+
+    @property
+    def module(self):
+        return "Proof_" + self.name
+
+
+def literal(text):
+    """A line of a source with its end, if it has one, as the list of its bytes."""
+    line = text.removesuffix("\n")
+    if line != text and all(" " <= c <= "~" and c not in '"\\' for c in line):
+        return f'codes "{line}\\n"'
+    return list_of(text.encode("latin-1"))
+
+
+def flag(is_set):
+    return "true" if is_set else "false"
+
+
+def said(promise):
+    """A promise as `Said` of specs/Promised.antt."""
+    fields = [f"address = {promise.address}"]
+    for name, clauses in (("wanted", promise.wanted), ("promised", promise.promised)):
+        fields.append(f"{name} = {list_of(phrase(clause.expr) for clause in clauses)}")
+    fields += [f"{it.lower()} = {flag(it in promise.changes.registers)}" for it in "AXY"]
+    fields.append(f"ranges = {list_of(f'({first}, {last})' for first, last in promise.changes.ranges)}")
+    return "record {\n" + "".join(f"  {it};\n" for it in fields) + "}"
+
+
+def statements_file(source, promises):
+    text = "-- Written by a2-prove: a source text, and what its routines promise.\n" + STATEMENT_USES
+    text += "\nabbrev pub text : List ℕ\ntext = concat (\n"
+    text += "".join(f"    {literal(line)} ∷\n" for line in LINE.findall(source)) + "    [])\n"
+    for promise in promises:
+        clauses = "".join(f"-- {clause.text}\n" for clause in promise.wanted + promise.promised)
+        name = f"{promise.name}_said"
+        text += f"\n-- {promise.name}, line {promise.line}\n{clauses}abbrev pub {name} : Said\n{name} = {said(promise)}\n"
+    return text
+
+
+def statement(it):
+    instr = "None"
+    if it.is_instruction:
+        instr = f"Some (op {it.mnemonic.capitalize()} {it.mode} {it.value})"
+    return f"record {{ line = {it.line}; addr = {it.address}; length = {it.length}; instr = {instr} }}"
+
+
+def program_file(program):
+    of = [it for it in program.statements if it.is_instruction]
+    uses = PROGRAM_USES % (", ".join(sorted({it.mnemonic.capitalize() for it in of})), ", ".join(sorted({it.mode for it in of})))
+    text = "-- Written by a2-prove: the statements of the text, which are computed of it.\n" + uses
+    rows = "".join(f"    {statement(it)} ∷\n" for it in program.statements)
+    text += f"\nabbrev pub listing : List Statement\nlisting =\n{rows}    []\n"
+    text += "\nabbrev pub code : Code\ncode = code_of listing\n"
+    text += f"\npub read : entry_of text ≡ Some {program.entry()}\nunfolding reading\nread = refl\n"
+    return text + "\npub stated : statements_of text ≡ listing\nunfolding reading\nstated = refl\n"
+
+
+def record(name, worlds, fields):
+    text = f"\npub record {name} {worlds} : Type 0 where\n"
+    return text + ("".join(f"  {it}\n" for it in fields) or "  pub none : Unit {0}\n")
+
+
+def registers_kept(promise):
+    kept = [it.lower() for it in "AXY" if it not in promise.changes.registers]
+    return [f"pub keep_{it} : v.registers.{it} ≡ w.registers.{it}" for it in kept]
+
+
+def facts(letter, clauses, words):
+    return [f"pub {letter}{k} : {words.says(clause.expr)}" for k, clause in enumerate(clauses, 1)]
+
+
+def contract(written):
+    """What is known before and behind a routine, as records."""
+    routine, promise = written.routine, written.routine.promise
+    words = Words("v", "w")
+    text = record(f"{written.name}_Before", "(w : World)", facts("r", promise.wanted, Words("w", "w")))
+    text += f"\nabbrev pub {routine.name}_changed : ℕ → Bool\n{routine.name}_changed = is_among {list_of(written.changed)}\n"
+    rest = [f"pub rest : Keeps w.memory {routine.name}_changed v", "pub bytes : OnlyBytes v"]
+    text += record(f"{written.name}_After", "(w v : World)", facts("e", promise.promised, words) + registers_kept(promise) + rest)
+    for loop in routine.loops.values():
+        text += record(f"{loop.name}_Inv", "(w v : World)", facts("e", loop.invariants, words) + registers_kept(promise) + rest)
+        measure = words.plain(loop.measure.expr) if loop.measure else "0"
+        text += f"\nabbrev {loop.name}_measure : World → ℕ\n{loop.name}_measure v = {measure}\n"
+    return text
+
+
+def indented(text):
+    return "".join("    " + line + "\n" for line in text.splitlines())
+
+
+def pairs(letter, count, of):
+    """The facts of a record, one behind the other."""
+    text = "tt"
+    for k in range(count, 0, -1):
+        text = f"({of}.{letter}{k}, {text})"
+    return text
+
+
+def before_of(promise):
+    fields = [f"r{k} = before{'.1' * (k - 1)}.0; " for k in range(1, len(promise.wanted) + 1)]
+    return "record { " + ("".join(fields) or "none = tt; ") + "}"
+
+
+def ending(written):
+    """The theorem, of what the routine meets."""
+    name, promise = written.routine.name, written.routine.promise
+    kept = ""
+    for it in "AXY":
+        proof = "λ no. absurd (true≢false no)" if it in promise.changes.registers else f"λ no. h.2.keep_{it.lower()}"
+        kept += f"{it.lower()} = {proof}; "
+    after = f"record {{ says = {pairs('e', len(promise.promised), 'h.2')}; {kept}rest = h.2.rest; bytes = h.2.bytes }}"
+    meets = f"({written.name}_meets w bytes ({before_of(promise)}))"
+    body = (
+        f"proved text listing _ {name}_said {list_of(written.changed)} read stated refl refl refl\n"
+        f"(λ w bytes before. weaken code (enter {promise.address} {S} w) _ _ {meets}\n"
+        f"(λ u h. (h.0, h.1, {after}))) -- @@\n"
+    )
+    return f"\npub {name}_is_proved : IsProved text {name}_said\n{name}_is_proved =\n{indented(body)}"
+
+
+def proof_file(written, all_written):
+    text = "-- Written by a2-prove.\n" + PROOF_USES
+    if written.s == S:
+        text += END_USES % f"{written.routine.name}_said"
+    for address, s in sorted(written.calls):
+        other = all_written[address, s]
+        text += f"use Rattle.promised.proofs.{other.module}.{{{other.name}_meets}}\n"
+    name = written.name
+    meets = f"{name}_meets : Meets code {written.routine.promise.address} {written.s} {name}_Before {name}_After"
+    text += contract(written) + f"\npub {meets}\nunfolding computing\n{name}_meets w bytes before =\n{indented(written.text)}"
+    return text + (ending(written) if written.s == S else "")
+
+
+def function_of(written):
+    """The function whose contract is the theorem. (A label may be no name of a function.)"""
+    return f"keeps_{written.routine.promise.address:04x}"
+
+
+def library_file(tops):
+    uses = ", ".join(["text"] + [f"{it.routine.name}_said" for it in tops])
+    text = "//! Written by a2-prove.\n#![tactic(auto)]\n\n"
+    text += f"ghost use Rattle.promised.specs.Statements.{{{uses}}};\nghost use Rattle.a2_rules.specs.Promised.{{IsProved}};\n"
+    for it in tops:
+        name = it.routine.name
+        text += f"\n/// {name} keeps its promise.\npub fn {function_of(it)}()\n    ensures {{ IsProved text {name}_said }}\n{{}}\n"
+    return text
+
+
+def answer_file(written):
+    function = function_of(written)
+    return (
+        f"use Rattle.promised.proofs.{written.module} as theorem\nuse Rattle.promised.proofs.{function}.Goals as goal\n\n"
+        f"pub returns : goal.returns\nreturns c = theorem.{written.routine.name}_is_proved\n"
+    )
+
+
+def write_crate(folder, source, program, all_written):
+    """Writes the crate's files; what another run left there goes, but for what the kit keeps."""
+    for part in ("specs", "proofs", "src"):
+        shutil.rmtree(folder / part, ignore_errors=True)
+        (folder / part).mkdir(parents=True)
+    tops = [it for it in all_written.values() if it.s == S]
+    modules = ["Program"] + [it.module for it in all_written.values()]
+    files = {
+        "specs/Lib.antt": "pub mod Statements\n",
+        "specs/Statements.antt": statements_file(source, [it.routine.promise for it in tops]),
+        "proofs/Lib.antt": "".join(f"pub mod {it}\n" for it in modules),
+        "proofs/Program.antt": program_file(program),
+        "src/lib.rt": library_file(tops),
+    }
+    for it in all_written.values():
+        files[f"proofs/{it.module}.antt"] = proof_file(it, all_written)
+    for it in tops:
+        files[f"proofs/{function_of(it)}/Answers.antt"] = answer_file(it)
+    for name, text in files.items():
+        path = folder / name
+        path.parent.mkdir(exist_ok=True)
+        path.write_text(text, encoding="utf-8")

@@ -1,0 +1,44 @@
+* What is not read, and what can't be proved yet: the others in the file are still judged.
+        ORG $300
+;: ensures A + 3
+R1      RTS
+;: ensures A = B
+;: changes A
+R2      RTS
+;: ensures A and 3
+R3      RTS
+;: ensures for all i < 8: [#$2000 + i] = 0
+R4      RTS
+;: ensures cycles <= 40
+R5      RTS
+;: ensures signed A < 5
+R6      RTS
+;: ensures A = $10 / $11
+R7      RTS
+;: ensures [#$C000] = 0
+R8      RTS
+;: surely A = 3
+R9      RTS
+;: ensures A = if C then 1 else 0
+R10     RTS
+;: ensures $0400 = 0
+;: changes A, $0400
+R11     LDA #0
+        STA $0400
+        RTS
+;: ensures A = 0
+;: changes A, $00..$FF
+R12     LDA #0
+        STA $20,X
+        RTS
+;: requires $07 < 128 and Y = 0
+;: ensures  A = A
+;: changes  A
+R13     LDA ($06),Y
+        RTS
+;: ensures A = old A
+;: changes A
+R14     LDA $C000
+        RTS
+;: ensures A = old A
+GOOD    RTS
