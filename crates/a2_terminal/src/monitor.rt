@@ -17,7 +17,7 @@ ghost use Rattle.a2_terminal.specs.Screens.{screen_of, screen_where};
 ghost use Rattle.a2_terminal.specs.declared.press.Press.TheVariants.{Key};
 
 use crate::look::{Look, put_screen};
-use crate::press::{Press, keys_of, press_of};
+use crate::press::{Press, press_of};
 use a2_asm::Program;
 use a2_bus::Keys;
 use a2_hex::{HexFault, load_lines};
@@ -326,7 +326,7 @@ impl<A: Allocator> Monitor<'_, A> {
         ensures { (text : List ℕ) × IsPressTold limit (Key key) self.old text self.new
             × SendsOrBreaks (W.taker writer.old) (W.taker writer.new) result text }
     {
-        if self.session.type_keys(&keys_of(key)).is_err() {
+        if self.session.type_keys(&Keys::one(key)).is_err() {
             return put(FULL, writer);
         }
         let before = standing(&self.session);

@@ -1,9 +1,8 @@
 //! What a line says while a program waits for a key.
 
-ghost use Rattle.std.specs.Prelude.{◌≡◌, ◌<◌, ◌∷◌, []};
+ghost use Rattle.std.specs.Prelude.{◌≡◌};
 ghost use Rattle.a2_terminal.specs.Presses.{pressed, HasCode};
 
-use a2_bus::Keys;
 use a2_strokes::{Stroke, first_stroke};
 
 /// The key that ends a line.
@@ -31,14 +30,4 @@ pub(crate) fn press_of(line: &[u8]) -> Press
         Some((Stroke::Prefix, [])) => Press::Stop,
         Some(_) => Press::Nothing,
     }
-}
-
-/// One key.
-pub(crate) fn keys_of(key: u8) -> Keys
-    requires { key < 128 }
-    ensures { result ≡ key ∷ [] }
-{
-    let mut keys = Keys::new();
-    keys.push(key).unwrap();
-    keys
 }

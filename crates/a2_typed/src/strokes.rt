@@ -50,17 +50,6 @@ fn note_keys<A: Allocator>(
     Ok(())
 }
 
-// A key alone.
-fn one_key(key: u8) -> Keys
-    requires { key < 128 }
-    ensures { result ≡ key ∷ [] }
-{
-    let mut keys = Keys::new();
-    // There is room for a first key.
-    let _ = keys.push(key);
-    keys
-}
-
 // Types a key where it is one of these steps: whether there was room.
 fn type_stroke<A: Allocator>(machine: &mut Machine<A>, stroke: Typed, steps: u64) -> bool
     requires { stroke.key < 128 }
@@ -70,7 +59,7 @@ fn type_stroke<A: Allocator>(machine: &mut Machine<A>, stroke: Typed, steps: u64
     if stroke.steps != steps {
         return true;
     }
-    machine.type_keys(&one_key(stroke.key)).is_ok()
+    machine.type_keys(&Keys::one(stroke.key)).is_ok()
 }
 
 /// Types the keys of these steps, where there is room for all of them: whether there was.

@@ -58,18 +58,10 @@ impl<R: Input> Input for Patient<'_, R> {
     }
 }
 
-// A key alone.
-fn one_key(key: u8) -> Keys {
-    let mut keys = Keys::new();
-    // There is room for a first key.
-    let _ = keys.push(key);
-    keys
-}
-
 // Brings the debugger to where a session's machine stands: whether that could be.
 fn bring(inspector: &mut Inspector<'_>, player: &Player) -> bool {
     for typed in player.log() {
-        if !inspector.bring(typed.steps) || inspector.type_keys(one_key(typed.key)).is_err() {
+        if !inspector.bring(typed.steps) || inspector.type_keys(Keys::one(typed.key)).is_err() {
             return false;
         }
     }
