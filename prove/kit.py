@@ -6,6 +6,7 @@ import re
 import shutil
 import subprocess
 
+from .terms import in_words
 from .writing import BELOW, CRATE, function_of
 
 PROVED = re.compile(r"^fn \w+::(\w+): proved", re.MULTILINE)
@@ -13,6 +14,7 @@ ERROR = re.compile(
     r"^\./(?:proofs|specs)/([\w/]+)\.antt:(\d+):\d+: error: (.*?)(?=^\./|^fn |^logic|^crate |^statements|^library|\Z)",
     re.MULTILINE | re.DOTALL,
 )
+VALUE = re.compile(r"\(?(old )?(\$[0-9A-F]{2,4}|[AXYNVZC])\)? = \d+")
 VALUES = re.compile(r"goal fails, at (.*?)\. It read", re.DOTALL)
 
 
@@ -150,24 +152,15 @@ class Answers:
         reasons = []
         for line, says in self.errors.get(written.module, []):
             at = self.mark_at(written.module, line)
-            what = written.marks[at] if at is not None else "the proof"
-            values = VALUES.search(says)
-            reasons.append(f"{what}: fails at {readable(values[1])}" if values else f"{what}: this does not follow")
+            # (what stands on a proof that is none is told by that one)
+            if at is not None:
+                found = VALUES.search(says)
+                values = readable(found[1]) if found else ""
+                reasons.append(f"{written.marks[at]}: " + (f"fails at {values}" if values else "this does not follow"))
         return list(dict.fromkeys(reasons))
 
 
 def readable(text):
-    """Values of the prover in the words of a promise."""
-    places = (
-        (r"\(stepped code .*?\)\.registers\.([axy])\b", lambda m: m[1].upper()),
-        (r"ram_byte \(stepped code .*?\)\.memory (\d+)", lambda m: f"${int(m[1]):02X}"),
-        (r"`?\b(?:ram_byte )?w\.memory(?:\.plain)? (\d+)`?", lambda m: f"old ${int(m[1]):02X}"),
-        (r"`?\b(?:ram_byte )?[uv]\d+\.memory(?:\.plain)? (\d+)`?", lambda m: f"${int(m[1]):02X}"),
-        (r"\bw\.registers\.([axy])\b", lambda m: "old " + m[1].upper()),
-        (r"\b[uv]\d+\.registers\.([axy])\b", lambda m: m[1].upper()),
-        (r"\bone_if w\.registers\.flags\.([nvzc])\b", lambda m: "old " + m[1].upper()),
-    )
-    for pattern, words in places:
-        text = re.sub(pattern, words, text)
-    text = " ".join(text.replace("`", "").split())
-    return text if len(text) < 200 else text[:200] + " .."
+    """Values of the prover in the words of a promise: those of registers, flags and bytes."""
+    values = [it.strip() for it in in_words(text).split(",")]
+    return ", ".join(it for it in values if VALUE.fullmatch(it))

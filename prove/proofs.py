@@ -7,7 +7,7 @@ from .assembling import BRANCHES
 from .refusal import Refusal
 from .saying import FLAGS, is_fact, is_minus, shape
 from .symbolic import Run, State, StateWords
-from .terms import add, bare, list_of, modulo, par
+from .terms import add, bare, in_words, list_of, modulo, par
 from .trying import cells_in
 
 MOST_BRANCHES = 9
@@ -82,7 +82,7 @@ class Proof(Run):
         """The lines that name facts."""
         text = ""
         for name, term in state.lines:
-            end = self.mark("a fact on the way: " + term.split("(omega")[0].strip() + state.at) if "omega" in term else "\n"
+            end = self.mark(wanted_by(term) + state.at) if "omega" in term else "\n"
             text += f"let {name} = {term} in {end}"
         state.lines = []
         return text
@@ -494,6 +494,14 @@ class Proof(Run):
             elif now == modulo(add(before, 1)):
                 self.fact(state, f"product_ge {par(before)} {par(other)}")
                 self.fact(state, f"product_up {par(before)} {par(other)} {state.arithmetic()}")
+
+
+def wanted_by(term):
+    """What a fact wants that the arithmetic is to find."""
+    rule, _, rest = term.partition(" ")
+    factor = in_words(rest.split(" (")[0].strip("()"))
+    wants = {"product_down": f"{factor} is not 0", "product_up": f"{factor} is below 255"}.get(rule)
+    return f"that {wants} is wanted here, and no line says it," if wants else "bytes are wanted below 256"
 
 
 def is_unknown_load(state, it):

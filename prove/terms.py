@@ -39,3 +39,23 @@ def modulo(term, n=256):
 
 def list_of(items):
     return "(" + "".join(f"{it} ∷ " for it in items) + "[])"
+
+
+# Places of worlds, as a promise names them.
+PLACES = (
+    (r"\(stepped code .*?\)\.registers\.([axy])\b", lambda m: m[1].upper()),
+    (r"ram_byte \(stepped code .*?\)\.memory (\d+)", lambda m: f"${int(m[1]):02X}"),
+    (r"\b(?:ram_byte )?w\.memory(?:\.plain)? (\d+)", lambda m: f"old ${int(m[1]):02X}"),
+    (r"\b(?:ram_byte )?[uv]\d+\.memory(?:\.plain)? (\d+)", lambda m: f"${int(m[1]):02X}"),
+    (r"\bw\.registers\.([axy])\b", lambda m: "old " + m[1].upper()),
+    (r"\b[uv]\d+\.registers\.([axy])\b", lambda m: m[1].upper()),
+    (r"\bone_if w\.registers\.flags\.([nvzc])\b", lambda m: "old " + m[1].upper()),
+)
+
+
+def in_words(text):
+    """A term in the words of a promise, as far as that goes."""
+    text = " ".join(text.replace("`", "").split())
+    for pattern, words in PLACES:
+        text = re.sub(pattern, words, text)
+    return text
