@@ -10,7 +10,7 @@ use crate::told::{Telling, Told, filled, shown};
 use a2_asm::{Program, refused};
 use a2_stream::{Output, WriteFault, put, put_all};
 use a2_syntax::{Fault, Line, Source, parse};
-use a2_text::{cut, decimal, hex_pair};
+use a2_text::{cut, decimal, json_escape};
 use std::alloc::{AllocError, Allocator};
 use thiserror::Error;
 
@@ -180,13 +180,11 @@ fn put_shown<W: Output>(text: &[u8], writer: &mut W) -> Result<(), WriteFault> {
     Ok(())
 }
 
-// Writes a byte of a string of JSON.
+// Writes a byte of a string of JSON. What is above ASCII stands as it is: names of files are in the host's coding.
 fn put_quoted<W: Output>(c: u8, writer: &mut W) -> Result<(), WriteFault> {
-    let [high, low] = hex_pair(c);
     match c {
-        b'"' | b'\\' => put(&[b'\\', c], writer),
-        0..=31 => put(&[b'\\', b'u', b'0', b'0', high, low], writer),
-        _ => put(&[c], writer),
+        0x7F..=0xFF => put(&[c], writer),
+        _ => put(json_escape(c).as_slice(), writer),
     }
 }
 

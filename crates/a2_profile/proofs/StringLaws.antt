@@ -4,7 +4,8 @@ use Rattle.std.specs.List.{AllByRecursion}
 use Rattle.std.proofs.Common.{ap, ◌∙◌, arith, append_assoc}
 use Rattle.std.proofs.lemmas.Bool.{ne_eqb}
 use Rattle.a2_text.specs.Digits.{hex_digit, hex_pair}
-use Rattle.a2_profile.specs.Json.{escaped, escapes, behind_string}
+use Rattle.a2_text.specs.Json.{escaped}
+use Rattle.a2_profile.specs.Json.{escapes, behind_string}
 
 left_false : (a b : Bool) → (a || b) ≡ false → a ≡ false
 left_false true b h = h

@@ -1,8 +1,8 @@
 -- What is written of a profile as an object of JSON (RFC 8259). This project's profile.
-use Rattle.std.specs.Prelude.{◌≡◌, ℕ, suc, ◌+◌, ◌-◌, ◌==◌, ◌||◌, nat_lt, not, Bool, true, false, List, [], ◌∷◌, ◌++◌, map, codes, Option, Some, None, if◌then◌else◌}
+use Rattle.std.specs.Prelude.{◌≡◌, ℕ, suc, ◌+◌, ◌-◌, ◌==◌, nat_lt, not, Bool, true, false, List, [], ◌∷◌, ◌++◌, map, codes, Option, Some, None, if◌then◌else◌}
 use Rattle.std.specs.List.{concat, filter, flat_map, join_by, range_with_len}
 use Rattle.std.specs.Fmt.{decimal}
-use Rattle.a2_text.specs.Digits.{hex_pair}
+use Rattle.a2_text.specs.Json.{escaped}
 use Rattle.a2_asm.specs.declared.program.Statement.{Statement}
 use Rattle.a2_asm.specs.Assembled.{Assembled}
 use Rattle.a2_asm.specs.Values.{Names}
@@ -14,13 +14,6 @@ use Rattle.a2_profile.specs.Counts.{count_at, steps_in, cycles_in}
 use Rattle.a2_profile.specs.Totals.{itself, totals_at, own_steps_in, own_cycles_in}
 use Rattle.a2_profile.specs.Table.{instruction_on, is_branch, is_outside, is_never_done}
 use Rattle.a2_profile.specs.RoutineTable.{name_of}
-
--- a byte of a string: a quote and a backslash behind a backslash, and by its number, as \u00C1, what is no printing character of
--- ASCII
-abbrev pub escaped : ℕ → List ℕ
-escaped byte =
-    if (byte == 0x22) || (byte == 0x5C) then 0x5C ∷ byte ∷ []
-    else if nat_lt byte 0x20 || nat_lt 0x7E byte then codes "\\u00" ++ hex_pair byte else byte ∷ []
 
 -- a text between the quotes of a string
 unfoldable pub escapes : List ℕ → List ℕ

@@ -2,6 +2,7 @@
 
 ghost use Rattle.std.specs.Prelude.{◌≡◌, ◌<◌, ◌++◌, ◌∷◌, ℕ, List, All, false, Some, codes, map};
 ghost use Rattle.std.specs.Fmt.{decimal as decimal_of};
+ghost use Rattle.a2_text.specs.Json.{escaped};
 ghost use Rattle.a2_stream.specs.Stream.{SendsOrBreaks};
 ghost use Rattle.a2_profile.specs.Json as json;
 ghost use Rattle.a2_machine.specs.Output.{cause_name as cause_name_of};
@@ -12,7 +13,7 @@ use crate::{Count, Profile};
 use a2_asm::{Program, Statement};
 use a2_machine::Cause;
 use a2_stream::{Output, WriteFault, put, put_all};
-use a2_text::{decimal, hex_pair};
+use a2_text::{decimal, json_escape};
 use std::alloc::Allocator;
 
 // What stands between two items of an array.
@@ -27,14 +28,9 @@ pub fn no_text_ends_its_string()
 
 // Writes a byte of a string.
 fn put_escaped<W: Output>(byte: u8, writer: &mut W) -> Result<(), WriteFault>
-    ensures { SendsOrBreaks (W.taker writer.old) (W.taker writer.new) result (json.escaped byte) }
+    ensures { SendsOrBreaks (W.taker writer.old) (W.taker writer.new) result (escaped byte) }
 {
-    let [high, low] = hex_pair(byte);
-    match byte {
-        b'"' | b'\\' => put(&[b'\\', byte], writer),
-        0..=0x1F | 0x7F..=0xFF => put(&[b'\\', b'u', b'0', b'0', high, low], writer),
-        _ => put(&[byte], writer),
-    }
+    put(json_escape(byte).as_slice(), writer)
 }
 
 // Writes a text between the quotes of a string.
