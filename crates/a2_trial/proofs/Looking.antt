@@ -1,6 +1,6 @@
 -- What is looked at of two, by what chooses.
-use Rattle.std.specs.Prelude.{◌≡◌, ℤ, not, Bool, true, false, Option, Some, None}
-use Rattle.std.proofs.Common.{sym, subst, true≢false}
+use Rattle.std.specs.Prelude.{◌≡◌, ◌⊎◌, ℤ, not, Bool, true, false, Option, Some, None}
+use Rattle.std.proofs.Common.{sym, subst, inl, inr, true≢false}
 use Rattle.a2_promise.specs.Looks.{OfBoth, OfChosen}
 use Rattle.a2_promise.specs.Values.{is_zero}
 use Rattle.a2_trial.specs.Judging.{holds}
@@ -23,3 +23,8 @@ other_chosen (Some z) One Other is other = go (is_zero z) is
     go : (zero : Bool) → not zero ≡ false → OfBoth zero One Other
     go true _ = other
     go false bad = absurd (true≢false bad)
+
+-- what is so of either of two is so of one that is the first or the second
+pub of_either : {X : Type 0} (P : X → Type 0) (x one other : X) → (x ≡ one) ⊎ (x ≡ other) → P one → P other → P x
+of_either P x one other (inl e) first second = subst P (sym e) first
+of_either P x one other (inr e) first second = subst P (sym e) second

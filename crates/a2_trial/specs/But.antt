@@ -1,4 +1,4 @@
--- A board that is as another but for some bytes, for the contracts of the crate's own functions.
+-- A board that is as another but for some bytes. This project's own.
 use Rattle.std.specs.Prelude.{◌≡◌, ℕ, Bool, false, length, slice_index}
 use Rattle.a2_bus.specs.BusState.{BusState}
 

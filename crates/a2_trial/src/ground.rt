@@ -204,6 +204,15 @@ fn filled(alloc: Global, program: &Program<Global>) -> Result<AddressSpace<Globa
     Ok(space)
 }
 
+// How a routine leaves that comes to the caller's return address with this S.
+fn door_of_return(s: u8) -> Door {
+    if s == EXIT_S {
+        Door::Returned
+    } else {
+        Door::Stack
+    }
+}
+
 impl Ground {
     /// One for the routines of a program.
     pub fn new(alloc: Global, program: &Program<Global>) -> Result<Ground, AllocError> {
@@ -266,23 +275,6 @@ impl Ground {
     // What is known of an address, nothing of one above RAM.
     fn mark(&self, address: u16) -> Option<Mark> {
         self.marks.get(usize::from(address)).copied()
-    }
-
-    // Why there is no step at PC, if there is none.
-    fn door_at(&self, regs: &Regs) -> Option<Door> {
-        if regs.pc == RETURN_ADDRESS {
-            return Some(if regs.s == EXIT_S {
-                Door::Returned
-            } else {
-                Door::Stack
-            });
-        }
-        match self.mark(regs.pc) {
-            None if service_at(regs.pc).is_none() => Some(Door::Above(regs.pc)),
-            None => None,
-            Some(mark) if mark.instr.is_none() => Some(Door::Elsewhere(regs.pc)),
-            Some(_) => None,
-        }
     }
 
     // Notes a store, whose byte is known if an instruction makes it, or says why it can't be.
@@ -447,21 +439,22 @@ impl Ground {
 
     /// Makes a step, and adds its cycles; or says why there is none.
     pub fn make_step(&mut self, exit: &mut Exit) -> Result<Option<Door>, AllocError> {
-        if let Some(door) = self.door_at(&exit.regs) {
-            return Ok(Some(door));
+        let pc = exit.regs.pc;
+        if pc == RETURN_ADDRESS {
+            return Ok(Some(door_of_return(exit.regs.s)));
         }
-        match (self.mark(exit.regs.pc), service_at(exit.regs.pc)) {
-            (
-                Some(
-                    Mark {
-                        instr: Some(instr),
-                        ..
-                    },
-                ),
-                _,
+        match self.mark(pc) {
+            Some(
+                Mark {
+                    instr: Some(instr),
+                    ..
+                },
             ) => self.do_instr(instr, exit),
-            (None, Some(service)) => self.call_service(service, exit),
-            _ => Ok(Some(Door::Elsewhere(exit.regs.pc))),
+            Some(_) => Ok(Some(Door::Elsewhere(pc))),
+            None => match service_at(pc) {
+                Some(service) => self.call_service(service, exit),
+                None => Ok(Some(Door::Above(pc))),
+            },
         }
     }
 }

@@ -133,20 +133,7 @@ fn is_looked_at<'k, 's>(
                     Some(_) => is_looked_at(no, before, behind, entry, exit, names),
                 }
         }
-        Expr::Each(name, count, body) => {
-            is_looked_at(count, before, behind, entry, exit, names)
-                && is_each_known(
-                    *name,
-                    value(count, entry, exit, names),
-                    body,
-                    before,
-                    behind,
-                    entry,
-                    exit,
-                    names,
-                )
-        }
-        Expr::Sum(name, count, body) => {
+        Expr::Each(name, count, body) | Expr::Sum(name, count, body) => {
             is_looked_at(count, before, behind, entry, exit, names)
                 && is_each_known(
                     *name,

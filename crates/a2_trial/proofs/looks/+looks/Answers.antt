@@ -1,9 +1,10 @@
 use Rattle.std.proofs.Common.{sym, ap, ◌∙◌, subst}
 use Rattle.std.specs.Prelude.{pos, slice_set}
+use Rattle.a2_promise.specs.declared.expr.Expr.TheVariants.{Each, Sum}
 use Rattle.a2_promise.specs.Looks.{IsBelow, Knows, KnowsMade, OfChosen}
 use Rattle.a2_promise.specs.Values.{count_of, moment_of, value_of}
 use Rattle.a2_trial.specs.Looking.{known_of}
-use Rattle.a2_trial.proofs.Looking.{one_chosen, other_chosen, none_chosen}
+use Rattle.a2_trial.proofs.Looking.{none_chosen, of_either, one_chosen, other_chosen}
 use Rattle.a2_trial.proofs.looks.+looks.Goals as goal
 
 pub is_looked_at-returns-then-is_looked_at : goal.is_looked_at-returns-then-is_looked_at
@@ -79,24 +80,12 @@ is_looked_at-returns-then-is_looked_at-4 t c = λ is.
     let n = moment_of c.args.exit.now in
     let before = known_of c.args.before.now in
     let behind = known_of c.args.behind.now in
-    subst (λ e. Knows e before behind m n c.args.names) (sym c.in-Each.is) (
+    let looked : Knows (Each c.in-Each.name c.in-Each.count c.in-Each.body) before behind m n c.args.names = (
       subst (λ e. Knows e before behind m n c.args.names) c.deref-in-Each.ensures (c.is_looked_at-in-Each.ensures c.if-is_looked_at-4.true),
       λ k below.
           subst (λ e. Knows e before behind m n (slice_set c.args.names c.in-Each.name (pos k))) c.deref-then-is_looked_at-4-2.ensures
           (c.is_each_known.ensures is k
           (subst (λ v. IsBelow k (count_of v)) (sym (c.value-then-is_looked_at-4.ensures ∙ ap (λ e. value_of e m n c.args.names) c.deref-then-is_looked_at-4.ensures)) below)),
-    )
-
-pub is_looked_at-returns-then-is_looked_at-5 : goal.is_looked_at-returns-then-is_looked_at-5
-is_looked_at-returns-then-is_looked_at-5 t c = λ is.
-    let m = moment_of c.args.entry.now in
-    let n = moment_of c.args.exit.now in
-    let before = known_of c.args.before.now in
-    let behind = known_of c.args.behind.now in
-    subst (λ e. Knows e before behind m n c.args.names) (sym c.in-Sum.is) (
-      subst (λ e. Knows e before behind m n c.args.names) c.deref-in-Sum.ensures (c.is_looked_at-in-Sum.ensures c.if-is_looked_at-5.true),
-      λ k below.
-          subst (λ e. Knows e before behind m n (slice_set c.args.names c.in-Sum.name (pos k))) c.deref-then-is_looked_at-5-2.ensures
-          (c.is_each_known-then-is_looked_at-5.ensures is k
-          (subst (λ v. IsBelow k (count_of v)) (sym (c.value-then-is_looked_at-5.ensures ∙ ap (λ e. value_of e m n c.args.names) c.deref-then-is_looked_at-5.ensures)) below)),
-    )
+    ) in
+    of_either (λ e. Knows e before behind m n c.args.names) c.args.expr.now (Each c.in-Each.name c.in-Each.count c.in-Each.body)
+    (Sum c.in-Each.name c.in-Each.count c.in-Each.body) c.in-Each.is looked looked
