@@ -12,7 +12,7 @@ use Rattle.a2_asm.specs.Programs.{IsSound}
 use Rattle.a2_machine.specs.declared.Cause.{Cause}
 use Rattle.a2_machine.specs.ByteRun.{bytes}
 use Rattle.a2_machine.specs.Meaning.{Code, End, IsEnd, stuck, world_at}
-use Rattle.a2_machine.specs.Looks.{look_at, shown_at, seen_after}
+use Rattle.a2_machine.specs.Looks.{shown_at, seen_after}
 use Rattle.a2_machine.specs.State.{Device, MachineState, world_of_state, code_of, IsMachineRun}
 use Rattle.a2_run.specs.Meaning.{code_of_run, start_of_run}
 use Rattle.a2_run.specs.Started.{IsStarted, guard_of_run}
@@ -77,10 +77,10 @@ in-words-same count times cycles taken = same (omega (arith, times)) (omega (ari
     same : count.times % 2 ^ 64 ≡ count.times → count.cycles % 2 ^ 64 ≡ count.cycles → count.taken % 2 ^ 64 ≡ count.taken → in_words count ≡ count
     same e f g = λ i. record { times = e i; cycles = f i; taken = g i }
 
-module _ (code : Code) (start : World) (n : ℕ) (counts : List Count) (h : IsCounted code start n counts) (small : is_small (look_at code start n) ≡ true)
+module _ (code : Code) (start : World) (n : ℕ) (counts : List Count) (h : IsCounted code start n counts) (small : is_small ((shown_at code start n).look) ≡ true)
     (few : n < 2 ^ 32) (cheap : (world_at code start (suc n)).cycles < 2 ^ 64) where
   abbrev look : Look
-  look = look_at code start n
+  look = (shown_at code start n).look
 
   abbrev pc : ℕ
   pc = look.pc
@@ -164,20 +164,20 @@ counted-after : (code : Code) (start : World) (first : List Count) → start.cyc
 unfolding seen_after
 counted-after code start first cycles empty zero few cheap size = counted-none code start first cycles empty
 counted-after code start first cycles empty (suc n) few cheap size =
-    go (is_small (look_at code start n)) refl size
+    go (is_small ((shown_at code start n).look)) refl size
     (counted-after code start first cycles empty n (omega (arith, few)) (omega (arith, cheap, step-later code start n)))
   where
     before : List Count
     before = seen_after shown_to (shown_at code start) first n
 
     next_count : Count
-    next_count = in_words (counted (look_at code start n).cycles (turns (look_at code start n)) (count_at before (look_at code start n).pc))
+    next_count = in_words (counted (shown_at code start n).look.cycles (turns ((shown_at code start n).look)) (count_at before (shown_at code start n).look.pc))
 
-    go : (b : Bool) → is_small (look_at code start n) ≡ b → length (if b then slice_set before (look_at code start n).pc next_count else []) ≡ 65536
+    go : (b : Bool) → is_small ((shown_at code start n).look) ≡ b → length (if b then slice_set before (shown_at code start n).look.pc next_count else []) ≡ 65536
         → (length before ≡ 65536 → IsCounted code start n before)
-        → IsCounted code start (suc n) (if b then slice_set before (look_at code start n).pc next_count else [])
+        → IsCounted code start (suc n) (if b then slice_set before (shown_at code start n).look.pc next_count else [])
     go true e size earlier =
-        counted-next code start n before (earlier (sym (length-set before (look_at code start n).pc next_count) ∙ size)) e (omega (arith, few)) cheap
+        counted-next code start n before (earlier (sym (length-set before (shown_at code start n).look.pc next_count) ∙ size)) e (omega (arith, few)) cheap
     go false e size earlier = absurd (omega (arith, size))
 
 -- The end of the run

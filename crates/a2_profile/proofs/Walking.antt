@@ -16,7 +16,7 @@ use Rattle.a2_asm.specs.Programs.{IsSound}
 use Rattle.a2_machine.specs.declared.Cause.{Cause}
 use Rattle.a2_machine.specs.ByteRun.{bytes}
 use Rattle.a2_machine.specs.Meaning.{Code, IsEnd, world_at}
-use Rattle.a2_machine.specs.Looks.{look_at, shown_at, seen_after}
+use Rattle.a2_machine.specs.Looks.{shown_at, seen_after}
 use Rattle.a2_machine.specs.State.{Device, MachineState, world_of_state, code_of, IsMachineRun}
 use Rattle.a2_run.specs.Meaning.{code_of_run, start_of_run}
 use Rattle.a2_run.specs.Started.{IsStarted, guard_of_run}
@@ -233,12 +233,12 @@ call-is : (o : Option ℕ) → (unwrap_or o 0 == 0x20) ≡ is_jsr o
 call-is None = refl
 call-is (Some byte) = refl
 
-module _ (code : Code) (start : World) (n : ℕ) (walk : Walk) (h : IsAlong code start n walk) (small : is_small (look_at code start n) ≡ true) (few : n < most_steps) where
+module _ (code : Code) (start : World) (n : ℕ) (walk : Walk) (h : IsAlong code start n walk) (small : is_small ((shown_at code start n).look) ≡ true) (few : n < most_steps) where
   abbrev worlds : ℕ → World
   worlds = world_at code start
 
   abbrev look : Look
-  look = look_at code start n
+  look = (shown_at code start n).look
 
   sizes : AreSmall look
   sizes = are-small look small
@@ -283,7 +283,7 @@ module _ (code : Code) (start : World) (n : ℕ) (walk : Walk) (h : IsAlong code
       ∙ ap₂ (λ (b : Bool) (t : Totals). with_entry b t) (entry-is r) (step-is r low)
       ∙ sym (totals-next worlds n r)
 
-  pub along-next : IsAlong code start (suc n) (with_made (look_at code start n) walk)
+  pub along-next : IsAlong code start (suc n) (with_made ((shown_at code start n).look) walk)
   along-next = record {
     is_walk = below-walk look.next_s (walks.with_call look made) called.is_walk;
     frames = frames-next worlds n walk.frames (walks.with_call look made).frames left_now.frames (look.opcode == 0x20) look.next_pc look.s look.next_s h.frames
@@ -303,7 +303,7 @@ along-after code start first begun (suc n) few size =
     go (is_small look) (length before.totals == 65537) refl refl size (along-after code start first begun n (omega (arith, few)))
   where
     look : Look
-    look = look_at code start n
+    look = (shown_at code start n).look
 
     before : Walk
     before = seen_after shown_to (shown_at code start) first n
