@@ -28,15 +28,12 @@ class Judge:
     def judge(self, names, room_of, tries=True):
         """Answers of the routines of these names, or of all, each with why."""
         chosen = [(label, it) for label, it in self.found if not names or label in names]
-        for label, it in chosen:
-            if isinstance(it, Refusal):
-                self.answers[label] = (REFUSED, str(it))
         promises = [it for _, it in chosen if isinstance(it, Promise)]
         self.look(promises)
         if tries:
             self.try_states(promises)
         self.prove([it for it in promises if it.name not in self.answers], room_of)
-        return [(label, *self.answers[label]) for label, _ in chosen]
+        return [(label, REFUSED, str(it)) if isinstance(it, Refusal) else (label, *self.answers[label]) for label, it in chosen]
 
     def look(self, promises):
         """Refuses what the rules do not speak of; a routine that is called too."""

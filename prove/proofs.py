@@ -158,6 +158,7 @@ class Proof(Run):
         flag = state.flags[letter]
         if flag[0] == "opaque":
             raise Refusal(it.line, f"what {letter} is here can't be proved")
+        self.flag_number(state, letter)
         begin = self.lines(state)
         ways = [self.way(state, it, letter, flag, value, is_set, loops) for value in (True, False)]
         return f"{begin}fork code {letter} {state.world} _ {state.steps} _ refl\n{ways[0]}\n{ways[1]}"
@@ -166,7 +167,7 @@ class Proof(Run):
         one, h = state.copy(), self.fresh("h")
         one.depth += 1
         one.path.append(f"{it.mnemonic} in line {it.line} " + ("branches" if value == is_set else "goes on"))
-        if flag[0] == "unknown":
+        if flag[0] in ("unknown", "overflow"):
             one.lines.append((h + "f : one_if " + par(flag[1]) + f" ≡ {int(value)}", f"ap (λ b. one_if b) {h}"))
             one.facts.append(h + "f")
         else:
@@ -436,7 +437,7 @@ class Proof(Run):
         by = f"(omega ({', '.join(['arith', *facts])}))"
         if flag[0] == "known":
             return "refl" if flag[1] == holds else f"(absurd {by})"
-        if flag[0] == "unknown":
+        if flag[0] in ("unknown", "overflow"):
             return f"(flag_{'yes' if holds else 'no'} {par(flag[1])} {by})"
         if flag[0] == "opaque":
             raise Refusal(0, f"what {letter} is can't be proved")
@@ -518,7 +519,7 @@ def known_by(e, fact, holds, flag_of):
     """The terms by which the arithmetic knows that a fact holds, or not; a flag by what it is in a state."""
     if e[0] == "held":
         flag = flag_of(FLAGS[e[1]])
-        if flag is None or flag[0] == "unknown":
+        if flag is None or flag[0] in ("unknown", "overflow"):
             return [f"ap (λ b. one_if b) {fact}"]
         if flag[0] in ("known", "opaque"):
             return []

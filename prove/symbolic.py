@@ -100,7 +100,8 @@ class Run:
         self.fact(state, f"{state.bytes}.ram {address}")
         return f"(ram_byte {state.base}.memory {address})"
 
-    # Flags: ('known', b), ('sum', t) for 256 ≤ t, ('le', m, n), ('odd', t), ('eq', m, n), ('unknown', term), ('opaque',)
+    # Flags: ('known', b), ('sum', t) for 256 ≤ t, ('le', m, n), ('odd', t), ('eq', m, n), ('unknown', term),
+    # ('overflow', term, a, b, c) of a sum, ('opaque',)
 
     @staticmethod
     def test(flag):
@@ -123,6 +124,10 @@ class Run:
             return f"(one_if {flag[1]})"
         if kind == "opaque":
             raise Refusal(0, f"what {letter} is here can't be proved")
+        if kind == "overflow":
+            low = state.arithmetic()
+            self.fact(state, f"overflow_bit {' '.join(par(it) for it in flag[2:])} {low} {low} {low}")
+            return f"(one_if {flag[1]})"
         if kind == "odd":
             self.fact(state, f"odd_bit {par(flag[1])}")
             return f"(one_if ({par(flag[1])} % 2 == 1))"
@@ -204,13 +209,15 @@ class Run:
         self.judge(state, term)
 
     def add(self, state, it, byte):
-        total = add(state.registers["A"], byte, self.flag_number(state, "C"))
+        carry = self.flag_number(state, "C")
+        overflow = overflow_of(state.registers["A"], byte, carry)
+        total = add(state.registers["A"], byte, carry)
         if isinstance(total, int):
             state.flags["C"] = ("known", total > 255)
         else:
             self.fact(state, f"whole {par(total)} {state.arithmetic()}")
             state.flags["C"] = ("sum", total)
-        state.flags["V"] = ("opaque",)
+        state.flags["V"] = overflow
         self.load(state, "A", modulo(total))
 
     def compare(self, state, it, register):
@@ -290,6 +297,14 @@ class Run:
 
     def do_nop(self, state, it):
         pass
+
+
+def overflow_of(a, byte, carry):
+    """V of a sum."""
+    if all(isinstance(it, int) for it in (a, byte, carry)):
+        return "known", bool(~(a ^ byte) & (a ^ (a + byte + carry)) & 128)
+    term = f"(overflows (signed {par(a)} +ℤ signed {par(byte)} +ℤ pos {par(carry)}))"
+    return "overflow", term, a, byte, carry
 
 
 def arithmetic_of(digit, mask):

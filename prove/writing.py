@@ -37,11 +37,11 @@ use Rattle.a2_rules.proofs.Kept.{code_of}
 use Rattle.promised.specs.Statements.{text}
 """
 
-PROOF_USES = """use Rattle.std.specs.Prelude.{◌≡◌, ◌≢◌, ◌<◌, ◌≤◌, ◌⊎◌, ℕ, ◌+◌, ◌*◌, ◌/◌, ◌%◌, ◌-◌, ◌&&◌, ◌||◌, ◌==◌, nat_le, nat_lt, min, max, Bool, true, false, List, [], ◌∷◌, refl}
+PROOF_USES = """use Rattle.std.specs.Prelude.{◌≡◌, ◌≢◌, ◌<◌, ◌≤◌, ◌⊎◌, ℕ, ◌+◌, ◌*◌, ◌/◌, ◌%◌, ◌-◌, ◌&&◌, ◌||◌, ◌==◌, nat_le, nat_lt, min, max, ℤ, pos, ◌+ℤ◌, Bool, true, false, List, [], ◌∷◌, refl}
 use Rattle.std.proofs.Common.{sym, ap, ap₂, ◌∙◌, arith, inl, inr, true≢false}
 use Rattle.std.proofs.lemmas.Bool.Decides.{nat_tests}
 use Rattle.a2_text.specs.Bytes.{is_among}
-use Rattle.a2_cpu.specs.Arithmetic.{by_digits, differ}
+use Rattle.a2_cpu.specs.Arithmetic.{by_digits, differ, overflows, signed}
 use Rattle.a2_cpu.specs.Registers.{one_if}
 use Rattle.a2_bus.specs.Memory.{Memory, ram_byte}
 use Rattle.a2_services.specs.World.{World}
@@ -53,6 +53,7 @@ use Rattle.a2_lessons.proofs.Carrying.{fits_word}
 use Rattle.a2_lessons.proofs.Indexing.{load_x, load_y, loaded_at}
 use Rattle.a2_rules.specs.Worlds.{OnlyBytes}
 use Rattle.a2_rules.proofs.Bits.{bit_small, digits_small}
+use Rattle.a2_rules.proofs.Overflow.{overflow_bit}
 use Rattle.a2_rules.proofs.Meeting.{enter, stepped, home, Meets}
 use Rattle.a2_rules.proofs.Proving.{onto, fork, loops, call, bytes_after, whole, le_bit, odd_bit, eq_bit, le_yes, le_no, eq_yes, eq_no, each_byte, product_down, product_up, product_zero, product_ge, mul_swap, yes_le, no_le, yes_eq, no_eq, keeps_as, flag_yes, flag_no, weaken}
 use Rattle.promised.proofs.Program.{code}

@@ -6,4 +6,5 @@ pub mod Meeting
 pub mod Proving
 pub mod Bytes
 pub mod Kept
+pub mod Overflow
 pub mod Doubling
