@@ -9,6 +9,7 @@ ghost use Rattle.a2_check.specs.Unread.{AreUnread};
 
 use a2_asm::refused;
 use a2_syntax::{Fault, parse};
+use a2_text::append;
 use arrayvec::ArrayVec;
 use std::alloc::{AllocError, Allocator};
 
@@ -18,8 +19,8 @@ fn ended(line: &[u8]) -> ArrayVec<u8, 257>
     ensures { result.items ≡ line.now ++ 13 ∷ 10 ∷ [] }
 {
     let mut text = ArrayVec::new();
-    text.try_extend_from_slice(line).unwrap();
-    text.try_extend_from_slice(b"\r\n").unwrap();
+    append(&mut text, line);
+    append(&mut text, b"\r\n");
     text
 }
 

@@ -17,7 +17,7 @@ use crate::texts::{hex_digit, switch_digit};
 use a2_cpu::Regs;
 use a2_machine::Machine;
 use a2_page::Switches;
-use a2_text::decimal;
+use a2_text::{append, decimal};
 use arrayvec::ArrayVec;
 use std::alloc::Allocator;
 
@@ -53,15 +53,6 @@ pub const MOST_KEPT: usize = 1_024;
 
 /// Rows that are still to go out.
 pub type Rows = ArrayVec<u8, 13_424>;
-
-// Appends bytes that fit.
-fn append(rows: &mut Rows, bytes: &[u8])
-    requires { array_vec_len rows.old + length bytes.now ≤ rows_room }
-    ensures items { rows.new.items ≡ rows.old.items ++ bytes.now }
-    ensures length { array_vec_len rows.new ≡ array_vec_len rows.old + length bytes.now }
-{
-    rows.try_extend_from_slice(bytes).unwrap();
-}
 
 // Appends a number in decimal digits.
 #[tactic(auto, using(std::proofs::lemmas::Fmt::decimal_digit))]

@@ -1,26 +1,16 @@
 //! The cycles of an instruction.
 
-ghost use Rattle.std.specs.Prelude.{◌≡◌, ◌+◌, ◌≤◌, ◌++◌, length, Some};
-ghost use Rattle.arrayvec.specs.ArrayVec.{array_vec_len};
+ghost use Rattle.std.specs.Prelude.{◌≡◌, ◌≤◌, length, Some};
 ghost use Rattle.a2_list.specs.Listing as listing;
 
 use crate::blanks::blanks;
 use a2_asm::Statement;
 use a2_opcode::{Mode, Row, row_for};
-use a2_text::decimal;
+use a2_text::{append, decimal};
 use arrayvec::ArrayVec;
 
 /// Blanks, a number and a mark.
 pub(crate) type Cell = ArrayVec<u8, 64>;
-
-// Appends bytes that fit.
-fn append(cell: &mut Cell, bytes: &[u8])
-    requires { array_vec_len cell.old + length bytes.now ≤ 64 }
-    ensures bytes { cell.new.items ≡ cell.old.items ++ bytes.now }
-    ensures length { array_vec_len cell.new ≡ array_vec_len cell.old + length bytes.now }
-{
-    cell.try_extend_from_slice(bytes).unwrap();
-}
 
 // What marks the cycles of a row, of which there may be more.
 fn mark_of(row: Row) -> &'static [u8]

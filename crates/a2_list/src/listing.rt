@@ -1,13 +1,11 @@
 //! The listing of a source.
 
-ghost use Rattle.std.specs.Prelude.{◌≡◌, ◌+◌, ◌*◌, ◌≤◌, ◌++◌, min, length, map, codes, true, false};
-ghost use Rattle.std.specs.List.{flat_map};
+ghost use Rattle.std.specs.Prelude.{◌≡◌, ◌+◌, ◌≤◌, ◌++◌, min, length, map, codes, true, false};
 ghost use Rattle.std.specs.Fmt.{decimal as decimal_of};
-ghost use Rattle.arrayvec.specs.ArrayVec.{array_vec_len};
 ghost use Rattle.a2_text.specs.Lines.{lines};
 ghost use Rattle.a2_stream.specs.Stream.{SendsOrBreaks};
 ghost use Rattle.a2_hex.specs.Images.{held};
-ghost use Rattle.a2_hex.specs.ObjectText.{after_blank, run};
+ghost use Rattle.a2_hex.specs.ObjectText.{run};
 ghost use Rattle.a2_asm.specs.Entries.{entries};
 ghost use Rattle.a2_run.specs.Answers.{Answers, OfSource, is_read_fault};
 ghost use Rattle.a2_run.specs.Meaning.{IsProgramOf, IsRefused};
@@ -19,11 +17,11 @@ use crate::blanks::blanks;
 use crate::cycles::cycles_cell;
 use crate::name_table::{in_order, put_use_table};
 use a2_asm::{Names, Program, Statement};
-use a2_hex::Image;
+use a2_hex::{Image, append_run};
 use a2_run::{RunFault, program_of};
 use a2_stream::{Output, WriteFault, put, put_all};
 use a2_syntax::{Line, parse};
-use a2_text::{cut, decimal, hex_pair, hex_word};
+use a2_text::{append, cut, decimal, hex_word};
 use arrayvec::ArrayVec;
 use std::alloc::Allocator;
 
@@ -38,29 +36,6 @@ pub struct Shown {
 
 // An address with at most three bytes.
 type Columns = ArrayVec<u8, 16>;
-
-// Appends bytes that fit.
-fn append(columns: &mut Columns, bytes: &[u8])
-    requires { array_vec_len columns.old + length bytes.now ≤ 16 }
-    ensures { columns.new.items ≡ columns.old.items ++ bytes.now }
-{
-    columns.try_extend_from_slice(bytes).unwrap();
-}
-
-// Appends the bytes from an address up to a gap, but at most so many, each with a blank before it.
-fn append_run<A: Allocator>(image: &Image<A>, address: u16, most: u16, columns: &mut Columns)
-    requires address { address + most ≤ 65536 }
-    requires room { array_vec_len columns.old + 3 * most ≤ 16 }
-    ensures { columns.new.items ≡ columns.old.items ++ flat_map after_blank (run (held image.now) address most) }
-{
-    for i in 0..most {
-        let Some(byte) = image.get(address + i) else {
-            return;
-        };
-        let [high, low] = hex_pair(byte);
-        append(columns, &[b' ', high, low]);
-    }
-}
 
 // The same number, or 0 where there is no byte at an address.
 fn most_held<A: Allocator>(image: &Image<A>, address: u16, most: u16) -> u16

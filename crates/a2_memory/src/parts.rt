@@ -1,7 +1,6 @@
 //! Parts of RAM, as the Monitor shows them.
 
-ghost use Rattle.std.specs.Prelude.{◌≡◌, ◌<◌, ◌≤◌, ◌+◌, ◌++◌, codes, option_map, length};
-ghost use Rattle.arrayvec.specs.ArrayVec.{array_vec_len};
+ghost use Rattle.std.specs.Prelude.{◌≡◌, ◌<◌, ◌+◌, ◌++◌, codes, option_map};
 ghost use Rattle.a2_text.specs.Digits.{hex_word};
 ghost use Rattle.a2_stream.specs.Stream.{SendsOrBreaks};
 ghost use Rattle.a2_bus.specs.View.{memory_of};
@@ -14,7 +13,7 @@ use a2_machine::Machine;
 use a2_monitor::Session;
 use a2_places::Span;
 use a2_stream::{Output, WriteFault};
-use a2_text::hex_word;
+use a2_text::{append, hex_word};
 use arrayvec::ArrayVec;
 use std::alloc::Allocator;
 
@@ -36,15 +35,6 @@ impl Part {
 
 // The line of the Monitor that shows a part.
 type Line = ArrayVec<u8, 9>;
-
-// Appends bytes that fit.
-fn append(line: &mut Line, bytes: &[u8])
-    requires { array_vec_len line.old + length bytes.now ≤ 9 }
-    ensures bytes { line.new.items ≡ line.old.items ++ bytes.now }
-    ensures length { array_vec_len line.new ≡ array_vec_len line.old + length bytes.now }
-{
-    line.try_extend_from_slice(bytes).unwrap();
-}
 
 // The line of a part, as `0300.030F`.
 fn line_of(part: Part) -> Line

@@ -11,7 +11,7 @@ use crate::{Count, Profile};
 use a2_asm::{Program, Statement};
 use a2_opcode::Mode;
 use a2_stream::{Output, WriteFault, put_all};
-use a2_text::{decimal, hex_word};
+use a2_text::{append, decimal, hex_word};
 use arrayvec::ArrayVec;
 use std::alloc::Allocator;
 
@@ -73,14 +73,6 @@ fn put_row<'a, W: Output>(
         ],
         writer,
     )
-}
-
-// Appends bytes that fit.
-fn append(share: &mut Share, bytes: &[u8])
-    requires { array_vec_len share.old + length bytes.now ≤ 42 }
-    ensures { share.new.items ≡ share.old.items ++ bytes.now }
-{
-    share.try_extend_from_slice(bytes).unwrap();
 }
 
 // How many thousandths of all cycles these are.
