@@ -1,5 +1,5 @@
 -- The addresses that words say. This project's profile.
-use Rattle.std.specs.Prelude.{ℕ, ◌+◌, Bool, ◌&&◌, ◌==◌, not, nat_le, nat_lt, List, [], ◌∷◌, take, drop, find, if◌then◌else◌, Option, Some, None, is_some}
+use Rattle.std.specs.Prelude.{ℕ, ◌+◌, ◌==◌, not, nat_le, nat_lt, List, [], ◌∷◌, take, drop, if◌then◌else◌, Option, Some, None}
 use Rattle.std.specs.List.{prefix_len}
 use Rattle.a2_text.specs.Signs.{sign}
 use Rattle.a2_text.specs.Bytes.{is_digit, number_in}
@@ -8,15 +8,9 @@ use Rattle.a2_asm.specs.declared.program.Statement.{Statement}
 use Rattle.a2_asm.specs.Assembled.{Assembled}
 use Rattle.a2_asm.specs.Values.{name_value}
 use Rattle.a2_places.specs.declared.places.Span.{Span}
+use Rattle.a2_places.specs.Statements.{instruction_on}
 
-abbrev pub is_instruction_on : ℕ → Statement → Bool
-is_instruction_on number s = (s.line == number) && is_some s.instr
-
--- the instruction on a line
-abbrev pub instruction_on : List Statement → ℕ → Option Statement
-instruction_on statements n = find (is_instruction_on n) statements
-
--- its address
+-- the address of the instruction on a line
 abbrev pub address_on : List Statement → ℕ → Option ℕ
 address_on statements n = elim (instruction_on statements n) [ None ↦ None | Some s ↦ Some s.addr ]
 

@@ -5,6 +5,7 @@ ghost use Rattle.a2_syntax.specs.Names.{is_name as is_name_of};
 ghost use Rattle.a2_asm.specs.Values.{name_value};
 ghost use Rattle.a2_places.specs.Places as place;
 
+use crate::statements::instruction_on;
 use a2_asm::{Program, Statement};
 use a2_syntax::is_name;
 use a2_text::{front_len, number_in};
@@ -29,30 +30,11 @@ fn value_of<A: Allocator>(program: &Program<A>, name: &[u8]) -> Option<u16>
     }
 }
 
-// Whether a statement is the instruction on a line.
-fn is_instruction_on(statement: &Statement, number: u16) -> bool
-    ensures { result ≡ place.is_instruction_on number statement.now }
-{
-    statement.line == number && statement.instr.is_some()
-}
-
-// The instruction on a line.
-fn instruction_on(statements: &[Statement], number: u16) -> Option<Statement>
-    ensures { result ≡ place.instruction_on statements.now number }
-{
-    for statement in statements {
-        if is_instruction_on(statement, number) {
-            return Some(*statement);
-        }
-    }
-    None
-}
-
-// Its address.
+// The address of the instruction on a line.
 fn address_on(statements: &[Statement], number: u16) -> Option<u16>
     ensures { result ≡ place.address_on statements.now number }
 {
-    match instruction_on(statements, number) {
+    match instruction_on(statements, usize::from(number)) {
         Some(statement) => Some(statement.addr),
         None => None,
     }

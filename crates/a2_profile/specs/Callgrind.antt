@@ -8,11 +8,12 @@ use Rattle.a2_asm.specs.declared.program.Statement.{Statement}
 use Rattle.a2_asm.specs.Assembled.{Assembled}
 use Rattle.a2_asm.specs.Programs.{begins_at}
 use Rattle.a2_asm.specs.Values.{Names}
+use Rattle.a2_places.specs.Statements.{instruction_on}
 use Rattle.a2_profile.specs.declared.profile.Count.{Count}
 use Rattle.a2_profile.specs.declared.walk.Totals.{Totals}
 use Rattle.a2_profile.specs.Counts.{count_at, steps_in, cycles_in}
 use Rattle.a2_profile.specs.Totals.{itself, totals_at, own_steps_in, own_cycles_in}
-use Rattle.a2_profile.specs.Table.{instruction_on, is_outside, rows_from}
+use Rattle.a2_profile.specs.Table.{is_outside, rows_from}
 use Rattle.a2_profile.specs.RoutineTable.{name_of}
 
 -- a byte of a file's name; a control byte, which would end a line, as ?

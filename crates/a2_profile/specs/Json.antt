@@ -8,11 +8,12 @@ use Rattle.a2_asm.specs.Assembled.{Assembled}
 use Rattle.a2_asm.specs.Values.{Names}
 use Rattle.a2_machine.specs.declared.Cause.{Cause}
 use Rattle.a2_machine.specs.Output.{cause_name}
+use Rattle.a2_places.specs.Statements.{instruction_on}
 use Rattle.a2_profile.specs.declared.profile.Count.{Count}
 use Rattle.a2_profile.specs.declared.walk.Totals.{Totals}
 use Rattle.a2_profile.specs.Counts.{count_at, steps_in, cycles_in}
 use Rattle.a2_profile.specs.Totals.{itself, totals_at, own_steps_in, own_cycles_in}
-use Rattle.a2_profile.specs.Table.{instruction_on, is_branch, is_outside, is_never_done}
+use Rattle.a2_profile.specs.Table.{is_branch, is_outside, is_never_done}
 use Rattle.a2_profile.specs.RoutineTable.{name_of}
 
 -- a text between the quotes of a string

@@ -1,6 +1,6 @@
 -- What is shown of a profile: a row for each line of the source, for each other address where a step began, and for each
 -- line that was never done; and the sums. This project's profile.
-use Rattle.std.specs.Prelude.{◌≡◌, ℕ, zero, suc, ◌+◌, ◌-◌, ◌*◌, ◌/◌, ◌%◌, ◌==◌, ◌&&◌, not, Bool, true, false, List, [], ◌∷◌, ◌++◌, length, take, find, codes, Option, Some, None, is_some, is_none, slice_get, unwrap_or, if◌then◌else◌}
+use Rattle.std.specs.Prelude.{◌≡◌, ℕ, zero, suc, ◌+◌, ◌-◌, ◌*◌, ◌/◌, ◌%◌, ◌==◌, ◌&&◌, not, Bool, true, false, List, [], ◌∷◌, ◌++◌, length, take, codes, Option, Some, None, is_some, is_none, slice_get, unwrap_or, if◌then◌else◌}
 use Rattle.std.specs.List.{concat, flat_map}
 use Rattle.std.specs.Fmt.{decimal}
 use Rattle.a2_text.specs.Digits.{hex_word}
@@ -10,6 +10,7 @@ use Rattle.a2_opcode.specs.declared.Mode.TheVariants.{Relative}
 use Rattle.a2_asm.specs.declared.program.Statement.{Statement}
 use Rattle.a2_asm.specs.Assembled.{Assembled}
 use Rattle.a2_asm.specs.Programs.{instr_at}
+use Rattle.a2_places.specs.Statements.{instruction_on}
 use Rattle.a2_profile.specs.declared.profile.Count.{Count}
 use Rattle.a2_profile.specs.Counts.{count_at, steps_in, cycles_in}
 
@@ -54,13 +55,6 @@ is_relative _ = false
 
 abbrev pub is_branch : Statement → Bool
 is_branch s = elim s.instr [ None ↦ false | Some instr ↦ is_relative instr.mode ]
-
-abbrev pub is_instruction_on : ℕ → Statement → Bool
-is_instruction_on n s = (s.line == n) && is_some s.instr
-
--- the instruction on a line
-abbrev pub instruction_on : List Statement → ℕ → Option Statement
-instruction_on statements n = find (is_instruction_on n) statements
 
 -- the row of a line, with a count where an instruction stands there
 abbrev pub line_row : List Count → Option Statement → ℕ → List ℕ → List ℕ

@@ -8,9 +8,10 @@ ghost use Rattle.a2_profile.specs.RoutineTable.{name_of as name_at};
 ghost use Rattle.a2_profile.specs.Table.{rows_from};
 
 use crate::profile::ADDRESSES;
-use crate::table::{instruction_on, is_outside};
+use crate::table::is_outside;
 use crate::{Profile, RoutineProfile, Totals, name_of};
 use a2_asm::{Program, Statement};
+use a2_places::instruction_on;
 use a2_stream::{Output, WriteFault, put, put_all};
 use a2_text::{decimal, hex_word};
 use std::alloc::Allocator;

@@ -8,10 +8,11 @@ ghost use Rattle.a2_profile.specs.Json as json;
 ghost use Rattle.a2_machine.specs.Output.{cause_name as cause_name_of};
 
 use crate::profile::ADDRESSES;
-use crate::table::{instruction_on, is_branch, is_never_done, is_outside};
+use crate::table::{is_branch, is_never_done, is_outside};
 use crate::{Count, Profile};
 use a2_asm::{Program, Statement};
 use a2_machine::Cause;
+use a2_places::instruction_on;
 use a2_stream::{Output, WriteFault, put, put_all};
 use a2_text::{decimal, json_escape};
 use std::alloc::Allocator;

@@ -1,7 +1,6 @@
 //! The table of a profile.
 
-ghost use Rattle.std.specs.Prelude.{◌≡◌, ◌+◌, ◌-◌, ◌≤◌, ◌++◌, length, map};
-ghost use Rattle.arrayvec.specs.ArrayVec.{array_vec_len};
+ghost use Rattle.std.specs.Prelude.{◌≡◌, ◌+◌, ◌-◌, ◌≤◌, ◌++◌, map};
 ghost use Rattle.a2_stream.specs.Stream.{SendsOrBreaks};
 ghost use Rattle.a2_profile.specs.Table as table;
 ghost use Rattle.std.specs.Fmt.{decimal as decimal_of};
@@ -10,6 +9,7 @@ use crate::profile::ADDRESSES;
 use crate::{Count, Profile};
 use a2_asm::{Program, Statement};
 use a2_opcode::Mode;
+use a2_places::instruction_on;
 use a2_stream::{Output, WriteFault, put_all};
 use a2_text::{append, decimal, hex_word};
 use arrayvec::ArrayVec;
@@ -147,25 +147,6 @@ pub(crate) fn is_branch(statement: &Statement) -> bool
         Some(instr) => matches!(instr.mode, Mode::Relative),
         None => false,
     }
-}
-
-// Whether a statement is the instruction on a line.
-fn is_instruction_on(statement: &Statement, number: usize) -> bool
-    ensures { result ≡ table.is_instruction_on number statement.now }
-{
-    usize::from(statement.line) == number && statement.instr.is_some()
-}
-
-// The instruction on a line.
-pub(crate) fn instruction_on(statements: &[Statement], number: usize) -> Option<Statement>
-    ensures { result ≡ table.instruction_on statements.now number }
-{
-    for statement in statements {
-        if is_instruction_on(statement, number) {
-            return Some(*statement);
-        }
-    }
-    None
 }
 
 // Writes the row of a line.

@@ -1,6 +1,6 @@
 use Rattle.std.proofs.Common.{◌≡◌, drop}
-use Rattle.a2_places.specs.Places.{instruction_on}
-use Rattle.a2_places.proofs.places.instruction_on.Given as goal
+use Rattle.a2_places.specs.Statements.{instruction_on}
+use Rattle.a2_places.proofs.statements.instruction_on.Given as goal
 
 -- what is looked for is not among the statements so far
 abbrev pub invariant-loop-statement : goal.invariant-loop-statement
