@@ -5,7 +5,7 @@ import re
 
 from .assembling import BRANCHES
 from .refusal import Refusal
-from .saying import FLAGS, is_fact, is_minus, shape
+from .saying import FLAGS, Words, is_fact, is_minus, shape, signed_in
 from .symbolic import Run, State, StateWords
 from .terms import add, bare, in_words, list_of, modulo, par
 from .trying import cells_in
@@ -57,7 +57,7 @@ class Proof(Run):
         for register in "axy":
             self.fact(state, f"bytes.{register}")
         for k, clause in enumerate(promise.wanted, 1):
-            self.learn(state, clause.expr, f"before.r{k}")
+            self.learn(state, clause.expr, f"before.r{k}", Words("w", "w"))
         for address in sorted(self.named):
             self.fact(state, f"bytes.ram {address}")
         state.ground = (list(state.facts), list(state.known))
@@ -87,10 +87,16 @@ class Proof(Run):
         state.lines = []
         return text
 
-    def learn(self, state, e, fact):
-        """Has the arithmetic know what a fact says."""
+    def learn(self, state, e, fact, words):
+        """Has the arithmetic know what a fact says in these words."""
         for term in known_by(e, fact, True, lambda letter: None):
             self.fact(state, term)
+        self.signs(state, e, words)
+
+    def signs(self, state, e, words):
+        """Has the arithmetic know of each byte whose sign is taken which one it has."""
+        for term in signed_in(e, words):
+            self.fact(state, f"le_bit 128 {par(term)}")
 
     # Ways
 
@@ -298,7 +304,7 @@ class Proof(Run):
         for register in "axy":
             self.fact(made, f"{fact}.bytes.{register}")
         for k, clause in enumerate(clauses, 1):
-            self.learn(made, clause.expr, f"{fact}.e{k}")
+            self.learn(made, clause.expr, f"{fact}.e{k}", Words(base, "w"))
         for register in "AXY":
             if register not in self.routine.promise.changes.registers:
                 self.fact(made, f"{fact}.keep_{register.lower()}")
@@ -316,6 +322,7 @@ class Proof(Run):
         s = state.s
         self.calls.add((it.value, s))
         here = f"(stepped code {state.world} {state.steps})"
+        self.prepare(state, other.promise.wanted)
         body = "".join(
             f"r{k} = {self.goal(state, clause, f'line {it.line}: the call of {other.name} wants {clause.text}')}"
             for k, clause in enumerate(other.promise.wanted, 1)
@@ -345,7 +352,7 @@ class Proof(Run):
         for register in "axy":
             self.fact(made, f"{after}.bytes.{register}")
         for k, clause in enumerate(other.promise.promised, 1):
-            self.learn(made, clause.expr, f"{after}.e{k}")
+            self.learn(made, clause.expr, f"{after}.e{k}", BehindWords(u, StateWords(self, state)))
         for register in "AXY":
             if register not in other.promise.changes.registers:
                 self.fact(made, f"{after}.keep_{register.lower()}")
@@ -457,6 +464,7 @@ class Proof(Run):
         for clause in clauses:
             for letter in letters_in(clause.expr):
                 self.flag_number(state, letter)
+            self.signs(state, clause.expr, StateWords(self, state))
             for x, y in products_in(clause.expr):
                 self.product(state, x, y)
                 if state.loop:
@@ -495,6 +503,17 @@ class Proof(Run):
             elif now == modulo(add(before, 1)):
                 self.fact(state, f"product_ge {par(before)} {par(other)}")
                 self.fact(state, f"product_up {par(before)} {par(other)} {state.arithmetic()}")
+
+
+class BehindWords(Words):
+    """Terms of an expression behind a call, whose entry is a state."""
+
+    def __init__(self, new, before):
+        super().__init__(new, before.new)
+        self.before = before
+
+    def at_entry(self):
+        return self.before
 
 
 def wanted_by(term):

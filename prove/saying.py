@@ -16,6 +16,8 @@ def is_minus(e):
     """Whether a number may be below 0."""
     if e[0] == "old":
         return is_minus(e[1])
+    if e[0] == "of":
+        return e[1] == "Signed"
     return e[0] == "pair" and (e[1] == "Minus" or e[1] == "Plus" and (is_minus(e[2]) or is_minus(e[3])))
 
 
@@ -56,7 +58,7 @@ def most(e):
     if kind == "old":
         return most(e[1])
     if kind == "of":
-        return 255 if e[1] == "Byte" else 65535
+        return {"Byte": 255, "Word": 65535}.get(e[1], 256)
     if kind == "pair":
         m, n = most(e[2]), most(e[3])
         return {"Plus": m + n, "Minus": m + n, "Times": m * n, "Over": m, "Modulo": n, "Min": m, "Max": m + n}.get(e[1], 255)
@@ -84,8 +86,10 @@ def why_no_number(e):
 
 
 def why_no_place(e):
-    if e[1] not in ("Byte", "Word"):
-        return f"{e[1].lower()} can't be proved: say it by comparisons of the byte"
+    if e[1] == "Abs":
+        return "abs can't be proved: say it by comparisons"
+    if e[1] == "Signed":
+        return "signed is proved of bytes only" if is_minus(e[2]) or most(e[2]) > 255 else None
     if is_minus(e[2]):
         return "an address that is a difference can't be proved: write it as a sum"
     if most(e[2]) >= (0xC000 if e[1] == "Byte" else 0xBFFF):
@@ -184,6 +188,8 @@ class Words:
     def up(self, e):
         if e[0] == "old" and is_minus(e):
             return self.at_entry().up(e[1])
+        if e[0] == "of" and e[1] == "Signed":
+            return self.plain(e[2])
         if e[0] == "pair" and e[1] == "Minus":
             return f"({self.up(e[2])} + {self.down(e[3])})"
         if e[0] == "pair" and e[1] == "Plus":
@@ -193,6 +199,8 @@ class Words:
     def down(self, e):
         if e[0] == "old" and is_minus(e):
             return self.at_entry().down(e[1])
+        if e[0] == "of" and e[1] == "Signed":
+            return f"(256 * (one_if (nat_le 128 {par(self.plain(e[2]))})))"
         if e[0] == "pair" and e[1] == "Minus":
             return f"({self.down(e[2])} + {self.up(e[3])})"
         if e[0] == "pair" and e[1] == "Plus":
@@ -247,6 +255,18 @@ class Words:
         if kind == "if":
             return self.implies(by, True, one, True) if holds else self.two("×", by, True, one, False)
         return f"({self.implies(by, True, one, holds)}) × ({self.implies(by, False, other, holds)})"
+
+
+def signed_in(e, words):
+    """The bytes of which an expression takes the sign, as terms."""
+    if e[0] == "old":
+        yield from signed_in(e[1], words.at_entry())
+        return
+    if e[0] == "of" and e[1] == "Signed":
+        yield words.plain(e[2])
+    for part in e[1:]:
+        if isinstance(part, tuple):
+            yield from signed_in(part, words)
 
 
 # Literals

@@ -11,7 +11,7 @@ R3      RTS
 R4      RTS
 ;: ensures cycles <= 40
 R5      RTS
-;: ensures signed A < 5
+;: ensures abs A < 5
 R6      RTS
 ;: ensures A = $10 / $11
 R7      RTS

@@ -1,5 +1,5 @@
 -- What a phrase says of two worlds, in sums and comparisons of naturals: by this proofs speak of it.
-use Rattle.std.specs.Prelude.{◌≡◌, ◌≢◌, ◌⊎◌, ◌<◌, ◌≤◌, ℕ, zero, suc, ◌+◌, ◌-◌, ◌*◌, ◌/◌, ◌%◌, ◌^◌, pos, Bool, true, false, ◌&&◌, ◌||◌, not, nat_lt, min, max, List, [], ◌∷◌, Option, Some, None, if◌then◌else◌}
+use Rattle.std.specs.Prelude.{◌≡◌, ◌≢◌, ◌⊎◌, ◌<◌, ◌≤◌, ℕ, zero, suc, ◌+◌, ◌-◌, ◌*◌, ◌/◌, ◌%◌, ◌^◌, pos, Bool, true, false, ◌&&◌, ◌||◌, not, nat_le, nat_lt, min, max, List, [], ◌∷◌, Option, Some, None, if◌then◌else◌}
 use Rattle.a2_bus.specs.Memory.{ram_byte}
 use Rattle.a2_cpu.specs.Arithmetic.{by_digits, differ}
 use Rattle.a2_cpu.specs.Registers.{one_if}
@@ -41,9 +41,14 @@ pub record View : Type 0 where
 abbrev pub same : ℕ → View
 same n = record { plain = n; up = n; down = 0 }
 
+-- a byte as a number from -128 to 127
+abbrev pub signed_view : ℕ → View
+signed_view n = record { plain = 0; up = n; down = 256 * one_if (nat_le 128 n) }
+
 -- whether a number may be below 0
 abbrev pub minus : Phrase → Bool
 minus (old e) = minus e
+minus (of function.Signed e) = true
 minus (pair operation.Minus x y) = true
 minus (pair operation.Plus x y) = minus x || minus y
 minus _ = false
@@ -67,6 +72,7 @@ view (held a) w v = same (part a v)
 view (old e) w v = view e w w
 view (of function.Byte e) w v = same (ram_byte v.memory (view e w v).plain)
 view (of function.Word e) w v = same (word v.memory (view e w v).plain)
+view (of function.Signed e) w v = signed_view (view e w v).plain
 view (pair op x y) w v = joined op (minus x) (view x w v) (view y w v)
 view _ w v = same 0
 
@@ -87,6 +93,7 @@ most (held a) = 255
 most (old e) = most e
 most (of function.Byte e) = 255
 most (of function.Word e) = 65535
+most (of function.Signed e) = 256
 most (pair op x y) = most_of op (most x) (most y)
 most _ = 0
 
@@ -128,6 +135,7 @@ counts (held a) = is_part a
 counts (old e) = counts e
 counts (of function.Byte e) = counts e && (not (minus e) && nat_lt (most e) 49152)
 counts (of function.Word e) = counts e && (not (minus e) && nat_lt (most e) 49151)
+counts (of function.Signed e) = counts e && (not (minus e) && is_byte (most e))
 counts (pair op x y) = counts x && (counts y && may_join op x y)
 counts _ = false
 

@@ -1,5 +1,5 @@
 -- The value of an expression, in moments of two worlds of bytes, is what its phrase says of them.
-use Rattle.std.specs.Prelude.{◌≡◌, ◌⊎◌, ◌<◌, ◌≤◌, ℕ, zero, suc, ◌+◌, ◌-◌, ◌*◌, ◌/◌, ◌%◌, ◌^◌, ℤ, pos, negsuc, ◌+ℤ◌, ◌-ℤ◌, int_lt, int_le, Bool, true, false, ◌&&◌, ◌||◌, not, nat_lt, min, max, bit_and, bit_or, bit_xor, List, Option, Some, None, if◌then◌else◌, slice_get, map, length, refl}
+use Rattle.std.specs.Prelude.{◌≡◌, ◌⊎◌, ◌<◌, ◌≤◌, ℕ, zero, suc, ◌+◌, ◌-◌, ◌*◌, ◌/◌, ◌%◌, ◌^◌, ℤ, pos, negsuc, ◌+ℤ◌, ◌-ℤ◌, int_lt, int_le, Bool, true, false, ◌&&◌, ◌||◌, not, nat_le, nat_lt, min, max, bit_and, bit_or, bit_xor, List, Option, Some, None, if◌then◌else◌, slice_get, map, length, refl}
 use Rattle.std.specs.Int.{int_rem_euclid}
 use Rattle.std.specs.List.{range_with_len}
 use Rattle.std.proofs.Common.{sym, ap, ap₂, ◌∙◌, arith, inl, inr, true≢false, div-le_self}
@@ -20,13 +20,13 @@ use Rattle.a2_promise.specs.declared.expr.Expr.TheVariants.{Number, Held, Bound,
 use Rattle.a2_promise.specs.declared.expr.Function.TheVariants as function
 use Rattle.a2_promise.specs.declared.expr.Operation.{Operation}
 use Rattle.a2_promise.specs.declared.expr.Operation.TheVariants as operation
-use Rattle.a2_promise.specs.Values.{digit, fits, limited, word_in, held as held_atom, byte_value, word_value, byte_at, word_at, bitwise, operated, made_of, operated_on, value_of}
+use Rattle.a2_promise.specs.Values.{digit, fits, limited, word_in, held as held_atom, byte_value, word_value, byte_at, word_at, bitwise, operated, made_of, signed as signed_byte, operated_on, value_of}
 use Rattle.a2_trial.specs.Kept.{bytes_of, moment}
 use Rattle.a2_rules.specs.Phrases.{Phrase, number, held, bound, old, of, pair, choice, each, sum, phrase_of}
 use Rattle.a2_lessons.specs.Routines.{word}
 use Rattle.a2_rules.specs.Worlds.{OnlyBytes}
 use Rattle.a2_rules.proofs.Bits.{digits_small}
-use Rattle.a2_rules.proofs.Saying.{part, is_part, View, same, minus, joined, view, most_of, most, divides, both_plain, is_byte, in_range, may_join, counts}
+use Rattle.a2_rules.proofs.Saying.{part, is_part, View, same, minus, joined, view, most_of, most, divides, both_plain, is_byte, in_range, may_join, counts, signed_view}
 
 -- Tests
 
@@ -390,6 +390,50 @@ word_counts v x top o is_byte h low =
     ∙ ap₂ word_value (memory_byte v.memory x.plain here)
     (ap (λ a. slice_get (bytes_of v.memory) a) next ∙ memory_byte v.memory (x.plain + 1) behind)) (omega (arith, first, second))
 
+not_byte : (n : ℕ) → 128 ≤ n → n < 256 → signed_byte (Some n) ≡ Some (pos n -ℤ pos 256)
+not_byte n high low =
+    let e : nat_lt n 128 ≡ false = grind (arith, nat_tests, high) in
+    ap₂ (λ a b. let o : Option ℤ = if a then Some (pos n) else if b then Some (pos n -ℤ pos 256) else None in o) e (is_below n 256 low)
+
+signed_counts : (x : View) (top : ℕ) (all : List ℕ) (o : Option ℤ) → Plain x top o → top < 256
+    → Counts true (signed_view x.plain) 256 (made_of function.Signed all o)
+signed_counts x top all o h low = go (less_or x.plain 128)
+  where
+    small : x.plain < 256
+    small = let s = h.small in omega (arith, s, low)
+
+    less_or : (m n : ℕ) → (m < n) ⊎ (n ≤ m)
+    less_or m n = grind arith
+
+    is : made_of function.Signed all o ≡ signed_byte (Some x.plain)
+    is =
+        ap (λ z. made_of function.Signed all z) h.is
+        ∙ ap (λ n. signed_byte n) (word_value_is x.plain 0 (omega (arith, small)))
+
+    go : (x.plain < 128) ⊎ (128 ≤ x.plain) → Counts true (signed_view x.plain) 256 (made_of function.Signed all o)
+    go (inl below_128) =
+        let e : nat_le 128 x.plain ≡ false = grind (arith, nat_tests, below_128) in
+        let digit_is : one_if (nat_le 128 x.plain) ≡ 0 = ap one_if e in
+        record {
+          z = pos x.plain;
+          is = is ∙ ap (λ b. let o : Option ℤ = if b then Some (pos x.plain) else if nat_lt x.plain 256 then Some (pos x.plain -ℤ pos 256) else None in o) (is_below x.plain 128 below_128);
+          sum = omega (arith, ints, digit_is);
+          up = omega (arith, small);
+          down = omega (arith, digit_is);
+          plain = λ e. absurd (true≢false e);
+        }
+    go (inr high) =
+        let e : nat_le 128 x.plain ≡ true = grind (arith, nat_tests, high) in
+        let digit_is : one_if (nat_le 128 x.plain) ≡ 1 = ap one_if e in
+        record {
+          z = pos x.plain -ℤ pos 256;
+          is = is ∙ not_byte x.plain high small;
+          sum = omega (arith, ints, digit_is);
+          up = omega (arith, small);
+          down = omega (arith, digit_is);
+          plain = λ e. absurd (true≢false e);
+        }
+
 flag_counts : (b : Bool) → Counts false (same (one_if b)) 255 (Some (digit b))
 flag_counts true = counted 1 255 (Some (pos 1)) refl (omega arith)
 flag_counts false = counted 0 255 (Some (pos 0)) refl (omega arith)
@@ -443,7 +487,12 @@ count (Of' function.Word p e) w v steps names bw bv h =
     word_counts v (view (phrase_of e) w v) (most (phrase_of e)) (value_of e (moment w w 0) (moment w v steps) names) bv.ram
     (plain_of (minus (phrase_of e)) (view (phrase_of e) w v) (most (phrase_of e)) (value_of e (moment w w 0) (moment w v steps) names)
     (count e w v steps names bw bv two.0) (no (minus (phrase_of e)) more.0)) (omega (arith, low))
-count (Of' function.Signed p e) w v steps names bw bv h = absurd (true≢false (sym h))
+count (Of' function.Signed p e) w v steps names bw bv h =
+    let two = both (counts (phrase_of e)) (not (minus (phrase_of e)) && is_byte (most (phrase_of e))) h in
+    let more = both (not (minus (phrase_of e))) (is_byte (most (phrase_of e))) two.1 in
+    signed_counts (view (phrase_of e) w v) (most (phrase_of e)) (bytes_of v.memory) (value_of e (moment w w 0) (moment w v steps) names)
+    (plain_of (minus (phrase_of e)) (view (phrase_of e) w v) (most (phrase_of e)) (value_of e (moment w w 0) (moment w v steps) names)
+    (count e w v steps names bw bv two.0) (no (minus (phrase_of e)) more.0)) (below (most (phrase_of e)) 256 more.1)
 count (Of' function.Abs p e) w v steps names bw bv h = absurd (true≢false (sym h))
 count (Pair' op p x q y) w v steps names bw bv h =
     let two = both (counts (phrase_of x)) (counts (phrase_of y) && may_join op (phrase_of x) (phrase_of y)) h in
