@@ -5,7 +5,6 @@ ghost use Rattle.std.specs.Fmt.{decimal as decimal_of};
 ghost use Rattle.a2_text.specs.Json.{escaped};
 ghost use Rattle.a2_stream.specs.Stream.{SendsOrBreaks};
 ghost use Rattle.a2_profile.specs.Json as json;
-ghost use Rattle.a2_machine.specs.Output.{cause_name as cause_name_of};
 
 use crate::profile::ADDRESSES;
 use crate::table::{is_branch, is_never_done, is_outside};
@@ -278,31 +277,13 @@ fn put_number<W: Output>(front: &[u8], number: u16, writer: &mut W) -> Result<()
     put(decimal(u64::from(number)).as_slice(), writer)
 }
 
-// How a cause is spelt.
-fn cause_name(cause: Cause) -> &'static [u8]
-    ensures { result.now ≡ cause_name_of cause }
-{
-    match cause {
-        Cause::Returned => b"RETURNED",
-        Cause::CodeWrite => b"CODE WRITE",
-        Cause::Window => b"WINDOW",
-        Cause::Keys => b"KEYS",
-        Cause::OffStatement => b"OFF STATEMENT",
-        Cause::Rom => b"ROM",
-        Cause::Opcode => b"OPCODE",
-        Cause::Brk => b"BRK",
-        Cause::Decimal => b"DECIMAL",
-        Cause::Limit => b"LIMIT",
-    }
-}
-
 // Writes a cause, behind what stands before it.
 #[tactic(auto, using(a2_stream::proofs::Joined::broke_off, a2_stream::proofs::Joined::went_on))]
 fn put_cause<W: Output>(front: &[u8], cause: Cause, writer: &mut W) -> Result<(), WriteFault>
     ensures { SendsOrBreaks (W.taker writer.old) (W.taker writer.new) result (front.now ++ json.cause_string cause) }
 {
     put(front, writer)?;
-    put_all(&[b"\"", cause_name(cause), b"\""], writer)
+    put_all(&[b"\"", cause.name(), b"\""], writer)
 }
 
 // Writes causes.
