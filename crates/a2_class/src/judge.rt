@@ -1,6 +1,6 @@
 //! What is found of a source, case by case.
 
-ghost use Rattle.std.specs.Prelude.{◌≡◌, [], IfOk, IfErr};
+ghost use Rattle.std.specs.Prelude.{◌≡◌, [], Some, IfOk, IfErr};
 ghost use Rattle.a2_bus.specs.View.{memory_of};
 ghost use Rattle.a2_asm.specs.Assembled.{Assembled};
 ghost use Rattle.a2_machine.specs.Meaning.{End};
@@ -13,7 +13,6 @@ ghost use Rattle.a2_class.specs.Judging.{AreKeys, AreVerdicts, IsFound, IsVerdic
 use crate::asks::{Ending, first_missed};
 use crate::call::{call_in, calling_text};
 use crate::cases::Case;
-use crate::kept::Kept;
 use crate::line::{Asked, Line, behind};
 use crate::told::told_of_miss;
 use a2_asm::Program;
@@ -21,6 +20,7 @@ use a2_bus::Keys;
 use a2_machine::{Cause, Machine};
 use a2_page::print;
 use a2_run::{DEFAULT_STEPS, RunFault, program_of, started};
+use a2_stream::{Kept, Output};
 use a2_text::cut;
 use std::alloc::{AllocError, Allocator};
 
@@ -89,7 +89,7 @@ fn keys_in(lines: &[Asked]) -> Keys
 
 // The picture of what a machine's screen shows.
 fn picture_of<A: Allocator + Copy>(alloc: A, machine: &Machine<A>) -> Result<Kept<A>, AllocError>
-    ensures { IfOk result (λ kept. kept.bytes.items ≡ picture (memory_of machine.now.state.bus)) }
+    ensures { IfOk result (λ kept. (⟦<Kept<A> as Output>⟧.taker kept).bytes ≡ Some (picture (memory_of machine.now.state.bus))) }
 {
     let mut picture = Kept::new(alloc);
     match print(&machine.view(), &mut picture) {

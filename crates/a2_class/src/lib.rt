@@ -7,7 +7,6 @@ mod asks;
 mod call;
 mod cases;
 mod judge;
-mod kept;
 mod line;
 mod report;
 mod rows;

@@ -7,11 +7,10 @@ ghost use Rattle.a2_terminal.specs.Besides.{IsPlain, IsBeside, IsToldOrNot};
 ghost use Rattle.a2_terminal.specs.Monitors.{IsBegun, IsTurnedDown};
 
 use crate::Monitor;
-use crate::kept::Kept;
 use crate::source::{Source, beside};
 use a2_monitor::called_in;
 use a2_run::RunFault;
-use a2_stream::{Output, WriteFault, put};
+use a2_stream::{Kept, Output, WriteFault, put};
 use a2_talk::Partner;
 use a2_text::{cut, front_len};
 use std::alloc::{AllocError, Allocator, Global};

@@ -4,7 +4,6 @@
 #![tactic(auto)]
 
 mod beside;
-mod kept;
 mod laws;
 mod look;
 mod monitor;
