@@ -46,8 +46,11 @@ fn load_of<'a>(place: &'a [u8]) -> Option<&'a [u8]>
     }
 }
 
-// Appends pieces.
-fn append<A: Allocator>(text: &mut Vec<u8, A>, pieces: &[&[u8]]) -> Result<(), AllocError>
+/// Appends pieces.
+pub(crate) fn append<A: Allocator>(
+    text: &mut Vec<u8, A>,
+    pieces: &[&[u8]],
+) -> Result<(), AllocError>
     ensures { OnOk result (text.new.items ≡ text.old.items ++ flat_map (λ piece. piece.now) pieces.now) }
 {
     for piece in pieces {

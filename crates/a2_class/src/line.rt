@@ -235,22 +235,6 @@ const CAUSES: [Cause; 10] = [
     Cause::Limit,
 ];
 
-/// The name of a cause.
-pub(crate) fn cause_name(cause: Cause) -> &'static [u8] {
-    match cause {
-        Cause::Returned => b"RETURNED",
-        Cause::CodeWrite => b"CODE WRITE",
-        Cause::Window => b"WINDOW",
-        Cause::Keys => b"KEYS",
-        Cause::OffStatement => b"OFF STATEMENT",
-        Cause::Rom => b"ROM",
-        Cause::Opcode => b"OPCODE",
-        Cause::Brk => b"BRK",
-        Cause::Decimal => b"DECIMAL",
-        Cause::Limit => b"LIMIT",
-    }
-}
-
 // Whether two texts have the same words.
 fn are_same_words(text: &[u8], other: &[u8]) -> bool {
     match first_word(text) {
@@ -265,7 +249,7 @@ fn are_same_words(text: &[u8], other: &[u8]) -> bool {
 // The cause whose name a text is.
 fn cause_in(rest: &[u8]) -> Option<Cause> {
     for cause in &CAUSES {
-        if are_same_words(cause_name(*cause), rest) {
+        if are_same_words(cause.name(), rest) {
             return Some(*cause);
         }
     }

@@ -1,22 +1,15 @@
 //! What is told of a line whose demand does not hold: what is wanted, what is there, and where the run came to its end.
 
 use crate::asks::{Ending, first_other, first_wrong, place_of, register_byte, size_of, user_of};
-use crate::line::{Asked, Line, behind, cause_name};
+use crate::call::append;
+use crate::line::{Asked, Line, behind};
 use crate::rows::{first_row, row_count, row_fits};
 use crate::settings::name_in;
-use a2_asm::Statement;
 use a2_machine::Cause;
 use a2_opcode::Mnemonic;
+use a2_places::statement_at;
 use a2_text::{decimal, hex_pair, hex_word, is_blank};
 use std::alloc::{AllocError, Allocator};
-
-// Appends pieces.
-fn tell<A: Allocator>(text: &mut Vec<u8, A>, pieces: &[&[u8]]) -> Result<(), AllocError> {
-    for piece in pieces {
-        text.extend_from_slice(piece)?;
-    }
-    Ok(())
-}
 
 // A row without the blanks at its end.
 fn trimmed(row: &[u8]) -> &[u8] {
@@ -54,7 +47,7 @@ fn tell_rows<A: Allocator>(
     shown: &[&[u8]],
 ) -> Result<(), AllocError> {
     let Some((number, wanted, row)) = first_unlike(lines, shown) else {
-        return tell(text, &[b"the screen has fewer rows"]);
+        return append(text, &[b"the screen has fewer rows"]);
     };
     tell_row(text, number, wanted, row)
 }
@@ -67,7 +60,7 @@ fn tell_row<A: Allocator>(
     row: &[u8],
 ) -> Result<(), AllocError> {
     let number = decimal(number as u64);
-    tell(
+    append(
         text,
         &[
             b"screen row ",
@@ -90,15 +83,15 @@ fn tell_row_at<A: Allocator>(
 ) -> Result<(), AllocError> {
     match shown.get(usize::from(number)) {
         Some(row) => tell_row(text, usize::from(number), wanted, *row),
-        None => tell(text, &[b"the screen has fewer rows"]),
+        None => append(text, &[b"the screen has fewer rows"]),
     }
 }
 
 // Appends two hexadecimal digits, or `no byte`.
 fn tell_byte<A: Allocator>(text: &mut Vec<u8, A>, byte: Option<u8>) -> Result<(), AllocError> {
     match byte {
-        Some(byte) => tell(text, &[&hex_pair(byte)]),
-        None => tell(text, &[b"no byte"]),
+        Some(byte) => append(text, &[&hex_pair(byte)]),
+        None => append(text, &[b"no byte"]),
     }
 }
 
@@ -110,7 +103,7 @@ fn tell_memory<A: Allocator>(
     ending: &Ending<A>,
 ) -> Result<(), AllocError> {
     let Some(address) = place_of(ending.program, place) else {
-        return tell(
+        return append(
             text,
             &[b"mem: no name ", place.as_bytes(), b" in the source"],
         );
@@ -118,7 +111,7 @@ fn tell_memory<A: Allocator>(
     let Some((at, wanted)) = first_other(ending.machine, address, bytes) else {
         return Ok(());
     };
-    tell(
+    append(
         text,
         &[b"mem $", &hex_word(at), b": want ", wanted, b", got "],
     )?;
@@ -134,7 +127,7 @@ fn tell_registers<A: Allocator>(
     let Some(word) = first_wrong(ending.machine, words) else {
         return Ok(());
     };
-    tell(text, &[b"reg: want ", word, b", got "])?;
+    append(text, &[b"reg: want ", word, b", got "])?;
     tell_byte(text, register_byte(ending.machine, name_in(word)))
 }
 
@@ -147,7 +140,7 @@ fn tell_most<A: Allocator>(
 ) -> Result<(), AllocError> {
     let most = decimal(u64::from(most));
     let found = decimal(found);
-    tell(
+    append(
         text,
         &[
             name,
@@ -169,9 +162,9 @@ fn tell_use<A: Allocator>(
     match user_of(ending.program.statements(), mnemonic) {
         Some(statement) => {
             let line = decimal(u64::from(statement.line));
-            tell(text, &[b"uses ", name, b" in line ", line.as_slice()])
+            append(text, &[b"uses ", name, b" in line ", line.as_slice()])
         }
-        None => tell(text, &[b"does not use ", name]),
+        None => append(text, &[b"does not use ", name]),
     }
 }
 
@@ -187,17 +180,12 @@ fn tell_difference<A: Allocator>(
     match asked.line {
         Line::Screen => tell_rows(text, rest, ending.rows),
         Line::Shows(number, wanted) => tell_row_at(text, number, wanted, ending.rows),
-        Line::Holds(part) => tell(text, &[b"no row of the screen has \"", part, b"\""]),
+        Line::Holds(part) => append(text, &[b"no row of the screen has \"", part, b"\""]),
         Line::Mem(place, bytes) => tell_memory(text, place, bytes, ending),
         Line::Reg(words) => tell_registers(text, words, ending),
-        Line::Stop(cause) => tell(
+        Line::Stop(cause) => append(
             text,
-            &[
-                b"stop: want ",
-                cause_name(cause),
-                b", got ",
-                cause_name(ending.cause),
-            ],
+            &[b"stop: want ", cause.name(), b", got ", ending.cause.name()],
         ),
         Line::Cycles(most) => tell_most(text, b"cycles", most, ending.machine.cycles()),
         Line::Bytes(most) => {
@@ -209,29 +197,19 @@ fn tell_difference<A: Allocator>(
     }
 }
 
-// The statement with a byte at an address.
-fn statement_at(statements: &[Statement], address: u16) -> Option<Statement> {
-    for statement in statements {
-        if statement.addr <= address && address - statement.addr < statement.length {
-            return Some(*statement);
-        }
-    }
-    None
-}
-
 // Tells where a run ended that did not come to its end by itself.
 fn tell_end<A: Allocator>(text: &mut Vec<u8, A>, ending: &Ending<A>) -> Result<(), AllocError> {
     if matches!(ending.cause, Cause::Returned | Cause::Brk) {
         return Ok(());
     }
     let pc = ending.machine.regs().pc;
-    tell(text, &[b"; stopped by ", cause_name(ending.cause)])?;
+    append(text, &[b"; stopped by ", ending.cause.name()])?;
     match statement_at(ending.program.statements(), pc) {
         Some(statement) => {
             let line = decimal(u64::from(statement.line));
-            tell(text, &[b" in line ", line.as_slice()])
+            append(text, &[b" in line ", line.as_slice()])
         }
-        None => tell(text, &[b" at $", &hex_word(pc)]),
+        None => append(text, &[b" at $", &hex_word(pc)]),
     }
 }
 
