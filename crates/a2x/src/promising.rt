@@ -170,16 +170,14 @@ fn put_run<W: Output>(
     output: &mut W,
 ) -> Result<(), WriteFault> {
     let blank: &[u8] = if name.is_empty() { b"" } else { b" " };
+    put_all(&[b"the run", blank, name, b": "], output)?;
     match verdict {
-        RunVerdict::Passed => put_all(&[b"the run", blank, name, b": held\n"], output),
+        RunVerdict::Passed => put_all(&[b"held\n"], output),
         RunVerdict::Missed(line, told) => {
             let line = decimal(*line as u64);
             put_all(
                 &[
-                    b"the run",
-                    blank,
-                    name,
-                    b": FAILS: line ",
+                    b"FAILS: line ",
                     line.as_slice(),
                     b": ",
                     told.as_slice(),
@@ -188,15 +186,7 @@ fn put_run<W: Output>(
                 output,
             )
         }
-        RunVerdict::NotCalled => put_all(
-            &[
-                b"the run",
-                blank,
-                name,
-                b": FAILS: its routine can't be called\n",
-            ],
-            output,
-        ),
+        RunVerdict::NotCalled => put_all(&[b"FAILS: its routine can't be called\n"], output),
     }
 }
 
