@@ -101,14 +101,16 @@ def why_not_joined(e):
     _, op, x, y = e
     if op in COMPARED:
         return "a comparison can't be proved as a number"
-    if op == "Bit":
-        return "bit can't be proved: write it by / and %, as A / 8 % 2 for bit 3 of A"
+    if op == "Bit" and not (x[0] == "number" and x[1] < 16):
+        return "a bit is proved only of a place that is written, 0 to 15"
     if op in ("Over", "Modulo") and not (y[0] == "number" and y[1] > 0):
         return "a quotient is proved only by a number that is written, and above 0"
-    if op in ("Times", "Over", "Min", "Max", *BYTES) and (is_minus(x) or op != "Over" and is_minus(y)):
+    if op in ("Times", "Over", "Min", "Max", "Bit", *BYTES) and (is_minus(x) or op != "Over" and is_minus(y)):
         return "a difference may stand in a sum, before % and at a comparison: elsewhere it can't be proved"
     if op in BYTES and (most(x) > 255 or most(y) > 255):
         return "bits are proved of bytes only"
+    if op == "Bit" and most(y) > 65535:
+        return "a bit is proved of a byte or a word"
     if op in ("Plus", "Minus", "Times") and most(e) >= 2**63:
         return "this number may be too great"
     return None
@@ -183,6 +185,8 @@ class Words:
             m = y[1]
             over = f"({self.up(x)} + {m - 1} * {par(self.down(x))})" if is_minus(x) else self.plain(x)
             return f"({over} % {m})"
+        if op == "Bit":
+            return f"({self.plain(y)} / {2 ** x[1]} % 2)"
         return f"({op.lower()} {par(self.plain(x))} {par(self.plain(y))})"
 
     def up(self, e):

@@ -67,3 +67,14 @@ R1      RTS
 ;: changes A
 GET     LDA $2000,X
         RTS
+
+;: ensures bit 3 of A = 1 and bit 2 of A = bit 2 of old A and A % 8 = old A % 8
+;: changes A
+SETBIT  ORA #$08
+        RTS
+
+;: ensures C iff bit 7 of old $06 = 1
+;: ensures bit 0 of $06 = 0
+;: changes $06
+SHIFT   ASL $06
+        RTS

@@ -64,6 +64,7 @@ joined operation.BitOr below x y = same (by_digits 8 ◌||◌ x.plain y.plain)
 joined operation.BitXor below x y = same (by_digits 8 differ x.plain y.plain)
 joined operation.Min below x y = same (min x.plain y.plain)
 joined operation.Max below x y = same (max x.plain y.plain)
+joined operation.Bit below x y = same (y.plain / 2 ^ x.plain % 2)
 joined _ below x y = same 0
 
 abbrev pub view : Phrase → World → World → View
@@ -126,6 +127,7 @@ may_join operation.BitOr x y = both_plain x y && (is_byte (most x) && is_byte (m
 may_join operation.BitXor x y = both_plain x y && (is_byte (most x) && is_byte (most y))
 may_join operation.Min x y = both_plain x y
 may_join operation.Max x y = both_plain x y
+may_join operation.Bit x y = both_plain x y && (nat_lt (most x) 16 && nat_lt (most y) 65536)
 may_join _ x y = false
 
 -- whether a phrase is a number of which the rules speak

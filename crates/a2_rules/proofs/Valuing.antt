@@ -20,7 +20,7 @@ use Rattle.a2_promise.specs.declared.expr.Expr.TheVariants.{Number, Held, Bound,
 use Rattle.a2_promise.specs.declared.expr.Function.TheVariants as function
 use Rattle.a2_promise.specs.declared.expr.Operation.{Operation}
 use Rattle.a2_promise.specs.declared.expr.Operation.TheVariants as operation
-use Rattle.a2_promise.specs.Values.{digit, fits, limited, word_in, held as held_atom, byte_value, word_value, byte_at, word_at, bitwise, operated, made_of, signed as signed_byte, operated_on, value_of}
+use Rattle.a2_promise.specs.Values.{digit, fits, limited, word_in, held as held_atom, byte_value, word_value, byte_at, word_at, bitwise, bit_of, operated, made_of, signed as signed_byte, operated_on, value_of}
 use Rattle.a2_trial.specs.Kept.{bytes_of, moment}
 use Rattle.a2_rules.specs.Phrases.{Phrase, number, held, bound, old, of, pair, choice, each, sum, phrase_of}
 use Rattle.a2_lessons.specs.Routines.{word}
@@ -165,6 +165,11 @@ bits_value : (f : ℕ → ℕ → ℕ) (d : Bool → Bool → Bool) (a b : ℕ) 
     → bitwise f (word_in (pos a)) (word_in (pos b)) ≡ Some (pos (by_digits 8 d a b))
 bits_value f d a b is la lb =
     ap₂ (λ x y. bitwise f x y) (word_value_is a 0 (omega (arith, la))) (word_value_is b 0 (omega (arith, lb))) ∙ ap (λ n. Some (pos n)) is
+
+bit_value : (a b : ℕ) → a < 16 → b < 65536 → operated operation.Bit (pos a) (pos b) ≡ Some (pos (b / 2 ^ a % 2))
+bit_value a b la lb =
+    ap₂ (λ x y. bit_of x y) (word_value_is a 0 (omega (arith, la))) (word_value_is b 0 lb)
+    ∙ ap (λ v. let o : Option ℤ = if v then Some (pos (b / 2 ^ a % 2)) else None in o) (is_below a 16 la)
 
 remainder : (z : ℤ) (u d n : ℕ) → Is z u d → 0 < n → operated operation.Modulo z (pos n) ≡ Some (pos ((u + (n - 1) * d) % n))
 remainder z u d n is h =
@@ -338,6 +343,18 @@ module _ (p q : Phrase) (x y : View) (ox oy : Option ℤ) (hx : Counts (minus p)
       let ly = (plain_y es.1).small in
       of_plain operation.Max (max x.plain y.plain) (most p + most q) es.0 es.1 (max_value x.plain y.plain) (omega (arith, lx, ly))
 
+  bit : may_join operation.Bit p q ≡ true → Counts false (same (y.plain / 2 ^ x.plain % 2)) 255 (operated_on operation.Bit ox oy)
+  bit h =
+      let two = both (both_plain p q) (nat_lt (most p) 16 && nat_lt (most q) 65536) h in
+      let es = apart two.0 in
+      let more = both (nat_lt (most p) 16) (nat_lt (most q) 65536) two.1 in
+      let place = below (most p) 16 more.0 in
+      let whole = below (most q) 65536 more.1 in
+      let lx = (plain_x es.0).small in
+      let ly = (plain_y es.1).small in
+      of_plain operation.Bit (y.plain / 2 ^ x.plain % 2) 255 es.0 es.1
+      (bit_value x.plain y.plain (omega (arith, place, lx)) (omega (arith, whole, ly))) (omega arith)
+
   joins : (op : Operation) → may_join op p q ≡ true → Divisor (divides q) y (minus q)
       → Counts (minus (pair op p q)) (joined op (minus p) x y) (most_of op (most p) (most q)) (operated_on op ox oy)
   joins operation.Plus h divisor = plus h
@@ -350,7 +367,7 @@ module _ (p q : Phrase) (x y : View) (ox oy : Option ℤ) (hx : Counts (minus p)
   joins operation.BitXor h divisor = bits operation.BitXor bit_xor differ xor_is (λ a b. refl) h
   joins operation.Min h divisor = least h
   joins operation.Max h divisor = greatest h
-  joins operation.Bit h divisor = absurd (true≢false (sym h))
+  joins operation.Bit h divisor = bit h
   joins operation.Equal h divisor = absurd (true≢false (sym h))
   joins operation.Less h divisor = absurd (true≢false (sym h))
   joins operation.AtMost h divisor = absurd (true≢false (sym h))
