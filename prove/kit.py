@@ -62,7 +62,7 @@ def run(words, folder):
 
 
 def build_rules(top, room, tell):
-    """Proves what the rules stand on, and the rules, where that is to be done. Other calls wait for the room until this one ends."""
+    """Proves the rules and what they stand on, where that is to be done. Other calls wait for the room until this one ends."""
     if shutil.which("rt") is None:
         raise NoKit("the Rattle kit, which proves, is missing: no rt is on the path. ./a2x promise tries promises without it")
     room.mkdir(parents=True, exist_ok=True)

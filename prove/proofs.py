@@ -291,7 +291,8 @@ class Proof(Run):
         body = self.tree(top, loops + [(loop, old)])
         return (
             f"{begin}onto code {state.world} {here} {state.steps} _ refl "
-            f"(loops code {old.pc} {state.s} ({loop.name}_Inv w) {loop.name}_measure _ (λ {v} {inv}.\n{body})\n{here}\n({invariant}))"
+            f"(loops code {old.pc} {state.s} ({loop.name}_Inv w) {loop.name}_measure _ "
+            f"(λ {v} {inv}.\n{body})\n{here}\n({invariant}))"
         )
 
     def state_known_by(self, state, base, world, pc, fact, clauses):

@@ -225,7 +225,8 @@ def library_file(tops):
     text += f"ghost use Rattle.promised.specs.Statements.{{{uses}}};\nghost use Rattle.a2_rules.specs.Promised.{{IsProved}};\n"
     for it in tops:
         name = it.routine.name
-        text += f"\n/// {name} keeps its promise.\npub fn {function_of(it)}()\n    ensures {{ IsProved text {name}_said }}\n{{}}\n"
+        ensures = f"    ensures {{ IsProved text {name}_said }}\n"
+        text += f"\n/// {name} keeps its promise.\npub fn {function_of(it)}()\n{ensures}{{}}\n"
     return text
 
 
