@@ -252,7 +252,8 @@ fn is_kept(case: &Case, before: &AddressSpace<Global>, walk: &mut Walk, stored: 
         walk.old stored.old }
     ensures kept { IsTrue result → IsKept (is_set case.now.known.now) (knows_part case.now.parts) case.now.promise.now case.now.most
         (world_of (registers_of walk.old.regs) walk.old.space 0) }
-    ensures rest { IsTrue result → walk.new.space.devices ≡ before.now.devices → IsBut (is_set stored.new) walk.new.space before.now }
+    ensures rest { IsTrue result → walk.new.space.devices ≡ before.now.devices
+        → IsBut (is_set stored.new) walk.new.space before.now }
 {
     let changes = &case.promise.changes;
     let regs = walk.regs;
@@ -293,7 +294,8 @@ pub fn is_tried(
         walk.old stored.old }
     ensures tried { IsTrue result → IsStateTried case.now.known.now case.now.parts case.now.promise.now case.now.most
         (world_of (registers_of walk.old.regs) walk.old.space 0) }
-    ensures rest { IsTrue result → walk.new.space.devices ≡ before.now.devices → IsBut (is_set stored.new) walk.new.space before.now }
+    ensures rest { IsTrue result → walk.new.space.devices ≡ before.now.devices
+        → IsBut (is_set stored.new) walk.new.space before.now }
 {
     let known = known_at_entry(case);
     let entry = sight_of(&walk.regs, before, 0, 0);
@@ -329,7 +331,8 @@ fn is_state_tried(
 ) -> bool
     requires ready { IsReady case.now.base.now case.now.inputs.now before.old walk.old.space stored.old }
     requires devices { case.now.base.now.devices ≡ first_devices [] }
-    ensures tried { IsTrue result → IsStateTried case.now.known.now case.now.parts case.now.promise.now case.now.most (start_of case.now number) }
+    ensures tried { IsTrue result → IsStateTried case.now.known.now case.now.parts case.now.promise.now case.now.most
+        (start_of case.now number) }
     ensures ready { IsTrue result → IsReady case.now.base.now case.now.inputs.now before.new walk.new.space stored.new }
 {
     if !enter(case, number, before, walk, stored) || !is_tried(case, before, walk, stored) {

@@ -96,7 +96,8 @@ fn put_back_all(
     before: &AddressSpace<Global>,
 )
     ensures space { IsBut (is_among places.now) space.old before.now → space.new ≡ before.now }
-    ensures clear { ((a : ℕ) → IsTrue (is_set marks.old a) → IsTrue (is_among places.now a)) → (a : ℕ) → is_set marks.new a ≡ false }
+    ensures clear { ((a : ℕ) → IsTrue (is_set marks.old a) → IsTrue (is_among places.now a))
+        → (a : ℕ) → is_set marks.new a ≡ false }
 {
     for address in places {
         put_back(*address, space, before);
