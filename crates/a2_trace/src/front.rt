@@ -1,12 +1,12 @@
 //! What stands before the registers of a line.
 
-ghost use Rattle.std.specs.Prelude.{◌≡◌, ◌+◌, ◌≤◌, ◌++◌, length};
+ghost use Rattle.std.specs.Prelude.{◌≡◌, ◌≤◌};
 ghost use Rattle.arrayvec.specs.ArrayVec.{array_vec_len};
 ghost use Rattle.a2_trace.specs.Trace as trace;
 
 use a2_opcode::list_line;
 use a2_services::service_at;
-use a2_text::hex_word;
+use a2_text::{append, hex_word};
 use arrayvec::ArrayVec;
 
 const BLANKS: &[u8] = b"                                  ";
@@ -19,15 +19,6 @@ pub(crate) const BLANK: Front = [b' '; 34];
 
 // A front while it is spelt.
 type Spelling = ArrayVec<u8, 34>;
-
-// Appends bytes that fit.
-fn append(front: &mut Spelling, bytes: &[u8])
-    requires { array_vec_len front.old + length bytes.now ≤ 34 }
-    ensures bytes { front.new.items ≡ front.old.items ++ bytes.now }
-    ensures length { array_vec_len front.new ≡ array_vec_len front.old + length bytes.now }
-{
-    front.try_extend_from_slice(bytes).unwrap();
-}
 
 // What stands at an address with these bytes.
 #[tactic(auto, unfolding(crate::specs::Trace::standing))]
