@@ -17,24 +17,13 @@ use std::alloc::Allocator;
 /// The most steps of one run.
 const MOST_STEPS: u64 = 1_000_000;
 
-// A key alone.
-fn one_key(key: u8) -> Keys
-    requires { key < 128 }
-    ensures { result ≡ key ∷ [] }
-{
-    let mut keys = Keys::new();
-    // There is room for a first key.
-    let _ = keys.push(key);
-    keys
-}
-
 /// Types a key where there is room: whether there was.
 pub(crate) fn type_at<A: Allocator>(machine: &mut Machine<A>, key: u8) -> bool
     requires { key < 128 }
     ensures room { (result ≡ true) ↔ (length machine.old.state.bus.devices.keys < 4096) }
     ensures typed { machine.new ≡ machine_after result key machine.old }
 {
-    machine.type_keys(&one_key(key)).is_ok()
+    machine.type_keys(&Keys::one(key)).is_ok()
 }
 
 /// Puts a machine at the start of a program, guarded.
