@@ -11,5 +11,5 @@ mod stop;
 mod window;
 
 pub use course::Course;
-pub use scene::{Scene, put_address, put_number, put_place, statement_at};
+pub use scene::{Scene, put_address, put_number, put_place};
 pub use stop::{explain_stop, meaning, tell_stop};

@@ -3,6 +3,7 @@
 use crate::course::{Course, run_to};
 use crate::scene::{Scene, put_number, put_place};
 use a2_asm::{Program, Statement};
+use a2_bus::locations::KBD;
 use a2_opcode::Mode;
 use a2_run::RunFault;
 use a2_stream::{Output, WriteFault, put};
@@ -13,9 +14,6 @@ const WATCHED: u32 = 4096;
 
 // The most places of a round that is told.
 const MOST_PLACES: usize = 16;
-
-// Where the keyboard is read. Apple II Reference Manual (1979), page 6.
-const KEYBOARD: u16 = 0xC000;
 
 // Notes a place once: whether there was room.
 fn note<A: Allocator>(places: &mut Vec<u16, A>, pc: u16) -> Result<bool, AllocError> {
@@ -62,7 +60,7 @@ fn is_among(statement: &Statement, places: &[u16]) -> bool {
 // Whether the instruction of a statement reads the keyboard.
 fn looks_for_key(statement: &Statement) -> bool {
     match statement.instr {
-        Some(instr) => instr.mode == Mode::Absolute && instr.value == KEYBOARD,
+        Some(instr) => instr.mode == Mode::Absolute && instr.value == KBD,
         None => false,
     }
 }

@@ -1,6 +1,7 @@
 //! The places of a program: its lines, their statements and addresses.
 
-use a2_asm::{Program, Statement};
+use a2_asm::Program;
+use a2_places::statement_at;
 use a2_stream::{Output, WriteFault, put, put_all};
 use a2_text::{decimal, hex_word};
 use std::alloc::Allocator;
@@ -10,16 +11,6 @@ use std::alloc::Allocator;
 pub struct Scene<'a, A: Allocator> {
     pub program: &'a Program<A>,
     pub lines: &'a [&'a [u8]],
-}
-
-/// The statement with a byte at an address, if there is one.
-pub fn statement_at(statements: &[Statement], address: u16) -> Option<Statement> {
-    for statement in statements {
-        if statement.addr <= address && address - statement.addr < statement.length {
-            return Some(*statement);
-        }
-    }
-    None
 }
 
 /// The text of the line with this number, without the blanks before and behind it; empty where there is none.

@@ -1,8 +1,9 @@
 //! Which lines put the window and the cursor off the screen.
 
 use crate::course::{Course, run_to};
-use crate::scene::{Scene, put_place, statement_at};
+use crate::scene::{Scene, put_place};
 use a2_machine::Machine;
+use a2_places::statement_at;
 use a2_run::RunFault;
 use a2_services::{Service, service_at};
 use a2_stream::{Output, WriteFault, put};

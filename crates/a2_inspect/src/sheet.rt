@@ -7,12 +7,13 @@ use crate::inspector::{MOST_BREAKS, MOST_WATCHES};
 use crate::order::{Outcome, Refusal, Show};
 use crate::stops::{Break, Condition, Moment, Register, Relation, Subject, in_register};
 use a2_cpu::{Regs, Status};
-use a2_explain::{Scene, meaning, put_address, put_number, put_place, statement_at};
+use a2_explain::{Scene, meaning, put_address, put_number, put_place};
+use a2_hex::RAM_END;
 use a2_history::{Entry, History};
 use a2_machine::{Cause, Machine, write_registers};
 use a2_opcode::list_line;
 use a2_page::{Page, Switches, cell, glyph, print};
-use a2_places::Span;
+use a2_places::{Span, statement_at};
 use a2_stream::{Output, ToWrite, WriteFault, put, put_all};
 use a2_text::{decimal, hex_pair, hex_word};
 use std::alloc::Allocator;
@@ -53,9 +54,6 @@ const LINES_AT_STOP: u16 = 2;
 const MOST_CHANGES: u32 = 10;
 
 const CHANGES_IN_LINE: u32 = 5;
-
-// The first address behind RAM.
-const RAM_END: u16 = 0xC000;
 
 // The first row of the mixed modes that has characters.
 const MIXED_ROW: u8 = 20;

@@ -4,10 +4,10 @@ ghost use Rattle.std.specs.Prelude.{◌<◌};
 
 use crate::layout::{Layout, SOURCE};
 use a2_ansi::{Frame, Shot, Tile};
-use a2_explain::statement_at;
 use a2_inspect::Inspector;
 use a2_machine::Machine;
 use a2_opcode::list_line;
+use a2_places::statement_at;
 use a2_text::{decimal, hex_pair, hex_word};
 
 /// The row of the registers, of the flags and the step, and of the instruction.
