@@ -59,9 +59,9 @@ PUSHED  PHA
 ;: ensures A = old A / 2 + 128 * (old A % 2)
 ;: changes A
 ROTATE  LSR
-        BCC R1
+        BCC OVER
         ORA #$80
-R1      RTS
+OVER    RTS
 
 ;: ensures A = [#$2000 + old X]
 ;: changes A

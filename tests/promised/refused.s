@@ -1,44 +1,44 @@
 * What is not read, and what can't be proved yet: the others in the file are still judged.
         ORG $300
 ;: ensures A + 3
-R1      RTS
+NO1     RTS
 ;: ensures A = B
 ;: changes A
-R2      RTS
+NO2     RTS
 ;: ensures A and 3
-R3      RTS
+NO3     RTS
 ;: ensures for all i < 8: [#$2000 + i] = 0
-R4      RTS
+NO4     RTS
 ;: ensures cycles <= 40
-R5      RTS
+NO5     RTS
 ;: ensures abs A < 5
-R6      RTS
+NO6     RTS
 ;: ensures A = $10 / $11
-R7      RTS
+NO7     RTS
 ;: ensures [#$C000] = 0
-R8      RTS
+NO8     RTS
 ;: surely A = 3
-R9      RTS
+NO9     RTS
 ;: ensures A = if C then 1 else 0
-R10     RTS
+NO10    RTS
 ;: ensures $0400 = 0
 ;: changes A, $0400
-R11     LDA #0
+NO11    LDA #0
         STA $0400
         RTS
 ;: ensures A = 0
 ;: changes A, $00..$FF
-R12     LDA #0
+NO12    LDA #0
         STA $20,X
         RTS
 ;: requires $07 < 128 and Y = 0
 ;: ensures  A = A
 ;: changes  A
-R13     LDA ($06),Y
+NO13    LDA ($06),Y
         RTS
 ;: ensures A = old A
 ;: changes A
-R14     LDA $C000
+NO14    LDA $C000
         RTS
 ;: ensures A = old A
 GOOD    RTS

@@ -94,7 +94,7 @@ I1      RTS
 ;: ensures word $06 = (old word $06 - 1) % 65536
 ;: changes A, $06, $07
 DEC16   LDA $06
-        BNE D1
+        BNE LOWER
         DEC $07
-D1      DEC $06
+LOWER   DEC $06
         RTS

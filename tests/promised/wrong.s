@@ -3,27 +3,27 @@
 * a sum that may wrap
 ;: ensures A = old $10 + old $11
 ;: changes A
-W1      CLC
+BAD1    CLC
         LDA $10
         ADC $11
         RTS
 * a byte is changed that is not named
 ;: ensures A = old $10
 ;: changes A
-W2      LDA $10
+BAD2    LDA $10
         STA $12
         RTS
 * CLC is forgotten
 ;: requires $10 <= 100 and $11 <= 100
 ;: ensures  A = old $10 + old $11
 ;: changes  A
-W3      LDA $10
+BAD3    LDA $10
         ADC $11
         RTS
 * wrong at one value of A
 ;: ensures if old A = 255 then A = 0 else A = old A + 1
 ;: changes A
-W4      CMP #254
+BAD4    CMP #254
         BEQ SAME
         CLC
         ADC #1
@@ -31,7 +31,7 @@ SAME    RTS
 * a way that ends by BRK
 ;: ensures A = max(old $10, old $11)
 ;: changes A
-W5      LDA $10
+BAD5    LDA $10
         CMP $11
         BCC W5B
         BNE W5C
@@ -41,18 +41,18 @@ W5C     RTS
 * X is changed, and not named
 ;: ensures A = old X
 ;: changes A
-W6      TXA
+BAD6    TXA
         INX
         RTS
 * required is what no state meets
 ;: requires $10 < 5 and $10 > 9
 ;: ensures  A = 1
 ;: changes  A
-W7      RTS
+BAD7    RTS
 * the lesser for the greater
 ;: ensures $08 = max($06, $07)
 ;: changes A, $08
-W9      LDA $06
+BAD9    LDA $06
         CMP $07
         BCC W9D
         LDA $07
@@ -61,27 +61,27 @@ W9D     STA $08
 * C is the other way round
 ;: ensures C iff old $10 < old $11
 ;: changes A
-W10     LDA $10
+BAD10   LDA $10
         CMP $11
         RTS
 * one place too few
 ;: ensures A = old A / 8
 ;: changes A
-W11     LSR
+BAD11   LSR
         LSR
         RTS
 * it does not come back
 ;: ensures A = old A
-W12     JMP W12
+BAD12   JMP BAD12
 * the high byte is forgotten
 ;: ensures word $06 = (old word $06 + 1) % 65536
 ;: changes $06, $07
-W13     INC $06
+BAD13   INC $06
         RTS
 * the loop ends one too early
 ;: ensures $20 = 0 and $23 = 0
 ;: changes A, X, $20..$23
-W14     LDA #0
+BAD14   LDA #0
         LDX #3
 W14L    STA $20,X
         DEX
@@ -90,16 +90,16 @@ W14L    STA $20,X
 * a mask with a bit too many
 ;: ensures A = old A % 16
 ;: changes A
-W15     AND #$1F
+BAD15   AND #$1F
         RTS
 * the stack is left otherwise
 ;: ensures A = old A
-W16     PHA
+BAD16   PHA
         RTS
 * signed for unsigned
 ;: ensures if old A < old $10 then A = 1 else A = 0
 ;: changes A
-W17     CMP $10
+BAD17   CMP $10
         BMI W17L
         LDA #0
         RTS
@@ -108,17 +108,17 @@ W17L    LDA #1
 * a product that wraps
 ;: ensures A = 4 * old A
 ;: changes A
-W18     ASL
+BAD18   ASL
         ASL
         RTS
 * it stores into its own code
 ;: ensures A = old A
 ;: changes $0300..$03FF
-W19     STA W19
+BAD19   STA BAD19
         RTS
 * A is changed on one way only
 ;: ensures X = old X
-W20     CPX #7
+BAD20   CPX #7
         BNE W20D
         LDA #0
 W20D    RTS
