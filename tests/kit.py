@@ -68,6 +68,19 @@ def keep_what_is_checked(made):
     made.Crate.compile_by = compile_by
 
 
+def listed_sources(top):
+    """The sources as the gate listed them before it built their libraries: what `as_listed` says of each, by name; none where there is
+    no list."""
+    listed = Path(top, "out/proved.sources")
+    lines = listed.read_text(encoding="utf-8").split("\n") if listed.is_file() else []
+    return {name: rest for name, _, rest in (it.partition(" ") for it in lines) if name}
+
+
+def as_listed(stat):
+    """A source's size, and the time of its last change, as the gate lists them."""
+    return f"{stat.st_size} {stat.st_mtime_ns // 10**9}.{stat.st_mtime_ns % 10**9:09}"
+
+
 def rt_of_kit():
     """The kit's rt, by which crates are read and built as by its commands."""
     made = module_of("rt")
