@@ -9,6 +9,7 @@ ghost use Rattle.a2_bus.specs.Devices.{keys_typed};
 ghost use Rattle.a2_bus.specs.Memory.{ram_end, with_ram, peek as peek_of};
 ghost use Rattle.a2_bus.specs.View.{memory_of};
 ghost use Rattle.a2_cpu.specs.Spare.{spare_bits_of};
+ghost use Rattle.a2_cpu.specs.View.{registers_of};
 ghost use Rattle.a2_hex.specs.Images.{held};
 ghost use Rattle.a2_machine.specs.Looks.{shown_at, seen_after};
 ghost use Rattle.a2_machine.specs.Meaning.{stuck};
@@ -26,7 +27,7 @@ use a2_asm::Program;
 use a2_bus::locations::{LAST_RETURN, RETURN_ADDRESS};
 use a2_bus::{AddressSpace, Board, Bus, Keys, KeysFull};
 use a2_cpu::live::Live;
-use a2_cpu::{Breakpoints, NoBreakpoints, Regs};
+use a2_cpu::{Breakpoints, NoBreakpoints, Regs, Status};
 use a2_hex::Image;
 use a2_live::{NoObserver, Observer};
 use a2_page::View;
@@ -286,6 +287,24 @@ impl<A: Allocator> Machine<A> {
         let [low, high] = (RETURN_ADDRESS - 1).to_le_bytes();
         self.board.write(LAST_RETURN, low);
         self.board.write(LAST_RETURN + 1, high);
+    }
+
+    /// Puts these registers in place of its own, PC, S and flags among them; bits 5 and 4 of the flags, which are none, are
+    /// clear then. No step is made, and all else stays, RAM and guard too. This project's profile.
+    pub fn set_regs(&mut self, regs: Regs)
+        ensures registers { registers_of self.new.state.regs ≡ registers_of regs }
+        ensures left { self.new ≡ (let s = self.old.state in record self.old { state = record s { regs = self.new.state.regs } }) }
+    {
+        let flags = regs.p;
+        let p = Status::pack(
+            flags.negative(),
+            flags.overflow(),
+            flags.decimal(),
+            flags.interrupt(),
+            flags.zero(),
+            flags.carry(),
+        );
+        self.regs = Regs { p, ..regs };
     }
 
     // Makes at most so many steps, fewer only where the machine is stuck or a step came to a breakpoint: that then.
