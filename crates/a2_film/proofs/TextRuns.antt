@@ -1,5 +1,5 @@
 -- The film of the text's run: that of the machine's.
-use Rattle.std.specs.Prelude.{◌≡◌, ℕ, zero, suc, ◌+◌, ◌-◌, ◌<◌, ◌≤◌, Bool, List, ◌++◌, None, Option, refl}
+use Rattle.std.specs.Prelude.{◌≡◌, ℕ, zero, suc, ◌+◌, ◌-◌, ◌<◌, ◌≤◌, Bool, List, ◌++◌, None, Option, Result, Ok, Err, refl}
 use Rattle.std.specs.List.{flat_map}
 use Rattle.std.proofs.Common.{sym, ap, ap₂, ◌∙◌, subst, arith}
 use Rattle.a2_stream.specs.Stream.{Taker, Sends, Breaks}
@@ -17,6 +17,9 @@ use Rattle.a2_machine.proofs.RunFrom.{run_from}
 use Rattle.a2_machine.proofs.Runs.{run-is_end, end-unique}
 use Rattle.a2_machine.specs.Output.{cause_line}
 use Rattle.a2_asm.specs.Assembled.{Assembled}
+use Rattle.a2_run.specs.Answers.{Answers}
+use Rattle.a2_run.specs.declared.fault.RunFault.{RunFault}
+use Rattle.a2_run.specs.declared.fault.RunFault.TheVariants.{Source, Script, Read, Write, Memory}
 use Rattle.a2_run.specs.Meaning.{IsProgramOf, code_of_run, start_of_run}
 use Rattle.a2_run.specs.Started.{IsStarted, guard_of_run}
 use Rattle.a2_run.proofs.Runs.{meant, sound-of}
@@ -26,7 +29,7 @@ use Rattle.a2_film.specs.declared.chapters.Chapter.{Chapter}
 use Rattle.a2_film.specs.declared.film.Window.{Window}
 use Rattle.a2_film.specs.Rows.{row_text, opening, chapter_line, program_lines, start_lines}
 use Rattle.a2_film.specs.Runs.{rows, run_lines, AreRunLines}
-use Rattle.a2_film.specs.Film.{film_head, IsFilmOf}
+use Rattle.a2_film.specs.Film.{film_head, IsFilmFrom, IsFilmOf}
 use Rattle.a2_film.specs.Laws.{Shows, FramesShowTheRun}
 use Rattle.a2_film.proofs.FrameLaws.{frames-show}
 use Rattle.a2_film.proofs.Filming.{end-late}
@@ -126,12 +129,89 @@ any-run code start limit =
       },
     )
 
+-- a machine is filmed from where it stands, once the guard is set
+module _ (text title : List ℕ) (chapters : List Chapter) (free : Bool) (program : Assembled) (old new : Device)
+    (set : new ≡ record old { state = record old.state { guard = guard_of_run free program } }) (limit : ℕ)
+    (texts : List (List ℕ)) (cut : texts ≡ lines text) where
+  abbrev from_code : Code
+  from_code = bytes (guard_of_run free program)
+
+  abbrev IsFilm : Cause → List ℕ → Type 0
+  IsFilm cause output =
+      IsFilmFrom text title chapters free program from_code old.state.steps (world_of_state old.state) limit cause output
+
+  -- what stands before the rows, as it is written
+  abbrev written_of : Device → List (List ℕ) → List ℕ
+  written_of device shown =
+      page.head ++ (opening title free device.state.bus.devices.keys
+      ++ (flat_map chapter_line chapters ++ (program_lines program shown
+      ++ start_lines device.state.steps (world_of_state device.state))))
+
+  written_is : written_of new texts ≡ page.head ++ film_head title chapters text free program old.state.steps
+      (world_of_state old.state)
+  written_is =
+      ap₂ (λ (d : Device) (l : List (List ℕ)). written_of d l) set cut
+      ∙ ap (λ (d : Devices). page.head ++ (opening title free d.keys ++ (flat_map chapter_line chapters
+      ++ (program_lines program (lines text) ++ start_lines old.state.steps (world_of_state old.state)))))
+      (sym (devices_seen old.state.bus))
+
+  film-is : (cause : Cause) (run : List ℕ) → AreRunLines (code_of new.state) (world_of_state new.state) limit cause run
+      → IsFilm cause (written_of new texts ++ (run ++ page.tail))
+  film-is cause run are = record {
+    run = run;
+    are_lines = subst (λ (d : Device). AreRunLines (code_of d.state) (world_of_state d.state) limit cause run) set are;
+    output_is = ap (λ (h : List ℕ). h ++ (run ++ page.tail)) written_is;
+  }
+
+  pub film-done : (a b c : Taker) (cause : Cause) → Sends a b (written_of new texts)
+      → ((run : List ℕ) × AreRunLines (code_of new.state) (world_of_state new.state) limit cause run
+      × Sends b c (run ++ page.tail))
+      → (output : List ℕ) × IsFilm cause output × Sends a c output
+  film-done a b c cause first (run, are, sent) = (
+    written_of new texts ++ (run ++ page.tail),
+    film-is cause run are,
+    Sends-then a b c (written_of new texts) (run ++ page.tail) first sent,
+  )
+
+  pub film-broken : (a b c : Taker) → Sends a b (written_of new texts)
+      → ((cause : Cause) × (run : List ℕ) × AreRunLines (code_of new.state) (world_of_state new.state) limit cause run
+      × Breaks b c (run ++ page.tail))
+      → (cause : Cause) × (output : List ℕ) × IsFilm cause output × Breaks a c output
+  film-broken a b c first (cause, run, are, broke) = (
+    cause,
+    written_of new texts ++ (run ++ page.tail),
+    film-is cause run are,
+    Breaks-then a b c (written_of new texts) (run ++ page.tail) first broke,
+  )
+
+  pub head-broken : (a b : Taker) → Breaks a b (written_of new texts)
+      → (cause : Cause) × (output : List ℕ) × IsFilm cause output × Breaks a b output
+  head-broken a b broke =
+      let (cause, run, are) = any-run (code_of new.state) (world_of_state new.state) limit in (
+        cause,
+        written_of new texts ++ (run ++ page.tail),
+        film-is cause run are,
+        Breaks-more a b (written_of new texts) (run ++ page.tail) broke,
+      )
+
+-- what a call without a source of its own answers, as that of a text
+pub film-answers : {T : Type 0} (refuses : RunFault → Type 0) (gives others : T → List ℕ → Type 0) (a b : Taker)
+    (r : Result T RunFault)
+    → ((value : T) (output : List ℕ) → gives value output → others value output)
+    → Answers (λ _. ⊥) gives a b r → Answers refuses others a b r
+film-answers refuses gives others a b (Ok value) is (output, given, sent) = (output, is value output given, sent)
+film-answers refuses gives others a b (Err Write) is (value, output, given, broke) = (value, output, is value output given, broke)
+film-answers refuses gives others a b (Err Read) is none = none
+film-answers refuses gives others a b (Err Memory) is none = none
+film-answers refuses gives others a b (Err (Source fault)) is none = absurd none.0
+film-answers refuses gives others a b (Err (Script fault)) is none = absurd none.0
+
 -- the machine went from the start of the program's run to that of the film
 module _ (text title : List ℕ) (chapters : List Chapter) (keys : List ℕ) (window : Window) (free : Bool) (program : Assembled)
     (old new : Device)
-    (why : Cause) (texts : List (List ℕ)) (low : window.from < 4_294_967_296) (made : IsProgramOf text program)
+    (why : Cause) (low : window.from < 4_294_967_296) (made : IsProgramOf text program)
     (started : IsStarted free program keys old.state)
-    (moved : machine.IsMachineRun window.from old new why) (cut : texts ≡ lines text) where
+    (moved : machine.IsMachineRun window.from old new why) where
   abbrev code : Code
   code = bytes (guard_of_run free program)
 
@@ -166,57 +246,24 @@ module _ (text title : List ℕ) (chapters : List Chapter) (keys : List ℕ) (wi
   alike : EndAlike code (code_of_run free program) start
   alike most end ends = meant free program keys most end (sound-of text program made) ends
 
-  -- the machine's lines from there on are those of the text's run
-  lines_are : (cause : Cause) (run : List ℕ) → AreRunLines (code_of new.state) (world_of_state new.state) window.steps cause run
+  -- the lines from there on are those of the text's run
+  lines_are : (cause : Cause) (run : List ℕ) → AreRunLines code (world_of_state new.state) window.steps cause run
       → AreRunLines (code_of_run free program) (world_of_state new.state) window.steps cause run
   lines_are cause run are =
       same-run code (code_of_run free program) (world_of_state new.state) window.steps cause run
       (subst (λ (w : World). EndAlike code (code_of_run free program) w) (sym before_is.reached)
-      (alike-behind code (code_of_run free program) start new.state.steps alike before_is.first))
-      (subst (λ (k : Code). AreRunLines k (world_of_state new.state) window.steps cause run)
-      (ap bytes (moved.guard ∙ started.guard)) are)
+      (alike-behind code (code_of_run free program) start new.state.steps alike before_is.first)) are
 
-  -- what stands before the rows, as it is written
-  abbrev written : List ℕ
-  written =
-      page.head ++ (opening title free new.state.bus.devices.keys
-      ++ (flat_map chapter_line chapters ++ (program_lines program texts
-      ++ start_lines new.state.steps (world_of_state new.state))))
+  pub few : new.state.steps < 4_294_967_296
+  few = omega (arith, before_is.within, low)
 
-  written_is : written ≡ page.head ++ film_head title chapters text free program new.state.steps (world_of_state new.state)
-  written_is =
-      ap₂ (λ (l : List (List ℕ)) (d : Devices). page.head ++ (opening title free d.keys
-      ++ (flat_map chapter_line chapters ++ (program_lines program l ++ start_lines new.state.steps (world_of_state new.state)))))
-      cut (sym (devices_seen new.state.bus))
-
-  film-is : (cause : Cause) (run : List ℕ) → AreRunLines (code_of new.state) (world_of_state new.state) window.steps cause run
-      → IsFilmOf text title chapters keys window free cause (written ++ (run ++ page.tail))
-  film-is cause run are = record {
+  pub film-of-text : (cause : Cause) (output : List ℕ)
+      → IsFilmFrom text title chapters free program code new.state.steps (world_of_state new.state) window.steps cause output
+      → IsFilmOf text title chapters keys window free cause output
+  film-of-text cause output film = record {
     program = program;
     is_program = made;
     before = end_at new.state.steps;
     is_before = alike window.from (end_at new.state.steps) before_is;
-    run = run;
-    are_lines = lines_are cause run are;
-    output_is = ap (λ (h : List ℕ). h ++ (run ++ page.tail)) written_is;
+    film = record { run = film.run; are_lines = lines_are cause film.run film.are_lines; output_is = film.output_is };
   }
-
-  pub film-done : (a b c : Taker) (cause : Cause) → Sends a b written
-      → ((run : List ℕ) × AreRunLines (code_of new.state) (world_of_state new.state) window.steps cause run
-      × Sends b c (run ++ page.tail))
-      → (output : List ℕ) × IsFilmOf text title chapters keys window free cause output × Sends a c output
-  film-done a b c cause first (run, are, sent) =
-      (written ++ (run ++ page.tail), film-is cause run are, Sends-then a b c written (run ++ page.tail) first sent)
-
-  pub film-broken : (a b c : Taker) → Sends a b written
-      → ((cause : Cause) × (run : List ℕ) × AreRunLines (code_of new.state) (world_of_state new.state) window.steps cause run
-      × Breaks b c (run ++ page.tail))
-      → (cause : Cause) × (output : List ℕ) × IsFilmOf text title chapters keys window free cause output × Breaks a c output
-  film-broken a b c first (cause, run, are, broke) =
-      (cause, written ++ (run ++ page.tail), film-is cause run are, Breaks-then a b c written (run ++ page.tail) first broke)
-
-  pub head-broken : (a b : Taker) → Breaks a b written
-      → (cause : Cause) × (output : List ℕ) × IsFilmOf text title chapters keys window free cause output × Breaks a b output
-  head-broken a b broke =
-      let (cause, run, are) = any-run (code_of new.state) (world_of_state new.state) window.steps in
-      (cause, written ++ (run ++ page.tail), film-is cause run are, Breaks-more a b written (run ++ page.tail) broke)

@@ -5,13 +5,15 @@ ghost use Rattle.std.specs.List.{flat_map};
 ghost use Rattle.arrayvec.specs.ArrayVec.{array_vec_len};
 ghost use Rattle.a2_stream.specs.Stream.{SendsOrBreaks};
 ghost use Rattle.a2_bus.specs.Memory.{ram_end};
+ghost use Rattle.a2_machine.specs.ByteRun.{bytes};
 ghost use Rattle.a2_machine.specs.Output as output;
 ghost use Rattle.a2_machine.specs.State.{code_of, world_of_state, IsMachineRun};
 ghost use Rattle.a2_services.specs.Services.{service_at as service_at_of};
 ghost use Rattle.a2_run.specs.Answers.{Answers, OfSource, is_read_fault};
 ghost use Rattle.a2_run.specs.Meaning.{IsRefused};
+ghost use Rattle.a2_run.specs.Started.{guard_of_run};
 ghost use Rattle.a2_film_page.specs.Page as page;
-ghost use Rattle.a2_film.specs.Film.{IsFilmOf};
+ghost use Rattle.a2_film.specs.Film.{IsFilmFrom, IsFilmOf};
 ghost use Rattle.a2_film.specs.Filmed.{most_kept, seen_by, seen_of, FilmsStep, HandsOn, Films, FilmsRest};
 ghost use Rattle.a2_film.specs.Rows as spelt;
 
@@ -136,7 +138,7 @@ fn put_end<W: Output>(rows: &Rows, cause: Cause, writer: &mut W) -> Result<Cause
 }
 
 // Makes the steps of a run, and writes a row of each; and then the cause line.
-fn film_run<A: Allocator, W: Output>(
+fn film_steps<A: Allocator, W: Output>(
     machine: &mut Machine<A>,
     ram: &mut [u8],
     limit: u32,
@@ -216,16 +218,68 @@ fn film_rest<A: Allocator, W: Output>(
     ensures { FilmsRest (code_of machine.old.state) (world_of_state machine.old.state) limit (W.taker writer.old)
         (W.taker writer.new) result }
 {
-    let cause = film_run(machine, ram, limit, writer)?;
+    let cause = film_steps(machine, ram, limit, writer)?;
     put(tail(), writer)?;
     Ok(cause)
 }
 
-/// Assembles and runs a source with these keys waiting, and writes the film of a window of its run: one page of HTML that shows
-/// it forwards and backwards. `title` is any bytes, which the page shows as its title, and `chapters` are what it tells on the
-/// way, in any order; `free` runs without the guard. Rows are written as the run goes, and nothing of it is kept. The cause is
-/// that of the run's end, and `Cause::Limit` where the window ends before. Refused where the source is, where a write
-/// fails, and for want of memory. This project's profile.
+// Guards a machine by a program, or frees it.
+fn guard_by<A: Allocator>(machine: &mut Machine<A>, program: &Program<A>, free: bool)
+    ensures { machine.new ≡ (let s = machine.old.state in
+        record machine.old { state = record s { guard = guard_of_run free program.now } }) }
+{
+    if free {
+        machine.free();
+    } else {
+        machine.guard(program);
+    }
+}
+
+/// Writes the film of the run that a machine makes from where it stands, of `limit` steps at most: one page of HTML that shows it
+/// forwards and backwards. The run is guarded by `program`, or `free`, whatever the machine's guard was; `source` is the text of
+/// the program, whose lines the page shows. `title` is any bytes, which the page shows as its title, and `chapters` are what it
+/// tells on the way, in any order. Rows are written as the run goes, and nothing of it is kept. The cause is that of the run's
+/// end, and `Cause::Limit` where the steps end before. Refused where a write fails, and for want of memory. This project's
+/// profile.
+pub fn film_run<A: Allocator + Copy, W: Output>(
+    alloc: A,
+    source: &[u8],
+    program: &Program<A>,
+    title: &[u8],
+    chapters: &[Chapter<'_>],
+    machine: Machine<A>,
+    limit: u32,
+    free: bool,
+    writer: &mut W,
+) -> Result<Cause, RunFault>
+    // A machine makes 1,000,000,000,000 steps at most from its start.
+    requires { machine.state.steps < 4_294_967_296 }
+    ensures meaning { Answers (λ _. ⊥) (IsFilmFrom source.now title.now chapters.now free program.now
+        (bytes (guard_of_run free program.now)) machine.state.steps (world_of_state machine.state) limit)
+        (W.taker writer.old) (W.taker writer.new) result }
+    ensures no_reader { is_read_fault result ≡ false }
+{
+    let texts = cut(alloc, source)?;
+    let mut ram = blank_ram(alloc, usize::from(RAM_END))?;
+    let mut machine = machine;
+    guard_by(&mut machine, program, free);
+    put_head(
+        title,
+        chapters,
+        texts.as_slice(),
+        free,
+        program,
+        &ram,
+        &machine,
+        writer,
+    )?;
+    let cause = film_rest(&mut machine, &mut ram, limit, writer)?;
+    Ok(cause)
+}
+
+/// Assembles and runs a source with these keys waiting, and writes the film of a window of its run, as [`film_run`] does.
+/// `Cause::Limit` is the cause where the window ends before the run. Refused where the source is, where a write fails, and for
+/// want of memory. This project's profile.
 pub fn film_source<A: Allocator + Copy, W: Output>(
     alloc: A,
     source: &[u8],
@@ -241,21 +295,18 @@ pub fn film_source<A: Allocator + Copy, W: Output>(
     ensures no_reader { is_read_fault result ≡ false }
 {
     let program = program_of(alloc, source)?;
-    let texts = cut(alloc, source)?;
     let mut machine = started(alloc, &program, keys, free)?;
     // (a run that ends before the window is filmed as it ends: its cause comes again behind the rows)
     let _ = go_on(&mut machine, window.from);
-    let mut ram = blank_ram(alloc, usize::from(RAM_END))?;
-    put_head(
+    film_run(
+        alloc,
+        source,
+        &program,
         title,
         chapters,
-        texts.as_slice(),
+        machine,
+        window.steps,
         free,
-        &program,
-        &ram,
-        &machine,
         writer,
-    )?;
-    let cause = film_rest(&mut machine, &mut ram, window.steps, writer)?;
-    Ok(cause)
+    )
 }

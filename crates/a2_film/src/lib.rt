@@ -17,7 +17,7 @@ mod stores;
 mod texts;
 
 pub use chapters::{Chapter, Place, ScriptFault, chapters_of};
-pub use film::{Window, film_source};
+pub use film::{Window, film_run, film_source};
 
 /// A law, and no code: from each world of a run on, for each number of steps that the run makes behind it, that many changes, as
 /// the rows of its film say them, applied to that world, give the world that the run's meaning has then: the same registers,

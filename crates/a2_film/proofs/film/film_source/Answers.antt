@@ -1,57 +1,34 @@
-use Rattle.std.proofs.Common.{◌∙◌, List, ℕ, map, ap}
 use Rattle.std.proofs.lemmas.Result.{err_from_is_err_and}
-use Rattle.std.specs.Borrow.{Bor}
 use Rattle.a2_stream.proofs.Joined.{Sends-nil}
-use Rattle.a2_film.proofs.TextRuns.{film-done, film-broken, head-broken}
+use Rattle.a2_machine.specs.ByteRun.{bytes}
+use Rattle.a2_machine.specs.State.{world_of_state}
+use Rattle.a2_run.specs.Answers.{OfSource}
+use Rattle.a2_run.specs.Meaning.{IsRefused}
+use Rattle.a2_run.specs.Started.{guard_of_run}
+use Rattle.a2_film.specs.Film.{IsFilmFrom, IsFilmOf}
+use Rattle.a2_film.proofs.TextRuns.{few, film-answers, film-of-text}
 use Rattle.a2_film.proofs.film.film_source.Goals as goal
+
+pub film_run-requires : goal.film_run-requires
+film_run-requires g c =
+    few c.args.source.now c.args.title.now c.args.chapters.now c.args.keys.now c.args.window c.args.free c.in_ok-program.program
+    c.in_ok-machine.machine c.go_on.new.machine c.go_on.result c.go_on.ensures.range
+    c.in_ok-program.ensures.made c.in_ok-machine.ensures c.go_on.ensures.run
 
 pub returns-clause-meaning : goal.returns-clause-meaning
 returns-clause-meaning g c =
-    film-done c.args.source.now c.args.title.now c.args.chapters.now c.args.keys.now c.args.window c.args.free
-    c.in_ok-program.program
-    c.in_ok-machine.machine c.go_on.new.machine c.go_on.result (map (λ x. x.now) c.as_slice.result.now) c.go_on.ensures.range
-    c.in_ok-program.ensures.made c.in_ok-machine.ensures
-    c.go_on.ensures.run
-    (ap (λ (items : List (Bor (List ℕ))). map (λ x. x.now) items) c.as_slice.ensures.value ∙ c.in_ok-texts.ensures)
-    (g.W.Output.taker c.args.writer.now) (g.W.Output.taker c.put_head.new.writer) (g.W.Output.taker c.film_rest.new.writer)
-    c.in_ok-cause.cause c.in_ok-put_head.ensures c.in_ok-cause.ensures
-
-pub returns-in_err-put_head-clause-meaning : goal.returns-in_err-put_head-clause-meaning
-returns-in_err-put_head-clause-meaning g c =
-    let fault = err_from_is_err_and c.from_residual-in_err-put_head.result c.from_residual-in_err-put_head.ensures.1 in
-    rw (fault.1, fault.2)
-    (head-broken c.args.source.now c.args.title.now c.args.chapters.now c.args.keys.now c.args.window c.args.free
-    c.in_ok-program.program
-    c.in_ok-machine.machine c.go_on.new.machine c.go_on.result (map (λ x. x.now) c.as_slice.result.now) c.go_on.ensures.range
-    c.in_ok-program.ensures.made c.in_ok-machine.ensures
-    c.go_on.ensures.run
-    (ap (λ (items : List (Bor (List ℕ))). map (λ x. x.now) items) c.as_slice.ensures.value ∙ c.in_ok-texts.ensures)
-    (g.W.Output.taker c.args.writer.now) (g.W.Output.taker c.put_head.new.writer) c.in_err-put_head.ensures)
-
-pub returns-in_err-cause-clause-meaning : goal.returns-in_err-cause-clause-meaning
-returns-in_err-cause-clause-meaning g c =
-    let fault = err_from_is_err_and c.from_residual-in_err-cause.result c.from_residual-in_err-cause.ensures.1 in
-    rw (fault.1, fault.2)
-    (film-broken c.args.source.now c.args.title.now c.args.chapters.now c.args.keys.now c.args.window c.args.free
-    c.in_ok-program.program
-    c.in_ok-machine.machine c.go_on.new.machine c.go_on.result (map (λ x. x.now) c.as_slice.result.now) c.go_on.ensures.range
-    c.in_ok-program.ensures.made c.in_ok-machine.ensures
-    c.go_on.ensures.run
-    (ap (λ (items : List (Bor (List ℕ))). map (λ x. x.now) items) c.as_slice.ensures.value ∙ c.in_ok-texts.ensures)
-    (g.W.Output.taker c.args.writer.now) (g.W.Output.taker c.put_head.new.writer) (g.W.Output.taker c.film_rest.new.writer)
-    c.in_ok-put_head.ensures c.in_err-cause.ensures)
-
-pub returns-in_err-texts-clause-meaning : goal.returns-in_err-texts-clause-meaning
-returns-in_err-texts-clause-meaning g c =
-    let fault = err_from_is_err_and c.from_residual-in_err-texts.result c.from_residual-in_err-texts.ensures.1 in
-    rw (fault.1, fault.2) (Sends-nil (g.W.Output.taker c.args.writer.now))
+    let there = c.go_on.new.machine.state in
+    film-answers (OfSource (IsRefused c.args.source.now))
+    (IsFilmFrom c.args.source.now c.args.title.now c.args.chapters.now c.args.free c.in_ok-program.program
+    (bytes (guard_of_run c.args.free c.in_ok-program.program)) there.steps (world_of_state there) c.args.window.steps)
+    (IsFilmOf c.args.source.now c.args.title.now c.args.chapters.now c.args.keys.now c.args.window c.args.free)
+    (g.W.Output.taker c.args.writer.now) (g.W.Output.taker c.film_run.new.writer) c.film_run.result
+    (film-of-text c.args.source.now c.args.title.now c.args.chapters.now c.args.keys.now c.args.window c.args.free
+    c.in_ok-program.program c.in_ok-machine.machine c.go_on.new.machine c.go_on.result c.go_on.ensures.range
+    c.in_ok-program.ensures.made c.in_ok-machine.ensures c.go_on.ensures.run)
+    c.film_run.ensures.meaning
 
 pub returns-in_err-machine-clause-meaning : goal.returns-in_err-machine-clause-meaning
 returns-in_err-machine-clause-meaning g c =
     let fault = err_from_is_err_and c.from_residual-in_err-machine.result c.from_residual-in_err-machine.ensures.1 in
-    rw (fault.1, fault.2) (Sends-nil (g.W.Output.taker c.args.writer.now))
-
-pub returns-in_err-ram-clause-meaning : goal.returns-in_err-ram-clause-meaning
-returns-in_err-ram-clause-meaning g c =
-    let fault = err_from_is_err_and c.from_residual-in_err-ram.result c.from_residual-in_err-ram.ensures.1 in
     rw (fault.1, fault.2) (Sends-nil (g.W.Output.taker c.args.writer.now))

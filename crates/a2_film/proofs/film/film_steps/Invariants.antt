@@ -3,7 +3,7 @@ use Rattle.arrayvec.specs.ArrayVec.{array_vec_len}
 use Rattle.a2_machine.specs.State.{code_of, world_of_state}
 use Rattle.a2_film.specs.Filmed.{most_kept, seen_by, seen_of}
 use Rattle.a2_film.proofs.Filming.{IsFilmed}
-use Rattle.a2_film.proofs.film.film_run.Given as goal
+use Rattle.a2_film.proofs.film.film_steps.Given as goal
 
 -- the steps so far are made, and their rows went out but for those that are kept
 abbrev pub invariant-loop : goal.invariant-loop
