@@ -1,7 +1,7 @@
 -- The value of an expression depends on nothing but what it looks at.
 use Rattle.std.specs.Prelude.{◌≡◌, ◌<◌, ℕ, zero, suc, ◌+◌, ◌%◌, ℤ, pos, Bool, true, false, if◌then◌else◌, Option, Some, None, refl, slice_set}
 use Rattle.std.proofs.Common.{ap, ap₂, ◌∙◌, arith}
-use Rattle.a2_promise.specs.declared.expr.Expr.TheVariants.{Number, Held, Bound, Old', Of', Pair', Choice', Each', Sum'}
+use Rattle.a2_promise.specs.declared.expr.Expr.TheVariants.{Number, Held, Bound, Old', At', Of', Pair', Choice', Each', Sum'}
 use Rattle.a2_promise.specs.declared.expr.Function.{Function}
 use Rattle.a2_promise.specs.declared.expr.Function.TheVariants as function
 use Rattle.a2_promise.specs.declared.expr.Operation.TheVariants as operation
@@ -60,6 +60,7 @@ values (Number n) before behind m n' u v names h l knows = refl
 values (Held atom) before behind m n u v names h l knows = ap (λ z. Some z) (l.atoms atom knows)
 values (Bound name) before behind m n u v names h l knows = refl
 values (Old' p e) before behind m n u v names h l knows = values e before before m m u u names h h knows
+values (At' a p e) before behind m n u v names h l knows = refl
 values (Of' f p e) before behind m n u v names h l knows =
     same_made behind n v f (value_of e m n names) l knows.1
     ∙ ap (λ x. made_of f v.bytes x) (values e before behind m n u v names h l knows.0)

@@ -2,7 +2,7 @@
 use Rattle.std.specs.Prelude.{◌≡◌, ◌<◌, ℕ, ◌+◌, ◌%◌, ℤ, pos, Bool, true, false, IsTrue, List, Option, Some, None, slice_get, slice_set}
 use Rattle.a2_promise.specs.declared.expr.Atom.{Atom}
 use Rattle.a2_promise.specs.declared.expr.Expr.{Expr}
-use Rattle.a2_promise.specs.declared.expr.Expr.TheVariants.{Number, Held, Bound, Old', Of', Pair', Choice', Each', Sum'}
+use Rattle.a2_promise.specs.declared.expr.Expr.TheVariants.{Number, Held, Bound, Old', At', Of', Pair', Choice', Each', Sum'}
 use Rattle.a2_promise.specs.declared.expr.Function.{Function}
 use Rattle.a2_promise.specs.declared.expr.Function.TheVariants as function
 use Rattle.a2_promise.specs.Values.{Moment, held, word_in, is_zero, count_of, value_of}
@@ -51,6 +51,7 @@ Knows (Number n) before behind entry exit names = Unit {0}
 Knows (Held atom) before behind entry exit names = IsTrue (behind.atoms atom)
 Knows (Bound name) before behind entry exit names = Unit {0}
 Knows (Old' p e) before behind entry exit names = Knows e before before entry entry names
+Knows (At' a p e) before behind entry exit names = Unit {0}
 Knows (Of' f p e) before behind entry exit names =
     Knows e before behind entry exit names × KnowsMade f behind (value_of e entry exit names)
 Knows (Pair' op p x q y) before behind entry exit names =

@@ -1,6 +1,6 @@
 -- What an expression of a promise is, of a state where a routine is entered and one that it leaves: a whole number, or none. What is
 -- true or false is 1 or 0. This project's profile.
-use Rattle.std.specs.Prelude.{ℕ, zero, suc, ◌+◌, ◌*◌, ◌/◌, ◌%◌, ◌^◌, ℤ, pos, negsuc, ◌+ℤ◌, ◌-ℤ◌, ◌*ℤ◌, neg_ℤ, int_lt, int_le, nat_lt, bit_and, bit_or, bit_xor, Bool, ◌&&◌, List, Option, Some, None, if◌then◌else◌, slice_get, slice_set}
+use Rattle.std.specs.Prelude.{ℕ, zero, suc, ◌+◌, ◌*◌, ◌/◌, ◌%◌, ◌^◌, ℤ, pos, negsuc, ◌+ℤ◌, ◌-ℤ◌, ◌*ℤ◌, neg_ℤ, int_lt, int_le, nat_lt, bit_and, bit_or, bit_xor, Bool, ◌==◌, ◌&&◌, List, [], ◌∷◌, Option, Some, None, if◌then◌else◌, slice_get, slice_set}
 use Rattle.std.specs.Int.{int_div_euclid, int_rem_euclid}
 use Rattle.a2_cpu.specs.Registers.{Registers}
 use Rattle.a2_cpu.specs.View.{registers_of}
@@ -11,8 +11,9 @@ use Rattle.a2_promise.specs.declared.expr.Function.TheVariants as function
 use Rattle.a2_promise.specs.declared.expr.Operation.{Operation}
 use Rattle.a2_promise.specs.declared.expr.Operation.TheVariants as operation
 use Rattle.a2_promise.specs.declared.expr.Expr.{Expr}
-use Rattle.a2_promise.specs.declared.expr.Expr.TheVariants.{Number, Held, Bound, Old', Of', Pair', Choice', Each', Sum'}
+use Rattle.a2_promise.specs.declared.expr.Expr.TheVariants.{Number, Held, Bound, Old', At', Of', Pair', Choice', Each', Sum'}
 use Rattle.a2_promise.specs.declared.valuing.Sight.{Sight}
+use Rattle.a2_promise.specs.declared.valuing.Visit.{Visit}
 
 -- a state: the registers, the bytes of RAM from address 0 on, and the cycles and steps since the entry
 pub record Moment : Type 0 where
@@ -28,6 +29,19 @@ moment_of sight = record {
   cycles = sight.cycles;
   steps = sight.steps;
 }
+
+-- the same of a visit of a label; and the state in which a run last came to the label at an address, if it has come there
+abbrev pub moment_there : {A : Type 0} → Visit A → Moment
+moment_there visit = record {
+  registers = registers_of visit.regs;
+  bytes = visit.space.bytes;
+  cycles = visit.cycles;
+  steps = visit.steps;
+}
+
+abbrev pub visited : {A : Type 0} → List (Visit A) → ℕ → Option Moment
+visited [] a = None
+visited (visit ∷ visits) a = if visit.address == a && visit.is_there then Some (moment_there visit) else visited visits a
 
 abbrev pub digit : Bool → ℤ
 digit holds = if holds then pos 1 else pos 0
@@ -149,17 +163,31 @@ abbrev pub at_count : Option ℕ → (ℕ → Option ℤ) → (ℕ → (ℕ → 
 at_count None f g = None
 at_count (Some n) f g = g n f
 
--- the value of an expression; what names stand for is counted by the number of the name
+abbrev pub at_visit : Option Moment → (Moment → Option ℤ) → Option ℤ
+at_visit None f = None
+at_visit (Some here) f = f here
+
+-- The value of an expression, behind visits of labels; what names stand for is counted by the number of the name. `old` is what was at
+-- the entry, and `at` what was where the run last came to the label.
+abbrev pub value_in : Expr → Moment → Moment → (ℕ → Option Moment) → List ℤ → Option ℤ
+value_in (Number n) entry exit visits names = Some n
+value_in (Held a) entry exit visits names = Some (held a exit)
+value_in (Bound name) entry exit visits names = slice_get names name
+value_in (Old' p e) entry exit visits names = value_in e entry entry visits names
+value_in (At' a p e) entry exit visits names = at_visit (visits a) (λ here. value_in e entry here visits names)
+value_in (Of' f p e) entry exit visits names = made_of f exit.bytes (value_in e entry exit visits names)
+value_in (Pair' op p x q y) entry exit visits names =
+    operated_on op (value_in x entry exit visits names) (value_in y entry exit visits names)
+value_in (Choice' p c q x r y) entry exit visits names =
+    chosen (value_in c entry exit visits names) (value_in x entry exit visits names) (value_in y entry exit visits names)
+value_in (Each' name p n q e) entry exit visits names =
+    at_count (count_of (value_in n entry exit visits names)) (λ k. value_in e entry exit visits (slice_set names name (pos k))) each_below
+value_in (Sum' name p n q e) entry exit visits names =
+    at_count (count_of (value_in n entry exit visits names)) (λ k. value_in e entry exit visits (slice_set names name (pos k))) sum_below
+
+-- the value where a run has come to no label
+abbrev pub nowhere : ℕ → Option Moment
+nowhere a = None
+
 abbrev pub value_of : Expr → Moment → Moment → List ℤ → Option ℤ
-value_of (Number n) entry exit names = Some n
-value_of (Held a) entry exit names = Some (held a exit)
-value_of (Bound name) entry exit names = slice_get names name
-value_of (Old' p e) entry exit names = value_of e entry entry names
-value_of (Of' f p e) entry exit names = made_of f exit.bytes (value_of e entry exit names)
-value_of (Pair' op p x q y) entry exit names = operated_on op (value_of x entry exit names) (value_of y entry exit names)
-value_of (Choice' p c q x r y) entry exit names =
-    chosen (value_of c entry exit names) (value_of x entry exit names) (value_of y entry exit names)
-value_of (Each' name p n q e) entry exit names =
-    at_count (count_of (value_of n entry exit names)) (λ k. value_of e entry exit (slice_set names name (pos k))) each_below
-value_of (Sum' name p n q e) entry exit names =
-    at_count (count_of (value_of n entry exit names)) (λ k. value_of e entry exit (slice_set names name (pos k))) sum_below
+value_of e entry exit names = value_in e entry exit nowhere names

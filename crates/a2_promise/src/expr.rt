@@ -65,6 +65,8 @@ pub enum Expr {
     Bound(u8),
     /// The value where the routine was entered.
     Old(Box<Expr>),
+    /// The value where the run last came to the label at this address.
+    At(u16, Box<Expr>),
     Of(Function, Box<Expr>),
     Pair(Operation, Box<Expr>, Box<Expr>),
     /// The second where the first is not 0, else the third.

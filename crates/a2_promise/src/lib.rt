@@ -13,13 +13,15 @@ mod parts;
 mod promises;
 mod reader;
 mod reading;
+mod texts;
 mod valuing;
 mod words;
 
 pub use expr::{Atom, Expr, Function, Operation};
 pub use fault::Refusal;
 pub use promises::{Changes, Clause, Found, Promise, Range, Within, promise_in, promises_of};
-pub use valuing::{Bounds, Sight, value};
+pub use texts::{Text, Texts};
+pub use valuing::{Bounds, Sight, Visit, value, value_in};
 
 /// A theorem, and no code: the value of an expression depends on nothing but the bytes, registers and flags that it looks at.
 pub fn values_depend_on_looks()

@@ -5,7 +5,7 @@ ghost use Rattle.std.specs.Prelude.{◌<◌, IfOk};
 use crate::expr::{Function, Operation};
 use crate::fault::ReadFault;
 use crate::parts::Part;
-use crate::reader::Reader;
+use crate::reader::{Reader, TEXT_WANTED};
 use crate::reading::Class;
 use crate::words::{
     BEHIND_AND, BEHIND_COMPARISON, Infix, Join, Kind, LOOSEST, Opening, Relation, join_of,
@@ -264,6 +264,16 @@ fn opened<'a>(
             reader.part(Part::Old)?;
             within.kind
         }
+        Opening::At => {
+            let address = reader.label(at)?;
+            let within = beginning(reader, less)?;
+            reader.part(Part::At(address))?;
+            within.kind
+        }
+        Opening::Text => {
+            text_at(reader, less)?;
+            Kind::Fact
+        }
         Opening::Not => {
             fact_in(reader, BEHIND_AND, less)?;
             negate(reader)?;
@@ -351,6 +361,50 @@ fn word_address<'a>(reader: &mut Reader<'a, '_>, depth: u8) -> Result<(), ReadFa
     }
     let address = reader.address()?;
     reader.part(Part::Number(i64::from(address)))
+}
+
+// The byte so far behind the place that stands next.
+#[cycle(expression)]
+fn byte_behind<'a>(
+    reader: &mut Reader<'a, '_>,
+    further: usize,
+    depth: u8,
+) -> Result<(), ReadFault<'a>> {
+    let less = deeper(reader.rest, depth)?;
+    let further = further.min(0xFFFF) as i64;
+    if reader.took(b"[") {
+        bracketed(reader, less)?;
+        reader.part(Part::Number(further))?;
+        reader.part(Part::Pair(Operation::Plus))?;
+    } else {
+        let address = reader.address()?;
+        reader.part(Part::Number(i64::from(address) + further))?;
+    }
+    reader.part(Part::Of(Function::Byte))
+}
+
+// Whether the bytes from the place behind `text` on are those of the text behind its =: one after another, and all of them.
+#[cycle(expression)]
+fn text_at<'a>(reader: &mut Reader<'a, '_>, depth: u8) -> Result<(), ReadFault<'a>> {
+    let less = deeper(reader.rest, depth)?;
+    let place = reader.rest;
+    byte_behind(reader, 0, less)?;
+    reader.expect(b"=", TEXT_WANTED)?;
+    let (text, top) = reader.laid_text()?;
+    let behind = reader.rest;
+    for (further, character) in text.iter().enumerate() {
+        if further > 0 {
+            reader.rest = place;
+            byte_behind(reader, further, less)?;
+        }
+        reader.part(Part::Number(i64::from(*character) + i64::from(top)))?;
+        reader.part(Part::Pair(Operation::Equal))?;
+        if further > 0 {
+            join_both(reader)?;
+        }
+    }
+    reader.rest = behind;
+    Ok(())
 }
 
 // What behind `if` is one of two, or where there is no `else`, holds if the condition does; the kind of it.

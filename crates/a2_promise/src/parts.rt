@@ -10,6 +10,7 @@ pub(crate) enum Part {
     Held(Atom),
     Bound(u8),
     Old,
+    At(u16),
     Of(Function),
     Pair(Operation),
     /// The operation of the last and the one before it.
@@ -108,6 +109,14 @@ fn push_old(alloc: Global, made: &mut Vec<Expr>) -> Result<bool, AllocError> {
     }
 }
 
+// Makes what the topmost was at the label at an address.
+fn push_at(alloc: Global, made: &mut Vec<Expr>, address: u16) -> Result<bool, AllocError> {
+    match pop(alloc, made)? {
+        Some(within) => push(made, Expr::At(address, within)),
+        None => Ok(false),
+    }
+}
+
 // Makes what a part makes of those on top; false where they are too few.
 fn push_part(alloc: Global, made: &mut Vec<Expr>, part: Part) -> Result<bool, AllocError> {
     match part {
@@ -115,6 +124,7 @@ fn push_part(alloc: Global, made: &mut Vec<Expr>, part: Part) -> Result<bool, Al
         Part::Held(atom) => push(made, Expr::Held(atom)),
         Part::Bound(name) => push(made, Expr::Bound(name)),
         Part::Old => push_old(alloc, made),
+        Part::At(address) => push_at(alloc, made, address),
         Part::Of(function) => push_of(alloc, made, function),
         Part::Pair(operation) => push_pair(alloc, made, operation, false),
         Part::Turned(operation) => push_pair(alloc, made, operation, true),

@@ -6,8 +6,9 @@ ghost use Rattle.a2_promise.specs.Said.{Says};
 use crate::expr::Expr;
 use crate::fault::{ReadFault, Refusal};
 use crate::parsing::expression;
-use crate::reader::Reader;
+use crate::reader::{NO_LABEL, Named, Reader};
 use crate::reading::Class;
+use crate::texts::{Texts, push_text};
 use crate::words::LOOSEST;
 use a2_asm::Program;
 use a2_text::{behind_blanks, front_len, is_blank};
@@ -50,6 +51,8 @@ pub struct Within<'a> {
     pub invariants: Vec<Clause<'a>>,
     /// What is 0 or more each time, and less than before where a run comes back to the label.
     pub measures: Vec<Clause<'a>>,
+    /// Whether `at` names the label in a line of the routine.
+    pub is_named: bool,
 }
 
 /// What a routine promises.
@@ -64,6 +67,7 @@ pub struct Promise<'a> {
     pub wanted: Vec<Clause<'a>>,
     pub promised: Vec<Clause<'a>>,
     pub changes: Changes,
+    pub texts: Texts<'a>,
     /// What is said within the routine, up to the next that promises something.
     pub within: Vec<Within<'a>>,
 }
@@ -76,6 +80,13 @@ pub enum Found<'a> {
     Refused(Refusal, &'a [u8]),
 }
 
+// A label that `at` names: its address, and why it may be none.
+#[derive(Clone, Copy)]
+struct Label {
+    address: u16,
+    refusal: Refusal,
+}
+
 // The lines before a label.
 #[derive(Drop)]
 struct Block<'a> {
@@ -84,8 +95,10 @@ struct Block<'a> {
     wanted: Vec<Clause<'a>>,
     promised: Vec<Clause<'a>>,
     changes: Changes,
+    texts: Texts<'a>,
     invariants: Vec<Clause<'a>>,
     measures: Vec<Clause<'a>>,
+    labels: Vec<Label>,
     refused: Option<Refusal>,
     /// Whether a line says what holds within a routine, and none what it promises.
     is_within: bool,
@@ -103,8 +116,13 @@ fn new_block<'a>(alloc: Global) -> Block<'a> {
             y: false,
             ranges: Vec::new(alloc),
         },
+        texts: Texts {
+            prints: Vec::new(alloc),
+            takes: Vec::new(alloc),
+        },
         invariants: Vec::new(alloc),
         measures: Vec::new(alloc),
+        labels: Vec::new(alloc),
         refused: None,
         is_within: true,
     }
@@ -193,6 +211,8 @@ enum Verb {
     Requires,
     Ensures,
     Changes,
+    Prints,
+    Takes,
     Invariant,
     Decreases,
     Note,
@@ -200,10 +220,12 @@ enum Verb {
 
 // The verb of this name.
 fn verb_named(word: &[u8]) -> Option<Verb> {
-    let verbs: [(&str, Verb); 6] = [
+    let verbs: [(&str, Verb); 8] = [
         ("requires", Verb::Requires),
         ("ensures", Verb::Ensures),
         ("changes", Verb::Changes),
+        ("prints", Verb::Prints),
+        ("takes", Verb::Takes),
         ("invariant", Verb::Invariant),
         ("decreases", Verb::Decreases),
         ("note", Verb::Note),
@@ -217,7 +239,7 @@ fn verb_named(word: &[u8]) -> Option<Verb> {
 }
 
 const VERBS: &str =
-    "a line of a promise begins with requires, ensures, changes, invariant, decreases or note";
+    "a line of a promise begins with requires, ensures, changes, prints, takes, invariant, decreases or note";
 
 impl<'a> Block<'a> {
     // Takes up a line of this number.
@@ -226,24 +248,24 @@ impl<'a> Block<'a> {
             return reader.refuse(VERBS);
         };
         reader.take();
+        reader.is_within = is_within(verb);
+        self.is_within = self.is_within && reader.is_within;
         let text = behind_blanks(reader.rest);
         match verb {
-            Verb::Requires => {
-                self.is_within = false;
-                push_fact(reader, &mut self.wanted, line, text)
-            }
-            Verb::Ensures => {
-                self.is_within = false;
-                push_fact(reader, &mut self.promised, line, text)
-            }
-            Verb::Changes => {
-                self.is_within = false;
-                take_changes(reader, &mut self.changes)
-            }
+            Verb::Requires => push_fact(reader, &mut self.wanted, line, text),
+            Verb::Ensures => push_fact(reader, &mut self.promised, line, text),
+            Verb::Changes => take_changes(reader, &mut self.changes),
+            Verb::Prints => push_text(reader, &mut self.texts.prints, line),
+            Verb::Takes => push_text(reader, &mut self.texts.takes, line),
             Verb::Decreases => push_measure(reader, &mut self.measures, line, text),
             Verb::Invariant | Verb::Note => push_fact(reader, &mut self.invariants, line, text),
         }
     }
+}
+
+// Whether a line of a verb says what holds within a routine.
+fn is_within(verb: Verb) -> bool {
+    matches!(verb, Verb::Invariant | Verb::Decreases | Verb::Note)
 }
 
 // Reads a fact as a clause more.
@@ -306,6 +328,27 @@ fn column_of(line: &[u8], rest: &[u8]) -> usize {
         .saturating_add(1)
 }
 
+// Notes the labels that `at` names in a line of this number.
+fn note_labels(
+    labels: &mut Vec<Label>,
+    named: &[Named],
+    whole: &[u8],
+    line: usize,
+) -> Result<(), AllocError> {
+    for label in named {
+        let refusal = Refusal {
+            line,
+            column: column_of(whole, label.at),
+            says: NO_LABEL,
+        };
+        labels.push(Label {
+            address: label.address,
+            refusal,
+        })?;
+    }
+    Ok(())
+}
+
 // Takes up a line of a promise, or keeps why it is none, if it is the first.
 fn take_line<'a>(
     alloc: Global,
@@ -320,7 +363,7 @@ fn take_line<'a>(
     }
     let mut reader = Reader::new(alloc, rest, program);
     match block.take(&mut reader, line) {
-        Ok(()) => Ok(()),
+        Ok(()) => note_labels(&mut block.labels, reader.labels.as_slice(), whole, line),
         Err(ReadFault::Memory) => Err(AllocError),
         Err(ReadFault::Says(says, at)) => {
             if block.refused.is_none() {
@@ -387,6 +430,7 @@ fn push_promise<'a>(
         address,
         invariants: block.invariants,
         measures: block.measures,
+        is_named: false,
     };
     push_within(&mut within, said)?;
     Ok(found.push(Found::Promise(Promise {
@@ -396,6 +440,7 @@ fn push_promise<'a>(
         wanted: block.wanted,
         promised: block.promised,
         changes: block.changes,
+        texts: block.texts,
         within,
     }))?)
 }
@@ -413,6 +458,7 @@ fn attach<'a>(
         address,
         invariants: block.invariants,
         measures: block.measures,
+        is_named: false,
     };
     match found.as_mut_slice().last_mut() {
         Some(Found::Promise(promise)) => push_within(&mut promise.within, said),
@@ -422,12 +468,14 @@ fn attach<'a>(
 }
 
 const OUTSIDE: &str =
-    "this stands in no routine: lines with requires, ensures or changes before a label begin one";
+    "this stands in no routine: lines with requires, ensures, changes, prints or takes before a label begin one";
 
-// Adds what lines before a line are: a promise, what is said within the last one's routine, or why they are none.
+// Adds what lines before a line are: a promise, what is said within the last one's routine, or why they are none. Labels that they
+// name behind `at` are noted, each with the place of what they belong to.
 fn close<'a>(
     alloc: Global,
     found: &mut Vec<Found<'a>>,
+    labels: &mut Vec<(usize, Label)>,
     program: &Program<Global>,
     block: Block<'a>,
     name: &'a [u8],
@@ -439,23 +487,61 @@ fn close<'a>(
     if let Some(refusal) = block.refused {
         return Ok(found.push(Found::Refused(refusal, name))?);
     }
-    match entry_of(program, name) {
-        Err(says) => Ok(found.push(refused_at(block.first, says, name))?),
-        Ok(address) if block.is_within => attach(found, block, name, line, address),
-        Ok(address) => push_promise(alloc, found, block, name, line, address),
+    let address = match entry_of(program, name) {
+        Err(says) => return Ok(found.push(refused_at(block.first, says, name))?),
+        Ok(address) => address,
+    };
+    let place = if block.is_within {
+        found.len().saturating_sub(1)
+    } else {
+        found.len()
+    };
+    for label in &block.labels {
+        labels.push((place, *label))?;
+    }
+    if block.is_within {
+        attach(found, block, name, line, address)
+    } else {
+        push_promise(alloc, found, block, name, line, address)
+    }
+}
+
+// Notes that `at` names the label at an address; false where nothing is said there within the routine.
+fn name_label(within: &mut [Within], address: u16) -> bool {
+    for said in within {
+        if said.address == address {
+            said.is_named = true;
+            return true;
+        }
+    }
+    false
+}
+
+// Refuses a promise of which `at` names a label that says nothing.
+fn settle<'a>(found: &mut [Found<'a>], place: usize, label: Label) {
+    let Some(one) = found.get_mut(place) else {
+        return;
+    };
+    if let Found::Promise(promise) = one {
+        if name_label(promise.within.as_mut_slice(), label.address) {
+            return;
+        }
+        *one = Found::Refused(label.refusal, promise.name);
     }
 }
 
 /// The promises of a source's lines, whose program is this one, in their order: lines that begin with `;:`, each with `requires`,
-/// `ensures`, `changes`, `invariant`, `decreases` or `note` behind it, before the line of a label; comments and blank lines may
-/// stand between. Lines that say only what holds within a routine are no promise, and belong to the last above them. Where a line can't
-/// be read, or no routine has the label, it is said instead. This project's profile. Refused only for want of memory.
+/// `ensures`, `changes`, `prints`, `takes`, `invariant`, `decreases` or `note` behind it, before the line of a label; comments and
+/// blank lines may stand between. Lines that say only what holds within a routine are no promise, and belong to the last above them.
+/// Where a line can't be read, no routine has the label, or `at` names a label that has no such lines in its routine, that is said
+/// instead. This project's profile. Refused only for want of memory.
 pub fn promises_of<'a>(
     alloc: Global,
     lines: &[&'a [u8]],
     program: &Program<Global>,
 ) -> Result<Vec<Found<'a>>, AllocError> {
     let mut found = Vec::new(alloc);
+    let mut labels = Vec::new(alloc);
     let mut block = new_block(alloc);
     for (index, line) in lines.iter().enumerate() {
         if let Some(rest) = promise_in(*line) {
@@ -465,6 +551,7 @@ pub fn promises_of<'a>(
             close(
                 alloc,
                 &mut found,
+                &mut labels,
                 program,
                 closed,
                 label_of(*line),
@@ -472,6 +559,17 @@ pub fn promises_of<'a>(
             )?;
         }
     }
-    close(alloc, &mut found, program, block, b"", lines.len())?;
+    close(
+        alloc,
+        &mut found,
+        &mut labels,
+        program,
+        block,
+        b"",
+        lines.len(),
+    )?;
+    for (place, label) in &labels {
+        settle(found.as_mut_slice(), *place, *label);
+    }
     Ok(found)
 }

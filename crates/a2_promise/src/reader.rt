@@ -5,20 +5,36 @@ use crate::fault::ReadFault;
 use crate::parts::{Part, expr_of};
 use crate::reading::{Class, Token, address_of, decimal_of, token_in};
 use a2_asm::Program;
+use a2_text::{behind_blanks, front_len};
 use std::alloc::{AllocError, Global};
 
 // The most names that are counted within one another.
 const MOST_NAMES: usize = 4;
 
+/// How a text that stands in memory is written.
+pub(crate) const TEXT_WANTED: &str =
+    "a text in quotes is wanted here, as in text $0400 = \"HI\", which ASC \"HI\" lays";
+
+/// A label that is named behind `at`: its address, and where it stands.
+#[derive(Clone, Copy)]
+pub(crate) struct Named<'a> {
+    pub address: u16,
+    pub at: &'a [u8],
+}
+
 /// What is left of a line, and what names mean in it.
 #[derive(Drop)]
 pub(crate) struct Reader<'a, 'p> {
-    alloc: Global,
+    pub alloc: Global,
     parts: Vec<Part>,
     pub rest: &'a [u8],
     program: &'p Program<Global>,
     names: [&'a [u8]; MOST_NAMES],
     named: usize,
+    /// Whether `at` may stand in the line.
+    pub is_within: bool,
+    /// The labels that it names.
+    pub labels: Vec<Named<'a>>,
 }
 
 impl<'a, 'p> Reader<'a, 'p> {
@@ -31,6 +47,8 @@ impl<'a, 'p> Reader<'a, 'p> {
             program,
             names: [b""; MOST_NAMES],
             named: 0,
+            is_within: false,
+            labels: Vec::new(alloc),
         }
     }
 
@@ -117,6 +135,39 @@ impl<'a, 'p> Reader<'a, 'p> {
         }
     }
 
+    /// Takes the label behind an `at` that begins here; its address.
+    pub fn label(&mut self, at: &'a [u8]) -> Result<u16, ReadFault<'a>> {
+        if !self.is_within {
+            return Err(ReadFault::Says(
+                "at stands only in lines invariant, decreases and note",
+                at,
+            ));
+        }
+        let token = self.next();
+        let address = match token.class {
+            Class::Word => self.value_of(token.text),
+            _ => None,
+        };
+        match address {
+            Some(address) => {
+                let at = self.rest;
+                push_label(&mut self.labels, Named { address, at })?;
+                self.take();
+                Ok(address)
+            }
+            None => self.refuse(NO_LABEL),
+        }
+    }
+
+    /// Takes a text between quotes as ASC lays it: its characters, and what each has more than its code.
+    pub fn laid_text(&mut self) -> Result<(&'a [u8], u8), ReadFault<'a>> {
+        let Some((text, top, behind)) = laid(behind_blanks(self.rest)) else {
+            return self.refuse(TEXT_WANTED);
+        };
+        self.rest = behind;
+        Ok((text, top))
+    }
+
     /// Lets a name be counted; its number.
     pub fn bind(&mut self, name: &'a [u8]) -> Result<u8, ReadFault<'a>> {
         let number = self.named;
@@ -157,6 +208,37 @@ impl<'a, 'p> Reader<'a, 'p> {
             None => self.refuse("this says nothing"),
         }
     }
+}
+
+/// Which labels `at` may name.
+pub(crate) const NO_LABEL: &str =
+    "behind at stands a label within the routine that has lines invariant, decreases or note itself";
+
+// The characters up to a quote, as the one at the start of a text, and what stands behind that; one at least, from the blank to ~.
+fn up_to(quote: u8, text: &[u8]) -> Option<(&[u8], &[u8])> {
+    let length = front_len(text, |c| c != quote && 0x20 <= c && c <= 0x7E);
+    let (front, rest) = text.split_at(length.min(text.len()));
+    match rest {
+        [c, behind @ ..] if *c == quote && !front.is_empty() => Some((front, behind)),
+        _ => None,
+    }
+}
+
+// The characters between the quotes that a text begins with, what each byte has more than its code, and what stands behind.
+fn laid(text: &[u8]) -> Option<(&[u8], u8, &[u8])> {
+    let (quote, top) = match text {
+        [b'"', ..] => (b'"', 0x80),
+        [b'\'', ..] => (b'\'', 0),
+        _ => return None,
+    };
+    let (_, rest) = text.split_first()?;
+    let (front, behind) = up_to(quote, rest)?;
+    Some((front, top, behind))
+}
+
+// One label more.
+fn push_label<'a>(labels: &mut Vec<Named<'a>>, label: Named<'a>) -> Result<(), AllocError> {
+    Ok(labels.push(label)?)
 }
 
 // One part more.

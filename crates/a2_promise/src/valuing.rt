@@ -1,6 +1,6 @@
 //! What an expression is, of a state where a routine is entered and one that it leaves.
 
-ghost use Rattle.std.specs.Prelude.{◌≡◌, pos, slice_set, bit_and, bit_or, bit_xor};
+ghost use Rattle.std.specs.Prelude.{◌≡◌, pos, slice_set, bit_and, bit_or, bit_xor, MatchOption, Some, None};
 ghost use Rattle.a2_promise.specs.Values as values;
 ghost use Rattle.a2_promise.specs.Values.{moment_of, value_of};
 ghost use Rattle.a2_promise.specs.declared.expr.Operation.TheVariants.{Over, Modulo};
@@ -17,6 +17,43 @@ pub struct Sight<'a, A: Allocator> {
     pub space: &'a AddressSpace<A>,
     pub cycles: u32,
     pub steps: u32,
+}
+
+/// A state as a run last came to the label at an address, if it has come there.
+#[derive(Drop)]
+pub struct Visit<A: Allocator> {
+    pub address: u16,
+    pub is_there: bool,
+    pub regs: Regs,
+    pub space: AddressSpace<A>,
+    pub cycles: u32,
+    pub steps: u32,
+}
+
+// The state of a visit.
+fn sight_of<A: Allocator>(visit: &Visit<A>) -> Sight<'_, A>
+    ensures { moment_of result ≡ values.moment_there visit.now }
+{
+    Sight {
+        regs: visit.regs,
+        space: &visit.space,
+        cycles: visit.cycles,
+        steps: visit.steps,
+    }
+}
+
+// The state of the visit at an address.
+fn visited<'v, A: Allocator>(visits: &'v [Visit<A>], address: u16) -> Option<Sight<'v, A>>
+    ensures { MatchOption result (values.visited visits.now address ≡ None)
+        (λ sight. values.visited visits.now address ≡ Some (moment_of sight)) }
+{
+    let [visit, rest @ ..] = visits else {
+        return None;
+    };
+    if visit.address == address && visit.is_there {
+        return Some(sight_of(visit));
+    }
+    visited(rest, address)
 }
 
 /// The numbers that names stand for which an expression counts, four at most.
@@ -240,14 +277,15 @@ fn each_below<A: Allocator>(
     body: &Expr,
     entry: &Sight<A>,
     exit: &Sight<A>,
+    visits: &[Visit<A>],
     names: Bounds,
 ) -> Option<i64>
     ensures { result ≡ values.each_below count
-        (λ k. value_of body.now (moment_of entry.now) (moment_of exit.now) (slice_set names name (pos k))) }
+        (λ k. values.value_in body.now (moment_of entry.now) (moment_of exit.now) (values.visited visits.now) (slice_set names name (pos k))) }
 {
     let mut holds = Some(1);
     for number in 0..count {
-        let here = value(body, entry, exit, with_bound(names, name, number));
+        let here = value_in(body, entry, exit, visits, with_bound(names, name, number));
         holds = chosen(holds, here, Some(0));
     }
     holds
@@ -261,23 +299,71 @@ fn sum_below<A: Allocator>(
     body: &Expr,
     entry: &Sight<A>,
     exit: &Sight<A>,
+    visits: &[Visit<A>],
     names: Bounds,
 ) -> Option<i64>
     ensures { result ≡ values.sum_below count
-        (λ k. value_of body.now (moment_of entry.now) (moment_of exit.now) (slice_set names name (pos k))) }
+        (λ k. values.value_in body.now (moment_of entry.now) (moment_of exit.now) (values.visited visits.now) (slice_set names name (pos k))) }
 {
     let mut sum = Some(0);
     for number in 0..count {
-        let here = value(body, entry, exit, with_bound(names, name, number));
+        let here = value_in(body, entry, exit, visits, with_bound(names, name, number));
         sum = operated_on(Operation::Plus, sum, here);
     }
     sum
 }
 
-/// What an expression is, of the state where a routine was entered and one that it left, where these are the numbers that names stand
-/// for. None where a part of it that counts is none: a quotient by what is not above 0, bits of what is not from 0 to 65,535, a byte
-/// that is not in RAM, or a number of 2^63 or more. This project's profile.
+/// What an expression is, of the state where a routine was entered and one that its run came to, behind these visits of labels, where
+/// these are the numbers that names stand for. None where a part of it that counts is none: a quotient by what is not above 0, bits of what is not from 0 to 65,535, a byte
+/// that is not in RAM, a number of 2^63 or more, or what was at a label where the run has not been. This project's profile.
 #[cycle(value)]
+pub fn value_in<A: Allocator>(
+    expr: &Expr,
+    entry: &Sight<A>,
+    exit: &Sight<A>,
+    visits: &[Visit<A>],
+    names: Bounds,
+) -> Option<i64>
+    ensures { result ≡ values.value_in expr.now (moment_of entry.now) (moment_of exit.now) (values.visited visits.now) names }
+{
+    match expr {
+        Expr::Number(number) => Some(*number),
+        Expr::Held(atom) => Some(held(*atom, exit)),
+        Expr::Bound(name) => names.get(usize::from(*name)).copied(),
+        Expr::Old(within) => value_in(within, entry, entry, visits, names),
+        Expr::At(address, within) => {
+            let here = visited(visits, *address)?;
+            value_in(within, entry, &here, visits, names)
+        }
+        Expr::Of(function, of) => made(
+            *function,
+            exit.space,
+            value_in(of, entry, exit, visits, names)?,
+        ),
+        Expr::Pair(operation, left, right) => operated_on(
+            *operation,
+            value_in(left, entry, exit, visits, names),
+            value_in(right, entry, exit, visits, names),
+        ),
+        Expr::Choice(by, yes, no) => {
+            if is_zero(value_in(by, entry, exit, visits, names)?) {
+                value_in(no, entry, exit, visits, names)
+            } else {
+                value_in(yes, entry, exit, visits, names)
+            }
+        }
+        Expr::Each(name, count, body) => {
+            let count = count_of(value_in(count, entry, exit, visits, names))?;
+            each_below(*name, count, body, entry, exit, visits, names)
+        }
+        Expr::Sum(name, count, body) => {
+            let count = count_of(value_in(count, entry, exit, visits, names))?;
+            sum_below(*name, count, body, entry, exit, visits, names)
+        }
+    }
+}
+
+/// The same, where a run has come to no label.
 pub fn value<A: Allocator>(
     expr: &Expr,
     entry: &Sight<A>,
@@ -286,31 +372,6 @@ pub fn value<A: Allocator>(
 ) -> Option<i64>
     ensures { result ≡ value_of expr.now (moment_of entry.now) (moment_of exit.now) names }
 {
-    match expr {
-        Expr::Number(number) => Some(*number),
-        Expr::Held(atom) => Some(held(*atom, exit)),
-        Expr::Bound(name) => names.get(usize::from(*name)).copied(),
-        Expr::Old(within) => value(within, entry, entry, names),
-        Expr::Of(function, of) => made(*function, exit.space, value(of, entry, exit, names)?),
-        Expr::Pair(operation, left, right) => operated_on(
-            *operation,
-            value(left, entry, exit, names),
-            value(right, entry, exit, names),
-        ),
-        Expr::Choice(by, yes, no) => {
-            if is_zero(value(by, entry, exit, names)?) {
-                value(no, entry, exit, names)
-            } else {
-                value(yes, entry, exit, names)
-            }
-        }
-        Expr::Each(name, count, body) => {
-            let count = count_of(value(count, entry, exit, names))?;
-            each_below(*name, count, body, entry, exit, names)
-        }
-        Expr::Sum(name, count, body) => {
-            let count = count_of(value(count, entry, exit, names))?;
-            sum_below(*name, count, body, entry, exit, names)
-        }
-    }
+    let none: [Visit<A>; 0] = [];
+    value_in(expr, entry, exit, &none, names)
 }

@@ -152,6 +152,8 @@ pub(crate) fn join_of(token: Token) -> Option<Join> {
 pub(crate) enum Opening {
     Held(Atom, Kind),
     Old,
+    At,
+    Text,
     Not,
     If,
     Each,
@@ -178,7 +180,7 @@ pub(crate) struct Begin {
     opening: Opening,
 }
 
-static OPENINGS: [Begin; 27] = [
+static OPENINGS: [Begin; 29] = [
     Begin {
         text: "A",
         opening: Opening::Held(Atom::A, Kind::Number),
@@ -230,6 +232,14 @@ static OPENINGS: [Begin; 27] = [
     Begin {
         text: "old",
         opening: Opening::Old,
+    },
+    Begin {
+        text: "at",
+        opening: Opening::At,
+    },
+    Begin {
+        text: "text",
+        opening: Opening::Text,
     },
     Begin {
         text: "not",

@@ -6,13 +6,13 @@ use Rattle.a2_services.specs.World.{World}
 use Rattle.a2_promise.specs.declared.expr.Atom.{Atom}
 use Rattle.a2_promise.specs.declared.expr.Atom.TheVariants as atom
 use Rattle.a2_promise.specs.declared.expr.Expr.{Expr}
-use Rattle.a2_promise.specs.declared.expr.Expr.TheVariants.{Number, Held, Bound, Old', Of', Pair', Choice', Each', Sum'}
+use Rattle.a2_promise.specs.declared.expr.Expr.TheVariants.{Number, Held, Bound, Old', At', Of', Pair', Choice', Each', Sum'}
 use Rattle.a2_promise.specs.declared.expr.Operation.{Operation}
 use Rattle.a2_promise.specs.declared.expr.Operation.TheVariants as operation
 use Rattle.a2_promise.specs.Values.{digit, held as held_atom, operated, operated_on, chosen, value_of}
 use Rattle.a2_trial.specs.Kept.{moment}
 use Rattle.a2_trial.specs.Judging.{holds}
-use Rattle.a2_rules.specs.Phrases.{Phrase, number, held, bound, old, of, pair, choice, each, sum, phrase_of}
+use Rattle.a2_rules.specs.Phrases.{Phrase, number, held, bound, old, at, of, pair, choice, each, sum, phrase_of}
 use Rattle.a2_rules.specs.Worlds.{OnlyBytes}
 use Rattle.a2_rules.proofs.Saying.{View, minus, view, most, counts, Claim, flag_is, flag, is_flag, is_fact, constant, agree, equal, less, at_most, compared, choose, one_of, claim, is_equal, compares, tells}
 use Rattle.a2_rules.proofs.Valuing.{both, neither, Counts, at_most_is, more_is, less_is, at_least_is, count}
@@ -415,6 +415,7 @@ constant_is (old e) w v = tt
 constant_is (of f e) w v = tt
 constant_is (pair op p q) w v = tt
 constant_is (choice c p q) w v = tt
+constant_is (at a e) w v = tt
 constant_is (each name n e) w v = tt
 constant_is (sum name n e) w v = tt
 
@@ -438,6 +439,7 @@ tell (Number (negsuc n)) w v steps names bw bv h = absurd (false≢true h)
 tell (Held a) w v steps names bw bv h = held_tells a w v steps h
 tell (Bound n) w v steps names bw bv h = absurd (false≢true h)
 tell (Old' p e) w v steps names bw bv h = tell e w w 0 names bw bw h
+tell (At' a p e) w v steps names bw bv h = absurd (false≢true h)
 tell (Of' f p e) w v steps names bw bv h = absurd (false≢true h)
 tell (Pair' op p x q y) w v steps names bw bv h =
     pair_tells op (phrase_of x) (phrase_of y) w v (value_of x (moment w w 0) (moment w v steps) names) (value_of y (moment w w 0) (moment w v steps) names)

@@ -16,13 +16,13 @@ use Rattle.a2_services.specs.World.{World}
 use Rattle.a2_promise.specs.declared.expr.Atom.{Atom}
 use Rattle.a2_promise.specs.declared.expr.Atom.TheVariants as atom
 use Rattle.a2_promise.specs.declared.expr.Expr.{Expr}
-use Rattle.a2_promise.specs.declared.expr.Expr.TheVariants.{Number, Held, Bound, Old', Of', Pair', Choice', Each', Sum'}
+use Rattle.a2_promise.specs.declared.expr.Expr.TheVariants.{Number, Held, Bound, Old', At', Of', Pair', Choice', Each', Sum'}
 use Rattle.a2_promise.specs.declared.expr.Function.TheVariants as function
 use Rattle.a2_promise.specs.declared.expr.Operation.{Operation}
 use Rattle.a2_promise.specs.declared.expr.Operation.TheVariants as operation
 use Rattle.a2_promise.specs.Values.{digit, fits, limited, word_in, held as held_atom, byte_value, word_value, byte_at, word_at, bitwise, bit_of, operated, made_of, signed as signed_byte, operated_on, value_of}
 use Rattle.a2_trial.specs.Kept.{bytes_of, moment}
-use Rattle.a2_rules.specs.Phrases.{Phrase, number, held, bound, old, of, pair, choice, each, sum, phrase_of}
+use Rattle.a2_rules.specs.Phrases.{Phrase, number, held, bound, old, at, of, pair, choice, each, sum, phrase_of}
 use Rattle.a2_lessons.specs.Routines.{word}
 use Rattle.a2_rules.specs.Worlds.{OnlyBytes}
 use Rattle.a2_rules.proofs.Bits.{digits_small}
@@ -480,6 +480,7 @@ divisor_of (old e) w v h = absurd (true≢false (sym h))
 divisor_of (of f e) w v h = absurd (true≢false (sym h))
 divisor_of (pair op p q) w v h = absurd (true≢false (sym h))
 divisor_of (choice c p q) w v h = absurd (true≢false (sym h))
+divisor_of (at a e) w v h = absurd (true≢false (sym h))
 divisor_of (each name n e) w v h = absurd (true≢false (sym h))
 divisor_of (sum name n e) w v h = absurd (true≢false (sym h))
 
@@ -491,6 +492,7 @@ count (Number (negsuc n)) w v steps names bw bv h = absurd (true≢false (sym h)
 count (Held a) w v steps names bw bv h = part_counts a w v steps bv h
 count (Bound n) w v steps names bw bv h = absurd (true≢false (sym h))
 count (Old' p e) w v steps names bw bv h = count e w w 0 names bw bw h
+count (At' a p e) w v steps names bw bv h = absurd (true≢false (sym h))
 count (Of' function.Byte p e) w v steps names bw bv h =
     let two = both (counts (phrase_of e)) (not (minus (phrase_of e)) && nat_lt (most (phrase_of e)) 49152) h in
     let more = both (not (minus (phrase_of e))) (nat_lt (most (phrase_of e)) 49152) two.1 in

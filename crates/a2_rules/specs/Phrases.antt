@@ -2,7 +2,7 @@
 use Rattle.std.specs.Prelude.{ℕ, ℤ}
 use Rattle.a2_promise.specs.declared.expr.Atom.{Atom}
 use Rattle.a2_promise.specs.declared.expr.Expr.{Expr}
-use Rattle.a2_promise.specs.declared.expr.Expr.TheVariants.{Number, Held, Bound, Old', Of', Pair', Choice', Each', Sum'}
+use Rattle.a2_promise.specs.declared.expr.Expr.TheVariants.{Number, Held, Bound, Old', At', Of', Pair', Choice', Each', Sum'}
 use Rattle.a2_promise.specs.declared.expr.Function.{Function}
 use Rattle.a2_promise.specs.declared.expr.Operation.{Operation}
 
@@ -12,6 +12,7 @@ pub data Phrase : Type 0 where
   held : Atom → Phrase
   bound : ℕ → Phrase
   old : Phrase → Phrase
+  at : ℕ → Phrase → Phrase
   of : Function → Phrase → Phrase
   pair : Operation → Phrase → Phrase → Phrase
   choice : Phrase → Phrase → Phrase → Phrase
@@ -23,6 +24,7 @@ phrase_of (Number n) = number n
 phrase_of (Held atom) = held atom
 phrase_of (Bound name) = bound name
 phrase_of (Old' p e) = old (phrase_of e)
+phrase_of (At' a p e) = at a (phrase_of e)
 phrase_of (Of' f p e) = of f (phrase_of e)
 phrase_of (Pair' op p x q y) = pair op (phrase_of x) (phrase_of y)
 phrase_of (Choice' p c q x r y) = choice (phrase_of c) (phrase_of x) (phrase_of y)

@@ -1,9 +1,11 @@
--- What is found of a promise: that it is kept everywhere, where it is said so. This project's own.
+-- What is found of a promise: that it is kept everywhere, where it is said so; of one that says what is printed or which keys are taken,
+-- that is never said. This project's own.
 use Rattle.std.specs.Prelude.{ℕ, Option, IsTrue}
 use Rattle.a2_promise.specs.declared.promises.Promise.{Promise}
 use Rattle.a2_trial.specs.declared.trial.Verdict.{Verdict}
 use Rattle.a2_trial.specs.declared.trial.Verdict.TheVariants.{Held}
 use Rattle.a2_trial.specs.Entering.{IsKeptEverywhere}
+use Rattle.a2_trial.specs.Judging.{HasNoText}
 
 -- the most steps of a routine
 abbrev pub most_steps : ℕ
@@ -11,5 +13,5 @@ most_steps = 1000000
 
 abbrev pub IsCertain : (ℕ → Option ℕ) → Promise → ℕ → Verdict → Type 0
 IsCertain program promise limit (Held inputs kept tried total is_everywhere passage) =
-    IsTrue is_everywhere → IsKeptEverywhere program promise inputs.items limit
+    IsTrue is_everywhere → HasNoText promise.texts × IsKeptEverywhere program promise inputs.items limit
 IsCertain program promise limit _ = Unit {0}

@@ -1,3 +1,4 @@
+pub mod Printing
 pub mod Judging
 pub mod States
 pub mod Kept

@@ -2,17 +2,20 @@
 
 use crate::inputs::{Input, add};
 use crate::parts::Parts;
+use crate::printing::push_printed;
 use crate::services::{given_by, taken_by};
 use a2_asm::Program;
 use a2_bus::locations::{
-    BASH, BASL, COLOR, CSW, CV, H2, INVFLG, KSW, LAST_RETURN, PROMPT, RETURN_ADDRESS, V2, WNDLFT,
+    BASH, BASL, COLOR, CSW, CV, H2, INVFLG, KBD, KBDSTRB, KSW, LAST_RETURN, PROMPT, RETURN_ADDRESS,
+    V2, WNDLFT,
 };
-use a2_bus::{AddressSpace, Bus};
+use a2_bus::{AddressSpace, Bus, Keys};
 use a2_cpu::live::Live;
 use a2_cpu::run::step;
 use a2_cpu::{Regs, Step, writes};
 use a2_hex::RAM_END;
 use a2_opcode::{Instr, Mnemonic, Mode};
+use a2_promise::Texts;
 use a2_services::live::call;
 use a2_services::{Served, Service, reach, service_at};
 use a2_uses::{Part, mode_needs, needs, reads, sets};
@@ -128,6 +131,11 @@ pub(crate) struct Ground {
     pub looked: Vec<Input>,
     /// Where the first run that did so went on into another routine.
     pub passage: Option<Passage>,
+    /// What the run printed, if that is noted.
+    pub printed: Vec<u8>,
+    is_heard: bool,
+    /// Keys are typed at the entry, and the run may take them from the keyboard itself.
+    has_keys: bool,
     marks: Vec<Mark>,
     known: Parts,
     /// Those that the run set are known too.
@@ -227,10 +235,31 @@ impl Ground {
             stored: Vec::new(alloc),
             looked: Vec::new(alloc),
             passage: None,
+            printed: Vec::new(alloc),
+            is_heard: false,
+            has_keys: false,
             marks,
             known: Parts::none(),
             known_now: Parts::none(),
         })
+    }
+
+    /// Lets these texts be promised: what is printed is noted, and the keys wait where the routine is entered, 4,096 at most.
+    pub fn hear(&mut self, texts: &Texts) {
+        self.is_heard = !texts.prints.is_empty();
+        self.has_keys = !texts.takes.is_empty();
+        let mut keys = Keys::new();
+        for text in &texts.takes {
+            for character in &text.characters {
+                let _ = keys.push(*character);
+            }
+        }
+        let _ = self.before.type_keys(&keys);
+    }
+
+    // Whether an address is the keyboard's, and keys were typed.
+    fn is_keyboard(&self, address: u16) -> bool {
+        self.has_keys && (address == KBD || address == KBDSTRB)
     }
 
     /// Puts a byte where routines are entered.
@@ -257,8 +286,12 @@ impl Ground {
         }
     }
 
-    /// Makes RAM what it was at the entry.
+    /// Makes RAM and keys what they were at the entry, and forgets what was printed.
     pub fn restore(&mut self) {
+        if self.has_keys {
+            self.now.copy_from(&self.before);
+        }
+        self.printed.clear();
         for address in &self.stored {
             if let Some(byte) = self.before.peek(*address) {
                 self.now.write(*address, byte);
@@ -279,6 +312,9 @@ impl Ground {
 
     // Notes a store, whose byte is known if an instruction makes it, or says why it can't be.
     fn note(&mut self, address: u16, is_set: bool) -> Result<Option<Door>, AllocError> {
+        if self.is_keyboard(address) {
+            return Ok(None);
+        }
         let Some(mark) = self.marks.get_mut(usize::from(address)) else {
             return Ok(Some(Door::Device(address)));
         };
@@ -318,6 +354,7 @@ impl Ground {
     fn note_reads(&mut self, addresses: &[u16]) -> Result<Option<Door>, AllocError> {
         for address in addresses {
             match self.mark(*address) {
+                None if self.is_keyboard(*address) => {}
                 None => return Ok(Some(Door::Read(*address))),
                 Some(mark) if mark.is_known || mark.is_set => {}
                 Some(_) => self.note_look(Input::Byte(*address))?,
@@ -383,8 +420,16 @@ impl Ground {
         if refused.is_some() {
             return Ok(refused);
         }
+        let printed = self.printed.len();
+        if self.is_heard {
+            push_printed(&mut self.printed, service, &exit.regs, &self.now)?;
+        }
         let mut live = Live::of(&exit.regs);
-        match call(service, &mut live, &mut self.now) {
+        let served = call(service, &mut live, &mut self.now);
+        if !matches!(served, Served::Next(_)) {
+            self.printed.truncate(printed);
+        }
+        match served {
             Served::Next(cycles) => {
                 exit.advance(live.regs(), cycles);
                 for part in given_by(service) {

@@ -205,7 +205,8 @@ fn search_of(
 fn search_in(named: &mut Named, expr: &Expr, search: Search) -> Result<(), AllocError> {
     match expr {
         Expr::Number(number) => add_corners(named, *number),
-        Expr::Bound(_) => Ok(()),
+        // What was at a label is no part of a promise's own clauses.
+        Expr::Bound(_) | Expr::At(_, _) => Ok(()),
         Expr::Held(atom) => match input_of(*atom) {
             Some(input) => add_named(named, input, search),
             None => Ok(()),

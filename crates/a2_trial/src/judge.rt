@@ -1,15 +1,18 @@
 //! Whether a run kept a promise.
 
-ghost use Rattle.std.specs.Prelude.{◌≡◌};
+ghost use Rattle.std.specs.Prelude.{◌≡◌, ◌↔◌, true, IfOk};
 ghost use Rattle.a2_promise.specs.Values.{moment_of};
 ghost use Rattle.a2_trial.specs.Judging as judging;
 
 use crate::ground::{Door, Exit, Ground};
 use crate::inputs::{Input, may_change};
+use crate::printing::bytes_of;
 use a2_bus::Bus;
 use a2_cpu::Regs;
-use a2_promise::{Bounds, Changes, Clause, Expr, Operation, Promise, Sight, value};
-use std::alloc::Global;
+use a2_promise::{
+    Bounds, Changes, Clause, Expr, Operation, Promise, Sight, Text, Texts, Visit, value, value_in,
+};
+use std::alloc::{AllocError, Global};
 
 /// Why what a line says is not so where a run comes to its label.
 #[derive(Clone, Copy)]
@@ -33,6 +36,10 @@ pub enum Broken {
     Clause(usize, Option<(i64, i64)>),
     /// The clause of this index has no value.
     NoValue(usize),
+    /// It prints otherwise than the text of this index says.
+    Prints(usize),
+    /// Keys are left that were typed.
+    Keys,
     /// What this line says is not so where a run comes to its label.
     Within(usize, Unmet),
     /// A register that does not stand behind `changes`, its byte before, and behind.
@@ -76,19 +83,20 @@ pub(crate) fn sides(
     expr: &Expr,
     entry: &Sight<Global>,
     exit: &Sight<Global>,
+    visits: &[Visit<Global>],
 ) -> Option<(i64, i64)> {
     match expr {
         Expr::Pair(Operation::Equal | Operation::Less | Operation::AtMost, left, right) => {
-            let left = value(left, entry, exit, NO_NAMES)?;
-            Some((left, value(right, entry, exit, NO_NAMES)?))
+            let left = value_in(left, entry, exit, visits, NO_NAMES)?;
+            Some((left, value_in(right, entry, exit, visits, NO_NAMES)?))
         }
         Expr::Choice(by, one, other) => {
-            if value(by, entry, exit, NO_NAMES)? != 0 {
-                sides(one, entry, exit)
+            if value_in(by, entry, exit, visits, NO_NAMES)? != 0 {
+                sides(one, entry, exit, visits)
             } else if is_number(other) {
-                sides(by, entry, exit)
+                sides(by, entry, exit, visits)
             } else {
-                sides(other, entry, exit)
+                sides(other, entry, exit, visits)
             }
         }
         _ => None,
@@ -100,7 +108,7 @@ fn broken_clause(clauses: &[Clause], entry: &Sight<Global>, exit: &Sight<Global>
     for (index, clause) in clauses.iter().enumerate() {
         match value(&clause.expr, entry, exit, NO_NAMES) {
             None => return Broken::NoValue(index),
-            Some(0) => return Broken::Clause(index, sides(&clause.expr, entry, exit)),
+            Some(0) => return Broken::Clause(index, sides(&clause.expr, entry, exit, &[])),
             Some(_) => {}
         }
     }
@@ -139,15 +147,54 @@ fn broken_byte(changes: &Changes, ground: &Ground) -> Option<Broken> {
     None
 }
 
+/// Whether a run printed what a promise says: just these bytes, where it says anything of that. Refused only for want of memory.
+pub(crate) fn prints_so(alloc: Global, texts: &Texts, printed: &[u8]) -> Result<bool, AllocError>
+    ensures { IfOk result (λ so. (so ≡ true) ↔ judging.PrintsSo texts.now printed.now) }
+{
+    if texts.prints.is_empty() {
+        return Ok(true);
+    }
+    let wanted = bytes_of(alloc, texts.prints.as_slice())?;
+    Ok(wanted.as_slice() == printed)
+}
+
+// The index of the first text that is not printed behind those before it; of the last, where more is printed.
+fn unprinted(texts: &[Text], printed: &[u8]) -> usize {
+    let mut rest = printed;
+    for (index, text) in texts.iter().enumerate() {
+        for character in &text.characters {
+            match rest {
+                [byte, behind @ ..] if *byte == 128 + *character % 128 => rest = behind,
+                _ => return index,
+            }
+        }
+    }
+    texts.len().saturating_sub(1)
+}
+
+// What a promise says of texts and is not so.
+fn broken_text(promise: &Promise, ground: &Ground) -> Result<Option<Broken>, AllocError> {
+    let printed = ground.printed.as_slice();
+    if !prints_so(ground.alloc, &promise.texts, printed)? {
+        let index = unprinted(promise.texts.prints.as_slice(), printed);
+        return Ok(Some(Broken::Prints(index)));
+    }
+    if ground.now.waiting().is_empty() {
+        Ok(None)
+    } else {
+        Ok(Some(Broken::Keys))
+    }
+}
+
 /// What of a promise does not hold of a run from these registers that ended so.
 pub(crate) fn broken_by(
     promise: &Promise,
     ground: &Ground,
     regs: Regs,
     exit: &Exit,
-) -> Option<Broken> {
+) -> Result<Option<Broken>, AllocError> {
     if exit.door != Door::Returned {
-        return Some(Broken::Left(exit.door));
+        return Ok(Some(Broken::Left(exit.door)));
     }
     let entry = Sight {
         regs,
@@ -163,10 +210,13 @@ pub(crate) fn broken_by(
     };
     let promised = promise.promised.as_slice();
     if !all_hold(promised, &entry, &behind) {
-        return Some(broken_clause(promised, &entry, &behind));
+        return Ok(Some(broken_clause(promised, &entry, &behind)));
+    }
+    if let Some(broken) = broken_text(promise, ground)? {
+        return Ok(Some(broken));
     }
     if let Some(broken) = broken_register(&promise.changes, &regs, &exit.regs) {
-        return Some(broken);
+        return Ok(Some(broken));
     }
-    broken_byte(&promise.changes, ground)
+    Ok(broken_byte(&promise.changes, ground))
 }

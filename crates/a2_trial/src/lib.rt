@@ -12,6 +12,7 @@ mod inputs;
 mod judge;
 mod looks;
 mod parts;
+mod printing;
 mod report;
 mod services;
 mod stored;

@@ -112,7 +112,7 @@ fn is_looked_at<'k, 's>(
         (moment_of entry.now) (moment_of exit.now) names }
 {
     match expr {
-        Expr::Number(_) | Expr::Bound(_) => true,
+        Expr::Number(_) | Expr::Bound(_) | Expr::At(_, _) => true,
         Expr::Held(atom) => is_atom(behind, *atom),
         Expr::Old(of) => is_looked_at(of, before, before, entry, entry, names),
         Expr::Of(function, of) => {

@@ -7,7 +7,7 @@ use crate::trial::{Failure, LEAST_TRIED, Verdict};
 use a2_asm::Program;
 use a2_cpu::Regs;
 use a2_hex::RAM_END;
-use a2_promise::{Clause, Promise, Refusal};
+use a2_promise::{Clause, Promise, Refusal, Text};
 use a2_stream::{Output, WriteFault, put_all};
 use a2_text::{behind_blanks, decimal, hex_pair, hex_word};
 use std::alloc::Global;
@@ -303,14 +303,55 @@ fn put_within<W: Output>(
     }
 }
 
+// Writes a byte of a text as it is spelt, or its number in brackets.
+fn put_spelt<W: Output>(byte: u8, output: &mut W) -> Result<(), WriteFault> {
+    match byte {
+        0x8D => put_all(&[b"\\r"], output),
+        0x88 => put_all(&[b"\\b"], output),
+        0x95 => put_all(&[b"\\f"], output),
+        0x98 => put_all(&[b"\\x"], output),
+        0xDC => put_all(&[b"\\\\"], output),
+        0xA0..=0xFE => put_all(&[&[byte % 128]], output),
+        _ => put_all(&[b"[$", &hex_pair(byte), b"]"], output),
+    }
+}
+
+// Writes a text between quotes.
+fn put_text<W: Output>(text: &[u8], output: &mut W) -> Result<(), WriteFault> {
+    put_all(&[b"\""], output)?;
+    for byte in text {
+        put_spelt(*byte, output)?;
+    }
+    put_all(&[b"\"\n"], output)
+}
+
+// Writes which text is not printed, and what is.
+fn put_unprinted<W: Output>(
+    texts: &[Text],
+    index: usize,
+    told: &[u8],
+    output: &mut W,
+) -> Result<(), WriteFault> {
+    if let Some(text) = texts.get(index) {
+        let line = decimal(text.line as u64);
+        put_all(
+            &[b"line ", line.as_slice(), b": prints ", text.written, b"\n"],
+            output,
+        )?;
+    }
+    put_all(&[b"  it printed "], output)?;
+    put_text(told, output)
+}
+
 // Writes what of a promise does not hold.
 fn put_broken<W: Output>(
     promise: &Promise,
-    broken: Broken,
+    failure: &Failure,
     output: &mut W,
 ) -> Result<(), WriteFault> {
     let clauses = promise.promised.as_slice();
-    match broken {
+    let told = failure.told.as_slice();
+    match failure.broken {
         Broken::Left(door) => {
             put_door(door, output)?;
             put_all(&[b"\n"], output)
@@ -322,6 +363,13 @@ fn put_broken<W: Output>(
         Broken::NoValue(index) => {
             put_all(&[b"no value is there of "], output)?;
             put_clause(clauses, index, output)
+        }
+        Broken::Prints(index) => {
+            put_unprinted(promise.texts.prints.as_slice(), index, told, output)
+        }
+        Broken::Keys => {
+            put_all(&[b"it leaves keys that were typed: "], output)?;
+            put_text(told, output)
         }
         Broken::Within(line, unmet) => put_within(unmet, line, said_at(promise, line), output),
         Broken::Register(register, before, behind) => {
@@ -409,7 +457,7 @@ fn put_failure<W: Output>(
     output: &mut W,
 ) -> Result<(), WriteFault> {
     put_all(&[b"FAILS: "], output)?;
-    put_broken(promise, failure.broken, output)?;
+    put_broken(promise, failure, output)?;
     put_state(failure, output)?;
     put_all(&[b"  the last steps:\n"], output)?;
     for step in &failure.last {

@@ -1,8 +1,9 @@
 //! A routine entered in many states.
 
-ghost use Rattle.std.specs.Prelude.{IfOk};
+ghost use Rattle.std.specs.Prelude.{IfOk, IsTrue};
 ghost use Rattle.a2_hex.specs.Images.{held};
 ghost use Rattle.a2_trial.specs.Certain.{IsCertain, most_steps};
+ghost use Rattle.a2_trial.specs.Judging.{HasNoText};
 
 use crate::certain::{count_states, holds_in_every_state};
 use crate::ground::{
@@ -14,7 +15,7 @@ use crate::within::{Tally, broken_within};
 use a2_asm::Program;
 use a2_cpu::{Regs, Status};
 use a2_opcode::Mode;
-use a2_promise::{Found, Promise, Sight};
+use a2_promise::{Found, Promise, Sight, Texts};
 use std::alloc::{AllocError, Global};
 
 /// How many states are tried.
@@ -36,6 +37,8 @@ pub struct Failure {
     pub values: Vec<u8>,
     pub broken: Broken,
     pub passage: Option<Passage>,
+    /// What it printed, where that is not as promised, or the keys that it left, with bit 7 set.
+    pub told: Vec<u8>,
     /// The registers behind the last step.
     pub regs: Regs,
     pub last: Vec<Traced>,
@@ -128,7 +131,7 @@ fn run(
             break;
         }
     }
-    Ok((exit, broken_by(promise, ground, regs, &exit)))
+    Ok((exit, broken_by(promise, ground, regs, &exit)?))
 }
 
 // Tries a state.
@@ -266,6 +269,21 @@ const MOST_LESSENED: u32 = 20_000;
 // With more steps of a run for each input no value but 0 is looked for in place of another.
 const MOST_LESSENED_BY_ONE: u64 = 200_000;
 
+// The text that is told of what does not hold: what was printed, or the keys that are left.
+fn told_of(alloc: Global, ground: &Ground, broken: Broken) -> Result<Vec<u8>, AllocError> {
+    let mut told = Vec::new(alloc);
+    match broken {
+        Broken::Prints(_) => told.extend_from_slice(ground.printed.as_slice())?,
+        Broken::Keys => {
+            for key in ground.now.waiting() {
+                told.push(128 + *key % 128)?;
+            }
+        }
+        _ => {}
+    }
+    Ok(told)
+}
+
 // What is told of a state that breaks the promise behind so many steps, once its values are lessened.
 fn failure_of(
     alloc: Global,
@@ -287,6 +305,7 @@ fn failure_of(
     let Tried::Broken(broken, exit, regs) = tried else {
         return Ok(Verdict::NoState(0));
     };
+    let told = told_of(alloc, ground, broken)?;
     enter(ground, inputs.all.as_slice(), values.as_slice());
     let last = last_steps(alloc, ground, regs, exit.steps)?;
     Ok(Verdict::Fails(Failure {
@@ -295,6 +314,7 @@ fn failure_of(
         values,
         broken,
         passage: ground.passage,
+        told,
         regs: exit.regs,
         last,
     }))
@@ -367,6 +387,7 @@ fn try_states(
     trials: Trials,
 ) -> Result<Verdict, AllocError> {
     let mut ground = Ground::new(alloc, program)?;
+    ground.hear(&promise.texts);
     for other in found {
         if let Found::Promise(other) = other
             && other.address != promise.address
@@ -396,6 +417,13 @@ fn try_states(
     Ok(Verdict::NoState(0))
 }
 
+// Whether a promise says nothing of what is printed and of keys.
+fn has_no_text(texts: &Texts) -> bool
+    ensures { IsTrue result → HasNoText texts.now }
+{
+    texts.prints.is_empty() && texts.takes.is_empty()
+}
+
 // What is found of a promise, and whether it holds everywhere, if it held in all states.
 fn certified(
     alloc: Global,
@@ -416,6 +444,7 @@ fn certified(
         } => {
             let image = program.image();
             let is_everywhere = tried == total
+                && has_no_text(&promise.texts)
                 && holds_in_every_state(alloc, image, promise, inputs.as_slice(), MOST_STEPS)?;
             Ok(Verdict::Held {
                 inputs,
@@ -433,8 +462,8 @@ fn certified(
 /// Tries a promise of a program, one of those that are found in its source: its routine is entered in states of what the promise names
 /// and of what the routine looks at before it sets it, which is noted as it runs; bytes that the program lays are as it lays them,
 /// unless the promise names them. Where it held in all states, and neither the routine nor the promise looks at anything else, it
-/// holds in every world in which the routine is entered as the promise requires, within 1,000,000 steps. Refused only for want of
-/// memory.
+/// holds in every world in which the routine is entered as the promise requires, within 1,000,000 steps; of a promise that says what
+/// is printed or which keys are taken, that is not said. Refused only for want of memory.
 pub fn try_promise(
     alloc: Global,
     program: &Program<Global>,

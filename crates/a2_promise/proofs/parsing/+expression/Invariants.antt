@@ -38,3 +38,9 @@ decreases-conditional l = l.depth
 
 abbrev pub decreases-counted : goal.decreases-counted
 decreases-counted l = l.depth
+
+abbrev pub decreases-byte_behind : goal.decreases-byte_behind
+decreases-byte_behind l = l.depth
+
+abbrev pub decreases-text_at : goal.decreases-text_at
+decreases-text_at l = l.depth

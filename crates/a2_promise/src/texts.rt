@@ -1,0 +1,80 @@
+//! Texts that a routine prints, and keys that it takes.
+
+use crate::fault::ReadFault;
+use crate::reader::Reader;
+use a2_bus::Keys;
+use a2_text::behind_blanks;
+use std::alloc::AllocError;
+
+/// A text of a promise: the number of its line, how it is written, with its quotes, and its characters, each from 0 to 127.
+#[derive(Drop)]
+pub struct Text<'a> {
+    pub line: usize,
+    pub written: &'a [u8],
+    pub characters: Vec<u8>,
+}
+
+/// What a routine prints and which keys it takes, each text behind the one before. Of neither is anything said where it has no text.
+#[derive(Drop)]
+pub struct Texts<'a> {
+    pub prints: Vec<Text<'a>>,
+    pub takes: Vec<Text<'a>>,
+}
+
+// The most characters of all texts of one kind, which are as many as keys can wait.
+const MOST_CHARACTERS: usize = 4096;
+
+// How a text is written that is printed or typed.
+const SPELLED: &str =
+    "a text in quotes is wanted here and nothing behind it, as in prints \"YES\\r\": \\r is a return, and \\\\ a \\";
+
+// The characters that a text between quotes spells, as keys are spelt.
+fn spelled(written: &[u8]) -> Option<Keys> {
+    let [b'"', inner @ .., b'"'] = written else {
+        return None;
+    };
+    match std::str::from_utf8(inner) {
+        Ok(inner) => Keys::parse(inner),
+        Err(_) => None,
+    }
+}
+
+// How many characters texts have.
+fn count_of(texts: &[Text]) -> usize {
+    let mut count: usize = 0;
+    for text in texts {
+        count = count.saturating_add(text.characters.len());
+    }
+    count
+}
+
+/// Reads the rest of a line as a text more.
+pub(crate) fn push_text<'a>(
+    reader: &mut Reader<'a, '_>,
+    texts: &mut Vec<Text<'a>>,
+    line: usize,
+) -> Result<(), ReadFault<'a>> {
+    let written = behind_blanks(reader.rest);
+    let Some(keys) = spelled(written) else {
+        return reader.refuse(SPELLED);
+    };
+    if count_of(texts.as_slice()).saturating_add(keys.bytes().len()) > MOST_CHARACTERS {
+        return reader.refuse("these are more than 4,096 characters");
+    }
+    let mut characters = Vec::new(reader.alloc);
+    characters.extend_from_slice(keys.bytes())?;
+    add_text(
+        texts,
+        Text {
+            line,
+            written,
+            characters,
+        },
+    )?;
+    Ok(())
+}
+
+// One text more.
+fn add_text<'a>(texts: &mut Vec<Text<'a>>, text: Text<'a>) -> Result<(), AllocError> {
+    Ok(texts.push(text)?)
+}
