@@ -1,9 +1,10 @@
 //! What the Monitor's services print.
 
-ghost use Rattle.std.specs.Prelude.{◌≡◌, ◌++◌, map, OnOk, IfOk};
+ghost use Rattle.std.specs.Prelude.{◌≡◌, ◌<◌, ◌+◌, ◌%◌, ◌++◌, map, OnOk, IfOk};
 ghost use Rattle.std.specs.List.{flat_map};
 ghost use Rattle.a2_bus.specs.View.{memory_of};
 ghost use Rattle.a2_cpu.specs.View.{registers_of};
+ghost use Rattle.a2_services.specs.Put.{prompt_character};
 ghost use Rattle.a2_services.specs.Services as services;
 ghost use Rattle.a2_trial.specs.Printing as said;
 
@@ -109,6 +110,29 @@ fn push_line(printed: &mut Vec<u8>, prompt: u8, keys: &[u8], length: u8) -> Resu
     push_line(printed, prompt, rest, length_behind(byte, length))
 }
 
+// The prompt of GETLN.
+fn prompt_of(space: &AddressSpace<Global>) -> u8
+    ensures { result ≡ prompt_character (memory_of space.now) }
+{
+    space.peek(PROMPT).unwrap_or(0)
+}
+
+// The keys that wait.
+#[tactic(auto, unfolding(a2_bus::specs::View::memory_of))]
+fn keys_of(space: &AddressSpace<Global>) -> &[u8]
+    ensures { result.now ≡ (memory_of space.now).devices.keys }
+{
+    space.waiting()
+}
+
+// Adds what GETLN prints of these keys: the prompt, and the line that they make.
+fn push_getln(printed: &mut Vec<u8>, prompt: u8, keys: &[u8]) -> Result<(), AllocError>
+    ensures { OnOk result (printed.new.items ≡ printed.old.items ++ (said.shown prompt ++ said.line_printed prompt keys.now 0)) }
+{
+    push_shown(printed, prompt)?;
+    push_line(printed, prompt, keys, 0)
+}
+
 /// Adds the bytes that a service prints which is called so.
 pub(crate) fn push_printed(
     printed: &mut Vec<u8>,
@@ -126,11 +150,7 @@ pub(crate) fn push_printed(
             push_shown(printed, digit_byte(regs.a % 16))
         }
         Service::Prhex => push_shown(printed, digit_byte(regs.a % 16)),
-        Service::Getln => {
-            let prompt = space.peek(PROMPT).unwrap_or(0);
-            push_shown(printed, prompt)?;
-            push_line(printed, prompt, space.waiting(), 0)
-        }
+        Service::Getln => push_getln(printed, prompt_of(space), keys_of(space)),
         _ => Ok(()),
     }
 }
