@@ -148,7 +148,7 @@ fn broken_byte(changes: &Changes, ground: &Ground) -> Option<Broken> {
 }
 
 /// Whether a run printed what a promise says: just these bytes, where it says anything of that. Refused only for want of memory.
-pub(crate) fn prints_so(alloc: Global, texts: &Texts, printed: &[u8]) -> Result<bool, AllocError>
+pub fn prints_so(alloc: Global, texts: &Texts, printed: &[u8]) -> Result<bool, AllocError>
     ensures { IfOk result (λ so. (so ≡ true) ↔ judging.PrintsSo texts.now printed.now) }
 {
     if texts.prints.is_empty() {
