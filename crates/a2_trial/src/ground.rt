@@ -249,6 +249,7 @@ impl Ground {
         self.is_heard = !texts.prints.is_empty();
         self.has_keys = !texts.takes.is_empty();
         let mut keys = Keys::new();
+        // Neither is refused: no more keys are promised than fit, and none waits yet.
         for text in &texts.takes {
             for character in &text.characters {
                 let _ = keys.push(*character);
