@@ -140,7 +140,7 @@ A promise stands in lines that begin with ;: before a label of F:
   ;: ensures  A = old $10 + old $11
   ;: changes  A
 
-takes "YES\\r" there types keys for it, prints "OK\\r" is what it prints.
+takes \"YES\\r\" there types keys for it, prints \"OK\\r\" is what it prints.
 
 Before F:
 
