@@ -12,3 +12,5 @@ pub mod Certifying
 pub mod Knowing
 pub mod Putting
 pub mod Trying
+pub mod Filling
+pub mod Laying

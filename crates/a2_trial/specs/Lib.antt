@@ -10,3 +10,4 @@ pub mod Looking
 pub mod Certifying
 pub mod Entering
 pub mod Certain
+pub mod Failing

@@ -49,8 +49,8 @@ pub(crate) fn count_states(inputs: &[Input]) -> Option<u64>
     Some(states)
 }
 
-// Gives a register or a flag a value; a byte stays.
-fn put_register(input: Input, value: u8, live: &mut Live)
+/// Gives a register or a flag a value; a byte stays.
+pub(crate) fn put_register(input: Input, value: u8, live: &mut Live)
     ensures { (memory : Memory) → live_registers live.new
         ≡ (with_value input value (record { registers = live_registers live.old; memory = memory; cycles = 0 })).registers }
 {

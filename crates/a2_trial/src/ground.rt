@@ -1,5 +1,8 @@
 //! Where a routine is run: RAM as it was entered, RAM as it is, which bytes were stored at, and what was looked at before it was known.
 
+ghost use Rattle.std.specs.Prelude.{◌≡◌, IfSome, Some};
+ghost use Rattle.a2_hex.specs.Images.{held};
+
 use crate::inputs::{Input, add};
 use crate::parts::Parts;
 use crate::printing::push_printed;
@@ -13,7 +16,7 @@ use a2_bus::{AddressSpace, Bus, Keys};
 use a2_cpu::live::Live;
 use a2_cpu::run::step;
 use a2_cpu::{Regs, Step, writes};
-use a2_hex::RAM_END;
+use a2_hex::{Image, RAM_END};
 use a2_opcode::{Instr, Mnemonic, Mode};
 use a2_promise::Texts;
 use a2_services::live::call;
@@ -195,15 +198,24 @@ fn is_monitors(address: u16) -> bool {
         || (CSW <= address && address <= KSW + 1)
 }
 
-// RAM with the program laid over bytes that are like any others: what is not named may hold anything. The Monitor's own are as the
-// machine is switched on.
+/// The byte at an address where routines of a program are entered, unless it is named: the program's own, or one that is like any
+/// other, since what is not named may hold anything. The Monitor's own are none: they are as the machine is switched on.
+pub(crate) fn byte_at_entry(program: &Image<Global>, address: u16) -> Option<u8>
+    ensures { IfSome (held program.now address) (λ byte. result ≡ Some byte) }
+{
+    match program.get(address) {
+        Some(byte) => Some(byte),
+        None if is_monitors(address) => None,
+        None => Some(any_byte(u64::from(address))),
+    }
+}
+
+// RAM where routines of a program are entered, but for what is named.
 fn filled(alloc: Global, program: &Program<Global>) -> Result<AddressSpace<Global>, AllocError> {
     let mut space = AddressSpace::new(alloc)?;
     for address in 0..RAM_END {
-        match program.image().get(address) {
-            Some(byte) => space.write(address, byte),
-            None if is_monitors(address) => {}
-            None => space.write(address, any_byte(u64::from(address))),
+        if let Some(byte) = byte_at_entry(program.image(), address) {
+            space.write(address, byte);
         }
     }
     let [low, high] = (RETURN_ADDRESS - 1).to_le_bytes();

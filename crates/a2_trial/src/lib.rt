@@ -7,6 +7,7 @@ ghost use Rattle.a2_trial.specs.Everywhere.{PromisesHoldEverywhere};
 ghost use Rattle.a2_trial.specs.Returning.{AnRtsKeepsAll};
 
 mod certain;
+mod entering;
 mod ground;
 mod inputs;
 mod judge;
@@ -22,6 +23,7 @@ mod within;
 
 use a2_promise::values_depend_on_looks;
 pub use certain::{Case, holds_in_every_state, is_tried};
+pub use entering::machine_at_entry;
 pub use ground::{Door, Passage, Traced};
 pub use inputs::Input;
 pub use judge::{Broken, Unmet, prints_so};

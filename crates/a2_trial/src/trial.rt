@@ -37,9 +37,8 @@ pub struct Failure {
     pub values: Vec<u8>,
     pub broken: Broken,
     pub passage: Option<Passage>,
-    /// What it printed, where that is not as promised, or the keys that it left, with bit 7 set.
-    pub told: Vec<u8>,
-    /// The registers behind the last step.
+    /// How many steps were made, and the registers behind the last one.
+    pub steps: u32,
     pub regs: Regs,
     pub last: Vec<Traced>,
 }
@@ -314,7 +313,7 @@ fn failure_of(
         values,
         broken,
         passage: ground.passage,
-        told,
+        steps: exit.steps,
         regs: exit.regs,
         last,
     }))
