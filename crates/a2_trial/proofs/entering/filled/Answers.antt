@@ -1,4 +1,3 @@
-use Rattle.std.specs.Prelude.{◌+◌}
 use Rattle.std.proofs.Common.{arith}
 use Rattle.a2_hex.specs.Images.{held}
 use Rattle.a2_trial.proofs.Filling.{filled_none, filled_next, filled_all}
