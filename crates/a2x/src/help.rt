@@ -132,7 +132,7 @@ goes on, s makes a step, b goes back a second, d goes into the debugger, + and
 - change the pace, r begins again, k tells the keys at the end, l draws again
 ";
 
-// The option that promises alone have.
+// The options that promises alone have.
 const PROMISE_OPTIONS: &[u8] = b"
 A promise stands in lines that begin with ;: before a label of F:
 
@@ -146,6 +146,8 @@ Before F:
 
   --states N  all states of what a promise names are tried where these are at
               most N, else N of them; without it 16777216, and else 1000000
+  --film PAGE the run of the first routine that fails goes into this file, a
+              page that goes backwards, whole or not at all
 ";
 
 // The option that the Monitor alone has.

@@ -629,7 +629,7 @@ fn act<S: Shelf, D: Desk, C: Clock, R: Input, W: Output, E: Output>(
             Ok(exam) => Ok(test(alloc, &exam, shelf, input, output, complaints)),
             Err(_) => Err(tell_words(complaints)),
         },
-        Tool::Promise => promise_of(alloc, word, words, shelf, input, output, complaints),
+        Tool::Promise => promise_of(alloc, word, words, shelf, desk, input, output, complaints),
         Tool::Mon => talk_of(
             alloc, word, words, seat.types, shelf, input, output, complaints,
         ),

@@ -3,14 +3,16 @@
 ghost use Rattle.std.specs.Prelude.{◌≤◌, IfOk, IfErr};
 
 use crate::asked::{held_in, named_file, program_in};
-use crate::program::{tell, text_of};
+use crate::failing::{Fallen, fallen_of, film_first};
+use crate::program::{spares_input, tell, text_of};
 use crate::table::Word;
 use crate::tools::told;
 use a2_asm::Program;
 use a2_class::{Asked, Line, Verdict as RunVerdict, asked_of, cases_of, is_asking, judge_source};
+use a2_desk::Desk;
 use a2_host::Shelf;
 use a2_options::{Found, Kind, Row};
-use a2_promise::{Found as Stated, promise_in, promises_of};
+use a2_promise::{Found as Stated, Promise, promise_in, promises_of};
 use a2_run::{RunFault, step_limit};
 use a2_stream::{Input, Output, WriteFault, put_all};
 use a2_text::{cut, decimal};
@@ -24,7 +26,11 @@ const TRIALS: Trials = Trials {
 };
 
 // The options of `promise`, and what stands before a file whose name begins with `-`.
-static PROMISE_OPTIONS: [Row; 2] = [
+static PROMISE_OPTIONS: [Row; 3] = [
+    Row {
+        name: "--film",
+        kind: Kind::Value,
+    },
     Row {
         name: "--states",
         kind: Kind::Value,
@@ -36,38 +42,79 @@ static PROMISE_OPTIONS: [Row; 2] = [
 ];
 
 // What is found of the promises of a source.
-#[derive(Clone, Copy)]
+#[derive(Drop)]
 struct Sum {
     count: usize,
     refused: bool,
     failed: bool,
+    // The first that fails in a state.
+    first: Option<Fallen>,
 }
 
-// How many states are tried, by the options; or the status, where a fault is told.
-fn trials_of<E: Output>(found: &[Found<'_>], complaints: &mut E) -> Result<Trials, u8>
+// What the options ask for: how many states are tried, and the file that takes a film.
+#[derive(Clone, Copy)]
+struct Wish<'a> {
+    trials: Trials,
+    page: Option<&'a str>,
+}
+
+// How many states an option says; or the status, where its fault is told.
+fn trials_in<E: Output>(option: &Found<'_>, complaints: &mut E) -> Result<Trials, u8>
     ensures { IfErr result (λ status. status ≤ 5) }
 {
-    let mut trials = TRIALS;
-    for option in found {
-        trials = match step_limit(option.value) {
-            Some(states) if states > 0 => Trials {
-                all: u64::from(states),
-                some: u64::from(states),
-            },
-            _ => {
-                tell(
-                    &[
-                        b"promise: --states ",
-                        option.value.as_bytes(),
-                        b" is no number from 1 to 100000000",
-                    ],
-                    complaints,
-                );
-                return Err(2);
-            }
-        };
+    match step_limit(option.value) {
+        Some(states) if states > 0 => Ok(Trials {
+            all: u64::from(states),
+            some: u64::from(states),
+        }),
+        _ => {
+            tell(
+                &[
+                    b"promise: --states ",
+                    option.value.as_bytes(),
+                    b" is no number from 1 to 100000000",
+                ],
+                complaints,
+            );
+            Err(2)
+        }
     }
-    Ok(trials)
+}
+
+// What the options ask for; or the status, where a fault is told.
+fn wish_of<'a, E: Output>(found: &[Found<'a>], complaints: &mut E) -> Result<Wish<'a>, u8>
+    ensures { IfErr result (λ status. status ≤ 5) }
+{
+    let mut wish = Wish {
+        trials: TRIALS,
+        page: None,
+    };
+    for option in found {
+        match option.name {
+            "--film" => wish.page = Some(option.value),
+            _ => wish.trials = trials_in(option, complaints)?,
+        }
+    }
+    Ok(wish)
+}
+
+// Notes a promise that does not hold; of the first that fails in a state, also that.
+fn note_verdict(
+    alloc: Global,
+    program: &Program<Global>,
+    lines: &[&[u8]],
+    promise: &Promise,
+    verdict: Verdict,
+    sum: &mut Sum,
+) -> Result<(), RunFault> {
+    if matches!(verdict, Verdict::Held { .. }) {
+        return Ok(());
+    }
+    sum.failed = true;
+    if sum.first.is_none() {
+        sum.first = fallen_of(alloc, program, lines, promise, verdict)?;
+    }
+    Ok(())
 }
 
 // Tries a promise of those that are found, or tells why it is none.
@@ -89,10 +136,8 @@ fn judge_one<W: Output>(
         }
         Stated::Promise(promise) => {
             let verdict = try_promise(alloc, program, found, promise, trials)?;
-            if !matches!(verdict, Verdict::Held { .. }) {
-                sum.failed = true;
-            }
             put_verdict(program, lines, promise, &verdict, output)?;
+            note_verdict(alloc, program, lines, promise, verdict, sum)?;
         }
     }
     Ok(())
@@ -243,6 +288,7 @@ fn judge_all<W: Output>(
         count: 0,
         refused: false,
         failed: false,
+        first: None,
     };
     judge_routines(
         alloc,
@@ -257,7 +303,7 @@ fn judge_all<W: Output>(
 }
 
 // The status of what was found.
-fn status_of<E: Output>(file: &str, sum: Sum, complaints: &mut E) -> u8
+fn status_of<E: Output>(file: &str, sum: &Sum, complaints: &mut E) -> u8
     ensures { result ≤ 6 }
 {
     if sum.count == 0 {
@@ -279,14 +325,15 @@ fn status_of<E: Output>(file: &str, sum: Sum, complaints: &mut E) -> u8
     }
 }
 
-/// Tries the promises of the source that the words name. The status is 6 where one does not hold, 1 where the source or a promise is
-/// refused or there is none, 2 where the words are, 4 where the file does not open or a read or a write fails, and 5 for want of
-/// memory, each told on `complaints`.
-pub fn promise_of<S: Shelf, R: Input, W: Output, E: Output>(
+/// Tries the promises of the source that the words name, and writes the film that they ask for of the first run that fails. The
+/// status is 6 where a promise does not hold, 1 where the source or a promise is refused or there is none, 2 where the words are,
+/// 4 where the file does not open or a read or a write fails, and 5 for want of memory, each told on `complaints`.
+pub fn promise_of<S: Shelf, D: Desk, R: Input, W: Output, E: Output>(
     alloc: Global,
     word: &Word,
     words: &[String],
     shelf: &mut S,
+    desk: &mut D,
     input: &mut R,
     output: &mut W,
     complaints: &mut E,
@@ -295,12 +342,21 @@ pub fn promise_of<S: Shelf, R: Input, W: Output, E: Output>(
     ensures refused { IfErr result (λ status. status ≤ 5) }
 {
     let held = held_in(alloc, word, &PROMISE_OPTIONS, words, complaints)?;
-    let trials = trials_of(held.found.as_slice(), complaints)?;
+    let wish = wish_of(held.found.as_slice(), complaints)?;
     let file = named_file(word, held.others.as_slice(), complaints)?;
-    let source = text_of(alloc, file, shelf, input, complaints)?;
-    let program = program_in(alloc, source.as_slice(), complaints)?;
-    match judge_all(alloc, &program, source.as_slice(), trials, output) {
-        Ok(sum) => Ok(status_of(file.unwrap_or("-"), sum, complaints)),
-        Err(fault) => Err(told(fault, complaints)),
-    }
+    let what = b"promise: the film";
+    spares_input(what, b"--film", wish.page, file, desk, complaints)?;
+    let text = text_of(alloc, file, shelf, input, complaints)?;
+    let source = text.as_slice();
+    let program = program_in(alloc, source, complaints)?;
+    let sum = match judge_all(alloc, &program, source, wish.trials, output) {
+        Ok(sum) => sum,
+        Err(fault) => return Err(told(fault, complaints)),
+    };
+    let name = file.unwrap_or("-");
+    let (title, first) = (name.as_bytes(), sum.first.as_ref());
+    film_first(
+        alloc, source, &program, title, first, wish.page, desk, complaints,
+    )?;
+    Ok(status_of(name, &sum, complaints))
 }
