@@ -24,6 +24,37 @@ pub struct Fallen {
     told: Vec<u8>,
 }
 
+// What is told of a verdict.
+fn told_of(
+    alloc: Global,
+    program: &Program<Global>,
+    lines: &[&[u8]],
+    promise: &Promise,
+    verdict: &Verdict,
+) -> Result<Vec<u8>, RunFault> {
+    let mut told = Vec::new(alloc);
+    put_verdict(
+        program,
+        lines,
+        promise,
+        verdict,
+        &mut ToWrite::new(&mut told),
+    )?;
+    Ok(told)
+}
+
+// The promise of a routine at this address that fails, if that is the verdict.
+fn fallen_at(address: u16, verdict: Verdict, told: Vec<u8>) -> Option<Fallen> {
+    match verdict {
+        Verdict::Fails(failure) => Some(Fallen {
+            address,
+            failure,
+            told,
+        }),
+        _other => None,
+    }
+}
+
 /// The promise that a verdict finds to fail in a state; none where it does not.
 pub fn fallen_of(
     alloc: Global,
@@ -32,22 +63,8 @@ pub fn fallen_of(
     promise: &Promise,
     verdict: Verdict,
 ) -> Result<Option<Fallen>, RunFault> {
-    let mut told = Vec::new(alloc);
-    put_verdict(
-        program,
-        lines,
-        promise,
-        &verdict,
-        &mut ToWrite::new(&mut told),
-    )?;
-    match verdict {
-        Verdict::Fails(failure) => Ok(Some(Fallen {
-            address: promise.address,
-            failure,
-            told,
-        })),
-        _ => Ok(None),
-    }
+    let told = told_of(alloc, program, lines, promise, &verdict)?;
+    Ok(fallen_at(promise.address, verdict, told))
 }
 
 // What the film tells: at its start how the routine is entered, and at its end what fails.
