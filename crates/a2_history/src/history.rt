@@ -16,11 +16,16 @@ use crate::{Halt, Lookout, Sight, TypingFault};
 use a2_bus::Keys;
 use a2_machine::{Cause, Machine};
 use a2_routines::Entry;
+use a2_spread::STRIDE;
 use std::alloc::{AllocError, Allocator, Global};
 use std::marker::Model;
 
 /// The greatest position: the most steps of a history.
 const MOST_STEPS: u64 = 100_000_000;
+
+/// How far a scout stays behind, in steps: a copy takes what some 250 steps of a run take, and these are made again once, to where an
+/// alarmed burst began.
+const MOST_BEHIND: u64 = 8 * STRIDE;
 
 /// A run, and a position in it: how many steps lead there from the start, at most 100,000,000. Contracts see the machine at the start, the
 /// keys that were typed with their positions, and the position; the world at each position is a function of these.
@@ -29,7 +34,7 @@ pub struct History<A: Allocator = Global> {
     alloc: A,
     course: Course<A>,
     machine: Machine<A>,
-    // A machine that looks at earlier worlds, and stays where a burst begins.
+    // A machine that looks at earlier worlds, and stays behind where steps are made in bursts.
     scout: Machine<A>,
     checkpoints: Checkpoints<A>,
 }
@@ -168,7 +173,47 @@ fn put_as<A: Allocator>(machine: &mut Machine<A>, other: &Machine<A>)
     machine.restore(other);
 }
 
-// The same in bursts. Where a step of one alarms its steps are made again, one by one, from where the scout stayed.
+// Puts a scout where a machine is, once that is so far ahead.
+fn follow<A: Allocator>(scout: &mut Machine<A>, machine: &Machine<A>)
+    requires { scout.old.state.steps ≤ machine.now.state.steps }
+    ensures on { (course : Seen) → IsOn course scout.old.state → IsOn course machine.now.state → IsOn course scout.new.state }
+    ensures behind { scout.new.state.steps ≤ machine.now.state.steps }
+    ensures guard { scout.new.state.guard ≡ scout.old.state.guard }
+{
+    if machine.steps() - scout.steps() >= MOST_BEHIND {
+        put_as(scout, machine);
+    }
+}
+
+// Makes the steps from a position on to that of a machine again, one by one: in bursts to where they begin, from where a scout stayed.
+fn go_again<A: Allocator + Copy, S: Sight>(
+    alloc: A,
+    course: &Course<A>,
+    machine: &mut Machine<A>,
+    scout: &Machine<A>,
+    checkpoints: &mut Checkpoints<A>,
+    from: u64,
+    sight: &S,
+) -> Option<Halt>
+    requires on { IsOn course.now machine.old.state }
+    requires guard { machine.old.state.guard ≡ course.now.origin.guard }
+    requires scout { IsOn course.now scout.now.state }
+    requires behind { scout.now.state.steps ≤ from }
+    requires ahead { from ≤ machine.old.state.steps }
+    requires kept { AreOn course.now checkpoints.old }
+    requires few { machine.old.state.steps ≤ 100_000_000 }
+    ensures on { IsOn course.now machine.new.state }
+    ensures guard { machine.new.state.guard ≡ course.now.origin.guard }
+    ensures kept { AreOn course.now checkpoints.new }
+    ensures gone { IsGone (S.is_seen sight.now) course.now from machine.old.state.steps machine.new.state.steps result }
+{
+    let to = machine.steps();
+    put_as(machine, scout);
+    course.bring(machine, from);
+    go_on(alloc, course, machine, checkpoints, to, sight)
+}
+
+// The same in bursts. Where a step of one alarms its steps are made again, one by one.
 fn burst_on<A: Allocator + Copy, S: Sight, L: Lookout>(
     alloc: A,
     course: &Course<A>,
@@ -191,9 +236,10 @@ fn burst_on<A: Allocator + Copy, S: Sight, L: Lookout>(
     ensures gone { IsGone (S.is_seen sight.now) course.now machine.old.state.steps end machine.new.state.steps result }
     ensures scout { scout.new.state.guard ≡ scout.old.state.guard }
 {
+    put_as(scout, machine);
     let mut from = machine.steps();
     while from < end {
-        put_as(scout, machine);
+        follow(scout, machine);
         let mut watcher = Watcher {
             lookout,
             is_alarmed: false,
@@ -202,9 +248,7 @@ fn burst_on<A: Allocator + Copy, S: Sight, L: Lookout>(
             return Some(Halt::Stopped(cause));
         }
         if watcher.is_alarmed {
-            let to = machine.steps();
-            put_as(machine, scout);
-            if let Some(halt) = go_on(alloc, course, machine, checkpoints, to, sight) {
+            if let Some(halt) = go_again(alloc, course, machine, scout, checkpoints, from, sight) {
                 return Some(halt);
             }
         } else {

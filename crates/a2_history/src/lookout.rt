@@ -37,6 +37,9 @@ impl<L: Lookout> Observer for Watcher<'_, L> {
 
     #[inline(always)]
     fn see(&mut self, look: Look, ram: &[u8]) {
-        self.is_alarmed = self.is_alarmed || self.lookout.alarms(look, ram);
+        // (nothing is kept, or asked for, of a step that does not alarm)
+        if self.lookout.alarms(look, ram) {
+            self.is_alarmed = true;
+        }
     }
 }

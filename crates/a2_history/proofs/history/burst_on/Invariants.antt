@@ -13,6 +13,8 @@ invariant-loop-from g l = record {
   further : l.fn.machine.state.steps ≤ l.from;
   within : l.from ≤ l.end;
   scout : l.scout.state.guard ≡ l.fn.scout.state.guard;
+  stayed : IsOn l.course l.scout.state;
+  behind : l.scout.state.steps ≤ l.from;
   passed : (k : ℕ) → l.fn.machine.state.steps < k → k ≤ l.from → g.S.Sight.is_seen l.sight (world_on l.course k) ≡ false;
 }
 
