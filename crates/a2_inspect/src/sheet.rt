@@ -16,6 +16,7 @@ use a2_page::{Page, Switches, cell, glyph, print};
 use a2_places::{Span, statement_at};
 use a2_stream::{Output, ToWrite, WriteFault, put, put_all};
 use a2_text::{decimal, hex_pair, hex_word};
+use arrayvec::ArrayVec;
 use std::alloc::Allocator;
 
 // The forms of lines, in words.
@@ -51,7 +52,7 @@ const LINES_LISTED: u16 = 4;
 const LINES_AT_STOP: u16 = 2;
 
 // How many bytes that changed are told, beside those that are watched, and how many stand in a line.
-const MOST_CHANGES: u32 = 10;
+const MOST_CHANGES: usize = 10;
 
 const CHANGES_IN_LINE: u32 = 5;
 
@@ -246,24 +247,6 @@ fn is_changed_at<A: Allocator>(stand: &Stand<A>, address: u16) -> bool {
     byte_at(stand.before, address) != byte_at(stand.history.machine(), address)
 }
 
-// Writes the watched bytes that have other values than before.
-fn put_watched<A: Allocator, W: Output>(
-    stand: &Stand<A>,
-    writer: &mut W,
-) -> Result<(), WriteFault> {
-    if stand.watches.is_empty() {
-        return Ok(());
-    }
-    let mut told = 0u32;
-    for address in 0..RAM_END {
-        if is_watched(stand.watches, address) && is_changed_at(stand, address) {
-            put_byte_change(stand, address, told, writer)?;
-            told = told.saturating_add(1);
-        }
-    }
-    put_end(told, writer)
-}
-
 // Whether a row of cells shows that one of its bytes is another: characters do unless the glyph is the same, hi-res does not.
 fn is_row_other(switches: Switches, row: u8, before: u8, now: u8) -> bool {
     if switches.text || switches.mixed && row >= MIXED_ROW {
@@ -294,30 +277,67 @@ fn is_free<A: Allocator>(machine: &Machine<A>, address: u16) -> bool {
     0x100 <= address && address <= 0x100 + u16::from(machine.regs().s)
 }
 
-// Whether a byte has another value than before that is to be told: it is not watched, the screen does not show it, and it is none of
-// what the stack has free.
-fn is_other<A: Allocator>(stand: &Stand<A>, address: u16) -> bool {
-    is_changed_at(stand, address)
-        && !is_watched(stand.watches, address)
-        && !is_screen_other(stand, address)
-        && !is_free(stand.history.machine(), address)
+// Whether a byte that has another value than before is to be told though it is not watched: the screen does not show it, and it is
+// none of what the stack has free.
+fn is_told<A: Allocator>(stand: &Stand<A>, address: u16) -> bool {
+    !is_screen_other(stand, address) && !is_free(stand.history.machine(), address)
 }
 
-// Writes the first such bytes, and how many more there are.
-fn put_others<A: Allocator, W: Output>(stand: &Stand<A>, writer: &mut W) -> Result<(), WriteFault> {
-    let mut others = 0u32;
+// Such bytes: the first of them, and how many there are.
+#[derive(Drop)]
+struct Others {
+    first: ArrayVec<u16, MOST_CHANGES>,
+    number: usize,
+}
+
+impl Others {
+    // Notes one more.
+    fn note(&mut self, address: u16) {
+        let _ = self.first.try_push(address);
+        self.number = self.number.saturating_add(1);
+    }
+}
+
+// Writes the watched bytes that have other values than before, and answers the others that are to be told: a look at each byte of RAM
+// is most of what a stop takes.
+fn put_watched<A: Allocator, W: Output>(
+    stand: &Stand<A>,
+    writer: &mut W,
+) -> Result<Others, WriteFault> {
+    let mut others = Others {
+        first: ArrayVec::new(),
+        number: 0,
+    };
+    let mut told = 0u32;
     for address in 0..RAM_END {
-        if is_other(stand, address) {
-            if others < MOST_CHANGES {
-                put_byte_change(stand, address, others, writer)?;
+        if is_changed_at(stand, address) {
+            if is_watched(stand.watches, address) {
+                put_byte_change(stand, address, told, writer)?;
+                told = told.saturating_add(1);
+            } else if is_told(stand, address) {
+                others.note(address);
             }
-            others = others.saturating_add(1);
         }
     }
-    put_end(others, writer)?;
-    if others > MOST_CHANGES {
+    put_end(told, writer)?;
+    Ok(others)
+}
+
+// Writes the first of the others, and how many more there are.
+fn put_others<A: Allocator, W: Output>(
+    stand: &Stand<A>,
+    others: &Others,
+    writer: &mut W,
+) -> Result<(), WriteFault> {
+    let mut told = 0u32;
+    for address in others.first.as_slice() {
+        put_byte_change(stand, *address, told, writer)?;
+        told = told.saturating_add(1);
+    }
+    put_end(told, writer)?;
+    if others.number > MOST_CHANGES {
         put(b"changed: ", writer)?;
-        put_number(u64::from(others - MOST_CHANGES), writer)?;
+        put_number((others.number - MOST_CHANGES) as u64, writer)?;
         put(b" more\n", writer)?;
     }
     Ok(())
@@ -391,8 +411,8 @@ fn put_stop<A: Allocator, B: Allocator + Copy, W: Output>(
     if is_changed(before, now) {
         put_changes(before, now, writer)?;
     }
-    put_watched(stand, writer)?;
-    put_others(stand, writer)?;
+    let others = put_watched(stand, writer)?;
+    put_others(stand, &others, writer)?;
     match stand.detail {
         Detail::Beside => Ok(()),
         Detail::Plain => put_screen_changes(alloc, stand, writer),
