@@ -20,20 +20,38 @@ const ADDRESSES: usize = 0x1_0000;
 
 /// For each address, whether there is a breakpoint, and whether a step there may store.
 #[derive(Drop)]
-pub struct Alerts<A: Allocator = Global> {
+pub struct Marks<A: Allocator = Global> {
     stops: Vec<bool, A>,
     stores: Vec<bool, A>,
 }
 
-impl<A: Allocator> Model for Alerts<A> {
+impl<A: Allocator> Model for Marks<A> {
     ghost use Rattle.std.specs.Prelude.{◌≡◌, length};
     ghost use Rattle.a2_inspect.specs.Alerts.{Alerts as Seen};
 
     ghost Value = { Seen };
 
-    ghost view = { λ a. record { stops = a.stops.items; stores = a.stores.items } };
+    ghost view = { λ m. record { stops = m.stops.items; stores = m.stores.items } };
 
-    ghost invariant = { λ a. (length a.stops.items ≡ 65536) × (length a.stores.items ≡ 65536) };
+    ghost invariant = { λ m. (length m.stops.items ≡ 65536) × (length m.stores.items ≡ 65536) };
+}
+
+/// The same, as each step asks for them: all addresses are there, so that a look is one load, without a bound.
+#[derive(Drop)]
+pub struct Alerts<'a> {
+    stops: &'a [bool; ADDRESSES],
+    stores: &'a [bool; ADDRESSES],
+}
+
+impl<'a> Model for Alerts<'a> {
+    ghost use Rattle.std.specs.Prelude.{◌≡◌, length};
+    ghost use Rattle.a2_inspect.specs.Alerts.{Alerts as Seen};
+
+    ghost Value = { Seen };
+
+    ghost view = { λ a. record { stops = a.stops.now; stores = a.stores.now } };
+
+    ghost invariant = { λ a. (length a.stops.now ≡ 65536) × (length a.stores.now ≡ 65536) };
 }
 
 // Whether an instruction stores nothing and pushes nothing, whatever its operand is.
@@ -154,17 +172,28 @@ fn no_marks<A: Allocator>(alloc: A) -> Result<Vec<bool, A>, AllocError>
     vec![in alloc; false; ADDRESSES]
 }
 
-impl<A: Allocator + Copy> Alerts<A> {
+// All addresses.
+fn whole(marks: &[bool]) -> &[bool; ADDRESSES]
+    requires { length marks.now ≡ 65536 }
+    ensures { result.now ≡ marks.now }
+{
+    match marks.first_chunk() {
+        Some(marks) => marks,
+        None => unreachable!(),
+    }
+}
+
+impl<A: Allocator + Copy> Marks<A> {
     /// No address is marked. Refused only for want of memory.
-    pub fn new(alloc: A) -> Result<Alerts<A>, AllocError> {
-        Ok(Alerts {
+    pub fn new(alloc: A) -> Result<Marks<A>, AllocError> {
+        Ok(Marks {
             stops: no_marks(alloc)?,
             stores: no_marks(alloc)?,
         })
     }
 }
 
-impl<A: Allocator> Alerts<A> {
+impl<A: Allocator> Marks<A> {
     /// Marks the addresses of breakpoints; and where bytes are watched all at which a step may store: all but those at which an
     /// instruction of a program stands that is not free of the guard, as a machine holds it, and that stores nothing.
     pub fn set<C: Allocator>(
@@ -187,6 +216,18 @@ impl<A: Allocator> Alerts<A> {
         );
     }
 
+    /// As each step asks for them.
+    pub fn lent(&self) -> Alerts<'_>
+        ensures { result ≡ self.now }
+    {
+        Alerts {
+            stops: whole(self.stops.as_slice()),
+            stores: whole(self.stores.as_slice()),
+        }
+    }
+}
+
+impl Alerts<'_> {
     /// Whether there is a breakpoint at an address.
     #[inline(always)]
     pub fn has_stop(&self, address: u16) -> bool

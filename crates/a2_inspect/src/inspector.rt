@@ -35,7 +35,7 @@ ghost use Rattle.a2_inspect.specs.Inspections.{
 
 mod replay;
 
-use crate::alerts::Alerts;
+use crate::alerts::Marks;
 use crate::order::{Order, Outcome, Refusal, Show};
 use crate::reading::order_of;
 use crate::sheet::{Detail, Stand, tell};
@@ -82,8 +82,8 @@ pub struct Inspector<'a, A: Allocator = Global> {
     history: History<A>,
     // The machine before the order that was done last.
     before: Machine<A>,
-    // Which steps alarm where a run goes on to a stop.
-    alerts: Alerts<A>,
+    // Where steps alarm as a run goes on to a stop.
+    marks: Marks<A>,
     // Whether the run is free of the guard.
     free: bool,
     breaks: Breaks,
@@ -175,10 +175,30 @@ fn note<A: Allocator>(before: &mut Machine<A>, history: &History<A>)
     before.copy_from(history.machine());
 }
 
+// What alarms where a run goes on to one of these stops.
+fn alarm_of<'a, A: Allocator>(
+    marks: &'a mut Marks<A>,
+    free: bool,
+    program: &Program<A>,
+    history: &History<A>,
+    stops: Stops<'a, A>,
+) -> Alarm<'a, A>
+    requires here { world_of_state stops.before.now.state ≡ here history.now }
+    requires guard { history.now.course.origin.guard ≡ guard_of_run free program.now }
+    ensures stops { result.stops ≡ stops.entry }
+    ensures warns { WarnsOfStops result.alerts result.stops.breaks.now result.stops.watches.now history.now }
+{
+    marks.set(free, program, stops.before, stops.breaks, stops.watches);
+    Alarm {
+        alerts: marks.lent(),
+        stops,
+    }
+}
+
 // Makes steps, at most so many, up to a stop.
-fn go<A: Allocator + Copy>(history: &mut History<A>, most: u32, alarm: Alarm<A, A>) -> Outcome
+fn go<A: Allocator + Copy>(history: &mut History<A>, most: u32, alarm: Alarm<A>) -> Outcome
     requires here { world_of_state alarm.stops.before.now.state ≡ here history.old }
-    requires warns { WarnsOfStops alarm.alerts.now alarm.stops.breaks.now alarm.stops.watches.now history.old }
+    requires warns { WarnsOfStops alarm.alerts alarm.stops.breaks.now alarm.stops.watches.now history.old }
     ensures { GoesOn (is_stop alarm.entry.stops.breaks.now alarm.entry.stops.watches.now (here history.old)) most history.old history.new }
 {
     go_on(history, most, &alarm.stops, &alarm)
@@ -197,10 +217,10 @@ fn leave<A: Allocator + Copy>(
     history: &mut History<A>,
     most: u32,
     s: u8,
-    alarm: Alarm<A, A>,
+    alarm: Alarm<A>,
 ) -> Outcome
     requires here { world_of_state alarm.stops.before.now.state ≡ here history.old }
-    requires warns { WarnsOfStops alarm.alerts.now alarm.stops.breaks.now alarm.stops.watches.now history.old }
+    requires warns { WarnsOfStops alarm.alerts alarm.stops.breaks.now alarm.stops.watches.now history.old }
     ensures { GoesOn (is_left s (is_stop alarm.entry.stops.breaks.now alarm.entry.stops.watches.now (here history.old)))
         most history.old history.new }
 {
@@ -209,9 +229,9 @@ fn leave<A: Allocator + Copy>(
 }
 
 // Makes a step, or those of the routine that a JSR enters.
-fn next<A: Allocator + Copy>(history: &mut History<A>, most: u32, alarm: Alarm<A, A>) -> Outcome
+fn next<A: Allocator + Copy>(history: &mut History<A>, most: u32, alarm: Alarm<A>) -> Outcome
     requires here { world_of_state alarm.stops.before.now.state ≡ here history.old }
-    requires warns { WarnsOfStops alarm.alerts.now alarm.stops.breaks.now alarm.stops.watches.now history.old }
+    requires warns { WarnsOfStops alarm.alerts alarm.stops.breaks.now alarm.stops.watches.now history.old }
     ensures { GoesOver (is_call_of (here history.old)) (here history.old).registers.s
         (is_stop alarm.entry.stops.breaks.now alarm.entry.stops.watches.now (here history.old)) most history.old history.new }
 {
@@ -224,9 +244,9 @@ fn next<A: Allocator + Copy>(history: &mut History<A>, most: u32, alarm: Alarm<A
 }
 
 // Makes steps until the routine that was entered last is left.
-fn out<A: Allocator + Copy>(history: &mut History<A>, most: u32, alarm: Alarm<A, A>) -> Outcome
+fn out<A: Allocator + Copy>(history: &mut History<A>, most: u32, alarm: Alarm<A>) -> Outcome
     requires here { world_of_state alarm.stops.before.now.state ≡ here history.old }
-    requires warns { WarnsOfStops alarm.alerts.now alarm.stops.breaks.now alarm.stops.watches.now history.old }
+    requires warns { WarnsOfStops alarm.alerts alarm.stops.breaks.now alarm.stops.watches.now history.old }
     ensures { GoesOut (innermost (entered history.old.course history.old.position))
         (is_stop alarm.entry.stops.breaks.now alarm.entry.stops.watches.now (here history.old)) most history.old history.new
         ⊎ (history.new ≡ history.old) }
@@ -381,7 +401,7 @@ impl<'a, A: Allocator + Copy> Inspector<'a, A> {
         let lines = cut(alloc, source)?;
         let machine = started(alloc, &program, keys, free)?;
         let before = Machine::new(alloc)?;
-        let alerts = Alerts::new(alloc)?;
+        let marks = Marks::new(alloc)?;
         let history = History::new(alloc, machine, kept)?;
         Ok(Inspector {
             alloc,
@@ -389,7 +409,7 @@ impl<'a, A: Allocator + Copy> Inspector<'a, A> {
             lines,
             history,
             before,
-            alerts,
+            marks,
             free,
             breaks: Breaks::new(),
             watches: Watches::new(),
@@ -410,21 +430,24 @@ impl<'a, A: Allocator + Copy> Inspector<'a, A> {
             before: &self.before,
         };
         let (program, free) = (&self.program, self.free);
-        self.alerts
-            .set(free, program, stops.before, stops.breaks, stops.watches);
-        let alarm = Alarm {
-            alerts: &self.alerts,
-            stops,
-        };
         match order {
             Order::Step(steps) => step(&mut self.history, steps),
-            Order::Next => next(&mut self.history, self.most, alarm),
-            Order::Out => out(&mut self.history, self.most, alarm),
+            Order::Next => {
+                let alarm = alarm_of(&mut self.marks, free, program, &self.history, stops);
+                next(&mut self.history, self.most, alarm)
+            }
+            Order::Out => {
+                let alarm = alarm_of(&mut self.marks, free, program, &self.history, stops);
+                out(&mut self.history, self.most, alarm)
+            }
             Order::Back(steps) => back(&mut self.history, steps),
             Order::GoBackOver => go_back_over(&mut self.history),
-            Order::Go => go(&mut self.history, self.most, alarm),
+            Order::Go => {
+                let alarm = alarm_of(&mut self.marks, free, program, &self.history, stops);
+                go(&mut self.history, self.most, alarm)
+            }
             Order::Until(address) => until(&mut self.history, self.most, address),
-            Order::GoBack => go_back_to_stop(&mut self.history, alarm.stops),
+            Order::GoBack => go_back_to_stop(&mut self.history, stops),
             Order::Who(span) => who(&mut self.history, span, &self.before),
             Order::Watch(span) => watch(&mut self.watches, span),
             Order::Break(place) => set(&mut self.breaks, place),

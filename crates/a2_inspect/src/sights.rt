@@ -58,12 +58,12 @@ impl<B: Allocator> Sight for Stops<'_, B> {
 /// What alarms on the way to a stop: a step to a breakpoint whose condition holds, and one that may have stored where a watched byte is
 /// another.
 #[derive(Drop)]
-pub struct Alarm<'a, A: Allocator, B: Allocator> {
-    pub alerts: &'a Alerts<A>,
+pub struct Alarm<'a, B: Allocator> {
+    pub alerts: Alerts<'a>,
     pub stops: Stops<'a, B>,
 }
 
-impl<A: Allocator, B: Allocator> Alarm<'_, A, B> {
+impl<B: Allocator> Alarm<'_, B> {
     ghost use Rattle.std.specs.Prelude.{◌≡◌, ◌&&◌, slice_get};
     ghost use Rattle.std.specs.List.{list_any};
     ghost use Rattle.a2_bus.specs.Memory.{peek};
@@ -74,7 +74,7 @@ impl<A: Allocator, B: Allocator> Alarm<'_, A, B> {
     // Whether a step comes to a breakpoint whose condition holds.
     #[inline(always)]
     fn comes_to_break(&self, look: Look, ram: &[u8]) -> bool
-        ensures { result ≡ (is_marked self.now.alerts.now.stops look.next_pc
+        ensures { result ≡ (is_marked self.now.alerts.stops look.next_pc
             && list_any (is_hit (moment_behind (record { look = look; ram = slice_get ram.now }))) self.now.stops.breaks.now) }
     {
         self.alerts.has_stop(look.next_pc)
@@ -84,7 +84,7 @@ impl<A: Allocator, B: Allocator> Alarm<'_, A, B> {
     // Whether a step may have stored, and a watched byte is another behind it.
     #[inline(always)]
     fn leaves_change(&self, look: Look, ram: &[u8]) -> bool
-        ensures { result ≡ (is_marked self.now.alerts.now.stores look.pc
+        ensures { result ≡ (is_marked self.now.alerts.stores look.pc
             && list_any (is_span_changed (peek (world_of_state self.now.stops.before.now.state).memory) (slice_get ram.now))
             self.now.stops.watches.now) }
     {
@@ -93,11 +93,11 @@ impl<A: Allocator, B: Allocator> Alarm<'_, A, B> {
     }
 }
 
-impl<A: Allocator, B: Allocator> Lookout for Alarm<'_, A, B> {
+impl<B: Allocator> Lookout for Alarm<'_, B> {
     ghost use Rattle.a2_machine.specs.State.{world_of_state};
     ghost use Rattle.a2_inspect.specs.Alerts.{alarms as alarms_of};
 
-    ghost alarms = { λ alarm shown. alarms_of alarm.alerts.now alarm.stops.breaks.now alarm.stops.watches.now
+    ghost alarms = { λ alarm shown. alarms_of alarm.alerts alarm.stops.breaks.now alarm.stops.watches.now
         (world_of_state alarm.stops.before.now.state) shown };
 
     #[inline(always)]
@@ -108,12 +108,12 @@ impl<A: Allocator, B: Allocator> Lookout for Alarm<'_, A, B> {
 
 /// Worlds in which a routine is left, by the stack pointer before its JSR; and those of stops.
 #[derive(Drop)]
-pub struct Left<'a, A: Allocator, B: Allocator> {
+pub struct Left<'a, B: Allocator> {
     pub s: u8,
-    pub alarm: Alarm<'a, A, B>,
+    pub alarm: Alarm<'a, B>,
 }
 
-impl<A: Allocator, B: Allocator> Sight for Left<'_, A, B> {
+impl<B: Allocator> Sight for Left<'_, B> {
     ghost use Rattle.a2_machine.specs.State.{world_of_state};
     ghost use Rattle.a2_inspect.specs.Stops.{is_stop};
     ghost use Rattle.a2_inspect.specs.Inspections.{is_left};
@@ -121,17 +121,17 @@ impl<A: Allocator, B: Allocator> Sight for Left<'_, A, B> {
     ghost is_seen = { λ left world. is_left left.s (is_stop left.alarm.stops.breaks.now left.alarm.stops.watches.now
         (world_of_state left.alarm.stops.before.now.state)) world };
 
-    fn is_seen<C: Allocator>(&self, machine: &Machine<C>) -> bool {
+    fn is_seen<A: Allocator>(&self, machine: &Machine<A>) -> bool {
         machine.regs().s >= self.s || self.alarm.stops.is_seen(machine)
     }
 }
 
-impl<A: Allocator, B: Allocator> Lookout for Left<'_, A, B> {
+impl<B: Allocator> Lookout for Left<'_, B> {
     ghost use Rattle.std.specs.Prelude.{◌||◌, nat_le};
     ghost use Rattle.a2_machine.specs.State.{world_of_state};
     ghost use Rattle.a2_inspect.specs.Alerts.{alarms as alarms_of};
 
-    ghost alarms = { λ left shown. nat_le left.s shown.look.next_s || alarms_of left.alarm.alerts.now left.alarm.stops.breaks.now
+    ghost alarms = { λ left shown. nat_le left.s shown.look.next_s || alarms_of left.alarm.alerts left.alarm.stops.breaks.now
         left.alarm.stops.watches.now (world_of_state left.alarm.stops.before.now.state) shown };
 
     #[inline(always)]

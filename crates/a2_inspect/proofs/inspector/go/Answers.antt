@@ -9,7 +9,7 @@ pub go_on-requires : goal.go_on-requires
 go_on-requires g c =
     let stops = c.args.alarm.stops in
     let track = c.args.history.now in
-    subst (λ (w : World). Warns (is_stop stops.breaks.now stops.watches.now w) (alarms c.args.alarm.alerts.now stops.breaks.now stops.watches.now w)
+    subst (λ (w : World). Warns (is_stop stops.breaks.now stops.watches.now w) (alarms c.args.alarm.alerts stops.breaks.now stops.watches.now w)
     track.course track.position) (sym c.requires.here) c.requires.warns
 
 pub returns : goal.returns

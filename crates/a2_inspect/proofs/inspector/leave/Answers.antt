@@ -11,7 +11,7 @@ use Rattle.a2_inspect.proofs.inspector.leave.Goals as goal
 pub go_on-requires : goal.go_on-requires
 go_on-requires g c =
     let stops = c.args.alarm.stops in
-    let alerts = c.args.alarm.alerts.now in
+    let alerts = c.args.alarm.alerts in
     let track = c.args.history.now in
     let s = c.args.s in
     subst (λ (w : World). Warns (is_left s (is_stop stops.breaks.now stops.watches.now w))

@@ -8,6 +8,6 @@ use Rattle.a2_inspect.proofs.sights.Alarm.comes_to_break.Goals as goal
 pub returns-then-has_stop : goal.returns-then-has_stop
 returns-then-has_stop g c =
     let breaks = c.args.self.now.stops.breaks.now in
-    let marked : is_marked c.args.self.now.alerts.now.stops c.args.look.next_pc ≡ true = sym c.has_stop.ensures ∙ c.if-has_stop.true in
+    let marked : is_marked c.args.self.now.alerts.stops c.args.look.next_pc ≡ true = sym c.has_stop.ensures ∙ c.if-has_stop.true in
     c.is_at_break.ensures ∙ ap (λ (m : Moment). list_any (is_hit m) breaks) c.behind.ensures
     ∙ sym (ap (λ (b : Bool). b && list_any (is_hit (moment_behind (record { look = c.args.look; ram = slice_get c.args.ram.now }))) breaks) marked)

@@ -12,6 +12,6 @@ returns-then-may_store g c =
     let watches = c.args.self.now.stops.watches.now in
     let ram = slice_get c.args.ram.now in
     let before = peek (world_of_state c.args.self.now.stops.before.now.state).memory in
-    let marked : is_marked c.args.self.now.alerts.now.stores c.args.look.pc ≡ true = sym c.may_store.ensures ∙ c.if-may_store.true in
+    let marked : is_marked c.args.self.now.alerts.stores c.args.look.pc ≡ true = sym c.may_store.ensures ∙ c.if-may_store.true in
     c.are_changed.ensures ∙ ap (λ (b : ℕ → Option ℕ). list_any (is_span_changed b ram) watches) c.ram_of.ensures
     ∙ sym (ap (λ (b : Bool). b && list_any (is_span_changed before ram) watches) marked)
