@@ -50,8 +50,6 @@ class Judge:
                 yield clause, why
         for clause in [it for within in promise.within for it in within.measures]:
             why = saying.why_no_number(clause.expr)
-            if not why and saying.is_minus(clause.expr):
-                why = "what decreases is no difference here"
             if why:
                 yield clause, why
 

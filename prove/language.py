@@ -1,7 +1,7 @@
 """Expressions of promises, as docs/manual/promises.md has them: the same words, signs and refusals as in crates/a2_promise.
 
 An expression is a tuple: ('number', n), ('held', ATOM), ('bound', i), ('old', e), ('of', FUNCTION, e), ('pair', OPERATION, x, y),
-('choice', c, x, y), ('each', i, n, e), ('sum', i, n, e); atoms, functions and operations are named as in a2_promise."""
+('choice', c, x, y), ('each', i, n, e), ('sum', i, n, e), ('at', LABEL, e); atoms, functions and operations are named as in a2_promise."""
 
 import re
 
@@ -46,7 +46,7 @@ JOINS = {
 BEHIND_AND, BEHIND_COMPARISON = 4, 6
 MOST_NAMES = 4
 COUNTED = "here stands what is counted, as in for all i < 8: [#$2000 + i] = 0"
-WORDS = set(ATOMS) | set("iff or and old not if then else for all sum min max abs bit of signed word nothing".split())
+WORDS = set(ATOMS) | set("iff or and old at not if then else for all sum min max abs bit of signed word nothing".split())
 TOKEN = re.compile(r"[ \t]*(?:\$([0-9A-Fa-f]*)|(\d+)|([A-Za-z]\w*)|(<=|<>|>=|\.\.|.))", re.DOTALL)
 
 TRUE, FALSE = ("number", 1), ("number", 0)
@@ -212,6 +212,7 @@ class Reader:
             "#": self.hash,
             "-": self.negative,
             "old": self.old,
+            "at": self.at_label,
             "not": self.negated,
             "if": self.conditional,
             "for": self.each,
@@ -250,6 +251,14 @@ class Reader:
     def old(self, at, _):
         within = self.beginning()
         return Piece(("old", within.expr), within.kind, at)
+
+    def at_label(self, at, _):
+        kind, name = self.next()
+        if kind != "word" or name not in self.names:
+            self.refuse("a label of the source is wanted here, as in at LOOP X")
+        self.take()
+        within = self.beginning()
+        return Piece(("at", name, within.expr), within.kind, at)
 
     def negated(self, at, _):
         return Piece(negation(self.fact(self.expression(BEHIND_AND))), FACT, at)

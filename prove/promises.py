@@ -114,11 +114,19 @@ def take_line(block, number, rest, offset, names):
             return
         piece = reader.expression()
         expr = reader.number(piece) if word == "decreases" else reader.fact(piece)
+        if word in ("requires", "ensures") and labels_in(expr):
+            reader.refuse("at a label speaks of a run on its way: lines invariant, decreases and note may have it", 0)
         reader.ended()
         text = rest[start:]
         block.clauses[word][-1] = Clause(number, offset + len(rest) - len(text.lstrip(" \t")) + 1, text.strip(), expr)
     except Refusal as refused:
         block.refused = block.refused or refused
+
+
+def labels_in(e):
+    """The labels of which an expression says what was there."""
+    found = [e[1]] if e[0] == "at" else []
+    return found + [it for part in e[1:] if isinstance(part, tuple) for it in labels_in(part)]
 
 
 def close(found, program, block, line):

@@ -1,16 +1,23 @@
 """The proof that a routine meets its promise, found by running it on terms: ways fork at branches whose flag is not known, a loop
 with an invariant is gone through once, a call is what the routine called promises."""
 
+import copy
 import re
 
+from .arrays import MOST_CASES, Cut, Finder, Kept, Put, span
 from .assembling import BRANCHES
 from .refusal import Refusal
-from .saying import FLAGS, Words, is_fact, is_minus, shape, signed_in
-from .symbolic import Run, State, StateWords
+from .saying import FLAGS, Words, constant, is_fact, is_minus, most, shape, signed_in
+from .promises import labels_in
+from .symbolic import Ground, Run, State, StateWords
 from .terms import add, bare, in_words, list_of, modulo, par
 from .trying import cells_in
 
 MOST_BRANCHES = 9
+# How many numbers are gone through one by one where each below a number is spoken of.
+MOST_UNROLLED = 32
+MAY_CHANGE = "a byte that does not stand behind changes may be another"
+STORES, CHANGES = ("STA", "STX", "STY"), ("INC", "DEC", "ASL", "LSR", "ROL", "ROR")
 MOST_STEPS = 20_000
 TOO_LONG = "this goes on for too long: a loop whose count is not known wants lines invariant and decreases before its label"
 TOO_MANY = f"more than {MOST_BRANCHES} branches one behind another are too many ways: a line note before a label joins them"
@@ -24,6 +31,7 @@ class Loop:
         self.name = f"{routine.name}_{within.label}"
         self.invariants = within.invariants
         self.measure = within.measures[0] if within.measures else None
+        self.labels = sorted({label for clause in within.invariants + within.measures for label in labels_in(clause.expr)})
 
 
 class Routine:
@@ -36,7 +44,8 @@ class Routine:
         self.loops = {it.address: Loop(self, it) for it in promise.within}
 
     def changed(self, s):
-        return sorted(set(self.promise.changes.addresses()) | self.stack.get(s, set()))
+        """Ranges of addresses that may change, no two of which touch."""
+        return merged([*self.promise.changes.ranges, *((a, a) for a in self.stack.get(s, ()))])
 
 
 class Proof(Run):
@@ -49,7 +58,8 @@ class Proof(Run):
     def proof_of(self, routine, s):
         """The proof that a routine meets its promise where it is entered with this S."""
         self.routine, self.s = routine, s
-        self.changed = set(routine.changed(s))
+        self.changed = routine.changed(s)
+        self.tops = {}
         self.touched, self.calls, self.marks, self.ways, self.fuel = set(), set(), [], 0, MOST_STEPS
         self.named = self.cells_named()
         promise = routine.promise
@@ -60,7 +70,7 @@ class Proof(Run):
             self.learn(state, clause.expr, f"before.r{k}", Words("w", "w"))
         for address in sorted(self.named):
             self.fact(state, f"bytes.ram {address}")
-        state.ground = (list(state.facts), list(state.known))
+        state.ground = Ground(*(list(it) for it in (state.facts, state.known, state.reads, state.universals)))
         return self.lines(state) + self.tree(state, [])
 
     def cells_named(self):
@@ -92,6 +102,13 @@ class Proof(Run):
         for term in known_by(e, fact, True, lambda letter: None):
             self.fact(state, term)
         self.signs(state, e, words)
+        self.tops.update(tops_in(e, words))
+        state.reads += bytes_in(e, words)
+        for proof, each in universals_in(e, fact):
+            state.universals.append((proof, each, words))
+            if each[2][0] == "number" and each[2][1] <= MOST_UNROLLED:
+                for k in range(each[2][1]):
+                    self.learn(state, each[3], f"({proof} {k} (omega arith))", words.counting(each, k))
 
     def signs(self, state, e, words):
         """Has the arithmetic know of each byte whose sign is taken which one it has."""
@@ -123,8 +140,8 @@ class Proof(Run):
                 return self.fork(state, it, loops)
             elif it.mnemonic == "JSR" and it.value in self.routines and it.value != self.routine.promise.address:
                 return self.call(state, it, loops)
-            elif is_unknown_load(state, it):
-                return self.load_indexed(state, it, loops)
+            elif self.is_reached(state, it):
+                return self.reach(state, it, loops)
             else:
                 self.step(state, it)
 
@@ -136,25 +153,152 @@ class Proof(Run):
         state.steps += 1
         state.pc = (low + 256 * high + 1) & 0xFFFF
 
-    def load_indexed(self, state, it, loops):
-        """LDA of an address that is not known, by a rule of its own."""
-        if state.stores:
-            raise Refusal(it.line, "LDA by an index that is not known can't be proved yet behind a store")
-        register = it.mode[-1]
-        at = f"({it.value} + {state.registers[register]})"
-        self.fact(state, f"{state.bytes}.ram {at}")
-        here = f"(stepped code {state.world} {state.steps})"
-        rule = "load_" + register.lower()
-        begin, low = self.lines(state), state.arithmetic()
-        mark = self.mark(f"line {it.line}: the address of LDA, {it.value} + {register}, is below $C000" + state.at)
-        state.registers["A"] = f"(ram_byte {state.base}.memory {at})"
-        self.judge(state, state.registers["A"])
-        to = f"(loaded_at 3 4 {it.value} {at} {here})"
-        begin += f"onto code {state.world} {here} {state.steps} _ refl (onto code {here} {to} 1 _\n"
+    # Addresses that are not known
+
+    def follow(self, state, address):
+        finder = Finder(state, self.tops)
+        finder.find([(state.memory_is, str(address))], deep=False)
+        for term, says in finder.terms:
+            self.fact(state, term, says)
+        for term in finder.cases:
+            self.fact(state, term)
+
+    def keep_entered(self, state):
+        """A proof that the state's memory keeps what may not change, where it has no stores on top."""
+        if state.base == "w":
+            return "(keeps_all 0 w.memory _)"
+        return state.keep if state.base.startswith("(") else f"(keeps_stores [] w.memory _ {state.base} (entered 0 {state.memory_is}) refl refl {state.keep})"
+
+    def renew(self, state, memory, link, has, keep):
+        """The state's memory is another one, of which the link tells how it came of that before."""
+        state.links[memory], state.all_has[memory] = link, has
+        state.base, state.memory_is, state.keep = f"(entered 0 {memory})", memory, keep
+        state.memory, state.stores, state.steps, state.top = {}, [], 0, None
+
+    def cut(self, state):
+        """The memory is taken afresh behind stores: what stands before all that follows, and behind it."""
+        if not state.stores:
+            return "", ""
+        m, equation, has, keep = (self.fresh(letter) for letter in "meqk")
+        begin, here, ranges = self.lines(state), here_of(state), f"{self.routine.name}_ranges"
+        stores, low, fits = list_of(f"({a}, {term})" for a, term in state.stores), state.arithmetic(), "tt"
+        for _ in state.stores:
+            fits = f"({low}, refl, {fits})"
+        common = f"{stores} {state.memory_is} {m} {equation}"
+        begin += f"afresh code {state.world} {here} {state.steps} _ refl (λ {m} {equation}.\n"
+        begin += f"let {has} = stores_bytes {common} {state.has} {fits} in {self.mark('bytes are stored' + state.at)}"
+        begin += f"let {keep} = stores_keep {common} w.memory {ranges} refl {self.keep_entered(state)} in " + self.mark(MAY_CHANGE + state.at)
+        link = Cut(state.memory_is, [(a, str(term)) for a, term in state.stores], equation)
+        state.world = f"(record {here} {{ memory = {m} }})"
+        self.renew(state, m, link, has, keep)
+        return begin, ")"
+
+    def pointed(self, zero_page):
+        """Where a pointer points, as lines say."""
+        clauses = self.routine.promise.wanted + [it for loop in self.routine.loops.values() for it in loop.invariants]
+        for e in (part for clause in clauses for part in parts_of(clause.expr)):
+            if e[0] == "pair" and e[1] == "Equal" and e[3][0] == "number" and without_old(e[2]) == ("of", "Word", ("number", zero_page)):
+                return e[3][1]
+        return None
+
+    def place(self, state, it):
+        """The address that an instruction computes, and the same without wrap."""
+        if it.mode in ("AbsoluteX", "AbsoluteY", "ZeroPageX", "ZeroPageY"):
+            at = f"({it.value} + {state.registers[it.mode[-1]]})"
+            return f"({at} % {256 if it.mode.startswith('Zero') else 65536})", at
+        low, high = (self.cell(state, a) for a in self.pointer(state, it))
+        known = low + 256 * high if isinstance(low, int) and isinstance(high, int) else None
+        word = str(known) if known is not None else f"({low} + 256 * {high})"
+        where = self.pointed(self.pointer(state, it)[0]) if known is None else known
+        if it.mode == "IndexedIndirect":
+            return word, word if where is None else str(where)
+        y = state.registers["Y"]
+        return f"(({word} + {y}) % 65536)", str(add(where, y)) if where is not None else f"({word} + {y})"
+
+    def range_of(self, it, at):
+        """The range of addresses among which a store is, as `changes` has it."""
+        low, high = span(self.tops, at)
+        ranges = [(max(low, first), min(high, last)) for first, last in self.changed if first <= high and low <= last]
+        if not ranges:
+            raise Refusal(it.line, f"{it.mnemonic} stores at ${low:04X} or above, and no byte from there on stands behind changes")
+        found = next((it for it in ranges if it[0] == low), ranges[0])
+        if self.program_has_code(*found):
+            raise Refusal(it.line, f"{it.mnemonic} by an index may store where its own code stands")
+        if found[0] < 0xC00 and found[1] >= 0x400:
+            raise Refusal(it.line, f"a store at ${found[0]:04X} or above, on a text page, can't be proved yet")
+        return found
+
+    def program_has_code(self, low, high):
+        return any(it.is_instruction and it.address <= high and low < it.address + it.length for it in self.program.statements)
+
+    def reach(self, state, it, loops):
+        """An instruction whose address is not known, by a rule for all of its kind."""
+        begin, end = self.cut(state)
+        computed, at = self.place(state, it)
+        here, row = here_of(state), row_of(it)
         stands = "(record { found = refl; no_return = refl; no_service = refl })"
-        begin += f"({rule} code {here} {it.value} {at} {stands} {low} {low}) {mark}"
-        state.world, state.steps, state.top, state.pc = to, 0, None, it.address + 3
-        return begin + f"({self.tree(state, loops)}))"
+        common = f"code {here} {row} {it.value} {par(computed)} {par(at)} {stands} refl refl refl"
+        came = state.steps
+        if it.mnemonic in STORES + CHANGES:
+            text = self.store_reached(state, it, at, here, row, common)
+        else:
+            text = self.load_reached(state, it, at, here, row, common)
+        closing = ")" * (bool(came) + (it.mnemonic in STORES + CHANGES))
+        return f"{begin}{text}({self.tree(state, loops)}){closing}{end}"
+
+    def no_wrap(self, state, it):
+        return self.mark(f"line {it.line}: {it.mnemonic} wraps in page 0 or lies at $C000 or above" + state.at)
+
+    def load_reached(self, state, it, at, here, row, common):
+        begin, low = self.lines(state), state.arithmetic()
+        to = f"(taking {row} {it.value} {par(at)} {here})"
+        begin += f"{coming_to(state)}onto code {here} {to} 1 _\n(take {common} {low} {low}) {self.no_wrap(state, it)}"
+        self.reached = f"(ram_byte {state.memory_is} {par(at)})"
+        state.reads.append((state.memory_is, bare(at)))
+        self.fact(state, f"{state.has} {par(at)}")
+        self.act(state, it)
+        state.world, state.steps, state.top = to, 0, None
+        return begin
+
+    def store_reached(self, state, it, at, here, row, common):
+        low, high = self.range_of(it, at)
+        range_facts = []
+        begin = self.lines(state)
+        for says, sign in ((f"{low} ≤ {at}", "begins"), (f"{at} ≤ {high}", "ends")):
+            name = self.fresh("r")
+            begin += f"let {name} : {says} = {state.arithmetic()} in "
+            begin += self.mark(f"line {it.line}: {it.mnemonic} may store beside ${low:04X}..${high:04X}, which {sign} what stands behind changes" + state.at)
+            range_facts.append(name)
+        state.facts += range_facts
+        first, last = range_facts
+        m, equation, has, keep = (self.fresh(letter) for letter in "meqk")
+        before, held, kept = state.memory_is, state.has, self.keep_entered(state)
+        self.reached = f"(ram_byte {before} {par(at)})"
+        if it.mnemonic in CHANGES:
+            state.reads.append((before, bare(at)))
+            self.fact(state, f"{held} {par(at)}")
+        come = coming_to(state)
+        self.act(state, it)
+        byte, by = par(self.put), state.arithmetic()
+        beside = f"(inr {by})" if low >= 0xC00 else f"(inl {by})"
+        rule, behind = ("change", "changing") if it.mnemonic in CHANGES else ("put", "putting")
+        to = f"({behind} {row} {it.value} {par(at)} {here})"
+        begin += f"{self.lines(state)}{come}afresh code {here} {to} 1 _\n"
+        begin += f"({rule} {common} {by} {by} (not_among _ {low} {high} {par(at)} refl {first} {last})) {self.no_wrap(state, it)}"
+        link = f"{before} {m} {par(at)} {byte} {equation}"
+        inside = f"(in_ranges {self.routine.name}_ranges {low} {high} {par(at)} refl {first} {last})"
+        begin += f"(λ {m} {equation}.\nlet {has} = put_bytes {link} {beside} {held} {by} in {self.mark('bytes are stored' + state.at)}"
+        begin += f"let {keep} = put_keeps {link} w.memory {self.routine.name}_ranges {inside} {kept} in {self.mark(MAY_CHANGE + state.at)}"
+        self.put = None
+        state.world = f"(record {to} {{ memory = {m} }})"
+        self.renew(state, m, Put(before, at, byte, equation, beside), has, keep)
+        return begin
+
+    def act(self, state, it):
+        """What an instruction does, with the byte that it reaches."""
+        state.pc = it.address + it.length
+        getattr(self, "do_" + it.mnemonic.lower())(state, it)
+        self.reached = None
 
     def fork(self, state, it, loops):
         """Both ways of a branch."""
@@ -204,18 +348,19 @@ class Proof(Run):
     def keeps(self, state, to="_"):
         if state.base == "w":
             return f"kept {self.stored(state)} w.memory _ {to} refl refl"
-        return f"keeps_stores {self.stored(state)} w.memory _ {state.base} {to} refl refl {state.keep}"
+        return f"keeps_stores {self.stored(state)} w.memory _ {par(state.base)} {to} refl refl {state.keep}"
 
     def only_bytes(self, state):
         low, fits = state.arithmetic(), "tt"
         for _ in state.stores:
             fits = f"({low}, refl, {fits})"
         registers = "".join(f"{it} = {low};\n" for it in "axy")
-        ram = f"bytes_after {self.stored(state)} {state.base}.memory _ (λ q. {state.bytes}.ram q) {fits} refl"
+        ram = f"bytes_after {self.stored(state)} {state.memory_is} _ (λ q. {state.has} q) {fits} refl"
         return f"record {{\n{registers}ram = {ram};\n}}"
 
     def leaf(self, state, it, loops):
         """The return."""
+        before, behind = self.settled(state, self.routine.promise.promised)
         for loop, old in loops:
             state.loop = old
             self.prepare(state, loop.invariants)
@@ -229,12 +374,18 @@ class Proof(Run):
         if state.base != "w":
             low, high = (f"({state.keep}.bytes {0x100 + k + self.s} refl)" for k in (1, 2))
             home = f"ap₂ (λ l h. (l + 256 * h + 1) % 65536) {low} {high}"
-        to = f"to = home {self.s} {state.base}; home = {home}"
+        to = f"to = home {self.s} {par(state.base)}; home = {home}"
         back = f"record {{ step = refl; {to}; registers = refl; memory = refl; decimal = refl }}"
         self.ways += 1
         end = self.wrap(loops, None, f"(_, {back}, record {{\n{body}}})")
-        begin = self.lines(state)
-        return begin + f"({state.steps}, (_, refl, {end})) {self.mark(f'line {it.line}: the return' + state.at)}"
+        begin = before + self.lines(state)
+        return begin + f"({state.steps}, (_, refl, {end})) {self.mark(f'line {it.line}: the return' + state.at)}{behind}"
+
+    def settled(self, state, clauses):
+        """The memory is taken afresh where clauses speak of bytes at addresses that are not numbers."""
+        if any(is_of_arrays(clause.expr, state) for clause in clauses):
+            return self.cut(state)
+        return "", ""
 
     def kept_registers(self, state):
         body = ""
@@ -248,7 +399,7 @@ class Proof(Run):
         return body
 
     def kept_rest(self, state):
-        return f"rest = {self.keeps(state)}; " + self.mark("a byte that does not stand behind changes may be another" + state.at)
+        return f"rest = {self.keeps(state)}; " + self.mark(MAY_CHANGE + state.at)
 
     # Loops
 
@@ -269,6 +420,7 @@ class Proof(Run):
 
     def turn(self, state, loop, loops, turn, old):
         """Back at the top of a loop that is gone through."""
+        before, behind = self.settled(state, loop.invariants)
         state.loop = old
         invariant = self.invariant(state, loop, "when the loop comes back to its label")
         says = f"the way back to {loop.within.label} wants a line decreases"
@@ -277,41 +429,45 @@ class Proof(Run):
         less = f"less = omega ({state.facts_listed}); {self.mark(says + state.at)}"
         again = f"(record {{ pc_is = refl; s_is = refl; d_is = refl;\n{less}invariant = {invariant} }})"
         self.ways += 1
-        return self.lines(state) + f"({state.steps}, (_, refl, {self.wrap(loops, turn, again)}))"
+        return before + self.lines(state) + f"({state.steps}, (_, refl, {self.wrap(loops, turn, again)})){behind}"
 
     def enter_loop(self, state, loop, loops):
+        before, behind = self.settled(state, loop.invariants)
         invariant = self.invariant(state, loop, "where the loop is entered")
         begin = self.lines(state)
-        here = f"(stepped code {state.world} {state.steps})"
+        here = here_of(state)
         v, inv = self.fresh("v"), self.fresh("i")
-        top = self.state_known_by(state, v, f"(enter {state.pc} {state.s} {v})", state.pc, inv, loop.invariants)
-        top.top, top.keep, top.depth = state.pc, f"{inv}.rest", 0
+        top = self.state_known_by(state, v, f"(enter {state.pc} {state.s} {v})", state.pc, inv, loop)
+        top.top, top.depth = state.pc, 0
+        worlds = "".join(f" {state.labels[label]}" for label in loop.labels)
         old = top.copy()
         old.lines = []
         body = self.tree(top, loops + [(loop, old)])
         return (
-            f"{begin}onto code {state.world} {here} {state.steps} _ refl "
-            f"(loops code {old.pc} {state.s} ({loop.name}_Inv w) {loop.name}_measure _ "
-            f"(λ {v} {inv}.\n{body})\n{here}\n({invariant}))"
+            f"{before}{begin}onto code {state.world} {here} {state.steps} _ refl "
+            f"(loops code {old.pc} {state.s} ({loop.name}_Inv w{worlds}) ({loop.name}_measure{worlds}) _ "
+            f"(λ {v} {inv}.\n{body})\n{here}\n({invariant})){behind}"
         )
 
-    def state_known_by(self, state, base, world, pc, fact, clauses):
+    def state_known_by(self, state, base, world, pc, fact, loop):
         """A state of which is known what stands at the entry, and these clauses, by a record's fields."""
         made = State(base, world, pc, state.s)
-        made.bytes, made.path = f"{fact}.bytes", list(state.path)
-        made.facts, made.known = list(state.ground[0]), list(state.ground[1])
-        made.ground = state.ground
-        made.keep = f"{fact}.rest"
+        made.path, made.ground, made.keep = list(state.path), state.ground, f"{fact}.rest"
+        known = state if loop.labels else state.ground
+        made.facts, made.known, made.reads, made.universals = (list(it) for it in (known.facts, known.known, known.reads, known.universals))
+        made.all_has = {**state.all_has, made.memory_is: f"{fact}.bytes.ram"}
+        made.links = {**state.links, made.memory_is: Kept("w.memory", base, made.keep, self.changed)}
+        made.labels = {**state.labels, loop.within.label: base}
         for register in "axy":
             self.fact(made, f"{fact}.bytes.{register}")
-        for k, clause in enumerate(clauses, 1):
-            self.learn(made, clause.expr, f"{fact}.e{k}", Words(base, "w"))
+        for k, clause in enumerate(loop.invariants, 1):
+            self.learn(made, clause.expr, f"{fact}.e{k}", Words(base, "w", labels=made.labels))
         for register in "AXY":
             if register not in self.routine.promise.changes.registers:
                 self.fact(made, f"{fact}.keep_{register.lower()}")
         for address in sorted(self.named):
             self.fact(made, f"{fact}.bytes.ram {address}")
-            if address not in self.changed:
+            if not is_in(self.changed, address):
                 self.fact(made, f"{fact}.rest.bytes {address} refl")
         return made
 
@@ -319,7 +475,12 @@ class Proof(Run):
 
     def call(self, state, it, loops):
         other = self.routines[it.value]
+        cut, behind = "", ""
+        if any(is_of_arrays(clause.expr, state) for clause in other.promise.wanted + other.promise.promised) or state.reads:
+            cut, behind = self.cut(state)
         self.step(state, it)
+        again, more = self.cut(state) if cut or state.links else ("", "")
+        cut, behind = cut + again, behind + more
         s = state.s
         self.calls.add((it.value, s))
         here = f"(stepped code {state.world} {state.steps})"
@@ -332,24 +493,29 @@ class Proof(Run):
         begin, mark = self.lines(state), self.mark(f"line {it.line}: the call of {other.name}" + state.at)
         u, after, kept = self.fresh("u"), self.fresh("a"), self.fresh("k")
         changed = other.changed(s)
-        self.touched |= set(changed)
+        self.touched |= {a for first, last in changed for a in range(max(first, 0x100), min(last, 0x1FF) + 1)}
         before = self.keeps(state, f"(entered 0 {here}.memory)")
-        keep = f"keeps_on w.memory {here}.memory _ {list_of(changed)} {u} {after}.rest refl ({before})"
-        behind = self.state_behind(state, other, it, u, after, changed)
-        behind.keep = kept
-        behind.lines.insert(0, (kept, f"keeps_as w.memory {self.routine.name}_changed {u} ({keep})"))
-        rest = self.tree(behind, loops)
+        inner = list_of(f"({first}, {last})" for first, last in changed)
+        keep = f"keeps_behind w.memory {here}.memory {self.routine.name}_ranges {inner} {u} {after}.rest refl ({before})"
+        last = self.state_behind(state, other, it, u, after, changed)
+        last.keep = kept
+        last.lines.insert(0, (kept, f"keeps_as w.memory {self.routine.name}_changed {u} ({keep})"))
+        rest = self.tree(last, loops)
         return (
-            f"{begin}onto code {state.world} {here} {state.steps} _ refl "
+            f"{cut}{begin}onto code {state.world} {here} {state.steps} _ refl "
             f"(call code {it.value} {s} {it.address + 3} _ _ _ {other.name}_{s}_meets {here}\n({bytes_})\n"
-            f"(record {{ {body or 'none = tt;'} }}) {mark}refl (λ {u} {after}.\n{rest}))"
+            f"(record {{ {body or 'none = tt;'} }}) {mark}refl (λ {u} {after}.\n{rest})){behind}"
         )
 
     def state_behind(self, state, other, it, u, after, changed):
         """Behind a call: what the other routine promises, of the state before it."""
         made = State(u, f"(enter {it.address + 3} {state.s + 2} {u})", it.address + 3, state.s + 2)
-        made.bytes, made.path, made.depth = f"{after}.bytes", list(state.path), state.depth
-        made.facts, made.known, made.ground, made.loop = list(state.facts), list(state.known), state.ground, state.loop
+        made.path, made.depth, made.ground, made.loop = list(state.path), state.depth, state.ground, state.loop
+        for name in ("facts", "known", "reads", "universals", "links", "all_has", "labels"):
+            setattr(made, name, copy.copy(getattr(state, name)))
+        made.all_has[made.memory_is] = f"{after}.bytes.ram"
+        if not state.stores:
+            made.links[made.memory_is] = Kept(state.memory_is, u, f"{after}.rest", changed)
         for register in "axy":
             self.fact(made, f"{after}.bytes.{register}")
         for k, clause in enumerate(other.promise.promised, 1):
@@ -359,7 +525,7 @@ class Proof(Run):
                 self.fact(made, f"{after}.keep_{register.lower()}")
         for address in sorted(self.named):
             self.fact(made, f"{after}.bytes.ram {address}")
-            if address not in changed:
+            if not is_in(changed, address):
                 self.fact(made, f"{after}.rest.bytes {address} refl")
         return made
 
@@ -371,18 +537,64 @@ class Proof(Run):
 
     def proved(self, state, e, holds):
         """A proof that a fact holds of a state, or that it does not."""
+        words = StateWords(self, state)
         if e[0] == "pair" and not (is_fact(e[2]) or is_fact(e[3])):
-            return self.compared(state, e, holds)
+            simple = self.compared(state, e, holds)
+            if simple:
+                return simple
         for letter in letters_in(e):
             self.flag_number(state, letter)
-        return self.proved_by(state, e, holds, list(state.facts))
+        if e[0] == "each":
+            return self.each_proved(state, e, holds, list(state.facts), words)
+        lets, facts = self.found(state, bytes_in(e, words), list(state.facts))
+        return lets + self.proved_by(state, e, holds, facts, words)
+
+    def found(self, state, reads, facts):
+        """The facts that a goal about bytes at addresses that are not numbers wants, named; and their names with the others."""
+        if not reads and not state.reads:
+            return "", facts
+        there = state.copy()
+        there.facts = facts
+        finder = Finder(there, self.tops, self.named)
+        finder.find(reads + state.reads)
+        text, names, known = "", list(facts), {it for _, it in state.known}
+        for term, says in finder.terms + [(term, "") for term in finder.cases[:MOST_CASES]]:
+            if term + says in known:
+                continue
+            names.append(self.fresh("g"))
+            end = self.mark("an address lies elsewhere than is thought" + state.at) if "omega" in term else "\n"
+            text += f"let {names[-1]}{' : ' + says if says else ''} = {term} in {end}"
+        return text, names
 
     def compared(self, state, e, holds):
+        """A comparison that is known by what it compares alone."""
         x, y = StateWords(self, state).sides(e[2], e[3])
         if holds and e[1] == "Equal" and without_marks(x) == without_marks(y):
             return "refl"
-        by_all = self.by_all_bytes(state, x, y) if holds and e[1] == "Equal" and not state.path else None
-        return by_all or state.arithmetic()
+        return self.by_all_bytes(state, x, y) if holds and e[1] == "Equal" and not state.path else None
+
+    def each_proved(self, state, e, holds, facts, words):
+        """A proof of what holds of each number below another."""
+        if not holds:
+            raise Refusal(0, "that for all does not hold of each can't be proved")
+        if is_unrolled(e, state):
+            return self.unrolled(state, e, facts, words)
+        i, h = self.fresh("i"), self.fresh("h")
+        self.tops[i] = max(most(e[2], [self.tops.get(it, 65535) for it in words.names]) - 1, 0)
+        there = words.counting(e, i)
+        lets, facts = self.found(state, bytes_in(e[3], there), [*facts, h])
+        return f"(λ {i} {h}.\n{lets}{self.proved_by(state, e[3], True, facts, there)})"
+
+    def unrolled(self, state, e, facts, words):
+        """One proof for each number."""
+        name = f"i{e[1]}"
+        says = words.counting(e, name).says(e[3])
+        text = f"(none_below (λ {name}. {says}))"
+        for k in range(e[2][1]):
+            there = words.counting(e, k)
+            lets, more = self.found(state, bytes_in(e[3], there), facts)
+            text = f"(one_more_below (λ {name}. {says}) {k}\n({lets}{self.proved_by(state, e[3], True, more, there)}) {text})"
+        return text
 
     def by_all_bytes(self, state, x, y):
         """An equation about bits of one byte is tried for all 256."""
@@ -393,7 +605,7 @@ class Proof(Run):
         test = f"(λ n. {x.replace(one, 'n')} == {y.replace(one, 'n')})"
         return f"eq_yes _ _ (each_byte {test} refl {par(one)} {state.arithmetic()})"
 
-    def proved_by(self, state, e, holds, facts):
+    def proved_by(self, state, e, holds, facts, words):
         kind = e[0]
         by = f"(omega ({', '.join(['arith', *facts])}))"
         if kind == "number":
@@ -401,32 +613,38 @@ class Proof(Run):
         if kind == "held":
             return self.flag_proved(state, FLAGS[e[1]], holds, facts)
         if kind == "old":
-            return self.old_proved(e[1], holds, facts)
+            return self.old_proved(e[1], holds, facts, words.at_entry())
+        if kind == "at":
+            return self.there_proved(state, e, holds, facts, words)
+        if kind == "each":
+            return self.each_proved(state, e, holds, facts, words)
         if kind == "pair" and (is_fact(e[2]) or is_fact(e[3])):
-            first = self.supposed(state, e[2], True, e[3], holds, facts)
-            return f"({first}, {self.supposed(state, e[2], False, e[3], not holds, facts)})"
+            first = self.supposed(state, e[2], True, e[3], holds, facts, words)
+            return f"({first}, {self.supposed(state, e[2], False, e[3], not holds, facts, words)})"
         if kind == "pair":
             return by
-        return self.choice_proved(state, e, holds, facts)
+        return self.choice_proved(state, e, holds, facts, words)
 
-    def choice_proved(self, state, e, holds, facts):
+    def choice_proved(self, state, e, holds, facts, words):
         _, by, one, other = e
         kind = shape(e)
         if kind in ("and", "or") and (kind == "and") == holds:
             second = one if kind == "and" else other
-            return f"({self.proved_by(state, by, holds, facts)}, {self.proved_by(state, second, holds, facts)})"
+            return f"({self.proved_by(state, by, holds, facts, words)}, {self.proved_by(state, second, holds, facts, words)})"
+        if kind in ("and", "or") and has_each(e):
+            raise Refusal(0, "for all can't be proved as one of two")
         if kind in ("and", "or"):
             return f"(grind ({', '.join(['arith', 'nat_tests', *facts])}))"
         if kind == "not":
-            return self.proved_by(state, by, not holds, facts)
+            return self.proved_by(state, by, not holds, facts, words)
         if kind == "if":
             if holds:
-                return self.supposed(state, by, True, one, True, facts)
-            return f"({self.proved_by(state, by, True, facts)}, {self.proved_by(state, one, False, facts)})"
-        first = self.supposed(state, by, True, one, holds, facts)
-        return f"({first}, {self.supposed(state, by, False, other, holds, facts)})"
+                return self.supposed(state, by, True, one, True, facts, words)
+            return f"({self.proved_by(state, by, True, facts, words)}, {self.proved_by(state, one, False, facts, words)})"
+        first = self.supposed(state, by, True, one, holds, facts, words)
+        return f"({first}, {self.supposed(state, by, False, other, holds, facts, words)})"
 
-    def supposed(self, state, by, by_holds, e, holds, facts):
+    def supposed(self, state, by, by_holds, e, holds, facts, words):
         """A proof of a fact where another holds, or does not."""
         h = self.fresh("p")
         if by[0] == "held" and state.flags[FLAGS[by[1]]][0] == "known":
@@ -438,7 +656,7 @@ class Proof(Run):
             name = self.fresh("p")
             learnt += f"let {name} = {term} in "
             names.append(name)
-        return f"(λ {h}. {learnt}{self.proved_by(state, e, holds, facts + names)})"
+        return f"(λ {h}. {learnt}{self.proved_by(state, e, holds, facts + names, words)})"
 
     def flag_proved(self, state, letter, holds, facts):
         flag = state.flags[letter]
@@ -452,11 +670,18 @@ class Proof(Run):
         test, m, n = self.test(flag)
         return f"({'yes' if holds else 'no'}_{test} {par(m)} {par(n)} {by})"
 
-    def old_proved(self, e, holds, facts):
+    def there_proved(self, state, e, holds, facts, words):
+        """A proof of what was so at a label."""
+        if e[2][0] == "held":
+            by = f"(omega ({', '.join(['arith', *facts])}))"
+            return f"(flag_{'yes' if holds else 'no'} {words.at_label(e[1]).flag(e[2][1])} {by})"
+        return self.proved_by(State(words.labels[e[1]], "w", 0, 0), e[2], holds, facts, words.at_label(e[1]))
+
+    def old_proved(self, e, holds, facts, words):
         if e[0] == "held":
             by = f"(omega ({', '.join(['arith', *facts])}))"
             return f"(flag_{'yes' if holds else 'no'} w.registers.flags.{FLAGS[e[1]].lower()} {by})"
-        return self.proved_by(State("w", "w", 0, 0), e, holds, facts)
+        return self.proved_by(State("w", "w", 0, 0), e, holds, facts, words)
 
     # Products
 
@@ -483,7 +708,7 @@ class Proof(Run):
         for x, y, e in ((s, t, b), (t, s, a)):
             self.fact(state, f"product_ge {par(x)} {par(y)}")
             address = cell_of(e)
-            if address is not None and state.base != "w" and address not in state.memory and address not in self.changed:
+            if address is not None and state.base != "w" and address not in state.memory and not is_in(self.changed, address):
                 self.fact(state, f"ap (λ n. {par(x)} * n) ({state.keep}.bytes {address} refl)")
             if bare(x) in state.zeros:
                 self.fact(state, f"product_zero {par(x)} {par(y)} {state.zeros[bare(x)]}")
@@ -514,7 +739,9 @@ class BehindWords(Words):
         self.before = before
 
     def at_entry(self):
-        return self.before
+        made = copy.copy(self.before)
+        made.names, made.noted = self.names, self.noted
+        return made
 
 
 def wanted_by(term):
@@ -525,9 +752,130 @@ def wanted_by(term):
     return f"that {wants} is wanted here, and no line says it," if wants else "bytes are wanted below 256"
 
 
-def is_unknown_load(state, it):
-    """Whether an instruction is an LDA of an address of which the index is not known."""
-    return it.mnemonic == "LDA" and it.mode in ("AbsoluteX", "AbsoluteY") and not isinstance(state.registers[it.mode[-1]], int)
+def here_of(state):
+    """The world that a state is, as a term."""
+    return f"(stepped code {state.world} {state.steps})" if state.steps else state.world
+
+
+def coming_to(state):
+    """What stands before a rule that begins at a state."""
+    return f"onto code {state.world} {here_of(state)} {state.steps} _ refl (" if state.steps else ""
+
+
+def merged(ranges):
+    """The same addresses, as ranges no two of which touch."""
+    made = []
+    for first, last in sorted(ranges):
+        if made and first <= made[-1][1] + 1:
+            made[-1] = (made[-1][0], max(made[-1][1], last))
+        else:
+            made.append((first, last))
+    return made
+
+
+def is_in(ranges, address):
+    return any(first <= address <= last for first, last in ranges)
+
+
+# Opcodes of modes whose address may not be known: those of A's operations lie as far apart as these from the first.
+OPERATIONS = {"ORA": 0x00, "AND": 0x20, "EOR": 0x40, "ADC": 0x60, "STA": 0x80, "LDA": 0xA0, "CMP": 0xC0, "SBC": 0xE0}
+OPERATION_MODES = {"ZeroPageX": (0x15, 4), "AbsoluteX": (0x1D, 4), "AbsoluteY": (0x19, 4), "IndexedIndirect": (0x01, 6), "IndirectIndexed": (0x11, 5)}
+CHANGING = {"ASL": 0x00, "ROL": 0x20, "LSR": 0x40, "ROR": 0x60, "DEC": 0xC0, "INC": 0xE0}
+CHANGING_MODES = {"ZeroPageX": (0x16, 6), "AbsoluteX": (0x1E, 7)}
+OTHER_ROWS = {
+    ("LDX", "ZeroPageY"): ("fixed", 0xB6, 4),
+    ("LDX", "AbsoluteY"): ("paged", 0xBE, 4),
+    ("LDY", "ZeroPageX"): ("fixed", 0xB4, 4),
+    ("LDY", "AbsoluteX"): ("paged", 0xBC, 4),
+    ("STX", "ZeroPageY"): ("fixed", 0x96, 4),
+    ("STY", "ZeroPageX"): ("fixed", 0x94, 4),
+}
+PAGED = ("AbsoluteX", "AbsoluteY", "IndirectIndexed")
+
+
+def row_of(it):
+    """The row of an instruction in the table of opcodes."""
+    if it.mnemonic in OPERATIONS:
+        opcode, cycles = OPERATION_MODES[it.mode]
+        opcode += OPERATIONS[it.mnemonic]
+        word = "paged" if it.mode in PAGED and it.mnemonic != "STA" else "fixed"
+        cycles += it.mnemonic == "STA" and it.mode in PAGED
+    elif it.mnemonic in CHANGING:
+        opcode, cycles = CHANGING_MODES[it.mode]
+        opcode, word = opcode + CHANGING[it.mnemonic], "fixed"
+    else:
+        word, opcode, cycles = OTHER_ROWS[it.mnemonic, it.mode]
+    return f"({word} {it.mnemonic.capitalize()} {it.mode} {opcode} {cycles})"
+
+
+def parts_of(e):
+    """An expression and all that it is made of."""
+    yield e
+    for part in e[1:]:
+        if isinstance(part, tuple):
+            yield from parts_of(part)
+
+
+def without_old(e):
+    return e[-1] if e[0] in ("old", "at") else e
+
+
+def has_each(e):
+    return any(it[0] == "each" for it in parts_of(e))
+
+
+def is_unrolled(e, state):
+    """Whether each number is gone through, as there are few and no byte was stored at an address that is not known."""
+    return e[2][0] == "number" and e[2][1] <= MOST_UNROLLED and not state.links and not state.universals
+
+
+def is_of_arrays(e, state):
+    """Whether a fact speaks of bytes at addresses that are not numbers."""
+    if e[0] == "each":
+        return not is_unrolled(e, state) and any(it[0] in ("of", "each") for it in parts_of(e[3]))
+    if e[0] == "of" and e[1] != "Signed" and any(it[0] != "number" for it in parts_of(e[2])):
+        return True
+    return any(is_of_arrays(it, state) for it in e[1:] if isinstance(it, tuple))
+
+
+def bytes_in(e, words):
+    """The bytes at addresses that are not numbers of which a fact speaks, but for those where something is counted."""
+    if e[0] == "each":
+        return bytes_in(e[2], words)
+    if e[0] == "old":
+        return bytes_in(e[1], words.at_entry())
+    if e[0] == "at":
+        return bytes_in(e[2], words.at_label(e[1]))
+    found = []
+    if e[0] in ("of", "sum"):
+        there = copy.copy(words)
+        there.noted = []
+        there.plain(e) if e[1] != "Signed" else there.plain(e[2])
+        found = there.noted
+    elif e[0] != "bound":
+        found = [it for part in e[1:] if isinstance(part, tuple) for it in bytes_in(part, words)]
+    return list(dict.fromkeys(found))
+
+
+def universals_in(e, fact):
+    """What a fact says of each number below another."""
+    if e[0] == "each":
+        yield fact, e
+    elif e[0] == "choice" and shape(e) == "and":
+        yield from universals_in(e[1], f"({fact}).0")
+        yield from universals_in(e[2], f"({fact}).1")
+
+
+def tops_in(e, words):
+    """What registers and bytes are not above, as comparisons with numbers say."""
+    if e[0] == "choice" and shape(e) == "and":
+        return tops_in(e[1], words) | tops_in(e[2], words)
+    if e[0] != "pair" or e[1] not in ("Less", "AtMost", "Equal") or e[3][0] != "number" or constant(e) is not None:
+        return {}
+    held = without_old(e[2])
+    if held[0] == "held" or held[0] == "of" and held[1] == "Byte" and held[2][0] == "number":
+        return {bare(words.plain(e[2])): max(e[3][1] - (e[1] == "Less"), 0)}
+    return {}
 
 
 def without_marks(text):
@@ -547,6 +895,8 @@ def known_by(e, fact, holds, flag_of):
         return [f"{test}_{'yes' if holds else 'no'} {par(m)} {par(n)} {fact}"]
     if e[0] == "old" and e[1][0] == "held":
         return [f"ap (λ b. one_if b) {fact}"]
+    if e[0] == "each":
+        return []
     if e[0] == "choice":
         kind = shape(e)
         if kind == "not":
@@ -559,6 +909,8 @@ def known_by(e, fact, holds, flag_of):
 
 def letters_in(e):
     """The flags that an expression names, behind the routine."""
+    if e[0] in ("bound", "at"):
+        return []
     if e[0] == "held":
         return [FLAGS[e[1]]] if e[1] in FLAGS else []
     if e[0] == "old":
@@ -567,7 +919,9 @@ def letters_in(e):
 
 
 def products_in(e):
-    """Products of numbers that are not written."""
+    """Products of numbers that are not written, but for those where something is counted."""
+    if e[0] in ("each", "sum"):
+        return
     if e[0] == "pair" and e[1] == "Times" and e[2][0] != "number" and e[3][0] != "number":
         yield e[2], e[3]
     for part in e[1:]:

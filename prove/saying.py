@@ -1,7 +1,10 @@
 """What an expression says of two worlds, as the prover reads it: the very terms that `view` and `claim` of
 crates/a2_rules/proofs/Saying.antt compute, and of which expressions they speak."""
 
-from .terms import par
+import copy
+
+from .refusal import Refusal
+from .terms import bare, par
 
 COMPARED = {"Equal": ("≡", "≢"), "Less": ("<", "≤"), "AtMost": ("≤", "<")}
 REGISTERS = ("A", "X", "Y")
@@ -10,12 +13,14 @@ OTHERS = {"Cycles": "cycles", "Steps": "steps", "Decimal": "D", "Interrupt": "I"
 BY_IF = "a number by if can't be proved: write if P then A = E else A = E"
 BYTES = {"BitAnd": "◌&&◌", "BitOr": "◌||◌", "BitXor": "differ"}
 OPERATORS = {"Plus": "+", "Times": "*", "Over": "/"}
+# How many numbers a sum may have.
+MOST_SUMMED = 64
 
 
 def is_minus(e):
     """Whether a number may be below 0."""
-    if e[0] == "old":
-        return is_minus(e[1])
+    if e[0] in ("old", "at"):
+        return is_minus(e[-1])
     if e[0] == "of":
         return e[1] == "Signed"
     return e[0] == "pair" and (e[1] == "Minus" or e[1] == "Plus" and (is_minus(e[2]) or is_minus(e[3])))
@@ -23,14 +28,14 @@ def is_minus(e):
 
 def is_fact(e):
     """Whether an expression says that something holds, and is no flag."""
-    if e[0] == "old":
-        return is_fact(e[1])
-    return e[0] == "choice" or e[0] == "pair" and e[1] in COMPARED
+    if e[0] in ("old", "at"):
+        return is_fact(e[-1])
+    return e[0] in ("choice", "each") or e[0] == "pair" and e[1] in COMPARED
 
 
 def is_flag(e):
     """Whether an expression says that something holds."""
-    return is_fact(e) or e[0] == "held" and e[1] not in REGISTERS or e[0] == "old" and is_flag(e[1]) or e[0] == "each"
+    return is_fact(e) or e[0] == "held" and e[1] not in REGISTERS or e[0] in ("old", "at") and is_flag(e[-1])
 
 
 def constant(e):
@@ -50,54 +55,63 @@ def shape(e):
 # Which expressions can be proved
 
 
-def most(e):
-    """A number that an expression is not above."""
+def most(e, tops=()):
+    """A number that an expression is not above, by what each name is not above."""
     kind = e[0]
     if kind == "number":
         return e[1]
-    if kind == "old":
-        return most(e[1])
+    if kind == "bound":
+        return tops[e[1]]
+    if kind in ("old", "at"):
+        return most(e[-1], tops)
     if kind == "of":
-        return {"Byte": 255, "Word": 65535}.get(e[1], 256)
+        return most(e[2], tops) if e[1] == "Abs" else {"Byte": 255, "Word": 65535}.get(e[1], 256)
     if kind == "pair":
-        m, n = most(e[2]), most(e[3])
+        m, n = most(e[2], tops), most(e[3], tops)
         return {"Plus": m + n, "Minus": m + n, "Times": m * n, "Over": m, "Modulo": n, "Min": m, "Max": m + n}.get(e[1], 255)
+    if kind == "sum":
+        return most(e[2], tops) * most(e[3], within(e, tops))
     return 255
 
 
-def why_no_number(e):
+def within(e, tops):
+    """What each name is not above within what is counted."""
+    return (*tops[: e[1]], max(most(e[2], tops) - 1, 0))
+
+
+def why_no_number(e, tops=()):
     """Why the rules do not speak of a number; None if they do."""
     kind = e[0]
-    if kind == "number":
+    if kind in ("number", "bound"):
         return None
     if kind == "held":
         if e[1] in REGISTERS or e[1] in FLAGS:
             return None
         return f"{OTHERS.get(e[1], e[1])} can't be proved: A, X, Y and the flags C, Z, N, V can"
-    if kind == "old":
-        return why_no_number(e[1])
+    if kind in ("old", "at"):
+        return why_no_number(e[-1], tops)
     if kind == "of":
-        return why_no_number(e[2]) or why_no_place(e)
+        return why_no_number(e[2], tops) or why_no_place(e, tops)
     if kind == "pair":
-        return why_no_number(e[2]) or why_no_number(e[3]) or why_not_joined(e)
-    if kind == "choice":
-        return BY_IF
-    return "for all and sum can't be proved: name each byte"
+        return why_no_number(e[2], tops) or why_no_number(e[3], tops) or why_not_joined(e, tops)
+    if kind == "sum":
+        return why_no_sum(e, tops)
+    return BY_IF
 
 
-def why_no_place(e):
+def why_no_place(e, tops):
     if e[1] == "Abs":
-        return "abs can't be proved: say it by comparisons"
+        return None
     if e[1] == "Signed":
-        return "signed is proved of bytes only" if is_minus(e[2]) or most(e[2]) > 255 else None
+        return "signed is proved of bytes only" if is_minus(e[2]) or most(e[2], tops) > 255 else None
     if is_minus(e[2]):
         return "an address that is a difference can't be proved: write it as a sum"
-    if most(e[2]) >= (0xC000 if e[1] == "Byte" else 0xBFFF):
+    if most(e[2], tops) >= (0xC000 if e[1] == "Byte" else 0xBFFF):
         return "this address may lie at $C000 or above: only bytes of RAM can be proved"
     return None
 
 
-def why_not_joined(e):
+def why_not_joined(e, tops):
     _, op, x, y = e
     if op in COMPARED:
         return "a comparison can't be proved as a number"
@@ -107,46 +121,75 @@ def why_not_joined(e):
         return "a quotient is proved only by a number that is written, and above 0"
     if op in ("Times", "Over", "Min", "Max", "Bit", *BYTES) and (is_minus(x) or op != "Over" and is_minus(y)):
         return "a difference may stand in a sum, before % and at a comparison: elsewhere it can't be proved"
-    if op in BYTES and (most(x) > 255 or most(y) > 255):
+    if op in BYTES and (most(x, tops) > 255 or most(y, tops) > 255):
         return "bits are proved of bytes only"
-    if op == "Bit" and most(y) > 65535:
+    if op == "Bit" and most(y, tops) > 65535:
         return "a bit is proved of a byte or a word"
-    if op in ("Plus", "Minus", "Times") and most(e) >= 2**63:
+    if op in ("Plus", "Minus", "Times") and most(e, tops) >= 2**63:
         return "this number may be too great"
     return None
 
 
-def why_no_fact(e):
+def why_no_sum(e, tops):
+    if e[2][0] != "number" or e[2][1] > MOST_SUMMED:
+        return f"a sum is proved only of so many as a number says, at most {MOST_SUMMED}"
+    if is_minus(e[3]):
+        return "differences can't be summed"
+    return why_no_number(e[3], within(e, tops))
+
+
+def why_no_fact(e, tops=()):
     """Why the rules do not speak of a fact; None if they do."""
     kind = e[0]
     if kind == "number":
         return None
     if kind == "held":
         return None if e[1] in FLAGS else f"{OTHERS.get(e[1], e[1])} can't be proved: the flags C, Z, N, V can"
-    if kind == "old":
-        return why_no_fact(e[1])
+    if kind in ("old", "at"):
+        return why_no_fact(e[-1], tops)
     if kind == "pair" and e[1] in COMPARED:
         if (is_fact(e[2]) or is_fact(e[3])) and not (is_flag(e[2]) and is_flag(e[3])):
             return BY_IF
         if is_fact(e[2]) or is_fact(e[3]):
-            return why_no_fact(e[2]) or why_no_fact(e[3])
-        return why_no_number(e[2]) or why_no_number(e[3])
+            return why_no_fact(e[2], tops) or why_no_fact(e[3], tops)
+        return why_no_number(e[2], tops) or why_no_number(e[3], tops)
     if kind == "choice":
-        return why_no_fact(e[1]) or why_no_fact(e[2]) or why_no_fact(e[3])
-    return "for all and sum can't be proved: name each byte"
+        return why_no_fact(e[1], tops) or why_no_fact(e[2], tops) or why_no_fact(e[3], tops)
+    if most(e[2], tops) > 65535:
+        return "this counts more than 65,535"
+    return why_no_number(e[2], tops) or why_no_fact(e[3], within(e, tops))
 
 
 # Terms
 
 
 class Words:
-    """Terms of an expression, of the worlds that these names stand for: the one it speaks of, and the one at the entry."""
+    """Terms of an expression, of the worlds that these names stand for: the one it speaks of, and the one at the entry. `names` are
+    what is counted stands for; bytes at addresses that are not numbers are noted, each with its memory."""
 
-    def __init__(self, new, old):
-        self.new, self.old = new, old
+    def __init__(self, new, old, names=(), noted=None, labels=None):
+        self.new, self.old, self.names = new, old, names
+        self.noted = [] if noted is None else noted
+        # the worlds in which the run last came to labels
+        self.labels = labels or {}
 
     def at_entry(self):
-        return Words(self.old, self.old)
+        return Words(self.old, self.old, self.names, self.noted)
+
+    def at_label(self, label):
+        if label not in self.labels:
+            raise Refusal(0, f"the run has not come to {label} here, in a loop around this one")
+        return Words(self.labels[label], self.old, self.names, self.noted, self.labels)
+
+    def counting(self, e, term):
+        """The same where what is counted stands for a term."""
+        made = copy.copy(self)
+        made.names = (*self.names[: e[1]], term)
+        return made
+
+    @property
+    def memory(self):
+        return f"{self.new}.memory"
 
     def part(self, atom):
         if atom in REGISTERS:
@@ -157,10 +200,18 @@ class Words:
         return f"{self.new}.registers.flags.{FLAGS[atom].lower()}"
 
     def byte(self, address):
-        return f"ram_byte {self.new}.memory {par(address)}"
+        self.note(address)
+        return f"ram_byte {self.memory} {par(address)}"
 
     def word(self, address):
-        return f"word {self.new}.memory {par(address)}"
+        if not str(address).isdigit():
+            self.note(address)
+            self.note(f"({address} + 1)")
+        return f"word {self.memory} {par(address)}"
+
+    def note(self, address):
+        if not str(address).isdigit():
+            self.noted.append((self.memory, bare(address)))
 
     # Numbers
 
@@ -170,15 +221,24 @@ class Words:
             return str(e[1])
         if kind == "held":
             return self.part(e[1])
+        if kind == "bound":
+            return str(self.names[e[1]])
         if kind == "old":
             return self.at_entry().plain(e[1])
+        if kind == "at":
+            return self.at_label(e[1]).plain(e[2])
+        if kind == "sum":
+            return "(" + " + ".join(["0"] + [self.counting(e, k).plain(e[3]) for k in range(e[2][1])]) + ")"
+        if kind == "of" and e[1] == "Abs":
+            up, down = self.up(e[2]), self.down(e[2])
+            return f"(({up} - {down}) + ({down} - {up}))"
         if kind == "of":
             return (self.byte if e[1] == "Byte" else self.word)(self.plain(e[2]))
         return self.joined(*e[1:])
 
     def joined(self, op, x, y):
         if op in OPERATORS:
-            return f"({self.plain(x)} {OPERATORS[op]} {self.plain(y)})"
+            return operated(op, self.plain(x), self.plain(y))
         if op in BYTES:
             return f"(by_digits 8 {BYTES[op]} {par(self.plain(x))} {par(self.plain(y))})"
         if op == "Modulo":
@@ -192,6 +252,8 @@ class Words:
     def up(self, e):
         if e[0] == "old" and is_minus(e):
             return self.at_entry().up(e[1])
+        if e[0] == "at" and is_minus(e):
+            return self.at_label(e[1]).up(e[2])
         if e[0] == "of" and e[1] == "Signed":
             return self.plain(e[2])
         if e[0] == "pair" and e[1] == "Minus":
@@ -203,6 +265,8 @@ class Words:
     def down(self, e):
         if e[0] == "old" and is_minus(e):
             return self.at_entry().down(e[1])
+        if e[0] == "at" and is_minus(e):
+            return self.at_label(e[1]).down(e[2])
         if e[0] == "of" and e[1] == "Signed":
             return f"(256 * (one_if (nat_le 128 {par(self.plain(e[2]))})))"
         if e[0] == "pair" and e[1] == "Minus":
@@ -228,9 +292,19 @@ class Words:
             return f"{self.flag(e[1])} ≡ {'true' if holds else 'false'}"
         if kind == "old":
             return self.at_entry().says(e[1], holds)
+        if kind == "at":
+            return self.at_label(e[1]).says(e[2], holds)
         if kind == "pair":
             return self.pair_says(e, holds)
+        if kind == "each":
+            return self.each_says(e, holds)
         return self.choice_says(e, holds)
+
+    def each_says(self, e, holds):
+        name = f"i{e[1]}"
+        one = self.counting(e, name).says(e[3], holds)
+        less = f"{name} + {self.down(e[2])} < {self.up(e[2])}"
+        return f"({name} : ℕ) → {less} → ({one})" if holds else f"({name} : ℕ) × ({less}) × ({one})"
 
     def pair_says(self, e, holds):
         _, op, x, y = e
@@ -261,10 +335,21 @@ class Words:
         return f"({self.implies(by, True, one, holds)}) × ({self.implies(by, False, other, holds)})"
 
 
+def operated(op, x, y):
+    if not (x.isdigit() and y.isdigit()):
+        return f"({x} {OPERATORS[op]} {y})"
+    m, n = int(x), int(y)
+    return str({"Plus": m + n, "Times": m * n}.get(op, m // n if n else 0))
+
+
 def signed_in(e, words):
     """The bytes of which an expression takes the sign, as terms."""
     if e[0] == "old":
         yield from signed_in(e[1], words.at_entry())
+        return
+    if e[0] == "at":
+        yield from signed_in(e[2], words.at_label(e[1]))
+    if e[0] in ("each", "sum", "at"):
         return
     if e[0] == "of" and e[1] == "Signed":
         yield words.plain(e[2])
@@ -289,4 +374,8 @@ def phrase(e):
         return f"(of function.{e[1]} {phrase(e[2])})"
     if kind == "pair":
         return f"(pair operation.{e[1]} {phrase(e[2])} {phrase(e[3])})"
+    if kind == "bound":
+        return f"(bound {e[1]})"
+    if kind in ("each", "sum"):
+        return f"({kind} {e[1]} {phrase(e[2])} {phrase(e[3])})"
     return f"(choice {phrase(e[1])} {phrase(e[2])} {phrase(e[3])})"

@@ -3,6 +3,7 @@ that the prover's arithmetic wants."""
 
 import copy
 import re
+from typing import NamedTuple
 
 from .refusal import Refusal
 from .saying import BYTES, FLAGS, Words
@@ -10,6 +11,15 @@ from .terms import add, modulo, par
 
 ONES = re.compile(r"0*1+0*")
 INDEXED = ("ZeroPageX", "ZeroPageY", "AbsoluteX", "AbsoluteY")
+
+
+class Ground(NamedTuple):
+    """What is known of the world at the entry, wherever the run is."""
+
+    facts: list
+    known: list
+    reads: list
+    universals: list
 
 
 class State:
@@ -20,8 +30,8 @@ class State:
         self.steps = 0
         # the loop at whose top it stands
         self.top = None
-        # the facts that `base` holds bytes, and that what may not be changed is as at the entry; None where `base` is that world
-        self.bytes, self.keep = "bytes", None
+        # its memory; the facts that it holds bytes, and that what may not be changed is as at the entry, None where it is that world's
+        self.memory_is, self.keep = f"{base}.memory", None
         self.registers = {it: f"{base}.registers.{it.lower()}" for it in "AXY"}
         self.flags = {it: ("unknown", f"{base}.registers.flags.{it.lower()}") for it in "NVZC"}
         # bytes that were stored, by their addresses; and the stores in their order
@@ -32,15 +42,25 @@ class State:
         self.path, self.depth = [], 0
         # facts that a term is 0
         self.zeros = {}
+        # how each memory came of another; bytes that were read at addresses that are not numbers; what holds of each number below another
+        self.links, self.reads, self.universals = {}, [], []
+        # the worlds in which the run last came to the labels of loops
+        self.labels = {}
+        # facts that memories hold bytes
+        self.all_has = {self.memory_is: "bytes.ram"}
         # what a loop's top was, where a round of it is under way; and what was known at the entry of the routine
         self.loop = None
-        self.ground = ([], [])
+        self.ground = Ground([], [], [], [])
 
     def copy(self):
         made = copy.copy(self)
-        for name in ("registers", "flags", "memory", "stores", "facts", "lines", "known", "path", "zeros"):
+        for name in ("registers", "flags", "memory", "stores", "facts", "lines", "known", "path", "zeros", "links", "reads", "universals", "all_has"):
             setattr(made, name, copy.copy(getattr(self, name)))
         return made
+
+    @property
+    def has(self):
+        return self.all_has[self.memory_is]
 
     @property
     def at(self):
@@ -59,8 +79,12 @@ class StateWords(Words):
     """Terms of an expression behind what was done up to a state."""
 
     def __init__(self, run, state):
-        super().__init__(state.base, "w")
+        super().__init__(state.base, "w", labels=state.labels)
         self.run, self.state = run, state
+
+    @property
+    def memory(self):
+        return self.state.memory_is
 
     def part(self, atom):
         if atom in self.state.registers:
@@ -70,7 +94,13 @@ class StateWords(Words):
     def byte(self, address):
         if str(address).isdigit():
             return str(self.run.cell(self.state, int(address)))
-        return super().byte(address)
+        return f"({super().byte(address)})"
+
+    def word(self, address):
+        if str(address).isdigit():
+            low, high = (self.run.cell(self.state, int(address) + k) for k in (0, 1))
+            return f"({low} + 256 * {high})"
+        return super().word(address)
 
 
 class Run:
@@ -80,25 +110,28 @@ class Run:
         self.program = program
         self.names = 0
         self.touched = set()
+        # the byte that an instruction reads at an address that is not a number, and the one that it stores there
+        self.reached, self.put = None, None
 
     def fresh(self, letter):
         self.names += 1
         return f"{letter}{self.names}"
 
-    def fact(self, state, term):
-        """Has the arithmetic know what a term proves."""
-        if any(term == known for _, known in state.known):
+    def fact(self, state, term, says=""):
+        """Has the arithmetic know what a term proves; where that is not what it computes to, it is said."""
+        if any(term + says == known for _, known in state.known):
             return
         name = self.fresh("f")
-        state.known.append((name, term))
-        state.lines.append((name, term))
+        state.known.append((name, term + says))
+        state.lines.append((f"{name} : {says}" if says else name, term))
         state.facts.append(name)
 
     def cell(self, state, address):
         if address in state.memory:
             return state.memory[address]
-        self.fact(state, f"{state.bytes}.ram {address}")
-        return f"(ram_byte {state.base}.memory {address})"
+        self.fact(state, f"{state.has} {address}")
+        self.follow(state, address)
+        return f"(ram_byte {state.memory_is} {address})"
 
     # Flags: ('known', b), ('sum', t) for 256 ≤ t, ('le', m, n), ('odd', t), ('eq', m, n), ('unknown', term),
     # ('overflow', term, a, b, c) of a sum, ('opaque',)
@@ -147,27 +180,50 @@ class Run:
         if it.mode in ("ZeroPage", "Absolute"):
             address = it.value
         elif it.mode in INDEXED:
-            index = state.registers[it.mode[-1]]
-            if not isinstance(index, int):
-                says = f"{it.mnemonic} by an index {it.mode[-1]} that is not known here can't be proved yet"
-                raise Refusal(it.line, says + ", but for LDA of an absolute address")
-            address = (it.value + index) & (255 if it.mode.startswith("Zero") else 0xFFFF)
+            address = (it.value + state.registers[it.mode[-1]]) & (255 if it.mode.startswith("Zero") else 0xFFFF)
         else:
-            raise Refusal(it.line, f"{it.mnemonic} through a pointer can't be proved yet")
+            low, high = (self.cell(state, a) for a in self.pointer(state, it))
+            address = (low + 256 * high + (state.registers["Y"] if it.mode == "IndirectIndexed" else 0)) & 0xFFFF
         if address >= 0xC000:
             raise Refusal(it.line, f"${address:04X} lies above RAM: what keys and switches give can't be proved")
         return address
+
+    @staticmethod
+    def pointer(state, it):
+        """The addresses of the two bytes of a pointer, where these are known."""
+        at = it.value + (state.registers["X"] if it.mode == "IndexedIndirect" else 0)
+        return at & 255, (at + 1) & 255
+
+    def is_reached(self, state, it):
+        """Whether an instruction reads or stores at an address that is not known by value."""
+        if it.mode in INDEXED:
+            return not isinstance(state.registers[it.mode[-1]], int)
+        if it.mode == "IndexedIndirect" and not isinstance(state.registers["X"], int):
+            raise Refusal(it.line, f"{it.mnemonic} through a pointer that X chooses can't be proved where X is not known")
+        if it.mode not in ("IndexedIndirect", "IndirectIndexed"):
+            return False
+        parts = [state.memory.get(a) for a in self.pointer(state, it)]
+        if it.mode == "IndirectIndexed":
+            parts.append(state.registers["Y"])
+        return not all(isinstance(part, int) for part in parts)
+
+    def follow(self, state, address):
+        """Has the arithmetic know what a byte's memory says of it."""
 
     def read(self, state, it):
         if it.mode == "Immediate":
             return it.value
         if it.mode == "Accumulator":
             return state.registers["A"]
+        if self.reached is not None:
+            return self.reached
         return self.cell(state, self.address(state, it))
 
     def write(self, state, it, term):
         if it.mode == "Accumulator":
             state.registers["A"] = term
+        elif self.reached is not None:
+            self.put = term
         else:
             self.store(state, it, self.address(state, it), term)
 

@@ -11,6 +11,7 @@ STATES = 400
 TRIES = 60 * STATES
 STEPS = 100_000
 MOST_SHOWN = 12
+MOST_OF_ARRAY = 24
 
 
 def cells_in(e):
@@ -25,8 +26,17 @@ def cells_of(promise):
     return {a for clause in promise.wanted + promise.promised for a in cells_in(clause.expr) if a < 0xC000}
 
 
+def array_cells(e):
+    """Some addresses of RAM at which an expression reads where something is counted."""
+    if e[0] == "of" and e[2][0] == "pair" and e[2][1] == "Plus" and e[2][2][0] == "number":
+        return set(range(e[2][2][1], e[2][2][1] + MOST_OF_ARRAY))
+    return {a for part in e[1:] if isinstance(part, tuple) for a in array_cells(part)}
+
+
 def inputs_of(program, promise):
     cells = cells_of(promise)
+    for clause in promise.wanted + promise.promised:
+        cells |= array_cells(clause.expr)
     for it in program.statements:
         if it.is_instruction and it.mode in ("ZeroPage", "Absolute") and it.mnemonic not in ("JSR", "JMP"):
             cells.add(it.value)
@@ -39,6 +49,7 @@ class States:
     def __init__(self, program, promise):
         self.random = random.Random(1)
         self.cells = inputs_of(program, promise)
+        self.wanted = [clause.expr for clause in promise.wanted]
         self.laid = {it.address + k: byte for it in program.statements for k, byte in enumerate(it.bytes)}
         self.memory = None
         self.count = 0
@@ -61,7 +72,25 @@ class States:
             memory[address] = self.byte(mood)
         registers = {letter: self.byte(self.random.randrange(2)) for letter in "AXY"} | {"S": 0xFD}
         flags = {letter: self.random.randrange(2) for letter in "CZNVI"} | {"D": 0}
+        for e in self.wanted:
+            meet(e, registers, memory)
         return State(registers, flags, memory)
+
+
+def meet(e, registers, memory):
+    """Makes a state as a fact wants it, where that is a register, a byte or a word that is a number."""
+    if e[0] == "choice" and e[3] == ("number", 0):
+        meet(e[1], registers, memory)
+        meet(e[2], registers, memory)
+    if e[:2] != ("pair", "Equal") or e[3][0] != "number":
+        return
+    held, number = e[2], e[3][1]
+    if held[0] == "held" and held[1] in registers and number < 256:
+        registers[held[1]] = number
+    if held[0] == "of" and held[2][0] == "number" and held[1] in ("Byte", "Word") and number < 65536:
+        memory[held[2][1]] = number & 255
+        if held[1] == "Word":
+            memory[held[2][1] + 1] = number >> 8
 
 
 def shown(state, cells, letters="AXYC"):

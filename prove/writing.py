@@ -4,7 +4,7 @@ import re
 import shutil
 from dataclasses import dataclass
 
-from .saying import Words, phrase
+from .saying import Words, is_minus, phrase
 from .terms import list_of
 
 CRATE = "promised"
@@ -21,7 +21,7 @@ use Rattle.std.specs.List.{concat}
 use Rattle.a2_promise.specs.declared.expr.Atom.TheVariants as atom
 use Rattle.a2_promise.specs.declared.expr.Function.TheVariants as function
 use Rattle.a2_promise.specs.declared.expr.Operation.TheVariants as operation
-use Rattle.a2_rules.specs.Phrases.{number, held, old, of, pair, choice}
+use Rattle.a2_rules.specs.Phrases.{number, held, bound, old, of, pair, choice, each, sum}
 use Rattle.a2_rules.specs.Promised.{Said}
 """
 
@@ -40,7 +40,6 @@ use Rattle.promised.specs.Statements.{text}
 PROOF_USES = """use Rattle.std.specs.Prelude.{◌≡◌, ◌≢◌, ◌<◌, ◌≤◌, ◌⊎◌, ℕ, ◌+◌, ◌*◌, ◌/◌, ◌%◌, ◌-◌, ◌&&◌, ◌||◌, ◌==◌, nat_le, nat_lt, min, max, ℤ, pos, ◌+ℤ◌, Bool, true, false, List, [], ◌∷◌, refl}
 use Rattle.std.proofs.Common.{sym, ap, ap₂, ◌∙◌, arith, inl, inr, true≢false}
 use Rattle.std.proofs.lemmas.Bool.Decides.{nat_tests}
-use Rattle.a2_text.specs.Bytes.{is_among}
 use Rattle.a2_cpu.specs.Arithmetic.{by_digits, differ, overflows, signed}
 use Rattle.a2_cpu.specs.Registers.{one_if}
 use Rattle.a2_bus.specs.Memory.{Memory, ram_byte}
@@ -48,14 +47,19 @@ use Rattle.a2_services.specs.World.{World}
 use Rattle.a2_machine.proofs.Computing.{computing}
 use Rattle.a2_lessons.specs.Routines.{entered, Keeps, word}
 use Rattle.a2_lessons.proofs.Branching.{N, V, Z, C, with_flag}
-use Rattle.a2_lessons.proofs.Keeping.{kept, keeps_stores, keeps_on}
+use Rattle.a2_lessons.proofs.Keeping.{kept, keeps_all, keeps_stores}
 use Rattle.a2_lessons.proofs.Carrying.{fits_word}
-use Rattle.a2_lessons.proofs.Indexing.{load_x, load_y, loaded_at}
 use Rattle.a2_rules.specs.Worlds.{OnlyBytes}
 use Rattle.a2_rules.proofs.Bits.{bit_small, digits_small}
 use Rattle.a2_rules.proofs.Overflow.{overflow_bit}
 use Rattle.a2_rules.proofs.Meeting.{enter, stepped, home, Meets}
-use Rattle.a2_rules.proofs.Proving.{onto, fork, loops, call, bytes_after, whole, le_bit, odd_bit, eq_bit, le_yes, le_no, eq_yes, eq_no, each_byte, product_down, product_up, product_zero, product_ge, mul_swap, yes_le, no_le, yes_eq, no_eq, keeps_as, flag_yes, flag_no, weaken}
+use Rattle.a2_rules.proofs.Proving.{onto, fork, loops, call, bytes_after, whole, le_bit, odd_bit, eq_bit, le_yes, le_no, eq_yes, eq_no, each_byte, product_down, product_up, product_zero, product_ge, mul_swap, yes_le, no_le, yes_eq, no_eq, keeps_as, flag_yes, flag_no, weaken, none_below, one_more_below}
+use Rattle.a2_rules.proofs.Ranges.{is_in, in_ranges, not_among, keeps_behind, kept_beside, kept_or_in}
+use Rattle.a2_rules.proofs.Reaching.{take, put, change, taking, putting, changing}
+use Rattle.a2_rules.proofs.Afresh.{afresh, put_here, put_other, put_read, put_bytes, put_keeps, stores_bytes, stores_keep, stores_other, same_byte, at_index, if_lt, if_le, if_eq, if_ne}
+use Rattle.a2_opcode.specs.Table.{fixed, paged}
+use Rattle.a2_opcode.specs.declared.Mnemonic.TheVariants.{Adc, And, Asl, Cmp, Dec, Eor, Inc, Lda, Ldx, Ldy, Lsr, Ora, Rol, Ror, Sbc, Sta, Stx, Sty}
+use Rattle.a2_opcode.specs.declared.Mode.TheVariants.{ZeroPageX, ZeroPageY, AbsoluteX, AbsoluteY, IndexedIndirect, IndirectIndexed}
 use Rattle.promised.proofs.Program.{code}
 """
 
@@ -152,19 +156,32 @@ def facts(letter, clauses, words):
     return [f"pub {letter}{k} : {words.says(clause.expr)}" for k, clause in enumerate(clauses, 1)]
 
 
+def ranges_text(ranges):
+    return list_of(f"({first}, {last})" for first, last in ranges)
+
+
 def contract(written):
     """What is known before and behind a routine, as records."""
     routine, promise = written.routine, written.routine.promise
     words = Words("v", "w")
     text = record(f"{written.name}_Before", "(w : World)", facts("r", promise.wanted, Words("w", "w")))
-    text += f"\nabbrev pub {routine.name}_changed : ℕ → Bool\n{routine.name}_changed = is_among {list_of(written.changed)}\n"
+    text += f"\nabbrev pub {routine.name}_ranges : List (ℕ × ℕ)\n{routine.name}_ranges = {ranges_text(written.changed)}\n"
+    text += f"\nabbrev pub {routine.name}_changed : ℕ → Bool\n{routine.name}_changed = is_in {routine.name}_ranges\n"
     rest = [f"pub rest : Keeps w.memory {routine.name}_changed v", "pub bytes : OnlyBytes v"]
     text += record(f"{written.name}_After", "(w v : World)", facts("e", promise.promised, words) + registers_kept(promise) + rest)
     for loop in routine.loops.values():
-        text += record(f"{loop.name}_Inv", "(w v : World)", facts("e", loop.invariants, words) + registers_kept(promise) + rest)
-        measure = words.plain(loop.measure.expr) if loop.measure else "0"
-        text += f"\nabbrev {loop.name}_measure : World → ℕ\n{loop.name}_measure v = {measure}\n"
+        outer = [f"o_{label}" for label in loop.labels]
+        there = Words("v", "w", labels=dict(zip(loop.labels, outer)))
+        worlds = " ".join(["w", *outer, "v"])
+        text += record(f"{loop.name}_Inv", f"({worlds} : World)", facts("e", loop.invariants, there) + registers_kept(promise) + rest)
+        measure = measure_of(loop.measure.expr, there) if loop.measure else "0"
+        text += f"\nabbrev {loop.name}_measure : {'World → ' * len(outer)}World → ℕ\n{loop.name}_measure {' '.join([*outer, 'v'])} = {measure}\n"
     return text
+
+
+def measure_of(e, words):
+    """A measure; one that is a difference is 0 where it is below 0."""
+    return f"{words.up(e)} - {words.down(e)}" if is_minus(e) else words.plain(e)
 
 
 def indented(text):
@@ -194,7 +211,7 @@ def ending(written):
     after = f"record {{ says = {pairs('e', len(promise.promised), 'h.2')}; {kept}rest = h.2.rest; bytes = h.2.bytes }}"
     meets = f"({written.name}_meets w bytes ({before_of(promise)}))"
     body = (
-        f"proved text listing _ {name}_said {list_of(written.changed)} read stated refl refl refl\n"
+        f"proved text listing _ {name}_said {name}_ranges read stated refl refl refl\n"
         f"(λ w bytes before. weaken code (enter {promise.address} {S} w) _ _ {meets}\n"
         f"(λ u h. (h.0, h.1, {after}))) -- @@\n"
     )

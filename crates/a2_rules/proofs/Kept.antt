@@ -41,8 +41,9 @@ use Rattle.a2_rules.specs.Phrases.{Phrase, phrase_of}
 use Rattle.a2_rules.specs.Promised.{Said, Says, KeepsPromise, IsProved}
 use Rattle.a2_rules.specs.Worlds.{OnlyBytes}
 use Rattle.a2_rules.proofs.Bytes as run
+use Rattle.a2_rules.proofs.Ranges.{all_pass, is_in, passes_not}
 use Rattle.a2_rules.proofs.Meeting.{enter, Back, Meets, Reaches}
-use Rattle.a2_rules.proofs.Saying.{all_say, all_tell, tells}
+use Rattle.a2_rules.proofs.Saying.{all_say, all_tell, tells, unnamed}
 use Rattle.a2_rules.proofs.Telling.{said_holds, holds_said}
 
 both : (x y : Bool) → (x && y) ≡ true → (x ≡ true) × (y ≡ true)
@@ -67,49 +68,35 @@ module _ (w v : World) (steps : ℕ) (bw : OnlyBytes w) (bv : OnlyBytes v) where
       → IsTrue (all_hold clauses (moment w w 0) (moment w v steps))
   all_said [] tell says = refl
   all_said (clause ∷ more) tell says =
-      let two = both (tells (phrase_of clause.expr)) (all_tell (phrases more)) tell in
-      ap₂ (λ a b. a && b) (said_holds clause.expr w v steps no_names bw bv two.0 says.0) (all_said more two.1 says.1)
+      let two = both (tells (phrase_of clause.expr) unnamed) (all_tell (phrases more)) tell in
+      ap₂ (λ a b. a && b) (said_holds clause.expr w v steps bw bv two.0 says.0) (all_said more two.1 says.1)
 
   all_required : (clauses : List Clause) → all_tell (phrases clauses) ≡ true
       → IsTrue (all_hold clauses (moment w w 0) (moment w v steps)) → all_say (phrases clauses) w v
   all_required [] tell h = tt
   all_required (clause ∷ more) tell h =
-      let two = both (tells (phrase_of clause.expr)) (all_tell (phrases more)) tell in
+      let two = both (tells (phrase_of clause.expr) unnamed) (all_tell (phrases more)) tell in
       let is = both (holds (value_of clause.expr (moment w w 0) (moment w v steps) no_names)) (all_hold more (moment w w 0) (moment w v steps)) h in
-      (holds_said clause.expr w v steps no_names bw bv two.0 is.0, all_required more two.1 is.1)
+      (holds_said clause.expr w v steps bw bv two.0 is.0, all_required more two.1 is.1)
 
 -- Bytes that may change
 
-abbrev may_be : List (ℕ × ℕ) → ℕ → Bool
-may_be ranges a = list_any (λ range. nat_le range.0 a && nat_le a range.1) ranges
-
 -- an address that `changes` names, or one of the stack below the return address
 abbrev pub may_be_stored : Said → ℕ → Bool
-may_be_stored said a = may_be said.ranges a || is_own a
+may_be_stored said a = is_in said.ranges a || is_own a
 
 same_ranges : (ranges : List Range) (a : ℕ)
-    → list_any (λ range. nat_le range.first a && nat_le a range.last) ranges ≡ may_be (map (λ range. (range.first, range.last)) ranges) a
+    → list_any (λ range. nat_le range.first a && nat_le a range.last) ranges ≡ is_in (map (λ range. (range.first, range.last)) ranges) a
 same_ranges [] a = refl
 same_ranges (range ∷ more) a = ap (λ v. (nat_le range.first a && nat_le a range.last) || v) (same_ranges more a)
 
--- an address that may not have changed is none of those that may
-none_of : (allowed : ℕ → Bool) (ns : List ℕ) (a : ℕ) → list_all allowed ns ≡ true → allowed a ≡ false → is_among ns a ≡ false
-none_of allowed [] a all h = refl
-none_of allowed (n ∷ ns) a all h = by (n == a) refl (none_of allowed ns a (both _ _ all).1 h)
-  where
-    by : (v : Bool) → (n == a) ≡ v → is_among ns a ≡ false → ((n == a) || is_among ns a) ≡ false
-    by true is _ =
-        let e : n ≡ a = grind (arith, nat_tests, is) in
-        absurd (true≢false (sym (both _ _ all).0 ∙ ap allowed e ∙ h))
-    by false is rest = ap (λ b. b || is_among ns a) is ∙ rest
-
 -- what is known behind the routine
-pub record After (said : Said) (changed : List ℕ) (w v : World) : Type 0 where
+pub record After (said : Said) (changed : List (ℕ × ℕ)) (w v : World) : Type 0 where
   pub says : all_say said.promised w v
   pub a : said.a ≡ false → v.registers.a ≡ w.registers.a
   pub x : said.x ≡ false → v.registers.x ≡ w.registers.x
   pub y : said.y ≡ false → v.registers.y ≡ w.registers.y
-  pub rest : KeepsRest w.memory (is_among changed) v
+  pub rest : KeepsRest w.memory (is_in changed) v
   pub bytes : OnlyBytes v
 
 -- A world at the entry
@@ -140,8 +127,8 @@ module _ (program : Assembled) (sound : IsSound program) (promise : Promise) (wo
 -- THE PROMISE IS KEPT: of what the routine meets
 
 module _ (all : List Statement) (program : Assembled) (sound : IsSound program) (stated : program.statements ≡ all)
-    (low : list_all (λ n. nat_lt n ram_end) (code_bytes all) ≡ true) (said : Said) (promise : Promise) (says : Says promise said) (changed : List ℕ)
-    (promised : all_tell said.promised ≡ true) (stored : list_all (may_be_stored said) changed ≡ true) where
+    (low : list_all (λ n. nat_lt n ram_end) (code_bytes all) ≡ true) (said : Said) (promise : Promise) (says : Says promise said) (changed : List (ℕ × ℕ))
+    (promised : all_tell said.promised ≡ true) (stored : all_pass (may_be_stored said) changed ≡ true) where
   low_program : list_all (λ n. nat_lt n ram_end) (code_bytes program.statements) ≡ true
   low_program = subst (λ l. list_all (λ n. nat_lt n ram_end) (code_bytes l) ≡ true) (sym stated) low
 
@@ -209,13 +196,13 @@ module _ (all : List Statement) (program : Assembled) (sound : IsSound program) 
     not_stored : (a : ℕ) → is_own a ≡ false → may_store promise.changes a ≡ false → may_be_stored said a ≡ false
     not_stored a own may =
         ap₂ (λ x y. x || y)
-        (sym (same_ranges promise.changes.ranges.items a ∙ ap (λ l. may_be l a) says.ranges) ∙ may) own
+        (sym (same_ranges promise.changes.ranges.items a ∙ ap (λ l. is_in l a) says.ranges) ∙ may) own
 
     rest : (a : ℕ) → a < ram_end → is_own a ≡ false → may_store promise.changes a ≡ false
         → ram_byte (world_at (bytes None) w (suc n)).memory a ≡ ram_byte w.memory a
     rest a here own may =
         ap (λ (x : World). ram_byte x.memory a) whole.there
-        ∙ after.rest.bytes a (none_of (may_be_stored said) changed a stored (not_stored a own may))
+        ∙ after.rest.bytes a (passes_not (may_be_stored said) changed a stored (not_stored a own may))
 
     kept : Keeps promise (suc n) w
     kept = record {
@@ -228,13 +215,13 @@ module _ (all : List Statement) (program : Assembled) (sound : IsSound program) 
     }
 
 -- what a routine that is entered with S = $FD meets
-abbrev MeetsPromise : List Statement → Said → List ℕ → Type 0
+abbrev MeetsPromise : List Statement → Said → List (ℕ × ℕ) → Type 0
 MeetsPromise all said changed = Meets (code_of all) said.address 0xFD (λ w. all_say said.wanted w w) (After said changed)
 
 -- THE THEOREM: a text that is read, whose statements are these, keeps what its routine meets
-pub proved : (text : List ℕ) (all : List Statement) (entry : ℕ) (said : Said) (changed : List ℕ) → entry_of text ≡ Some entry
+pub proved : (text : List ℕ) (all : List Statement) (entry : ℕ) (said : Said) (changed : List (ℕ × ℕ)) → entry_of text ≡ Some entry
     → statements_of text ≡ all → all_tell said.wanted ≡ true → all_tell said.promised ≡ true
-    → list_all (may_be_stored said) changed ≡ true → MeetsPromise all said changed → IsProved text said
+    → all_pass (may_be_stored said) changed ≡ true → MeetsPromise all said changed → IsProved text said
 proved text all entry said changed read stated wanted promised stored meets = record {
   accepted = λ fault refused. not_refused text entry is fault refused;
   kept = kept_of;

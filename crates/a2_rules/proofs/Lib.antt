@@ -1,9 +1,12 @@
 pub mod Bits
+pub mod Ranges
 pub mod Saying
 pub mod Valuing
 pub mod Telling
 pub mod Meeting
 pub mod Proving
+pub mod Reaching
+pub mod Afresh
 pub mod Bytes
 pub mod Kept
 pub mod Overflow

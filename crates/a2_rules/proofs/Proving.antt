@@ -230,3 +230,17 @@ flag_no false h = refl
 -- what holds where steps lead, by what is known there
 pub weaken : (code : Code) (w : World) (P Q : World → Type 0) → Reaches code w P → ((u : World) → P u → Q u) → Reaches code w Q
 weaken code w P Q (n, (u, walk, holds)) by = (n, (u, walk, by u holds))
+
+-- what holds of each number below another, one number after the other
+pub none_below : (P : ℕ → Type 0) (i : ℕ) → i + 0 < 0 → P i
+none_below P i less = let never : ⊥ = omega (arith, less) in absurd never
+
+pub one_more_below : (P : ℕ → Type 0) (n : ℕ) → P n → ((i : ℕ) → i + 0 < n → P i) → (i : ℕ) → i + 0 < n + 1 → P i
+one_more_below P n last before i less = by (split less)
+  where
+    split : i + 0 < n + 1 → (n ≡ i) ⊎ (i + 0 < n)
+    split h = grind (arith, h)
+
+    by : (n ≡ i) ⊎ (i + 0 < n) → P i
+    by (inl e) = subst P e last
+    by (inr l) = before i l

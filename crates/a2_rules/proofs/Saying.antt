@@ -1,5 +1,5 @@
 -- What a phrase says of two worlds, in sums and comparisons of naturals: by this proofs speak of it.
-use Rattle.std.specs.Prelude.{◌≡◌, ◌≢◌, ◌⊎◌, ◌<◌, ◌≤◌, ℕ, zero, suc, ◌+◌, ◌-◌, ◌*◌, ◌/◌, ◌%◌, ◌^◌, pos, Bool, true, false, ◌&&◌, ◌||◌, not, nat_le, nat_lt, min, max, List, [], ◌∷◌, Option, Some, None, if◌then◌else◌}
+use Rattle.std.specs.Prelude.{◌≡◌, ◌≢◌, ◌⊎◌, ◌<◌, ◌≤◌, ℕ, zero, suc, ◌+◌, ◌-◌, ◌*◌, ◌/◌, ◌%◌, ◌^◌, ◌==◌, pos, Bool, true, false, ◌&&◌, ◌||◌, not, nat_le, nat_lt, min, max, List, [], ◌∷◌, Option, Some, None, if◌then◌else◌}
 use Rattle.a2_bus.specs.Memory.{ram_byte}
 use Rattle.a2_cpu.specs.Arithmetic.{by_digits, differ}
 use Rattle.a2_cpu.specs.Registers.{one_if}
@@ -9,8 +9,17 @@ use Rattle.a2_promise.specs.declared.expr.Atom.TheVariants as atom
 use Rattle.a2_promise.specs.declared.expr.Function.TheVariants as function
 use Rattle.a2_promise.specs.declared.expr.Operation.{Operation}
 use Rattle.a2_promise.specs.declared.expr.Operation.TheVariants as operation
-use Rattle.a2_rules.specs.Phrases.{Phrase, number, held, old, of, pair, choice}
+use Rattle.a2_rules.specs.Phrases.{Phrase, number, held, bound, old, of, pair, choice, each, sum}
 use Rattle.a2_lessons.specs.Routines.{word}
+
+-- Names that are counted
+
+-- what each name stands for, by its number; outside of what counts it that is 0
+abbrev pub unnamed : ℕ → ℕ
+unnamed name = 0
+
+abbrev pub with_name : (ℕ → ℕ) → (name k : ℕ) → ℕ → ℕ
+with_name names name k other = if other == name then k else names other
 
 -- Numbers
 
@@ -67,15 +76,27 @@ joined operation.Max below x y = same (max x.plain y.plain)
 joined operation.Bit below x y = same (y.plain / 2 ^ x.plain % 2)
 joined _ below x y = same 0
 
-abbrev pub view : Phrase → World → World → View
-view (number (pos n)) w v = same n
-view (held a) w v = same (part a v)
-view (old e) w v = view e w w
-view (of function.Byte e) w v = same (ram_byte v.memory (view e w v).plain)
-view (of function.Word e) w v = same (word v.memory (view e w v).plain)
-view (of function.Signed e) w v = signed_view (view e w v).plain
-view (pair op x y) w v = joined op (minus x) (view x w v) (view y w v)
-view _ w v = same 0
+-- the number without its sign
+abbrev pub size : View → View
+size x = same ((x.up - x.down) + (x.down - x.up))
+
+-- the sum of what is there of each number below another
+abbrev pub summed : ℕ → (ℕ → ℕ) → ℕ
+summed zero f = 0
+summed (suc n) f = summed n f + f n
+
+abbrev pub view : Phrase → (names : ℕ → ℕ) → World → World → View
+view (number (pos n)) names w v = same n
+view (held a) names w v = same (part a v)
+view (bound name) names w v = same (names name)
+view (old e) names w v = view e names w w
+view (of function.Byte e) names w v = same (ram_byte v.memory (view e names w v).plain)
+view (of function.Word e) names w v = same (word v.memory (view e names w v).plain)
+view (of function.Signed e) names w v = signed_view (view e names w v).plain
+view (of function.Abs e) names w v = size (view e names w v)
+view (pair op x y) names w v = joined op (minus x) (view x names w v) (view y names w v)
+view (sum name n e) names w v = same (summed (view n names w v).plain (λ i. (view e (with_name names name i) w v).plain))
+view _ names w v = same 0
 
 -- a number that both are not above
 abbrev pub most_of : Operation → ℕ → ℕ → ℕ
@@ -88,15 +109,19 @@ most_of operation.Min m n = m
 most_of operation.Max m n = m + n
 most_of _ m n = 255
 
-abbrev pub most : Phrase → ℕ
-most (number (pos n)) = n
-most (held a) = 255
-most (old e) = most e
-most (of function.Byte e) = 255
-most (of function.Word e) = 65535
-most (of function.Signed e) = 256
-most (pair op x y) = most_of op (most x) (most y)
-most _ = 0
+-- by what each name is not above
+abbrev pub most : Phrase → (tops : ℕ → ℕ) → ℕ
+most (number (pos n)) tops = n
+most (held a) tops = 255
+most (bound name) tops = tops name
+most (old e) tops = most e tops
+most (of function.Byte e) tops = 255
+most (of function.Word e) tops = 65535
+most (of function.Signed e) tops = 256
+most (of function.Abs e) tops = most e tops
+most (pair op x y) tops = most_of op (most x tops) (most y tops)
+most (sum name n e) tops = most n tops * most e (with_name tops name (most n tops - 1))
+most _ tops = 0
 
 -- a divisor is a number that is written, and not 0
 abbrev pub divides : Phrase → Bool
@@ -116,30 +141,35 @@ abbrev pub in_range : ℕ → Bool
 in_range n = nat_lt n (2 ^ 63)
 
 -- whether the numbers of an operation are such that the rules speak of it
-abbrev pub may_join : Operation → Phrase → Phrase → Bool
-may_join operation.Plus x y = in_range (most x + most y)
-may_join operation.Minus x y = in_range (most x + most y)
-may_join operation.Times x y = both_plain x y && in_range (most x * most y)
-may_join operation.Over x y = not (minus x) && divides y
-may_join operation.Modulo x y = divides y
-may_join operation.BitAnd x y = both_plain x y && (is_byte (most x) && is_byte (most y))
-may_join operation.BitOr x y = both_plain x y && (is_byte (most x) && is_byte (most y))
-may_join operation.BitXor x y = both_plain x y && (is_byte (most x) && is_byte (most y))
-may_join operation.Min x y = both_plain x y
-may_join operation.Max x y = both_plain x y
-may_join operation.Bit x y = both_plain x y && (nat_lt (most x) 16 && nat_lt (most y) 65536)
-may_join _ x y = false
+abbrev pub may_join : Operation → Phrase → Phrase → (m n : ℕ) → Bool
+may_join operation.Plus x y m n = in_range (m + n)
+may_join operation.Minus x y m n = in_range (m + n)
+may_join operation.Times x y m n = both_plain x y && in_range (m * n)
+may_join operation.Over x y m n = not (minus x) && divides y
+may_join operation.Modulo x y m n = divides y
+may_join operation.BitAnd x y m n = both_plain x y && (is_byte m && is_byte n)
+may_join operation.BitOr x y m n = both_plain x y && (is_byte m && is_byte n)
+may_join operation.BitXor x y m n = both_plain x y && (is_byte m && is_byte n)
+may_join operation.Min x y m n = both_plain x y
+may_join operation.Max x y m n = both_plain x y
+may_join operation.Bit x y m n = both_plain x y && (nat_lt m 16 && nat_lt n 65536)
+may_join _ x y m n = false
 
 -- whether a phrase is a number of which the rules speak
-abbrev pub counts : Phrase → Bool
-counts (number (pos n)) = true
-counts (held a) = is_part a
-counts (old e) = counts e
-counts (of function.Byte e) = counts e && (not (minus e) && nat_lt (most e) 49152)
-counts (of function.Word e) = counts e && (not (minus e) && nat_lt (most e) 49151)
-counts (of function.Signed e) = counts e && (not (minus e) && is_byte (most e))
-counts (pair op x y) = counts x && (counts y && may_join op x y)
-counts _ = false
+abbrev pub counts : Phrase → (tops : ℕ → ℕ) → Bool
+counts (number (pos n)) tops = true
+counts (held a) tops = is_part a
+counts (bound name) tops = nat_lt name 4
+counts (old e) tops = counts e tops
+counts (of function.Byte e) tops = counts e tops && (not (minus e) && nat_lt (most e tops) 49152)
+counts (of function.Word e) tops = counts e tops && (not (minus e) && nat_lt (most e tops) 49151)
+counts (of function.Signed e) tops = counts e tops && (not (minus e) && is_byte (most e tops))
+counts (of function.Abs e) tops = counts e tops && in_range (most e tops)
+counts (pair op x y) tops = counts x tops && (counts y tops && may_join op x y (most x tops) (most y tops))
+counts (sum name n e) tops =
+    counts n tops && (not (minus n) && (nat_lt (most n tops) 65536 && (nat_lt name 4 && (counts e (with_name tops name (most n tops - 1))
+    && (not (minus e) && in_range (most n tops * most e (with_name tops name (most n tops - 1))))))))
+counts _ tops = false
 
 -- Facts
 
@@ -175,6 +205,7 @@ is_fact (pair operation.Equal x y) = true
 is_fact (pair operation.Less x y) = true
 is_fact (pair operation.AtMost x y) = true
 is_fact (choice c x y) = true
+is_fact (each name n e) = true
 is_fact _ = false
 
 -- a phrase that is written as true or false
@@ -223,15 +254,24 @@ abbrev pub one_of : Bool → Claim → Claim → Claim
 one_of true x y = x
 one_of false x y = y
 
-abbrev pub claim : Phrase → World → World → Claim
-claim (number (pos zero)) w v = record { says = ⊥; denies = Unit {0} }
-claim (number (pos (suc n))) w v = record { says = Unit {0}; denies = ⊥ }
-claim (held a) w v = flag a v
-claim (old e) w v = claim e w w
-claim (pair op x y) w v =
-    one_of (is_fact x || is_fact y) (agree (claim x w v) (claim y w v)) (compared op (minus x || minus y) (view x w v) (view y w v))
-claim (choice c x y) w v = choose (constant x) (constant y) (claim c w v) (claim x w v) (claim y w v)
-claim _ w v = nothing
+-- each number below another, which may be below 0
+abbrev pub each_below : View → (ℕ → Claim) → Claim
+each_below x of_one = record {
+  says = (i : ℕ) → i + x.down < x.up → (of_one i).says;
+  denies = (i : ℕ) × (i + x.down < x.up) × (of_one i).denies;
+}
+
+abbrev pub claim : Phrase → (names : ℕ → ℕ) → World → World → Claim
+claim (number (pos zero)) names w v = record { says = ⊥; denies = Unit {0} }
+claim (number (pos (suc n))) names w v = record { says = Unit {0}; denies = ⊥ }
+claim (held a) names w v = flag a v
+claim (old e) names w v = claim e names w w
+claim (pair op x y) names w v =
+    one_of (is_fact x || is_fact y) (agree (claim x names w v) (claim y names w v))
+    (compared op (minus x || minus y) (view x names w v) (view y names w v))
+claim (choice c x y) names w v = choose (constant x) (constant y) (claim c names w v) (claim x names w v) (claim y names w v)
+claim (each name n e) names w v = each_below (view n names w v) (λ i. claim e (with_name names name i) w v)
+claim _ names w v = nothing
 
 abbrev pub is_equal : Operation → Bool
 is_equal operation.Equal = true
@@ -244,20 +284,23 @@ compares operation.AtMost = true
 compares _ = false
 
 -- whether a phrase is a fact of which the rules speak
-abbrev pub tells : Phrase → Bool
-tells (number (pos zero)) = true
-tells (number (pos (suc zero))) = true
-tells (held a) = is_flag a
-tells (old e) = tells e
-tells (pair op x y) = if is_fact x || is_fact y then is_equal op && (tells x && tells y) else compares op && (counts x && counts y)
-tells (choice c x y) = tells c && (tells x && tells y)
-tells _ = false
+abbrev pub tells : Phrase → (tops : ℕ → ℕ) → Bool
+tells (number (pos zero)) tops = true
+tells (number (pos (suc zero))) tops = true
+tells (held a) tops = is_flag a
+tells (old e) tops = tells e tops
+tells (pair op x y) tops =
+    if is_fact x || is_fact y then is_equal op && (tells x tops && tells y tops) else compares op && (counts x tops && counts y tops)
+tells (choice c x y) tops = tells c tops && (tells x tops && tells y tops)
+tells (each name n e) tops =
+    counts n tops && (nat_lt (most n tops) 65536 && (nat_lt name 4 && tells e (with_name tops name (most n tops - 1))))
+tells _ tops = false
 
 -- of each of several
 abbrev pub all_tell : List Phrase → Bool
 all_tell [] = true
-all_tell (p ∷ more) = tells p && all_tell more
+all_tell (p ∷ more) = tells p unnamed && all_tell more
 
 abbrev pub all_say : List Phrase → World → World → Type 0
 all_say [] w v = Unit {0}
-all_say (p ∷ more) w v = (claim p w v).says × all_say more w v
+all_say (p ∷ more) w v = (claim p unnamed w v).says × all_say more w v

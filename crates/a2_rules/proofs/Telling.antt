@@ -1,6 +1,6 @@
 -- Whether an expression holds, in moments of two worlds of bytes, is what its phrase says or denies of them.
-use Rattle.std.specs.Prelude.{◌≡◌, ◌≢◌, ◌⊎◌, ◌<◌, ◌≤◌, ℕ, zero, suc, ◌+◌, ℤ, pos, negsuc, int_le, Bool, true, false, ◌&&◌, ◌||◌, List, Option, Some, None, if◌then◌else◌, refl}
-use Rattle.std.proofs.Common.{sym, ap, ap₂, ◌∙◌, arith, inl, inr, true≢false}
+use Rattle.std.specs.Prelude.{◌≡◌, ◌≢◌, ◌⊎◌, ◌<◌, ◌≤◌, ℕ, zero, suc, ◌+◌, ◌-◌, ℤ, pos, negsuc, int_le, nat_lt, Bool, true, false, ◌&&◌, ◌||◌, List, Option, Some, None, if◌then◌else◌, slice_get, slice_set, refl}
+use Rattle.std.proofs.Common.{sym, ap, ap₂, ◌∙◌, subst, arith, inl, inr, true≢false}
 use Rattle.std.proofs.lemmas.Bool.{false≢true}
 use Rattle.a2_services.specs.World.{World}
 use Rattle.a2_promise.specs.declared.expr.Atom.{Atom}
@@ -9,13 +9,13 @@ use Rattle.a2_promise.specs.declared.expr.Expr.{Expr}
 use Rattle.a2_promise.specs.declared.expr.Expr.TheVariants.{Number, Held, Bound, Old', At', Of', Pair', Choice', Each', Sum'}
 use Rattle.a2_promise.specs.declared.expr.Operation.{Operation}
 use Rattle.a2_promise.specs.declared.expr.Operation.TheVariants as operation
-use Rattle.a2_promise.specs.Values.{digit, held as held_atom, operated, operated_on, chosen, value_of}
+use Rattle.a2_promise.specs.Values.{digit, held as held_atom, operated, operated_on, chosen, count_of, each_below as value_below, at_count, value_of}
 use Rattle.a2_trial.specs.Kept.{moment}
-use Rattle.a2_trial.specs.Judging.{holds}
-use Rattle.a2_rules.specs.Phrases.{Phrase, number, held, bound, old, at, of, pair, choice, each, sum, phrase_of}
+use Rattle.a2_trial.specs.Judging.{holds, no_names}
+use Rattle.a2_rules.specs.Phrases.{Phrase, number, held, bound, old, of, pair, choice, each, sum, phrase_of}
 use Rattle.a2_rules.specs.Worlds.{OnlyBytes}
-use Rattle.a2_rules.proofs.Saying.{View, minus, view, most, counts, Claim, flag_is, flag, is_flag, is_fact, constant, agree, equal, less, at_most, compared, choose, one_of, claim, is_equal, compares, tells}
-use Rattle.a2_rules.proofs.Valuing.{both, neither, Counts, at_most_is, more_is, less_is, at_least_is, count}
+use Rattle.a2_rules.proofs.Saying.{View, minus, view, most, counts, Claim, flag_is, flag, is_flag, is_fact, constant, agree, equal, less, at_most, compared, choose, one_of, each_below, claim, is_equal, compares, tells, unnamed, with_name}
+use Rattle.a2_rules.proofs.Valuing.{both, neither, below, Counts, Named, one_more, count_is, at_most_is, more_is, less_is, at_least_is, count}
 
 -- a claim holds or is denied, and not both
 record Sure (c : Claim) : Type 0 where
@@ -88,7 +88,7 @@ compared_sure operation.Min signed x y h = absurd (false≢true h)
 compared_sure operation.Max signed x y h = absurd (false≢true h)
 compared_sure operation.Bit signed x y h = absurd (false≢true h)
 
-module _ (p q : Phrase) (x y : View) (ox oy : Option ℤ) (hx : Counts (minus p) x (most p) ox) (hy : Counts (minus q) y (most q) oy) where
+module _ (p q : Phrase) (m n : ℕ) (x y : View) (ox oy : Option ℤ) (hx : Counts (minus p) x m ox) (hy : Counts (minus q) y n oy) where
   on : (op : Operation) → operated_on op ox oy ≡ operated op hx.z hy.z
   on op = ap₂ (λ a b. operated_on op a b) hx.is hy.is
 
@@ -359,28 +359,31 @@ module _ (c x y : Claim) (oc ox oy : Option ℤ) (hc : Tells c oc) (hx : Tells x
 
 -- of each phrase
 
-constant_tells : (n : ℕ) (w v : World) → tells (number (pos n)) ≡ true → Tells (claim (number (pos n)) w v) (Some (pos n))
-constant_tells zero w v h =
+constant_tells : (n : ℕ) (names tops : ℕ → ℕ) (w v : World) → tells (number (pos n)) tops ≡ true
+    → Tells (claim (number (pos n)) names w v) (Some (pos n))
+constant_tells zero names tops w v h =
     record { sure = record { either = inr tt; apart = λ s d. s }; shows = record { yes = λ s. absurd s; no = λ d. refl } }
-constant_tells (suc zero) w v h =
+constant_tells (suc zero) names tops w v h =
     record { sure = record { either = inl tt; apart = λ s d. d }; shows = record { yes = λ s. refl; no = λ d. absurd d } }
-constant_tells (suc (suc n)) w v h = absurd (false≢true h)
+constant_tells (suc (suc n)) names tops w v h = absurd (false≢true h)
 
-pair_tells : (op : Operation) (p q : Phrase) (w v : World) (ox oy : Option ℤ) (facts : Bool) → (is_fact p || is_fact q) ≡ facts
-    → (if facts then is_equal op && (tells p && tells q) else compares op && (counts p && counts q)) ≡ true
-    → (tells p ≡ true → Tells (claim p w v) ox) → (tells q ≡ true → Tells (claim q w v) oy)
-    → (counts p ≡ true → Counts (minus p) (view p w v) (most p) ox) → (counts q ≡ true → Counts (minus q) (view q w v) (most q) oy)
-    → Tells (one_of facts (agree (claim p w v) (claim q w v)) (compared op (minus p || minus q) (view p w v) (view q w v))) (operated_on op ox oy)
-pair_tells op p q w v ox oy true e h tp tq cp cq = go op two.0
+pair_tells : (op : Operation) (p q : Phrase) (names tops : ℕ → ℕ) (w v : World) (ox oy : Option ℤ) (facts : Bool) → (is_fact p || is_fact q) ≡ facts
+    → (if facts then is_equal op && (tells p tops && tells q tops) else compares op && (counts p tops && counts q tops)) ≡ true
+    → (tells p tops ≡ true → Tells (claim p names w v) ox) → (tells q tops ≡ true → Tells (claim q names w v) oy)
+    → (counts p tops ≡ true → Counts (minus p) (view p names w v) (most p tops) ox)
+    → (counts q tops ≡ true → Counts (minus q) (view q names w v) (most q tops) oy)
+    → Tells (one_of facts (agree (claim p names w v) (claim q names w v)) (compared op (minus p || minus q) (view p names w v) (view q names w v)))
+    (operated_on op ox oy)
+pair_tells op p q names tops w v ox oy true e h tp tq cp cq = go op two.0
   where
-    two : (is_equal op ≡ true) × ((tells p && tells q) ≡ true)
-    two = both (is_equal op) (tells p && tells q) h
+    two : (is_equal op ≡ true) × ((tells p tops && tells q tops) ≡ true)
+    two = both (is_equal op) (tells p tops && tells q tops) h
 
-    more : (tells p ≡ true) × (tells q ≡ true)
-    more = both (tells p) (tells q) two.1
+    more : (tells p tops ≡ true) × (tells q tops ≡ true)
+    more = both (tells p tops) (tells q tops) two.1
 
-    go : (op : Operation) → is_equal op ≡ true → Tells (agree (claim p w v) (claim q w v)) (operated_on op ox oy)
-    go operation.Equal is = agree_tells (claim p w v) (claim q w v) ox oy (tp more.0) (tq more.1)
+    go : (op : Operation) → is_equal op ≡ true → Tells (agree (claim p names w v) (claim q names w v)) (operated_on op ox oy)
+    go operation.Equal is = agree_tells (claim p names w v) (claim q names w v) ox oy (tp more.0) (tq more.1)
     go operation.Less is = absurd (false≢true is)
     go operation.AtMost is = absurd (false≢true is)
     go operation.Plus is = absurd (false≢true is)
@@ -394,30 +397,29 @@ pair_tells op p q w v ox oy true e h tp tq cp cq = go op two.0
     go operation.Min is = absurd (false≢true is)
     go operation.Max is = absurd (false≢true is)
     go operation.Bit is = absurd (false≢true is)
-pair_tells op p q w v ox oy false e h tp tq cp cq =
-    let two = both (compares op) (counts p && counts q) h in
-    let more = both (counts p) (counts q) two.1 in
-    compared_tells p q (view p w v) (view q w v) ox oy (cp more.0) (cq more.1) op two.0
+pair_tells op p q names tops w v ox oy false e h tp tq cp cq =
+    let two = both (compares op) (counts p tops && counts q tops) h in
+    let more = both (counts p tops) (counts q tops) two.1 in
+    compared_tells p q (most p tops) (most q tops) (view p names w v) (view q names w v) ox oy (cp more.0) (cq more.1) op two.0
 
 abbrev IsConstant : Option Bool → Claim → Type 0
 IsConstant None k = Unit {0}
 IsConstant (Some true) k = k.says
 IsConstant (Some false) k = k.denies
 
-constant_is : (p : Phrase) (w v : World) → IsConstant (constant p) (claim p w v)
-constant_is (number (pos zero)) w v = tt
-constant_is (number (pos (suc zero))) w v = tt
-constant_is (number (pos (suc (suc n)))) w v = tt
-constant_is (number (negsuc n)) w v = tt
-constant_is (held a) w v = tt
-constant_is (bound n) w v = tt
-constant_is (old e) w v = tt
-constant_is (of f e) w v = tt
-constant_is (pair op p q) w v = tt
-constant_is (choice c p q) w v = tt
-constant_is (at a e) w v = tt
-constant_is (each name n e) w v = tt
-constant_is (sum name n e) w v = tt
+constant_is : (p : Phrase) (names : ℕ → ℕ) (w v : World) → IsConstant (constant p) (claim p names w v)
+constant_is (number (pos zero)) names w v = tt
+constant_is (number (pos (suc zero))) names w v = tt
+constant_is (number (pos (suc (suc n)))) names w v = tt
+constant_is (number (negsuc n)) names w v = tt
+constant_is (held a) names w v = tt
+constant_is (bound n) names w v = tt
+constant_is (old e) names w v = tt
+constant_is (of f e) names w v = tt
+constant_is (pair op p q) names w v = tt
+constant_is (choice c p q) names w v = tt
+constant_is (each name n e) names w v = tt
+constant_is (sum name n e) names w v = tt
 
 choosing : (kx ky : Option Bool) (c x y : Claim) (oc ox oy : Option ℤ) → Tells c oc → Tells x ox → Tells y oy
     → IsConstant kx x → IsConstant ky y → Tells (choose kx ky c x y) (chosen oc ox oy)
@@ -431,45 +433,155 @@ choosing (Some false) None c x y oc ox oy hc hx hy a b = choice_tells c x y oc o
 choosing (Some false) (Some true) c x y oc ox oy hc hx hy a b = choice_tells c x y oc ox oy hc hx hy (Some false) (Some true) a b
 choosing (Some false) (Some false) c x y oc ox oy hc hx hy a b = choice_tells c x y oc ox oy hc hx hy (Some false) (Some false) a b
 
+-- each number below another
+
+abbrev each_first : ℕ → (ℕ → Claim) → Claim
+each_first n of_one = record { says = (i : ℕ) → i < n → (of_one i).says; denies = (i : ℕ) × (i < n) × (of_one i).denies }
+
+one_more_tells : (n : ℕ) (of_one : ℕ → Claim) (f : ℕ → Option ℤ) → ((i : ℕ) → i < suc n → Tells (of_one i) (f i))
+    → Tells (each_first n of_one) (value_below n f) → Tells (each_first (suc n) of_one) (value_below (suc n) f)
+one_more_tells n of_one f known rest =
+    record { sure = record { either = either rest.sure.either; apart = apart }; shows = record { yes = yes; no = λ d. no_more d rest.sure.either } }
+  where
+    last : Tells (of_one n) (f n)
+    last = known n (omega arith)
+
+    with_last : (each_first n of_one).says → (of_one n).says → (i : ℕ) → i < suc n → (of_one i).says
+    with_last all one i less = by (split less)
+      where
+        split : i < suc n → (n ≡ i) ⊎ (i < n)
+        split h = grind (arith, h)
+
+        by : (n ≡ i) ⊎ (i < n) → (of_one i).says
+        by (inl e) = subst (λ k. (of_one k).says) e one
+        by (inr l) = all i l
+
+    either : (each_first n of_one).says ⊎ (each_first n of_one).denies → (each_first (suc n) of_one).says ⊎ (each_first (suc n) of_one).denies
+    either (inl all) = go last.sure.either
+      where
+        go : (of_one n).says ⊎ (of_one n).denies → (each_first (suc n) of_one).says ⊎ (each_first (suc n) of_one).denies
+        go (inl one) = inl (with_last all one)
+        go (inr d) = inr (n, omega arith, d)
+    either (inr (i, less, d)) = inr (i, omega (arith, less), d)
+
+    apart : (each_first (suc n) of_one).says → (each_first (suc n) of_one).denies → ⊥
+    apart s (i, less, d) = (known i less).sure.apart (s i less) d
+
+    yes : (each_first (suc n) of_one).says → value_below (suc n) f ≡ Some (pos 1)
+    yes s =
+        ap (λ o. chosen o (f n) (Some (pos 0))) (rest.shows.yes (λ i less. s i (omega (arith, less))))
+        ∙ last.shows.yes (s n (omega arith))
+
+    no_more : (each_first (suc n) of_one).denies → (each_first n of_one).says ⊎ (each_first n of_one).denies
+        → value_below (suc n) f ≡ Some (pos 0)
+    no_more d (inr earlier) = ap (λ o. chosen o (f n) (Some (pos 0))) (rest.shows.no earlier)
+    no_more d (inl all) = ap (λ o. chosen o (f n) (Some (pos 0))) (rest.shows.yes all) ∙ go last.sure.either
+      where
+        go : (of_one n).says ⊎ (of_one n).denies → f n ≡ Some (pos 0)
+        go (inr other) = last.shows.no other
+        go (inl one) = absurd (apart (with_last all one) d)
+
+first_tell : (n : ℕ) (of_one : ℕ → Claim) (f : ℕ → Option ℤ) → ((i : ℕ) → i < n → Tells (of_one i) (f i))
+    → Tells (each_first n of_one) (value_below n f)
+first_tell zero of_one f known = record {
+  sure = record { either = inl (λ i less. none i less); apart = λ s d. none_at d.0 d.1 };
+  shows = record { yes = λ s. refl; no = λ d. absurd (none_at d.0 d.1) };
+}
+  where
+    none_at : (i : ℕ) → i < 0 → ⊥
+    none_at i less = omega (arith, less)
+
+    none : (i : ℕ) → i < 0 → (of_one i).says
+    none i less = absurd (none_at i less)
+first_tell (suc n) of_one f known = one_more_tells n of_one f known (first_tell n of_one f (λ i less. known i (omega (arith, less))))
+
+below_tell : (signed : Bool) (x : View) (top : ℕ) (o : Option ℤ) (of_one : ℕ → Claim) (f : ℕ → Option ℤ) → Counts signed x top o → top < 65536
+    → ((i : ℕ) → i < x.up - x.down → Tells (of_one i) (f i)) → Tells (each_below x of_one) (at_count (count_of o) f value_below)
+below_tell signed x top o of_one f h low known = record {
+  sure = record { either = either first.sure.either; apart = λ s d. first.sure.apart (to s) (to_no d) };
+  shows = record { yes = λ s. value ∙ first.shows.yes (to s); no = λ d. value ∙ first.shows.no (to_no d) };
+}
+  where
+    first : Tells (each_first (x.up - x.down) of_one) (value_below (x.up - x.down) f)
+    first = first_tell (x.up - x.down) of_one f known
+
+    value : at_count (count_of o) f value_below ≡ value_below (x.up - x.down) f
+    value = ap (λ n. at_count n f value_below) (count_is signed x top o h low)
+
+    to : (each_below x of_one).says → (each_first (x.up - x.down) of_one).says
+    to s i less = s i (omega (arith, less))
+
+    to_no : (each_below x of_one).denies → (each_first (x.up - x.down) of_one).denies
+    to_no (i, less, d) = (i, omega (arith, less), d)
+
+    either : (each_first (x.up - x.down) of_one).says ⊎ (each_first (x.up - x.down) of_one).denies → (each_below x of_one).says ⊎ (each_below x of_one).denies
+    either (inl s) = inl (λ i less. s i (omega (arith, less)))
+    either (inr (i, less, d)) = inr (i, omega (arith, less), d)
+
+below_top : (x : View) (top i : ℕ) → x.up ≤ top → i < x.up - x.down → i ≤ top - 1
+below_top x top i h less = omega (arith, h, less)
+
 -- WHAT IS TOLD: an expression holds where its phrase says so, and else not
-tell : (e : Expr) (w v : World) (steps : ℕ) (names : List ℤ) → OnlyBytes w → OnlyBytes v → tells (phrase_of e) ≡ true
-    → Tells (claim (phrase_of e) w v) (value_of e (moment w w 0) (moment w v steps) names)
-tell (Number (pos n)) w v steps names bw bv h = constant_tells n w v h
-tell (Number (negsuc n)) w v steps names bw bv h = absurd (false≢true h)
-tell (Held a) w v steps names bw bv h = held_tells a w v steps h
-tell (Bound n) w v steps names bw bv h = absurd (false≢true h)
-tell (Old' p e) w v steps names bw bv h = tell e w w 0 names bw bw h
-tell (At' a p e) w v steps names bw bv h = absurd (false≢true h)
-tell (Of' f p e) w v steps names bw bv h = absurd (false≢true h)
-tell (Pair' op p x q y) w v steps names bw bv h =
-    pair_tells op (phrase_of x) (phrase_of y) w v (value_of x (moment w w 0) (moment w v steps) names) (value_of y (moment w w 0) (moment w v steps) names)
-    (is_fact (phrase_of x) || is_fact (phrase_of y)) refl h (λ t. tell x w v steps names bw bv t) (λ t. tell y w v steps names bw bv t)
-    (λ t. count x w v steps names bw bv t) (λ t. count y w v steps names bw bv t)
-tell (Choice' p c q x r y) w v steps names bw bv h =
-    let two = both (tells (phrase_of c)) (tells (phrase_of x) && tells (phrase_of y)) h in
-    let more = both (tells (phrase_of x)) (tells (phrase_of y)) two.1 in
-    choosing (constant (phrase_of x)) (constant (phrase_of y)) (claim (phrase_of c) w v) (claim (phrase_of x) w v) (claim (phrase_of y) w v)
-    (value_of c (moment w w 0) (moment w v steps) names) (value_of x (moment w w 0) (moment w v steps) names) (value_of y (moment w w 0) (moment w v steps) names)
-    (tell c w v steps names bw bv two.0) (tell x w v steps names bw bv more.0) (tell y w v steps names bw bv more.1)
-    (constant_is (phrase_of x) w v) (constant_is (phrase_of y) w v)
-tell (Each' name p n q e) w v steps names bw bv h = absurd (false≢true h)
-tell (Sum' name p n q e) w v steps names bw bv h = absurd (false≢true h)
+tell : (e : Expr) (names tops : ℕ → ℕ) (w v : World) (steps : ℕ) (numbers : List ℤ) → OnlyBytes w → OnlyBytes v → Named numbers names tops
+    → tells (phrase_of e) tops ≡ true → Tells (claim (phrase_of e) names w v) (value_of e (moment w w 0) (moment w v steps) numbers)
+tell (Number (pos n)) names tops w v steps numbers bw bv named h = constant_tells n names tops w v h
+tell (Number (negsuc n)) names tops w v steps numbers bw bv named h = absurd (false≢true h)
+tell (Held a) names tops w v steps numbers bw bv named h = held_tells a w v steps h
+tell (Bound n) names tops w v steps numbers bw bv named h = absurd (false≢true h)
+tell (Old' p e) names tops w v steps numbers bw bv named h = tell e names tops w w 0 numbers bw bw named h
+tell (Of' f p e) names tops w v steps numbers bw bv named h = absurd (false≢true h)
+tell (Pair' op p x q y) names tops w v steps numbers bw bv named h =
+    pair_tells op (phrase_of x) (phrase_of y) names tops w v (value_of x (moment w w 0) (moment w v steps) numbers)
+    (value_of y (moment w w 0) (moment w v steps) numbers) (is_fact (phrase_of x) || is_fact (phrase_of y)) refl h
+    (λ t. tell x names tops w v steps numbers bw bv named t) (λ t. tell y names tops w v steps numbers bw bv named t)
+    (λ t. count x names tops w v steps numbers bw bv named t) (λ t. count y names tops w v steps numbers bw bv named t)
+tell (Choice' p c q x r y) names tops w v steps numbers bw bv named h =
+    let two = both (tells (phrase_of c) tops) (tells (phrase_of x) tops && tells (phrase_of y) tops) h in
+    let more = both (tells (phrase_of x) tops) (tells (phrase_of y) tops) two.1 in
+    choosing (constant (phrase_of x)) (constant (phrase_of y)) (claim (phrase_of c) names w v) (claim (phrase_of x) names w v)
+    (claim (phrase_of y) names w v) (value_of c (moment w w 0) (moment w v steps) numbers) (value_of x (moment w w 0) (moment w v steps) numbers)
+    (value_of y (moment w w 0) (moment w v steps) numbers) (tell c names tops w v steps numbers bw bv named two.0)
+    (tell x names tops w v steps numbers bw bv named more.0) (tell y names tops w v steps numbers bw bv named more.1)
+    (constant_is (phrase_of x) names w v) (constant_is (phrase_of y) names w v)
+tell (Each' name p n q e) names tops w v steps numbers bw bv named h =
+    let a = both (counts (phrase_of n) tops) _ h in
+    let b = both (nat_lt (most (phrase_of n) tops) 65536) _ a.1 in
+    let c = both (nat_lt name 4) _ b.1 in
+    let number = count n names tops w v steps numbers bw bv named a.0 in
+    below_tell (minus (phrase_of n)) (view (phrase_of n) names w v) (most (phrase_of n) tops) (value_of n (moment w w 0) (moment w v steps) numbers)
+    (λ i. claim (phrase_of e) (with_name names name i) w v)
+    (λ k. value_of e (moment w w 0) (moment w v steps) (slice_set numbers name (pos k))) number (below (most (phrase_of n) tops) 65536 b.0)
+    (λ i less. tell e (with_name names name i) (with_name tops name (most (phrase_of n) tops - 1)) w v steps (slice_set numbers name (pos i)) bw bv
+    (one_more numbers names tops name i (most (phrase_of n) tops - 1) named (below name 4 c.0)
+    (below_top (view (phrase_of n) names w v) (most (phrase_of n) tops) i number.up less)) c.1)
+tell (Sum' name p n q e) names tops w v steps numbers bw bv named h = absurd (false≢true h)
 
-module _ (e : Expr) (w v : World) (steps : ℕ) (names : List ℤ) (bw : OnlyBytes w) (bv : OnlyBytes v) (h : tells (phrase_of e) ≡ true) where
+-- at first no name stands for a number
+none_named : Named no_names unnamed unnamed
+none_named = record { four = refl; is = is; low = λ i less. omega arith }
+  where
+    is : (i : ℕ) → i < 4 → slice_get no_names i ≡ Some (pos 0)
+    is zero less = refl
+    is (suc zero) less = refl
+    is (suc (suc zero)) less = refl
+    is (suc (suc (suc zero))) less = refl
+    is (suc (suc (suc (suc i)))) less = let never : ⊥ = omega (arith, less) in absurd never
+
+module _ (e : Expr) (w v : World) (steps : ℕ) (bw : OnlyBytes w) (bv : OnlyBytes v) (h : tells (phrase_of e) unnamed ≡ true) where
   abbrev value : Option ℤ
-  value = value_of e (moment w w 0) (moment w v steps) names
+  value = value_of e (moment w w 0) (moment w v steps) no_names
 
-  told : Tells (claim (phrase_of e) w v) value
-  told = tell e w v steps names bw bv h
+  told : Tells (claim (phrase_of e) unnamed w v) value
+  told = tell e unnamed unnamed w v steps no_names bw bv none_named h
 
   -- what is said holds
-  pub said_holds : (claim (phrase_of e) w v).says → holds value ≡ true
+  pub said_holds : (claim (phrase_of e) unnamed w v).says → holds value ≡ true
   said_holds s = ap holds (told.shows.yes s)
 
   -- what holds is said
-  pub holds_said : holds value ≡ true → (claim (phrase_of e) w v).says
+  pub holds_said : holds value ≡ true → (claim (phrase_of e) unnamed w v).says
   holds_said is = go told.sure.either
     where
-      go : (claim (phrase_of e) w v).says ⊎ (claim (phrase_of e) w v).denies → (claim (phrase_of e) w v).says
+      go : (claim (phrase_of e) unnamed w v).says ⊎ (claim (phrase_of e) unnamed w v).denies → (claim (phrase_of e) unnamed w v).says
       go (inl s) = s
       go (inr d) = absurd (false≢true (sym (ap holds (told.shows.no d)) ∙ is))

@@ -1,11 +1,12 @@
 -- The value of an expression, in moments of two worlds of bytes, is what its phrase says of them.
-use Rattle.std.specs.Prelude.{◌≡◌, ◌⊎◌, ◌<◌, ◌≤◌, ℕ, zero, suc, ◌+◌, ◌-◌, ◌*◌, ◌/◌, ◌%◌, ◌^◌, ℤ, pos, negsuc, ◌+ℤ◌, ◌-ℤ◌, int_lt, int_le, Bool, true, false, ◌&&◌, ◌||◌, not, nat_le, nat_lt, min, max, bit_and, bit_or, bit_xor, List, Option, Some, None, if◌then◌else◌, slice_get, map, length, refl}
+use Rattle.std.specs.Prelude.{◌≡◌, ◌≢◌, ◌⊎◌, ◌<◌, ◌≤◌, ℕ, zero, suc, ◌+◌, ◌-◌, ◌*◌, ◌/◌, ◌%◌, ◌^◌, ℤ, pos, negsuc, ◌+ℤ◌, ◌-ℤ◌, neg_ℤ, int_lt, int_le, Bool, true, false, ◌&&◌, ◌||◌, not, nat_le, nat_lt, min, max, bit_and, bit_or, bit_xor, List, Option, Some, None, if◌then◌else◌, slice_get, slice_set, get_or, map, length, ◌==◌, refl}
 use Rattle.std.specs.Int.{int_rem_euclid}
 use Rattle.std.specs.List.{range_with_len}
 use Rattle.std.proofs.Common.{sym, ap, ap₂, ◌∙◌, arith, inl, inr, true≢false, div-le_self}
 use Rattle.std.proofs.lemmas.Bool.Decides.{nat_tests}
 use Rattle.std.proofs.lemmas.Int.{ints, int_rem_euclid_is}
 use Rattle.std.proofs.lemmas.Nat.{mul-le, mod_below}
+use Rattle.std.proofs.lemmas.List.{length-set, get_or-set_same, get_or-set_other}
 use Rattle.std.proofs.lemmas.List.FromFn.{length-map-range_with_len, get_or-map-range_with_len}
 use Rattle.std.proofs.lemmas.Option.{slice_get-get_or}
 use Rattle.a2_bus.specs.Memory.{Memory, ram_byte, ram_end}
@@ -20,13 +21,13 @@ use Rattle.a2_promise.specs.declared.expr.Expr.TheVariants.{Number, Held, Bound,
 use Rattle.a2_promise.specs.declared.expr.Function.TheVariants as function
 use Rattle.a2_promise.specs.declared.expr.Operation.{Operation}
 use Rattle.a2_promise.specs.declared.expr.Operation.TheVariants as operation
-use Rattle.a2_promise.specs.Values.{digit, fits, limited, word_in, held as held_atom, byte_value, word_value, byte_at, word_at, bitwise, bit_of, operated, made_of, signed as signed_byte, operated_on, value_of}
+use Rattle.a2_promise.specs.Values.{digit, fits, limited, word_in, held as held_atom, byte_value, word_value, byte_at, word_at, bitwise, bit_of, operated, made_of, signed as signed_byte, operated_on, count_of, sum_below, at_count, value_of}
 use Rattle.a2_trial.specs.Kept.{bytes_of, moment}
 use Rattle.a2_rules.specs.Phrases.{Phrase, number, held, bound, old, at, of, pair, choice, each, sum, phrase_of}
 use Rattle.a2_lessons.specs.Routines.{word}
 use Rattle.a2_rules.specs.Worlds.{OnlyBytes}
 use Rattle.a2_rules.proofs.Bits.{digits_small}
-use Rattle.a2_rules.proofs.Saying.{part, is_part, View, same, minus, joined, view, most_of, most, divides, both_plain, is_byte, in_range, may_join, counts, signed_view}
+use Rattle.a2_rules.proofs.Saying.{part, is_part, View, same, minus, joined, view, most_of, most, divides, both_plain, is_byte, in_range, may_join, counts, signed_view, size, summed, with_name}
 
 -- Tests
 
@@ -190,30 +191,30 @@ remainder z u d n is h =
 abbrev Divisor : Bool → View → Bool → Type 0
 Divisor divides y signed = divides ≡ true → (0 < y.plain) × (signed ≡ false)
 
-module _ (p q : Phrase) (x y : View) (ox oy : Option ℤ) (hx : Counts (minus p) x (most p) ox) (hy : Counts (minus q) y (most q) oy) where
+module _ (p q : Phrase) (m n : ℕ) (x y : View) (ox oy : Option ℤ) (hx : Counts (minus p) x m ox) (hy : Counts (minus q) y n oy) where
   on : (op : Operation) (zx zy : ℤ) → ox ≡ Some zx → oy ≡ Some zy → operated_on op ox oy ≡ operated op zx zy
   on op zx zy ex ey = ap₂ (λ a b. operated_on op a b) ex ey
 
-  plain_x : minus p ≡ false → Plain x (most p) ox
-  plain_x e = plain_of (minus p) x (most p) ox hx e
+  plain_x : minus p ≡ false → Plain x m ox
+  plain_x e = plain_of (minus p) x m ox hx e
 
-  plain_y : minus q ≡ false → Plain y (most q) oy
-  plain_y e = plain_of (minus q) y (most q) oy hy e
+  plain_y : minus q ≡ false → Plain y n oy
+  plain_y e = plain_of (minus q) y n oy hy e
 
   apart : both_plain p q ≡ true → (minus p ≡ false) × (minus q ≡ false)
   apart h = let two = both (not (minus p)) (not (minus q)) h in (no (minus p) two.0, no (minus q) two.1)
 
   -- an operation of two that are never below 0
-  of_plain : (op : Operation) (n top : ℕ) → minus p ≡ false → minus q ≡ false
-      → operated op (pos x.plain) (pos y.plain) ≡ Some (pos n) → n ≤ top → Counts false (same n) top (operated_on op ox oy)
-  of_plain op n top ep eq is low =
-      counted n top (operated_on op ox oy) (on op (pos x.plain) (pos y.plain) (plain_x ep).is (plain_y eq).is ∙ is) low
+  of_plain : (op : Operation) (k top : ℕ) → minus p ≡ false → minus q ≡ false
+      → operated op (pos x.plain) (pos y.plain) ≡ Some (pos k) → k ≤ top → Counts false (same k) top (operated_on op ox oy)
+  of_plain op k top ep eq is low =
+      counted k top (operated_on op ox oy) (on op (pos x.plain) (pos y.plain) (plain_x ep).is (plain_y eq).is ∙ is) low
 
-  sum_small : in_range (most p + most q) ≡ true → most p + most q < 2 ^ 63
-  sum_small h = below (most p + most q) (2 ^ 63) h
+  sum_small : in_range (m + n) ≡ true → m + n < 2 ^ 63
+  sum_small h = below (m + n) (2 ^ 63) h
 
-  plus : may_join operation.Plus p q ≡ true
-      → Counts (minus p || minus q) (joined operation.Plus (minus p) x y) (most p + most q) (operated_on operation.Plus ox oy)
+  plus : may_join operation.Plus p q m n ≡ true
+      → Counts (minus p || minus q) (joined operation.Plus (minus p) x y) (m + n) (operated_on operation.Plus ox oy)
   plus h =
       let small = sum_small h in
       let a = hx.up in
@@ -240,8 +241,8 @@ module _ (p q : Phrase) (x y : View) (ox oy : Option ℤ) (hx : Counts (minus p)
           let d = (hy.plain two.1).1 in
           (omega (arith, a, c), omega (arith, b, d))
 
-  difference : may_join operation.Minus p q ≡ true
-      → Counts true (joined operation.Minus (minus p) x y) (most p + most q) (operated_on operation.Minus ox oy)
+  difference : may_join operation.Minus p q m n ≡ true
+      → Counts true (joined operation.Minus (minus p) x y) (m + n) (operated_on operation.Minus ox oy)
   difference h =
       let small = sum_small h in
       let a = hx.up in
@@ -259,28 +260,28 @@ module _ (p q : Phrase) (x y : View) (ox oy : Option ℤ) (hx : Counts (minus p)
         plain = λ e. absurd (true≢false e);
       }
 
-  product : may_join operation.Times p q ≡ true
-      → Counts false (same (x.plain * y.plain)) (most p * most q) (operated_on operation.Times ox oy)
+  product : may_join operation.Times p q m n ≡ true
+      → Counts false (same (x.plain * y.plain)) (m * n) (operated_on operation.Times ox oy)
   product h =
-      let two = both (both_plain p q) (in_range (most p * most q)) h in
+      let two = both (both_plain p q) (in_range (m * n)) h in
       let es = apart two.0 in
-      let most_is = mul-le x.plain y.plain (most p) (most q) (plain_x es.0).small (plain_y es.1).small in
-      let small : most p * most q < 2 ^ 63 = below (most p * most q) (2 ^ 63) two.1 in
-      of_plain operation.Times (x.plain * y.plain) (most p * most q) es.0 es.1
+      let most_is = mul-le x.plain y.plain m n (plain_x es.0).small (plain_y es.1).small in
+      let small : m * n < 2 ^ 63 = below (m * n) (2 ^ 63) two.1 in
+      of_plain operation.Times (x.plain * y.plain) (m * n) es.0 es.1
       (times_value x.plain y.plain (omega (arith, most_is, small))) most_is
 
-  quotient : may_join operation.Over p q ≡ true → Divisor (divides q) y (minus q)
-      → Counts false (same (x.plain / y.plain)) (most p) (operated_on operation.Over ox oy)
+  quotient : may_join operation.Over p q m n ≡ true → Divisor (divides q) y (minus q)
+      → Counts false (same (x.plain / y.plain)) m (operated_on operation.Over ox oy)
   quotient h divisor =
       let two = both (not (minus p)) (divides q) h in
       let some = divisor two.1 in
       let ep = no (minus p) two.0 in
       let low = (plain_x ep).small in
       let less = div-le_self x.plain y.plain in
-      of_plain operation.Over (x.plain / y.plain) (most p) ep some.1 (over_value x.plain y.plain some.0) (omega (arith, low, less))
+      of_plain operation.Over (x.plain / y.plain) m ep some.1 (over_value x.plain y.plain some.0) (omega (arith, low, less))
 
-  rest : may_join operation.Modulo p q ≡ true → Divisor (divides q) y (minus q)
-      → Counts false (joined operation.Modulo (minus p) x y) (most q) (operated_on operation.Modulo ox oy)
+  rest : may_join operation.Modulo p q m n ≡ true → Divisor (divides q) y (minus q)
+      → Counts false (joined operation.Modulo (minus p) x y) n (operated_on operation.Modulo ox oy)
   rest h divisor = go (minus p) refl
     where
       some : (0 < y.plain) × (minus q ≡ false)
@@ -299,21 +300,21 @@ module _ (p q : Phrase) (x y : View) (ox oy : Option ℤ) (hx : Counts (minus p)
           no_more = grind arith
 
       go : (signed : Bool) → minus p ≡ signed
-          → Counts false (same ((if signed then x.up + (y.plain - 1) * x.down else x.plain) % y.plain)) (most q) (operated_on operation.Modulo ox oy)
+          → Counts false (same ((if signed then x.up + (y.plain - 1) * x.down else x.plain) % y.plain)) n (operated_on operation.Modulo ox oy)
       go signed e =
           let less = mod_below (if signed then x.up + (y.plain - 1) * x.down else x.plain) y.plain some.0 in
           let low = (plain_y some.1).small in
-          counted ((if signed then x.up + (y.plain - 1) * x.down else x.plain) % y.plain) (most q) (operated_on operation.Modulo ox oy)
+          counted ((if signed then x.up + (y.plain - 1) * x.down else x.plain) % y.plain) n (operated_on operation.Modulo ox oy)
           (value signed e) (omega (arith, less, low))
 
-  bytes : (both_plain p q && (is_byte (most p) && is_byte (most q))) ≡ true
+  bytes : (both_plain p q && (is_byte m && is_byte n)) ≡ true
       → (minus p ≡ false) × (minus q ≡ false) × (x.plain < 256) × (y.plain < 256)
   bytes h =
-      let two = both (both_plain p q) (is_byte (most p) && is_byte (most q)) h in
+      let two = both (both_plain p q) (is_byte m && is_byte n) h in
       let es = apart two.0 in
-      let small = both (is_byte (most p)) (is_byte (most q)) two.1 in
-      let a = below (most p) 256 small.0 in
-      let b = below (most q) 256 small.1 in
+      let small = both (is_byte m) (is_byte n) two.1 in
+      let a = below m 256 small.0 in
+      let b = below n 256 small.1 in
       let lx = (plain_x es.0).small in
       let ly = (plain_y es.1).small in
       (es.0, es.1, omega (arith, a, lx), omega (arith, b, ly))
@@ -321,7 +322,7 @@ module _ (p q : Phrase) (x y : View) (ox oy : Option ℤ) (hx : Counts (minus p)
   bits : (op : Operation) (f : ℕ → ℕ → ℕ) (d : Bool → Bool → Bool)
       → ((a b : ℕ) → a < 256 → b < 256 → f a b ≡ by_digits 8 d a b)
       → ((a b : ℕ) → operated op (pos a) (pos b) ≡ bitwise f (word_in (pos a)) (word_in (pos b)))
-      → (both_plain p q && (is_byte (most p) && is_byte (most q))) ≡ true
+      → (both_plain p q && (is_byte m && is_byte n)) ≡ true
       → Counts false (same (by_digits 8 d x.plain y.plain)) 255 (operated_on op ox oy)
   bits op f d law is h =
       let known = bytes h in
@@ -329,34 +330,34 @@ module _ (p q : Phrase) (x y : View) (ox oy : Option ℤ) (hx : Counts (minus p)
       of_plain op (by_digits 8 d x.plain y.plain) 255 known.0 known.1
       (is x.plain y.plain ∙ bits_value f d x.plain y.plain (law x.plain y.plain known.2 known.3) known.2 known.3) (omega (arith, small))
 
-  least : may_join operation.Min p q ≡ true → Counts false (same (min x.plain y.plain)) (most p) (operated_on operation.Min ox oy)
+  least : may_join operation.Min p q m n ≡ true → Counts false (same (min x.plain y.plain)) m (operated_on operation.Min ox oy)
   least h =
       let es = apart h in
       let low = (plain_x es.0).small in
-      of_plain operation.Min (min x.plain y.plain) (most p) es.0 es.1 (min_value x.plain y.plain) (omega (arith, low))
+      of_plain operation.Min (min x.plain y.plain) m es.0 es.1 (min_value x.plain y.plain) (omega (arith, low))
 
-  greatest : may_join operation.Max p q ≡ true
-      → Counts false (same (max x.plain y.plain)) (most p + most q) (operated_on operation.Max ox oy)
+  greatest : may_join operation.Max p q m n ≡ true
+      → Counts false (same (max x.plain y.plain)) (m + n) (operated_on operation.Max ox oy)
   greatest h =
       let es = apart h in
       let lx = (plain_x es.0).small in
       let ly = (plain_y es.1).small in
-      of_plain operation.Max (max x.plain y.plain) (most p + most q) es.0 es.1 (max_value x.plain y.plain) (omega (arith, lx, ly))
+      of_plain operation.Max (max x.plain y.plain) (m + n) es.0 es.1 (max_value x.plain y.plain) (omega (arith, lx, ly))
 
-  bit : may_join operation.Bit p q ≡ true → Counts false (same (y.plain / 2 ^ x.plain % 2)) 255 (operated_on operation.Bit ox oy)
+  bit : may_join operation.Bit p q m n ≡ true → Counts false (same (y.plain / 2 ^ x.plain % 2)) 255 (operated_on operation.Bit ox oy)
   bit h =
-      let two = both (both_plain p q) (nat_lt (most p) 16 && nat_lt (most q) 65536) h in
+      let two = both (both_plain p q) (nat_lt m 16 && nat_lt n 65536) h in
       let es = apart two.0 in
-      let more = both (nat_lt (most p) 16) (nat_lt (most q) 65536) two.1 in
-      let place = below (most p) 16 more.0 in
-      let whole = below (most q) 65536 more.1 in
+      let more = both (nat_lt m 16) (nat_lt n 65536) two.1 in
+      let place = below m 16 more.0 in
+      let whole = below n 65536 more.1 in
       let lx = (plain_x es.0).small in
       let ly = (plain_y es.1).small in
       of_plain operation.Bit (y.plain / 2 ^ x.plain % 2) 255 es.0 es.1
       (bit_value x.plain y.plain (omega (arith, place, lx)) (omega (arith, whole, ly))) (omega arith)
 
-  joins : (op : Operation) → may_join op p q ≡ true → Divisor (divides q) y (minus q)
-      → Counts (minus (pair op p q)) (joined op (minus p) x y) (most_of op (most p) (most q)) (operated_on op ox oy)
+  joins : (op : Operation) → may_join op p q m n ≡ true → Divisor (divides q) y (minus q)
+      → Counts (minus (pair op p q)) (joined op (minus p) x y) (most_of op m n) (operated_on op ox oy)
   joins operation.Plus h divisor = plus h
   joins operation.Minus h divisor = difference h
   joins operation.Times h divisor = product h
@@ -470,55 +471,195 @@ part_counts atom.Interrupt start v steps bytes h = absurd (true≢false (sym h))
 part_counts atom.Cycles start v steps bytes h = absurd (true≢false (sym h))
 part_counts atom.Steps start v steps bytes h = absurd (true≢false (sym h))
 
-divisor_of : (q : Phrase) (w v : World) → Divisor (divides q) (view q w v) (minus q)
-divisor_of (number (pos zero)) w v h = absurd (true≢false (sym h))
-divisor_of (number (pos (suc n))) w v h = (omega arith, refl)
-divisor_of (number (negsuc n)) w v h = absurd (true≢false (sym h))
-divisor_of (held a) w v h = absurd (true≢false (sym h))
-divisor_of (bound n) w v h = absurd (true≢false (sym h))
-divisor_of (old e) w v h = absurd (true≢false (sym h))
-divisor_of (of f e) w v h = absurd (true≢false (sym h))
-divisor_of (pair op p q) w v h = absurd (true≢false (sym h))
-divisor_of (choice c p q) w v h = absurd (true≢false (sym h))
-divisor_of (at a e) w v h = absurd (true≢false (sym h))
-divisor_of (each name n e) w v h = absurd (true≢false (sym h))
-divisor_of (sum name n e) w v h = absurd (true≢false (sym h))
+divisor_of : (q : Phrase) (names : ℕ → ℕ) (w v : World) → Divisor (divides q) (view q names w v) (minus q)
+divisor_of (number (pos zero)) names w v h = absurd (true≢false (sym h))
+divisor_of (number (pos (suc n))) names w v h = (omega arith, refl)
+divisor_of (number (negsuc n)) names w v h = absurd (true≢false (sym h))
+divisor_of (held a) names w v h = absurd (true≢false (sym h))
+divisor_of (bound n) names w v h = absurd (true≢false (sym h))
+divisor_of (old e) names w v h = absurd (true≢false (sym h))
+divisor_of (of f e) names w v h = absurd (true≢false (sym h))
+divisor_of (pair op p q) names w v h = absurd (true≢false (sym h))
+divisor_of (choice c p q) names w v h = absurd (true≢false (sym h))
+divisor_of (each name n e) names w v h = absurd (true≢false (sym h))
+divisor_of (sum name n e) names w v h = absurd (true≢false (sym h))
+
+-- Names
+
+-- what names stand for, as the numbers of an expression and as those of its phrase, and what each is not above
+pub record Named (numbers : List ℤ) (names tops : ℕ → ℕ) : Type 0 where
+  pub four : length numbers ≡ 4
+  pub is : (i : ℕ) → i < 4 → slice_get numbers i ≡ Some (pos (names i))
+  pub low : (i : ℕ) → i < 4 → names i ≤ tops i
+
+-- one more
+pub one_more : (numbers : List ℤ) (names tops : ℕ → ℕ) (name k top : ℕ) → Named numbers names tops → name < 4 → k ≤ top
+    → Named (slice_set numbers name (pos k)) (with_name names name k) (with_name tops name top)
+one_more numbers names tops name k top named here low = record {
+  four = four;
+  is = λ i less. is i less (i == name) refl;
+  low = λ i less. lower i less (i == name) refl;
+}
+  where
+    four : length (slice_set numbers name (pos k)) ≡ 4
+    four = length-set numbers name (pos k) ∙ named.four
+
+    is : (i : ℕ) → i < 4 → (v : Bool) → (i == name) ≡ v
+        → slice_get (slice_set numbers name (pos k)) i ≡ Some (pos (if v then k else names i))
+    is i less true e =
+        let same_is : i ≡ name = grind (arith, nat_tests, e) in
+        let inside : i < length (slice_set numbers name (pos k)) = omega (arith, less, four) in
+        let old : name < length numbers = let f = named.four in omega (arith, here, f) in
+        slice_get-get_or (slice_set numbers name (pos k)) i (pos 0) inside
+        ∙ ap (λ j. Some (get_or (slice_set numbers name (pos k)) j (pos 0))) same_is
+        ∙ ap (λ z. Some z) (get_or-set_same numbers name (pos k) (pos 0) old)
+    is i less false e =
+        let other : i ≢ name = grind (arith, nat_tests, e) in
+        let inside : i < length (slice_set numbers name (pos k)) = omega (arith, less, four) in
+        let old : i < length numbers = let f = named.four in omega (arith, less, f) in
+        slice_get-get_or (slice_set numbers name (pos k)) i (pos 0) inside
+        ∙ ap (λ z. Some z) (get_or-set_other numbers name i (pos k) (pos 0) other)
+        ∙ sym (slice_get-get_or numbers i (pos 0) old) ∙ named.is i less
+
+    lower : (i : ℕ) → i < 4 → (v : Bool) → (i == name) ≡ v → (if v then k else names i) ≤ (if v then top else tops i)
+    lower i less true e = low
+    lower i less false e = named.low i less
+
+-- how many numbers are below another, which may be below 0
+pub count_is : (signed : Bool) (x : View) (top : ℕ) (o : Option ℤ) → Counts signed x top o → top < 65536
+    → count_of o ≡ Some (x.up - x.down)
+count_is signed x top o h low = ap count_of h.is ∙ go h.z h.sum
+  where
+    go : (z : ℤ) → Is z x.up x.down → count_of (Some z) ≡ Some (x.up - x.down)
+    go (pos n) is =
+        let up = h.up in
+        let e : n ≡ x.up - x.down = omega (arith, ints, is) in
+        let small : n < 65536 = omega (arith, ints, is, up, low) in
+        ap (λ b. let r : Option ℕ = if b then Some n else None in r) (is_below n 65536 small) ∙ ap (λ m. Some m) e
+    go (negsuc n) is = let e : 0 ≡ x.up - x.down = omega (arith, ints, is) in ap (λ m. Some m) e
+
+-- Sums and sizes
+
+sum_is : (n : ℕ) (f : ℕ → Option ℤ) (g : ℕ → ℕ) (top : ℕ) → ((i : ℕ) → i < n → Plain (same (g i)) top (f i)) → n * top < 2 ^ 63
+    → Plain (same (summed n g)) (n * top) (sum_below n f)
+sum_is zero f g top known small = record { is = refl; small = omega arith }
+sum_is (suc n) f g top known small =
+    let more : suc n * top ≡ n * top + top = grind arith in
+    let rest : Plain (same (summed n g)) (n * top) (sum_below n f) = sum_is n f g top (λ i l. known i (omega (arith, l))) (omega (arith, small, more)) in
+    let last : Plain (same (g n)) top (f n) = known n (omega arith) in
+    let a = rest.small in
+    let b = last.small in
+    record {
+      is = ap₂ (λ x y. operated_on operation.Plus x y) rest.is last.is
+          ∙ limited_is (pos (summed n g) +ℤ pos (g n)) (summed n g + g n) 0 (omega (arith, ints)) (omega (arith, a, b, small, more)) (omega arith);
+      small = omega (arith, a, b, more);
+    }
+
+sum_counts : (x : View) (m top : ℕ) (f : ℕ → Option ℤ) (g : ℕ → ℕ) (o : Option ℤ) → Plain x m o → m < 65536
+    → ((i : ℕ) → i < x.plain → Plain (same (g i)) top (f i)) → m * top < 2 ^ 63
+    → Counts false (same (summed x.plain g)) (m * top) (at_count (count_of o) f sum_below)
+sum_counts x m top f g o h low known small =
+    let a = h.small in
+    let less = mul-le x.plain top m top a (omega arith) in
+    let total : Plain (same (summed x.plain g)) (x.plain * top) (sum_below x.plain f) = sum_is x.plain f g top known (omega (arith, less, small)) in
+    let b = total.small in
+    let count : count_of o ≡ Some x.plain =
+        ap count_of h.is ∙ ap (λ v. let r : Option ℕ = if v then Some x.plain else None in r) (is_below x.plain 65536 (omega (arith, a, low))) in
+    counted (summed x.plain g) (m * top) (at_count (count_of o) f sum_below)
+    (ap (λ n. at_count n f sum_below) count ∙ total.is) (omega (arith, b, less))
+
+size_counts : (signed : Bool) (x : View) (top : ℕ) (all : List ℕ) (o : Option ℤ) → Counts signed x top o → top < 2 ^ 63
+    → Counts false (size x) top (made_of function.Abs all o)
+size_counts signed x top all o h low =
+    counted ((x.up - x.down) + (x.down - x.up)) top (made_of function.Abs all o) (ap (λ z. made_of function.Abs all z) h.is ∙ go h.z h.sum)
+    (let a = h.up in let b = h.down in omega (arith, a, b))
+  where
+    go : (z : ℤ) → Is z x.up x.down → made_of function.Abs all (Some z) ≡ Some (pos ((x.up - x.down) + (x.down - x.up)))
+    go (pos n) is =
+        let e : n ≡ (x.up - x.down) + (x.down - x.up) = omega (arith, ints, is) in
+        let not_below : int_lt (pos n) (pos 0) ≡ false = at_least_is (pos n) (pos 0) n 0 0 0 (omega (arith, ints)) (omega (arith, ints)) (omega arith) in
+        ap (λ b. if b then limited (neg_ℤ (pos n)) else Some (pos n)) not_below ∙ ap (λ m. Some (pos m)) e
+    go (negsuc n) is =
+        let e : suc n ≡ (x.up - x.down) + (x.down - x.up) = omega (arith, ints, is) in
+        let b = h.down in
+        let small : suc n < 2 ^ 63 = omega (arith, ints, is, b, low) in
+        let opposite : neg_ℤ (negsuc n) ≡ pos (suc n) = omega (arith, ints) in
+        let below_0 : int_lt (negsuc n) (pos 0) ≡ true = less_is (negsuc n) (pos 0) 0 (suc n) 0 0 (omega (arith, ints)) (omega (arith, ints)) (omega arith) in
+        ap (λ b. if b then limited (neg_ℤ (negsuc n)) else Some (negsuc n)) below_0 ∙ ap limited opposite
+        ∙ limited_is (pos (suc n)) (suc n) 0 (omega (arith, ints)) small (omega arith) ∙ ap (λ m. Some (pos m)) e
+
+of_view : (x : View) (top : ℕ) (o : Option ℤ) → Plain x top o → Plain (same x.plain) top o
+of_view x top o h = record { is = h.is; small = h.small }
+
+-- what a name stands for is not above this
+pub below_count : (n top i : ℕ) → n ≤ top → i < n → i ≤ top - 1
+below_count n top i h less = omega (arith, h, less)
 
 -- WHAT COUNTS: the value of an expression is the number of its phrase
-pub count : (e : Expr) (w v : World) (steps : ℕ) (names : List ℤ) → OnlyBytes w → OnlyBytes v → counts (phrase_of e) ≡ true
-    → Counts (minus (phrase_of e)) (view (phrase_of e) w v) (most (phrase_of e)) (value_of e (moment w w 0) (moment w v steps) names)
-count (Number (pos n)) w v steps names bw bv h = counted n n (Some (pos n)) refl (omega arith)
-count (Number (negsuc n)) w v steps names bw bv h = absurd (true≢false (sym h))
-count (Held a) w v steps names bw bv h = part_counts a w v steps bv h
-count (Bound n) w v steps names bw bv h = absurd (true≢false (sym h))
-count (Old' p e) w v steps names bw bv h = count e w w 0 names bw bw h
-count (At' a p e) w v steps names bw bv h = absurd (true≢false (sym h))
-count (Of' function.Byte p e) w v steps names bw bv h =
-    let two = both (counts (phrase_of e)) (not (minus (phrase_of e)) && nat_lt (most (phrase_of e)) 49152) h in
-    let more = both (not (minus (phrase_of e))) (nat_lt (most (phrase_of e)) 49152) two.1 in
-    byte_counts v (view (phrase_of e) w v) (most (phrase_of e)) (value_of e (moment w w 0) (moment w v steps) names) bv.ram
-    (plain_of (minus (phrase_of e)) (view (phrase_of e) w v) (most (phrase_of e)) (value_of e (moment w w 0) (moment w v steps) names)
-    (count e w v steps names bw bv two.0) (no (minus (phrase_of e)) more.0)) (below (most (phrase_of e)) 49152 more.1)
-count (Of' function.Word p e) w v steps names bw bv h =
-    let two = both (counts (phrase_of e)) (not (minus (phrase_of e)) && nat_lt (most (phrase_of e)) 49151) h in
-    let more = both (not (minus (phrase_of e))) (nat_lt (most (phrase_of e)) 49151) two.1 in
-    let low = below (most (phrase_of e)) 49151 more.1 in
-    word_counts v (view (phrase_of e) w v) (most (phrase_of e)) (value_of e (moment w w 0) (moment w v steps) names) bv.ram
-    (plain_of (minus (phrase_of e)) (view (phrase_of e) w v) (most (phrase_of e)) (value_of e (moment w w 0) (moment w v steps) names)
-    (count e w v steps names bw bv two.0) (no (minus (phrase_of e)) more.0)) (omega (arith, low))
-count (Of' function.Signed p e) w v steps names bw bv h =
-    let two = both (counts (phrase_of e)) (not (minus (phrase_of e)) && is_byte (most (phrase_of e))) h in
-    let more = both (not (minus (phrase_of e))) (is_byte (most (phrase_of e))) two.1 in
-    signed_counts (view (phrase_of e) w v) (most (phrase_of e)) (bytes_of v.memory) (value_of e (moment w w 0) (moment w v steps) names)
-    (plain_of (minus (phrase_of e)) (view (phrase_of e) w v) (most (phrase_of e)) (value_of e (moment w w 0) (moment w v steps) names)
-    (count e w v steps names bw bv two.0) (no (minus (phrase_of e)) more.0)) (below (most (phrase_of e)) 256 more.1)
-count (Of' function.Abs p e) w v steps names bw bv h = absurd (true≢false (sym h))
-count (Pair' op p x q y) w v steps names bw bv h =
-    let two = both (counts (phrase_of x)) (counts (phrase_of y) && may_join op (phrase_of x) (phrase_of y)) h in
-    let more = both (counts (phrase_of y)) (may_join op (phrase_of x) (phrase_of y)) two.1 in
-    joins (phrase_of x) (phrase_of y) (view (phrase_of x) w v) (view (phrase_of y) w v)
-    (value_of x (moment w w 0) (moment w v steps) names) (value_of y (moment w w 0) (moment w v steps) names)
-    (count x w v steps names bw bv two.0) (count y w v steps names bw bv more.0) op more.1 (divisor_of (phrase_of y) w v)
-count (Choice' p c q x r y) w v steps names bw bv h = absurd (true≢false (sym h))
-count (Each' name p n q e) w v steps names bw bv h = absurd (true≢false (sym h))
-count (Sum' name p n q e) w v steps names bw bv h = absurd (true≢false (sym h))
+pub count : (e : Expr) (names tops : ℕ → ℕ) (w v : World) (steps : ℕ) (numbers : List ℤ) → OnlyBytes w → OnlyBytes v
+    → Named numbers names tops → counts (phrase_of e) tops ≡ true
+    → Counts (minus (phrase_of e)) (view (phrase_of e) names w v) (most (phrase_of e) tops)
+    (value_of e (moment w w 0) (moment w v steps) numbers)
+count (Number (pos n)) names tops w v steps numbers bw bv named h = counted n n (Some (pos n)) refl (omega arith)
+count (Number (negsuc n)) names tops w v steps numbers bw bv named h = absurd (true≢false (sym h))
+count (Held a) names tops w v steps numbers bw bv named h = part_counts a w v steps bv h
+count (Bound n) names tops w v steps numbers bw bv named h =
+    counted (names n) (tops n) (slice_get numbers n) (named.is n (below n 4 h)) (named.low n (below n 4 h))
+count (Old' p e) names tops w v steps numbers bw bv named h = count e names tops w w 0 numbers bw bw named h
+count (Of' function.Byte p e) names tops w v steps numbers bw bv named h =
+    let two = both (counts (phrase_of e) tops) (not (minus (phrase_of e)) && nat_lt (most (phrase_of e) tops) 49152) h in
+    let more = both (not (minus (phrase_of e))) (nat_lt (most (phrase_of e) tops) 49152) two.1 in
+    byte_counts v (view (phrase_of e) names w v) (most (phrase_of e) tops) (value_of e (moment w w 0) (moment w v steps) numbers) bv.ram
+    (plain_of (minus (phrase_of e)) (view (phrase_of e) names w v) (most (phrase_of e) tops) (value_of e (moment w w 0) (moment w v steps) numbers)
+    (count e names tops w v steps numbers bw bv named two.0) (no (minus (phrase_of e)) more.0)) (below (most (phrase_of e) tops) 49152 more.1)
+count (Of' function.Word p e) names tops w v steps numbers bw bv named h =
+    let two = both (counts (phrase_of e) tops) (not (minus (phrase_of e)) && nat_lt (most (phrase_of e) tops) 49151) h in
+    let more = both (not (minus (phrase_of e))) (nat_lt (most (phrase_of e) tops) 49151) two.1 in
+    let low = below (most (phrase_of e) tops) 49151 more.1 in
+    word_counts v (view (phrase_of e) names w v) (most (phrase_of e) tops) (value_of e (moment w w 0) (moment w v steps) numbers) bv.ram
+    (plain_of (minus (phrase_of e)) (view (phrase_of e) names w v) (most (phrase_of e) tops) (value_of e (moment w w 0) (moment w v steps) numbers)
+    (count e names tops w v steps numbers bw bv named two.0) (no (minus (phrase_of e)) more.0)) (omega (arith, low))
+count (Of' function.Signed p e) names tops w v steps numbers bw bv named h =
+    let two = both (counts (phrase_of e) tops) (not (minus (phrase_of e)) && is_byte (most (phrase_of e) tops)) h in
+    let more = both (not (minus (phrase_of e))) (is_byte (most (phrase_of e) tops)) two.1 in
+    signed_counts (view (phrase_of e) names w v) (most (phrase_of e) tops) (bytes_of v.memory) (value_of e (moment w w 0) (moment w v steps) numbers)
+    (plain_of (minus (phrase_of e)) (view (phrase_of e) names w v) (most (phrase_of e) tops) (value_of e (moment w w 0) (moment w v steps) numbers)
+    (count e names tops w v steps numbers bw bv named two.0) (no (minus (phrase_of e)) more.0)) (below (most (phrase_of e) tops) 256 more.1)
+count (Of' function.Abs p e) names tops w v steps numbers bw bv named h =
+    let two = both (counts (phrase_of e) tops) (in_range (most (phrase_of e) tops)) h in
+    size_counts (minus (phrase_of e)) (view (phrase_of e) names w v) (most (phrase_of e) tops) (bytes_of v.memory)
+    (value_of e (moment w w 0) (moment w v steps) numbers) (count e names tops w v steps numbers bw bv named two.0)
+    (below (most (phrase_of e) tops) (2 ^ 63) two.1)
+count (Pair' op p x q y) names tops w v steps numbers bw bv named h =
+    let two = both (counts (phrase_of x) tops) (counts (phrase_of y) tops && may_join op (phrase_of x) (phrase_of y) (most (phrase_of x) tops) (most (phrase_of y) tops)) h in
+    let more = both (counts (phrase_of y) tops) (may_join op (phrase_of x) (phrase_of y) (most (phrase_of x) tops) (most (phrase_of y) tops)) two.1 in
+    joins (phrase_of x) (phrase_of y) (most (phrase_of x) tops) (most (phrase_of y) tops) (view (phrase_of x) names w v) (view (phrase_of y) names w v)
+    (value_of x (moment w w 0) (moment w v steps) numbers) (value_of y (moment w w 0) (moment w v steps) numbers)
+    (count x names tops w v steps numbers bw bv named two.0) (count y names tops w v steps numbers bw bv named more.0) op more.1
+    (divisor_of (phrase_of y) names w v)
+count (Choice' p c q x r y) names tops w v steps numbers bw bv named h = absurd (true≢false (sym h))
+count (Each' name p n q e) names tops w v steps numbers bw bv named h = absurd (true≢false (sym h))
+count (Sum' name p n q e) names tops w v steps numbers bw bv named h =
+    let a = both (counts (phrase_of n) tops) _ h in
+    let b = both (not (minus (phrase_of n))) _ a.1 in
+    let c = both (nat_lt (most (phrase_of n) tops) 65536) _ b.1 in
+    let d = both (nat_lt name 4) _ c.1 in
+    let f = both (counts (phrase_of e) (with_name tops name (most (phrase_of n) tops - 1))) _ d.1 in
+    let g = both (not (minus (phrase_of e))) _ f.1 in
+    let number : Plain (view (phrase_of n) names w v) (most (phrase_of n) tops) (value_of n (moment w w 0) (moment w v steps) numbers) =
+        plain_of (minus (phrase_of n)) (view (phrase_of n) names w v) (most (phrase_of n) tops)
+        (value_of n (moment w w 0) (moment w v steps) numbers)
+        (count n names tops w v steps numbers bw bv named a.0) (no (minus (phrase_of n)) b.0) in
+    sum_counts (view (phrase_of n) names w v) (most (phrase_of n) tops) (most (phrase_of e) (with_name tops name (most (phrase_of n) tops - 1)))
+    (λ k. value_of e (moment w w 0) (moment w v steps) (slice_set numbers name (pos k)))
+    (λ k. (view (phrase_of e) (with_name names name k) w v).plain) (value_of n (moment w w 0) (moment w v steps) numbers) number
+    (below (most (phrase_of n) tops) 65536 c.0)
+    (λ i less. of_view (view (phrase_of e) (with_name names name i) w v) (most (phrase_of e) (with_name tops name (most (phrase_of n) tops - 1)))
+    (value_of e (moment w w 0) (moment w v steps) (slice_set numbers name (pos i)))
+    (plain_of (minus (phrase_of e)) (view (phrase_of e) (with_name names name i) w v)
+    (most (phrase_of e) (with_name tops name (most (phrase_of n) tops - 1)))
+    (value_of e (moment w w 0) (moment w v steps) (slice_set numbers name (pos i)))
+    (count e (with_name names name i) (with_name tops name (most (phrase_of n) tops - 1)) w v steps (slice_set numbers name (pos i)) bw bv
+    (one_more numbers names tops name i (most (phrase_of n) tops - 1) named (below name 4 d.0)
+    (below_count (view (phrase_of n) names w v).plain (most (phrase_of n) tops) i number.small less)) f.0)
+    (no (minus (phrase_of e)) g.0))) (below (most (phrase_of n) tops * most (phrase_of e) (with_name tops name (most (phrase_of n) tops - 1))) (2 ^ 63) g.1)

@@ -1,0 +1,320 @@
+"""Bytes at addresses that are not known by value: what is known of each, by how its memory came of others."""
+
+import re
+from dataclasses import dataclass
+
+from .saying import is_fact, most, shape
+from .terms import bare, is_closed, list_of, par
+
+# The facts of this kind that a goal may have: more take the arithmetic too long.
+MOST_CASES = 14
+
+
+@dataclass
+class Put:
+    """A memory that is another one with a byte stored at an address."""
+
+    before: str
+    at: str
+    byte: str
+    equation: str
+    beside: str
+
+
+@dataclass
+class Cut:
+    """A memory that is another one behind stores whose addresses are numbers."""
+
+    before: str
+    stores: list
+    equation: str
+
+
+@dataclass
+class Kept:
+    """The memory of a world that keeps another one but in ranges of addresses."""
+
+    before: str
+    world: str
+    proof: str
+    ranges: list
+
+
+def terms_of(text):
+    """What a sum adds, as texts."""
+    text = bare(text)
+    parts, depth, start = [], 0, 0
+    for at, c in enumerate(text):
+        depth += (c == "(") - (c == ")")
+        if depth == 0 and text[at : at + 3] == " + ":
+            parts.append(text[start:at])
+            start = at + 3
+        elif depth == 0 and text[at : at + 3] in (" * ", " - ", " / ", " % "):
+            return [text]
+    parts.append(text[start:])
+    return parts if len(parts) == 1 else [it for part in parts for it in terms_of(part)]
+
+
+def linear(text):
+    """A sum as its number and its other parts, sorted."""
+    parts = [bare(it) for it in terms_of(text)]
+    return sum(int(it) for it in parts if it.isdigit()), sorted(it for it in parts if not it.isdigit())
+
+
+def sum_of(number, parts):
+    terms = ([str(number)] if number or not parts else []) + [par(it) if not is_closed(it) else it for it in parts]
+    return terms[0] if len(terms) == 1 else "(" + " + ".join(terms) + ")"
+
+
+def top_of(tops, term):
+    """What a part of a sum is, most likely, not above: it is proved where it is used."""
+    if term in tops:
+        return tops[term]
+    found = re.fullmatch(r"\((.*) \+ (1|255)\) % 256", term)
+    if found:
+        top = top_of(tops, bare(found[1]))
+        return min(255, top + (found[2] == "1"))
+    found = re.fullmatch(r"256 \* (.*)", term)
+    return 256 * 255 if found else 255
+
+
+def span(tops, text):
+    """From which address to which one it is."""
+    number, parts = linear(text)
+    return number, number + sum(top_of(tops, it) for it in parts)
+
+
+def is_apart(tops, a, b):
+    """Whether two addresses are surely different."""
+    (m, p), (n, q) = linear(a), linear(b)
+    if p == q:
+        return m != n
+    (low, high), (first, last) = span(tops, a), span(tops, b)
+    return high < first or last < low
+
+
+def covers(ranges, low, high):
+    return any(first <= low and high <= last for first, last in ranges)
+
+
+class Finder:
+    """Finds the facts that a goal wants of bytes in a state."""
+
+    def __init__(self, state, tops, named=()):
+        self.state, self.tops, self.named = state, tops, named
+        self.terms, self.cases, self.seen, self.used = [], [], set(), set()
+        self.queue = []
+
+    def know(self, term, says=""):
+        if (term, says) not in self.terms:
+            self.terms.append((term, says))
+
+    def case(self, term):
+        if term not in self.cases:
+            self.cases.append(term)
+
+    @property
+    def by(self):
+        return self.state.arithmetic()
+
+    def find(self, reads, deep=True):
+        """All that is known of bytes that are read; with what holds of each number below another only where it goes deep."""
+        self.queue = [(memory, bare(address)) for memory, address in reads]
+        while self.queue:
+            memory, address = self.queue.pop(0)
+            if (memory, address) in self.seen:
+                continue
+            self.seen.add((memory, address))
+            self.know(f"{self.has(memory)} {par(address)}")
+            link = self.state.links.get(memory)
+            if link:
+                self.linked(memory, address, link)
+            if deep:
+                self.instances(memory, address)
+        if deep:
+            self.alike()
+
+    def has(self, memory):
+        return self.state.all_has[memory]
+
+    def within(self, address):
+        """Proofs that an address is not below where it begins, and not above where it ends."""
+        low, high = span(self.tops, address)
+        return f"{low} {high} {par(address)} refl {self.by} {self.by}"
+
+    def linked(self, memory, address, link):
+        self.queue.append((link.before, address))
+        if isinstance(link, Put):
+            self.put(memory, address, link)
+        elif isinstance(link, Cut):
+            self.cut(memory, address, link)
+        else:
+            self.kept(address, link)
+
+    def put(self, memory, address, link):
+        here = f"{link.before} {memory} {par(link.at)} {par(link.byte)} {link.equation}"
+        if bare(link.at) == address:
+            self.know(f"put_here {here} {link.beside}")
+        elif is_apart(self.tops, address, link.at):
+            self.know(f"put_other {here} {par(address)} (λ e. omega (e, {self.state.facts_listed}))")
+        else:
+            self.case(f"put_read {here} {link.beside} {par(address)}")
+
+    def cut(self, memory, address, link):
+        if address.isdigit():
+            byte = dict(link.stores).get(int(address), f"ram_byte {link.before} {address}")
+            self.know(f"ap (λ q. ram_byte q {address}) {link.equation}", f"ram_byte {memory} {address} ≡ {byte}")
+            return
+        low, high = span(self.tops, address)
+        if any(low <= at <= high for at, _ in link.stores):
+            return
+        stores = list_of(f"({at}, _)" for at, _ in link.stores)
+        self.know(f"stores_other {stores} {link.before} {memory} {link.equation} {self.within(address)}")
+
+    def kept(self, address, link):
+        low, high = span(self.tops, address)
+        if covers(link.ranges, low, high):
+            return
+        inside = [it for it in link.ranges if it[0] <= high and low <= it[1]]
+        if address.isdigit():
+            self.know(f"{link.proof}.bytes {address} refl")
+        elif not inside:
+            self.know(f"kept_beside _ _ {link.world} {self.within_named(address)}".replace("@", link.proof))
+        elif len(inside) == 1:
+            first, last = inside[0]
+            self.case(f"kept_or_in _ _ {link.world} {first} {last} {self.within_named(address)}".replace("@", link.proof))
+
+    def within_named(self, address):
+        low, high = span(self.tops, address)
+        return f"{low} {high} {par(address)} @ refl {self.by} {self.by}"
+
+    # What holds of each number below another
+
+    def instances(self, memory, address):
+        for fact, e, words in self.state.universals:
+            for place, number, others in patterns(e, words):
+                index = index_at(address, number, others) if place == memory else None
+                if index is not None and (fact, index) not in self.used and self.may_count(e, index):
+                    self.used.add((fact, index))
+                    self.instance(fact, e, words, index)
+
+    def may_count(self, e, index):
+        """Whether a number may be below the count."""
+        return len(self.used) < MOST_CASES and span(self.tops, index)[0] < most(e[2], [65535] * e[1])
+
+    def instance(self, fact, e, words, index):
+        there = words.counting(e, index)
+        there.noted = []
+        less = f"p{len(self.used)}x{index_name(index)}"
+        says = read_as(e[3], True, there, f"{fact} {par(index)} {less}", less)
+        if says:
+            self.case(f"at_index ({index} + {words.down(e[2])}) {par(words.up(e[2]))} (λ {less}. {says})")
+        there.says(e[3])
+        self.queue += [(memory, bare(address)) for memory, address in there.noted]
+
+    def alike(self):
+        """Bytes of one memory whose addresses may be the same."""
+        of = {}
+        for memory, address in self.seen:
+            if not isinstance(self.state.links.get(memory), (Put, Cut)):
+                of.setdefault(memory, []).append(address)
+        for memory, addresses in sorted(of.items()):
+            addresses = sorted({*addresses, *(str(a) for a in self.named)})
+            for k, a in enumerate(addresses):
+                for b in addresses[k + 1 :]:
+                    if not is_apart(self.tops, a, b) and not (a.isdigit() and b.isdigit()):
+                        self.case(f"same_byte {memory} {par(a)} {par(b)}")
+
+
+def index_name(index):
+    return re.sub(r"\W", "", index)[:12]
+
+
+def read_as(e, holds, words, proof, name):
+    """A proof of a fact as the arithmetic reads it, without implications; None if there is none. Names in it begin with this one."""
+    if e[0] == "old":
+        return read_as(e[1], holds, words.at_entry(), proof, name)
+    if e[0] == "at":
+        return read_as(e[2], holds, words.at_label(e[1]), proof, name)
+    if e[0] == "pair":
+        return None if is_fact(e[2]) or is_fact(e[3]) else proof
+    if e[0] != "choice":
+        return None
+    _, by, one, other = e
+    kind = shape(e)
+    if kind in ("and", "or"):
+        second = one if kind == "and" else other
+        if (kind == "and") == holds:
+            parts = [read_as(by, holds, words, f"({proof}).0", name + "a"), read_as(second, holds, words, f"({proof}).1", name + "b")]
+            return f"({parts[0]}, {parts[1]})" if all(parts) else parts[0] or parts[1]
+        return proof if is_compared(by) and is_compared(second) else None
+    if kind == "not":
+        return read_as(by, not holds, words, proof, name)
+    if kind == "if" and not holds:
+        return None
+    ways = [(True, one)] if kind == "if" else [(True, one), (False, other)]
+    function = (lambda k: proof) if kind == "if" else (lambda k: f"({proof}).{k}")
+    found = []
+    for k, (value, then) in enumerate(ways):
+        made = lambda p, k=k, then=then: read_as(then, holds, words, f"({function(k)} {p})", name + "c")
+        found.append(supposing(by, value, words, made, f"{name}s{k}"))
+    found = [it for it in found if it]
+    return (f"({found[0]}, {found[1]})" if len(found) == 2 else found[0]) if found else None
+
+
+def is_compared(e):
+    return e[0] == "pair" and not (is_fact(e[2]) or is_fact(e[3]))
+
+
+def supposing(e, holds, words, made, name):
+    """What follows where a fact holds, or does not, with the other case."""
+    if e[0] == "old":
+        return supposing(e[1], holds, words.at_entry(), made, name)
+    if e[0] == "at":
+        return supposing(e[2], holds, words.at_label(e[1]), made, name)
+    if is_compared(e):
+        x, y = words.sides(e[2], e[3])
+        rule = {("Equal", True): "if_eq", ("Equal", False): "if_ne", ("Less", True): "if_lt", ("AtMost", True): "if_le"}.get((e[1], holds))
+        if rule is None:
+            rule, x, y = ("if_le" if e[1] == "Less" else "if_lt"), y, x
+        then = made(name)
+        return f"({rule} {par(x)} {par(y)} (λ {name}. {then}))" if then else None
+    if e[0] != "choice":
+        return None
+    kind = shape(e)
+    if kind == "not":
+        return supposing(e[1], not holds, words, made, name)
+    if kind not in ("and", "or"):
+        return None
+    second = e[2] if kind == "and" else e[3]
+    if (kind == "and") == holds:
+        both = lambda p: supposing(second, holds, words, lambda q: made(f"({p}, {q})"), name + "b")
+        return supposing(e[1], holds, words, both, name + "a")
+    found = [supposing(e[1], holds, words, lambda p: made(f"(inl {p})"), name + "l")]
+    found.append(supposing(second, holds, words, lambda p: made(f"(inr {p})"), name + "r"))
+    return f"({found[0]}, {found[1]})" if all(found) else found[0] or found[1]
+
+
+def patterns(e, words):
+    """The bytes of which what is counted speaks: memory, and the address as its number and its other parts."""
+    there = words.counting(e, "◊")
+    there.noted = []
+    there.says(e[3])
+    for memory, address in there.noted:
+        number, parts = linear(address)
+        if parts.count("◊") == 1 and not any("◊" in it for it in parts if it != "◊"):
+            parts.remove("◊")
+            yield memory, number, parts
+
+
+def index_at(address, number, others):
+    """What is counted, where a byte's address is this one."""
+    here, parts = linear(address)
+    parts = list(parts)
+    for it in others:
+        if it not in parts:
+            return None
+        parts.remove(it)
+    if here >= number:
+        return sum_of(here - number, parts)
+    return f"({sum_of(0, parts)} - {number - here})" if parts and number - here < 4 else None
