@@ -32,9 +32,10 @@ class Cut:
 
 @dataclass
 class Kept:
-    """The memory of a world that keeps another one but in ranges of addresses."""
+    """The memory of a world that keeps another one but in ranges of addresses, which are named too."""
 
     before: str
+    names: str
     world: str
     proof: str
     ranges: list
@@ -74,6 +75,9 @@ def top_of(tops, term):
     if found:
         top = top_of(tops, bare(found[1]))
         return min(255, top + (found[2] == "1"))
+    found = re.fullmatch(r"(\S+) - \d+", term)
+    if found:
+        return top_of(tops, bare(found[1]))
     found = re.fullmatch(r"256 \* (.*)", term)
     return 256 * 255 if found else 255
 
@@ -179,10 +183,10 @@ class Finder:
         if address.isdigit():
             self.know(f"{link.proof}.bytes {address} refl")
         elif not inside:
-            self.know(f"kept_beside _ _ {link.world} {self.within_named(address)}".replace("@", link.proof))
+            self.know(f"kept_beside {link.names} {link.world} {self.within_named(address)}".replace("@", link.proof))
         elif len(inside) == 1:
             first, last = inside[0]
-            self.case(f"kept_or_in _ _ {link.world} {first} {last} {self.within_named(address)}".replace("@", link.proof))
+            self.case(f"kept_or_in {link.names} {link.world} {first} {last} {self.within_named(address)}".replace("@", link.proof))
 
     def within_named(self, address):
         low, high = span(self.tops, address)

@@ -284,7 +284,7 @@ class Proof(Run):
         rule, behind = ("change", "changing") if it.mnemonic in CHANGES else ("put", "putting")
         to = f"({behind} {row} {it.value} {par(at)} {here})"
         begin += f"{self.lines(state)}{come}afresh code {here} {to} 1 _\n"
-        begin += f"({rule} {common} {by} {by} (not_among _ {low} {high} {par(at)} refl {first} {last})) {self.no_wrap(state, it)}"
+        begin += f"({rule} {common} {by} {by} (not_among code.protected {low} {high} {par(at)} refl {first} {last})) {self.no_wrap(state, it)}"
         link = f"{before} {m} {par(at)} {byte} {equation}"
         inside = f"(in_ranges {self.routine.name}_ranges {low} {high} {par(at)} refl {first} {last})"
         begin += f"(λ {m} {equation}.\nlet {has} = put_bytes {link} {beside} {held} {by} in {self.mark('bytes are stored' + state.at)}"
@@ -456,7 +456,7 @@ class Proof(Run):
         known = state if loop.labels else state.ground
         made.facts, made.known, made.reads, made.universals = (list(it) for it in (known.facts, known.known, known.reads, known.universals))
         made.all_has = {**state.all_has, made.memory_is: f"{fact}.bytes.ram"}
-        made.links = {**state.links, made.memory_is: Kept("w.memory", base, made.keep, self.changed)}
+        made.links = {**state.links, made.memory_is: Kept("w.memory", f"w.memory {self.routine.name}_ranges", base, made.keep, self.changed)}
         made.labels = {**state.labels, loop.within.label: base}
         for register in "axy":
             self.fact(made, f"{fact}.bytes.{register}")
@@ -515,7 +515,8 @@ class Proof(Run):
             setattr(made, name, copy.copy(getattr(state, name)))
         made.all_has[made.memory_is] = f"{after}.bytes.ram"
         if not state.stores:
-            made.links[made.memory_is] = Kept(state.memory_is, u, f"{after}.rest", changed)
+            names = f"{here_of(state)}.memory {list_of(f'({first}, {last})' for first, last in changed)}"
+            made.links[made.memory_is] = Kept(state.memory_is, names, u, f"{after}.rest", changed)
         for register in "axy":
             self.fact(made, f"{after}.bytes.{register}")
         for k, clause in enumerate(other.promise.promised, 1):
