@@ -167,7 +167,8 @@ class Finder:
     def cut(self, memory, address, link):
         if address.isdigit():
             byte = dict(link.stores).get(int(address), f"ram_byte {link.before} {address}")
-            self.know(f"ap (λ q. ram_byte q {address}) {link.equation}", f"ram_byte {memory} {address} ≡ {byte}")
+            proof = "refl" if link.equation == "refl" else f"ap (λ q. ram_byte q {address}) {link.equation}"
+            self.know(proof, f"ram_byte {memory} {address} ≡ {byte}")
             return
         low, high = span(self.tops, address)
         if any(low <= at <= high for at, _ in link.stores):
@@ -210,8 +211,7 @@ class Finder:
         there = words.counting(e, index)
         there.noted = []
         less = f"p{len(self.used)}x{index_name(index)}"
-        says = read_as(e[3], True, there, f"{fact} {par(index)} {less}", less)
-        if says:
+        for says in read_as(e[3], True, there, f"{fact} {par(index)} {less}", less):
             self.case(f"at_index ({index} + {words.down(e[2])}) {par(words.up(e[2]))} (λ {less}. {says})")
         there.says(e[3])
         self.queue += [(memory, bare(address)) for memory, address in there.noted]
@@ -235,35 +235,34 @@ def index_name(index):
 
 
 def read_as(e, holds, words, proof, name):
-    """A proof of a fact as the arithmetic reads it, without implications; None if there is none. Names in it begin with this one."""
+    """Proofs of what a fact says as the arithmetic reads it, without implications. Names in them begin with this one."""
     if e[0] == "old":
         return read_as(e[1], holds, words.at_entry(), proof, name)
     if e[0] == "at":
         return read_as(e[2], holds, words.at_label(e[1]), proof, name)
     if e[0] == "pair":
-        return None if is_fact(e[2]) or is_fact(e[3]) else proof
+        return [proof] if is_compared(e) else []
     if e[0] != "choice":
-        return None
+        return []
     _, by, one, other = e
     kind = shape(e)
+    if kind == "not":
+        return read_as(by, not holds, words, proof, name)
     if kind in ("and", "or"):
         second = one if kind == "and" else other
         if (kind == "and") == holds:
-            parts = [read_as(by, holds, words, f"({proof}).0", name + "a"), read_as(second, holds, words, f"({proof}).1", name + "b")]
-            return f"({parts[0]}, {parts[1]})" if all(parts) else parts[0] or parts[1]
-        return proof if is_compared(by) and is_compared(second) else None
-    if kind == "not":
-        return read_as(by, not holds, words, proof, name)
+            first = read_as(by, holds, words, f"({proof}).0", name + "a")
+            return first + read_as(second, holds, words, f"({proof}).1", name + "b")
+        return [proof] if is_compared(by) and is_compared(second) else []
     if kind == "if" and not holds:
-        return None
-    ways = [(True, one)] if kind == "if" else [(True, one), (False, other)]
-    function = (lambda k: proof) if kind == "if" else (lambda k: f"({proof}).{k}")
-    found = []
-    for k, (value, then) in enumerate(ways):
-        made = lambda p, k=k, then=then: read_as(then, holds, words, f"({function(k)} {p})", name + "c")
-        found.append(supposing(by, value, words, made, f"{name}s{k}"))
-    found = [it for it in found if it]
-    return (f"({found[0]}, {found[1]})" if len(found) == 2 else found[0]) if found else None
+        return []
+
+    def way(value, then, function, name):
+        return supposing(by, value, words, lambda p: read_as(then, holds, words, f"({function} {p})", name + "c"), name)
+
+    if kind == "if":
+        return way(True, one, proof, name + "s")
+    return way(True, one, f"({proof}).0", name + "s") + way(False, other, f"({proof}).1", name + "t")
 
 
 def is_compared(e):
@@ -271,7 +270,7 @@ def is_compared(e):
 
 
 def supposing(e, holds, words, made, name):
-    """What follows where a fact holds, or does not, with the other case."""
+    """Proofs of what follows where a fact holds, or does not, each with the other case."""
     if e[0] == "old":
         return supposing(e[1], holds, words.at_entry(), made, name)
     if e[0] == "at":
@@ -281,22 +280,17 @@ def supposing(e, holds, words, made, name):
         rule = {("Equal", True): "if_eq", ("Equal", False): "if_ne", ("Less", True): "if_lt", ("AtMost", True): "if_le"}.get((e[1], holds))
         if rule is None:
             rule, x, y = ("if_le" if e[1] == "Less" else "if_lt"), y, x
-        then = made(name)
-        return f"({rule} {par(x)} {par(y)} (λ {name}. {then}))" if then else None
-    if e[0] != "choice":
-        return None
-    kind = shape(e)
+        return [f"({rule} {par(x)} {par(y)} (λ {name}. {then}))" for then in made(name)]
+    kind = shape(e) if e[0] == "choice" else None
     if kind == "not":
         return supposing(e[1], not holds, words, made, name)
     if kind not in ("and", "or"):
-        return None
+        return []
     second = e[2] if kind == "and" else e[3]
     if (kind == "and") == holds:
-        both = lambda p: supposing(second, holds, words, lambda q: made(f"({p}, {q})"), name + "b")
-        return supposing(e[1], holds, words, both, name + "a")
-    found = [supposing(e[1], holds, words, lambda p: made(f"(inl {p})"), name + "l")]
-    found.append(supposing(second, holds, words, lambda p: made(f"(inr {p})"), name + "r"))
-    return f"({found[0]}, {found[1]})" if all(found) else found[0] or found[1]
+        return supposing(e[1], holds, words, lambda p: supposing(second, holds, words, lambda q: made(f"({p}, {q})"), name + "b"), name + "a")
+    first = supposing(e[1], holds, words, lambda p: made(f"(inl {p})"), name + "l")
+    return first + supposing(second, holds, words, lambda p: made(f"(inr {p})"), name + "r")
 
 
 def patterns(e, words):

@@ -106,7 +106,7 @@ class Proof(Run):
         state.reads += bytes_in(e, words)
         for proof, each in universals_in(e, fact):
             state.universals.append((proof, each, words))
-            if each[2][0] == "number" and each[2][1] <= MOST_UNROLLED:
+            if each[2][0] == "number" and each[2][1] <= MOST_UNROLLED and not state.links:
                 for k in range(each[2][1]):
                     self.learn(state, each[3], f"({proof} {k} (omega arith))", words.counting(each, k))
 
@@ -475,37 +475,48 @@ class Proof(Run):
 
     def call(self, state, it, loops):
         other = self.routines[it.value]
-        cut, behind = "", ""
-        if any(is_of_arrays(clause.expr, state) for clause in other.promise.wanted + other.promise.promised) or state.reads:
-            cut, behind = self.cut(state)
         self.step(state, it)
-        again, more = self.cut(state) if cut or state.links else ("", "")
-        cut, behind = cut + again, behind + more
         s = state.s
         self.calls.add((it.value, s))
-        here = f"(stepped code {state.world} {state.steps})"
+        here = here_of(state)
         self.prepare(state, other.promise.wanted)
+        there = self.with_memory(state, f"{here}.memory")
         body = "".join(
-            f"r{k} = {self.goal(state, clause, f'line {it.line}: the call of {other.name} wants {clause.text}')}"
+            f"r{k} = {self.goal(there, clause, f'line {it.line}: the call of {other.name} wants {clause.text}')}"
             for k, clause in enumerate(other.promise.wanted, 1)
         )
         bytes_ = self.only_bytes(state)
-        begin, mark = self.lines(state), self.mark(f"line {it.line}: the call of {other.name}" + state.at)
+        begin, mark = self.lines(state) + self.lines(there), self.mark(f"line {it.line}: the call of {other.name}" + state.at)
         u, after, kept = self.fresh("u"), self.fresh("a"), self.fresh("k")
         changed = other.changed(s)
         self.touched |= {a for first, last in changed for a in range(max(first, 0x100), min(last, 0x1FF) + 1)}
         before = self.keeps(state, f"(entered 0 {here}.memory)")
         inner = list_of(f"({first}, {last})" for first, last in changed)
         keep = f"keeps_behind w.memory {here}.memory {self.routine.name}_ranges {inner} {u} {after}.rest refl ({before})"
-        last = self.state_behind(state, other, it, u, after, changed)
+        last = self.state_behind(there, other, it, u, after, changed)
         last.keep = kept
         last.lines.insert(0, (kept, f"keeps_as w.memory {self.routine.name}_changed {u} ({keep})"))
         rest = self.tree(last, loops)
         return (
-            f"{cut}{begin}onto code {state.world} {here} {state.steps} _ refl "
+            f"{begin}onto code {state.world} {here} {state.steps} _ refl "
             f"(call code {it.value} {s} {it.address + 3} _ _ _ {other.name}_{s}_meets {here}\n({bytes_})\n"
-            f"(record {{ {body or 'none = tt;'} }}) {mark}refl (λ {u} {after}.\n{rest})){behind}"
+            f"(record {{ {body or 'none = tt;'} }}) {mark}refl (λ {u} {after}.\n{rest}))"
         )
+
+    def with_memory(self, state, memory):
+        """A state whose memory, with its stores, is one that this term names."""
+        made = state.copy()
+        if not state.stores:
+            return made
+        has, low, fits = self.fresh("q"), state.arithmetic(), "tt"
+        for _ in state.stores:
+            fits = f"({low}, refl, {fits})"
+        stores = [(a, str(term)) for a, term in state.stores]
+        of = list_of(f"({a}, {term})" for a, term in stores)
+        made.lines = [(f"{has} : HasBytes ({memory})", f"stores_bytes {of} {state.memory_is} ({memory}) refl {state.has} {fits}")]
+        made.memory_is = f"({memory})"
+        made.links[made.memory_is], made.all_has[made.memory_is] = Cut(state.memory_is, stores, "refl"), has
+        return made
 
     def state_behind(self, state, other, it, u, after, changed):
         """Behind a call: what the other routine promises, of the state before it."""
@@ -514,9 +525,8 @@ class Proof(Run):
         for name in ("facts", "known", "reads", "universals", "links", "all_has", "labels"):
             setattr(made, name, copy.copy(getattr(state, name)))
         made.all_has[made.memory_is] = f"{after}.bytes.ram"
-        if not state.stores:
-            names = f"{here_of(state)}.memory {list_of(f'({first}, {last})' for first, last in changed)}"
-            made.links[made.memory_is] = Kept(state.memory_is, names, u, f"{after}.rest", changed)
+        names = f"{state.memory_is} {list_of(f'({first}, {last})' for first, last in changed)}"
+        made.links[made.memory_is] = Kept(state.memory_is, names, u, f"{after}.rest", changed)
         for register in "axy":
             self.fact(made, f"{after}.bytes.{register}")
         for k, clause in enumerate(other.promise.promised, 1):
@@ -588,13 +598,11 @@ class Proof(Run):
 
     def unrolled(self, state, e, facts, words):
         """One proof for each number."""
-        name = f"i{e[1]}"
-        says = words.counting(e, name).says(e[3])
-        text = f"(none_below (λ {name}. {says}))"
+        text = "(none_below _)"
         for k in range(e[2][1]):
             there = words.counting(e, k)
             lets, more = self.found(state, bytes_in(e[3], there), facts)
-            text = f"(one_more_below (λ {name}. {says}) {k}\n({lets}{self.proved_by(state, e[3], True, more, there)}) {text})"
+            text = f"(one_more_below _ {k}\n({lets}{self.proved_by(state, e[3], True, more, there)}) {text})"
         return text
 
     def by_all_bytes(self, state, x, y):
@@ -831,10 +839,10 @@ def is_unrolled(e, state):
 
 
 def is_of_arrays(e, state):
-    """Whether a fact speaks of bytes at addresses that are not numbers."""
-    if e[0] == "each":
-        return not is_unrolled(e, state) and any(it[0] in ("of", "each") for it in parts_of(e[3]))
-    if e[0] == "of" and e[1] != "Signed" and any(it[0] != "number" for it in parts_of(e[2])):
+    """Whether a fact speaks of bytes at addresses that are not numbers, when each few numbers are gone through."""
+    if e[0] == "each" and not is_unrolled(e, state):
+        return any(it[0] in ("of", "each") for it in parts_of(e[3]))
+    if e[0] == "of" and e[1] in ("Byte", "Word") and any(it[0] in ("held", "of") for it in parts_of(e[2])):
         return True
     return any(is_of_arrays(it, state) for it in e[1:] if isinstance(it, tuple))
 

@@ -9,7 +9,9 @@ from .values import State, holds, value
 CORNERS = (0, 1, 2, 127, 128, 254, 255)
 STATES = 400
 TRIES = 60 * STATES
-STEPS = 100_000
+STEPS = 20_000
+# How many runs may take longer, where lines say why they end.
+LONG_RUNS = 3
 MOST_SHOWN = 12
 MOST_OF_ARRAY = 24
 
@@ -127,16 +129,19 @@ def fails_in(machine, promise, entry):
 
 def failure(program, promise):
     """What fails, and where; None if nothing does in the states that are tried."""
-    machine, states, met = Machine(program), States(program, promise), 0
+    machine, states, met, long_runs = Machine(program), States(program, promise), 0, 0
+    may_be_long = any(within.measures for within in promise.within)
     for _ in range(TRIES):
         entry = states.next()
         if not all(holds(clause.expr, entry, entry) for clause in promise.wanted):
             continue
         met += 1
         says, behind = fails_in(machine, promise, entry)
-        if says:
+        if says and may_be_long and machine.is_endless:
+            long_runs += 1
+        elif says:
             cells = sorted(cells_of(promise) | machine.looked_at)[:MOST_SHOWN]
             return f"{says}; entered with {shown(entry, cells)}; left with {shown(behind, cells)}"
-        if met == STATES:
+        if met == STATES or long_runs == LONG_RUNS:
             return None
     return None if met else "no state was found that is as it requires"

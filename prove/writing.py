@@ -45,7 +45,7 @@ use Rattle.a2_cpu.specs.Registers.{one_if}
 use Rattle.a2_bus.specs.Memory.{Memory, ram_byte}
 use Rattle.a2_services.specs.World.{World}
 use Rattle.a2_machine.proofs.Computing.{computing}
-use Rattle.a2_lessons.specs.Routines.{entered, Keeps, word}
+use Rattle.a2_lessons.specs.Routines.{entered, HasBytes, Keeps, word}
 use Rattle.a2_lessons.proofs.Branching.{N, V, Z, C, with_flag}
 use Rattle.a2_lessons.proofs.Keeping.{kept, keeps_all, keeps_stores}
 use Rattle.a2_lessons.proofs.Carrying.{fits_word}
