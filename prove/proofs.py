@@ -221,7 +221,7 @@ class Proof(Run):
         ranges = [(max(low, first), min(high, last)) for first, last in self.changed if first <= high and low <= last]
         if not ranges:
             raise Refusal(it.line, f"{it.mnemonic} stores at ${low:04X} or above, and no byte from there on stands behind changes")
-        found = next((it for it in ranges if it[0] == low), ranges[0])
+        found = next((it for it in ranges if it[0] == low), max(ranges, key=lambda it: it[1] - it[0]))
         if self.program_has_code(*found):
             raise Refusal(it.line, f"{it.mnemonic} by an index may store where its own code stands")
         if found[0] < 0xC00 and found[1] >= 0x400:
@@ -264,10 +264,11 @@ class Proof(Run):
         low, high = self.range_of(it, at)
         range_facts = []
         begin = self.lines(state)
-        for says, sign in ((f"{low} ≤ {at}", "begins"), (f"{at} ≤ {high}", "ends")):
+        below, above = f"below ${low:04X}, where that begins", f"above ${high:04X}, where that ends"
+        for says, beside in ((f"{low} ≤ {at}", below), (f"{at} ≤ {high}", above)):
             name = self.fresh("r")
             begin += f"let {name} : {says} = {state.arithmetic()} in "
-            begin += self.mark(f"line {it.line}: {it.mnemonic} may store beside ${low:04X}..${high:04X}, which {sign} what stands behind changes" + state.at)
+            begin += self.mark(f"line {it.line}: {it.mnemonic} may store beside what stands behind changes, {beside}" + state.at)
             range_facts.append(name)
         state.facts += range_facts
         first, last = range_facts

@@ -7,11 +7,11 @@ NO1     RTS
 NO2     RTS
 ;: ensures A and 3
 NO3     RTS
-;: ensures for all i < 8: [#$2000 + i] = 0
+;: ensures for all i < 70000: A = old A
 NO4     RTS
 ;: ensures cycles <= 40
 NO5     RTS
-;: ensures abs A < 5
+;: ensures A = sum i < X: 1
 NO6     RTS
 ;: ensures A = $10 / $11
 NO7     RTS
@@ -27,14 +27,13 @@ NO11    LDA #0
         STA $0400
         RTS
 ;: ensures A = 0
-;: changes A, $00..$FF
+;: changes A, $0400..$04FF
 NO12    LDA #0
-        STA $20,X
+        STA $0400,X
         RTS
-;: requires $07 < 128 and Y = 0
 ;: ensures  A = A
 ;: changes  A
-NO13    LDA ($06),Y
+NO13    LDA ($06,X)
         RTS
 ;: ensures A = old A
 ;: changes A
