@@ -41,30 +41,50 @@ class Kept:
     ranges: list
 
 
-def terms_of(text):
-    """What a sum adds, as texts."""
+def parts_of(text, tops, sign=1):
+    """What a sum adds and takes away, as texts with their signs. What is taken from a number that is not less is so."""
     text = bare(text)
-    parts, depth, start = [], 0, 0
+    depth, cuts = 0, []
     for at, c in enumerate(text):
         depth += (c == "(") - (c == ")")
-        if depth == 0 and text[at : at + 3] == " + ":
-            parts.append(text[start:at])
-            start = at + 3
-        elif depth == 0 and text[at : at + 3] in (" * ", " - ", " / ", " % "):
-            return [text]
-    parts.append(text[start:])
-    return parts if len(parts) == 1 else [it for part in parts for it in terms_of(part)]
+        if depth == 0 and text[at : at + 3] in (" * ", " / ", " % "):
+            return [(sign, text)]
+        if depth == 0 and text[at : at + 3] in (" + ", " - "):
+            cuts.append((at, text[at + 1]))
+    if not cuts:
+        return [(sign, text)]
+    at, operator = cuts[-1]
+    left, right = text[:at], text[at + 3 :]
+    if operator == "-" and span(tops, right)[1] > span(tops, left)[0]:
+        return [(sign, text)]
+    return parts_of(left, tops, sign) + parts_of(right, tops, sign if operator == "+" else -sign)
 
 
-def linear(text):
-    """A sum as its number and its other parts, sorted."""
-    parts = [bare(it) for it in terms_of(text)]
-    return sum(int(it) for it in parts if it.isdigit()), sorted(it for it in parts if not it.isdigit())
+def linear(text, tops):
+    """A sum as its number and its other parts with their signs, sorted."""
+    number, parts = 0, []
+    for sign, part in parts_of(text, tops):
+        if part.isdigit():
+            number += sign * int(part)
+        elif (-sign, part) in parts:
+            parts.remove((-sign, part))
+        else:
+            parts.append((sign, part))
+    return number, sorted(parts)
 
 
 def sum_of(number, parts):
-    terms = ([str(number)] if number or not parts else []) + [par(it) if not is_closed(it) else it for it in parts]
-    return terms[0] if len(terms) == 1 else "(" + " + ".join(terms) + ")"
+    """A sum as a term."""
+    def enclosed(it):
+        return it if is_closed(it) else par(it)
+
+    added = [enclosed(it) for sign, it in parts if sign > 0]
+    taken = [enclosed(it) for sign, it in parts if sign < 0]
+    terms = ([str(number)] if number or not added else []) + added
+    text = terms[0] if len(terms) == 1 else "(" + " + ".join(terms) + ")"
+    for it in taken:
+        text = f"({text} - {it})"
+    return text
 
 
 def top_of(tops, term):
@@ -84,17 +104,23 @@ def top_of(tops, term):
 
 def span(tops, text):
     """From which address to which one it is."""
-    number, parts = linear(text)
-    return number, number + sum(top_of(tops, it) for it in parts)
+    number, parts = linear(text, tops)
+    low = number - sum(top_of(tops, it) for sign, it in parts if sign < 0)
+    return max(low, 0), number + sum(top_of(tops, it) for sign, it in parts if sign > 0)
 
 
 def is_apart(tops, a, b):
     """Whether two addresses are surely different."""
-    (m, p), (n, q) = linear(a), linear(b)
+    (m, p), (n, q) = linear(a, tops), linear(b, tops)
     if p == q:
         return m != n
     (low, high), (first, last) = span(tops, a), span(tops, b)
     return high < first or last < low
+
+
+def is_same(tops, a, b):
+    """Whether two addresses are surely the same, in other words."""
+    return a != b and linear(a, tops) == linear(b, tops)
 
 
 def covers(ranges, low, high):
@@ -197,8 +223,8 @@ class Finder:
 
     def instances(self, memory, address):
         for fact, e, words in self.state.universals:
-            for place, number, others in patterns(e, words):
-                index = index_at(address, number, others) if place == memory else None
+            for place, number, others, sign in patterns(e, words, self.tops):
+                index = index_at(address, number, others, sign, self.tops) if place == memory else None
                 if index is not None and (fact, index) not in self.used and self.may_count(e, index):
                     self.used.add((fact, index))
                     self.instance(fact, e, words, index)
@@ -226,7 +252,10 @@ class Finder:
             addresses = sorted({*addresses, *(str(a) for a in self.named)})
             for k, a in enumerate(addresses):
                 for b in addresses[k + 1 :]:
-                    if not is_apart(self.tops, a, b) and not (a.isdigit() and b.isdigit()):
+                    if is_same(self.tops, a, b):
+                        same = f"(omega (arith, {', '.join(self.state.facts)}))"
+                        self.know(f"ap (λ n. ram_byte {memory} n) {same}", f"ram_byte {memory} {par(a)} ≡ ram_byte {memory} {par(b)}")
+                    elif not is_apart(self.tops, a, b) and not (a.isdigit() and b.isdigit()):
                         self.case(f"same_byte {memory} {par(a)} {par(b)}")
 
 
@@ -293,26 +322,29 @@ def supposing(e, holds, words, made, name):
     return first + supposing(second, holds, words, lambda p: made(f"(inr {p})"), name + "r")
 
 
-def patterns(e, words):
-    """The bytes of which what is counted speaks: memory, and the address as its number and its other parts."""
+def patterns(e, words, tops):
+    """The bytes of which what is counted speaks: memory, and the address as its number and its other parts, and the sign of what is
+    counted."""
     there = words.counting(e, "◊")
     there.noted = []
     there.says(e[3])
     for memory, address in there.noted:
-        number, parts = linear(address)
-        if parts.count("◊") == 1 and not any("◊" in it for it in parts if it != "◊"):
-            parts.remove("◊")
-            yield memory, number, parts
+        number, parts = linear(address, {**tops, "◊": max(most(e[2], [65535] * e[1]) - 1, 0)})
+        for sign in (1, -1):
+            if (sign, "◊") in parts and not any("◊" in it for _, it in parts if it != "◊"):
+                parts.remove((sign, "◊"))
+                yield memory, number, parts, sign
+                break
 
 
-def index_at(address, number, others):
+def index_at(address, number, others, sign, tops):
     """What is counted, where a byte's address is this one."""
-    here, parts = linear(address)
-    parts = list(parts)
-    for it in others:
-        if it not in parts:
-            return None
-        parts.remove(it)
-    if here >= number:
-        return sum_of(here - number, parts)
-    return f"({sum_of(0, parts)} - {number - here})" if parts and number - here < 4 else None
+    here, parts = linear(address, tops)
+    number, parts = sign * (here - number), [(sign * s, it) for s, it in parts] + [(-sign * s, it) for s, it in others]
+    for s, it in list(parts):
+        if s > 0 and (-1, it) in parts:
+            parts.remove((1, it))
+            parts.remove((-1, it))
+    if number >= 0 and (number or any(s > 0 for s, _ in parts) or not parts):
+        return sum_of(number, parts)
+    return f"({sum_of(0, parts)} - {-number})" if -4 < number < 0 and parts and all(s > 0 for s, _ in parts) else None

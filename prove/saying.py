@@ -99,13 +99,31 @@ def why_no_number(e, tops=()):
     return BY_IF
 
 
+def least(e):
+    """A number that an expression is not below, as numbers that are written show."""
+    if e[0] == "number":
+        return e[1]
+    if e[0] == "old":
+        return least(e[1])
+    return least(e[2]) + least(e[3]) if e[:2] == ("pair", "Plus") else 0
+
+
+def is_never_below(e, tops):
+    """Whether a difference is never below 0, as numbers that are written show."""
+    if e[0] == "old":
+        return is_never_below(e[1], tops)
+    if e[:2] == ("pair", "Minus"):
+        return not is_minus(e[2]) and not is_minus(e[3]) and most(e[3], tops) <= least(e[2])
+    return e[:2] == ("pair", "Plus") and all(not is_minus(it) or is_never_below(it, tops) for it in e[2:])
+
+
 def why_no_place(e, tops):
     if e[1] == "Abs":
         return None
     if e[1] == "Signed":
         return "signed is proved of bytes only" if is_minus(e[2]) or most(e[2], tops) > 255 else None
-    if is_minus(e[2]):
-        return "an address that is a difference can't be proved: write it as a sum"
+    if is_minus(e[2]) and (e[1] == "Word" or not is_never_below(e[2], tops)):
+        return "an address that is a difference can be proved only of a byte, and where the numbers show that it is never below 0"
     if most(e[2], tops) >= (0xC000 if e[1] == "Byte" else 0xBFFF):
         return "this address may lie at $C000 or above: only bytes of RAM can be proved"
     return None
@@ -233,8 +251,11 @@ class Words:
             up, down = self.up(e[2]), self.down(e[2])
             return f"(({up} - {down}) + ({down} - {up}))"
         if kind == "of":
-            return (self.byte if e[1] == "Byte" else self.word)(self.plain(e[2]))
+            return (self.byte if e[1] == "Byte" else self.word)(self.address(e[2]))
         return self.joined(*e[1:])
+
+    def address(self, e):
+        return operated("Less", self.up(e), self.down(e)) if is_minus(e) else self.plain(e)
 
     def joined(self, op, x, y):
         if op in OPERATORS:
@@ -257,9 +278,9 @@ class Words:
         if e[0] == "of" and e[1] == "Signed":
             return self.plain(e[2])
         if e[0] == "pair" and e[1] == "Minus":
-            return f"({self.up(e[2])} + {self.down(e[3])})"
+            return operated("Plus", self.up(e[2]), self.down(e[3]))
         if e[0] == "pair" and e[1] == "Plus":
-            return f"({self.up(e[2])} + {self.up(e[3])})"
+            return operated("Plus", self.up(e[2]), self.up(e[3]))
         return self.plain(e)
 
     def down(self, e):
@@ -270,9 +291,9 @@ class Words:
         if e[0] == "of" and e[1] == "Signed":
             return f"(256 * (one_if (nat_le 128 {par(self.plain(e[2]))})))"
         if e[0] == "pair" and e[1] == "Minus":
-            return f"({self.down(e[2])} + {self.up(e[3])})"
+            return operated("Plus", self.down(e[2]), self.up(e[3]))
         if e[0] == "pair" and e[1] == "Plus":
-            return f"({self.down(e[2])} + {self.down(e[3])})"
+            return operated("Plus", self.down(e[2]), self.down(e[3]))
         return "0"
 
     def sides(self, x, y):
@@ -337,9 +358,9 @@ class Words:
 
 def operated(op, x, y):
     if not (x.isdigit() and y.isdigit()):
-        return f"({x} {OPERATORS[op]} {y})"
+        return f"({x} {OPERATORS.get(op, '-')} {y})"
     m, n = int(x), int(y)
-    return str({"Plus": m + n, "Times": m * n}.get(op, m // n if n else 0))
+    return str({"Plus": m + n, "Times": m * n, "Less": max(m - n, 0)}.get(op, m // n if n else 0))
 
 
 def signed_in(e, words):

@@ -80,6 +80,10 @@ joined _ below x y = same 0
 abbrev pub size : View → View
 size x = same ((x.up - x.down) + (x.down - x.up))
 
+-- an address; what may be below 0 is the difference
+abbrev pub address : Bool → View → ℕ
+address below x = if below then x.up - x.down else x.plain
+
 -- the sum of what is there of each number below another
 abbrev pub summed : ℕ → (ℕ → ℕ) → ℕ
 summed zero f = 0
@@ -90,7 +94,7 @@ view (number (pos n)) names w v = same n
 view (held a) names w v = same (part a v)
 view (bound name) names w v = same (names name)
 view (old e) names w v = view e names w w
-view (of function.Byte e) names w v = same (ram_byte v.memory (view e names w v).plain)
+view (of function.Byte e) names w v = same (ram_byte v.memory (address (minus e) (view e names w v)))
 view (of function.Word e) names w v = same (word v.memory (view e names w v).plain)
 view (of function.Signed e) names w v = signed_view (view e names w v).plain
 view (of function.Abs e) names w v = size (view e names w v)
@@ -122,6 +126,20 @@ most (of function.Abs e) tops = most e tops
 most (pair op x y) tops = most_of op (most x tops) (most y tops)
 most (sum name n e) tops = most n tops * most e (with_name tops name (most n tops - 1))
 most _ tops = 0
+
+-- a number that both are not below
+abbrev pub lowest : Phrase → ℕ
+lowest (number (pos n)) = n
+lowest (old e) = lowest e
+lowest (pair operation.Plus x y) = lowest x + lowest y
+lowest _ = 0
+
+-- whether a difference is never below 0, as numbers that are written show
+abbrev pub never_below : Phrase → (tops : ℕ → ℕ) → Bool
+never_below (old e) tops = never_below e tops
+never_below (pair operation.Minus x y) tops = not (minus x) && (not (minus y) && nat_le (most y tops) (lowest x))
+never_below (pair operation.Plus x y) tops = (not (minus x) || never_below x tops) && (not (minus y) || never_below y tops)
+never_below _ tops = false
 
 -- a divisor is a number that is written, and not 0
 abbrev pub divides : Phrase → Bool
@@ -161,7 +179,7 @@ counts (number (pos n)) tops = true
 counts (held a) tops = is_part a
 counts (bound name) tops = nat_lt name 4
 counts (old e) tops = counts e tops
-counts (of function.Byte e) tops = counts e tops && (not (minus e) && nat_lt (most e tops) 49152)
+counts (of function.Byte e) tops = counts e tops && ((not (minus e) || never_below e tops) && nat_lt (most e tops) 49152)
 counts (of function.Word e) tops = counts e tops && (not (minus e) && nat_lt (most e tops) 49151)
 counts (of function.Signed e) tops = counts e tops && (not (minus e) && is_byte (most e tops))
 counts (of function.Abs e) tops = counts e tops && in_range (most e tops)

@@ -27,7 +27,7 @@ use Rattle.a2_rules.specs.Phrases.{Phrase, number, held, bound, old, at, of, pai
 use Rattle.a2_lessons.specs.Routines.{word}
 use Rattle.a2_rules.specs.Worlds.{OnlyBytes}
 use Rattle.a2_rules.proofs.Bits.{digits_small}
-use Rattle.a2_rules.proofs.Saying.{part, is_part, View, same, minus, joined, view, most_of, most, divides, both_plain, is_byte, in_range, may_join, counts, signed_view, size, summed, with_name}
+use Rattle.a2_rules.proofs.Saying.{part, is_part, View, same, minus, joined, view, most_of, most, divides, both_plain, is_byte, in_range, may_join, counts, signed_view, size, summed, with_name, address, lowest, never_below}
 
 -- Tests
 
@@ -595,51 +595,187 @@ of_view x top o h = record { is = h.is; small = h.small }
 pub below_count : (n top i : ℕ) → n ≤ top → i < n → i ≤ top - 1
 below_count n top i h less = omega (arith, h, less)
 
+-- Differences that are never below 0
+
+or_known : (x y : Bool) → (x || y) ≡ true → (x ≡ true) ⊎ (y ≡ true)
+or_known true y h = inl refl
+or_known false y h = inr h
+
+lowest_is : (p : Phrase) (names : ℕ → ℕ) (w v : World) → lowest p ≤ (view p names w v).up
+lowest_is (number (pos n)) names w v = omega arith
+lowest_is (number (negsuc n)) names w v = omega arith
+lowest_is (held a) names w v = omega arith
+lowest_is (bound n) names w v = omega arith
+lowest_is (old e) names w v = lowest_is e names w w
+lowest_is (of f e) names w v = omega arith
+lowest_is (pair operation.Plus x y) names w v = let a = lowest_is x names w v in let b = lowest_is y names w v in omega (arith, a, b)
+lowest_is (pair operation.Minus x y) names w v = omega arith
+lowest_is (pair operation.Times x y) names w v = omega arith
+lowest_is (pair operation.Over x y) names w v = omega arith
+lowest_is (pair operation.Modulo x y) names w v = omega arith
+lowest_is (pair operation.BitAnd x y) names w v = omega arith
+lowest_is (pair operation.BitOr x y) names w v = omega arith
+lowest_is (pair operation.BitXor x y) names w v = omega arith
+lowest_is (pair operation.Min x y) names w v = omega arith
+lowest_is (pair operation.Max x y) names w v = omega arith
+lowest_is (pair operation.Bit x y) names w v = omega arith
+lowest_is (pair operation.Equal x y) names w v = omega arith
+lowest_is (pair operation.Less x y) names w v = omega arith
+lowest_is (pair operation.AtMost x y) names w v = omega arith
+lowest_is (choice c p q) names w v = omega arith
+lowest_is (each name n e) names w v = omega arith
+lowest_is (sum name n e) names w v = omega arith
+
+-- the number is not below 0
+abbrev Above : Phrase → (ℕ → ℕ) → View → Type 0
+Above p tops x = never_below p tops ≡ true → x.down ≤ x.up
+
+address_plain : (signed : Bool) (x : View) (top : ℕ) (o : Option ℤ) → Counts signed x top o → (signed ≡ true → x.down ≤ x.up)
+    → Plain (same (address signed x)) top o
+address_plain true x top o h above =
+    let sum = h.sum in
+    let low = h.up in
+    let over = above refl in
+    let is : Is h.z (x.up - x.down) 0 = omega (arith, ints, sum, over) in
+    record { is = h.is ∙ ap (λ z. Some z) (natural h.z (x.up - x.down) is); small = omega (arith, low) }
+address_plain false x top o h above = let p = plain_of false x top o h refl in record { is = p.is; small = p.small }
+
+-- where a difference stands as an address
+where_below : (p : Phrase) (tops : ℕ → ℕ) (x : View) → (not (minus p) || never_below p tops) ≡ true → Above p tops x
+    → minus p ≡ true → x.down ≤ x.up
+where_below p tops x known above is = go (or_known (not (minus p)) (never_below p tops) known)
+  where
+    go : (not (minus p) ≡ true) ⊎ (never_below p tops ≡ true) → x.down ≤ x.up
+    go (inl e) = absurd (true≢false (sym is ∙ no (minus p) e))
+    go (inr e) = above e
+
+-- no difference is above 0 as it is
+level : (signed : Bool) (x : View) (top : ℕ) (o : Option ℤ) → Counts signed x top o → not signed ≡ true → x.down ≤ x.up
+level signed x top o h e = let is = (h.plain (no signed e)).1 in omega (arith, is)
+
+above_joined : (op : Operation) (p q : Phrase) (names tops : ℕ → ℕ) (w v : World) (ox oy : Option ℤ)
+    → Counts (minus p) (view p names w v) (most p tops) ox → Counts (minus q) (view q names w v) (most q tops) oy
+    → Above p tops (view p names w v) → Above q tops (view q names w v)
+    → Above (pair op p q) tops (joined op (minus p) (view p names w v) (view q names w v))
+above_joined operation.Plus p q names tops w v ox oy hx hy ax ay h =
+    let two = both (not (minus p) || never_below p tops) (not (minus q) || never_below q tops) h in
+    let a = side p names tops w v ox hx ax two.0 in
+    let b = side q names tops w v oy hy ay two.1 in
+    omega (arith, a, b)
+  where
+    side : (p : Phrase) (names tops : ℕ → ℕ) (w v : World) (o : Option ℤ) → Counts (minus p) (view p names w v) (most p tops) o
+        → Above p tops (view p names w v) → (not (minus p) || never_below p tops) ≡ true → (view p names w v).down ≤ (view p names w v).up
+    side p names tops w v o h above known = go (or_known (not (minus p)) (never_below p tops) known)
+      where
+        go : (not (minus p) ≡ true) ⊎ (never_below p tops ≡ true) → (view p names w v).down ≤ (view p names w v).up
+        go (inl e) = level (minus p) (view p names w v) (most p tops) o h e
+        go (inr e) = above e
+above_joined operation.Minus p q names tops w v ox oy hx hy ax ay h =
+    let two = both (not (minus p)) (not (minus q) && nat_le (most q tops) (lowest p)) h in
+    let more = both (not (minus q)) (nat_le (most q tops) (lowest p)) two.1 in
+    let less : most q tops ≤ lowest p = at_most_of (most q tops) (lowest p) more.1 in
+    let a = (hx.plain (no (minus p) two.0)).1 in
+    let b = (hy.plain (no (minus q) more.0)).1 in
+    let c = hy.up in
+    let d = lowest_is p names w v in
+    omega (arith, a, b, c, d, less)
+  where
+    at_most_of : (m n : ℕ) → nat_le m n ≡ true → m ≤ n
+    at_most_of m n is = grind (arith, nat_tests, is)
+above_joined operation.Times p q names tops w v ox oy hx hy ax ay h = absurd (true≢false (sym h))
+above_joined operation.Over p q names tops w v ox oy hx hy ax ay h = absurd (true≢false (sym h))
+above_joined operation.Modulo p q names tops w v ox oy hx hy ax ay h = absurd (true≢false (sym h))
+above_joined operation.BitAnd p q names tops w v ox oy hx hy ax ay h = absurd (true≢false (sym h))
+above_joined operation.BitOr p q names tops w v ox oy hx hy ax ay h = absurd (true≢false (sym h))
+above_joined operation.BitXor p q names tops w v ox oy hx hy ax ay h = absurd (true≢false (sym h))
+above_joined operation.Min p q names tops w v ox oy hx hy ax ay h = absurd (true≢false (sym h))
+above_joined operation.Max p q names tops w v ox oy hx hy ax ay h = absurd (true≢false (sym h))
+above_joined operation.Bit p q names tops w v ox oy hx hy ax ay h = absurd (true≢false (sym h))
+above_joined operation.Equal p q names tops w v ox oy hx hy ax ay h = absurd (true≢false (sym h))
+above_joined operation.Less p q names tops w v ox oy hx hy ax ay h = absurd (true≢false (sym h))
+above_joined operation.AtMost p q names tops w v ox oy hx hy ax ay h = absurd (true≢false (sym h))
+
 -- WHAT COUNTS: the value of an expression is the number of its phrase
-pub count : (e : Expr) (names tops : ℕ → ℕ) (w v : World) (steps : ℕ) (numbers : List ℤ) → OnlyBytes w → OnlyBytes v
-    → Named numbers names tops → counts (phrase_of e) tops ≡ true
-    → Counts (minus (phrase_of e)) (view (phrase_of e) names w v) (most (phrase_of e) tops)
-    (value_of e (moment w w 0) (moment w v steps) numbers)
-count (Number (pos n)) names tops w v steps numbers bw bv named h = counted n n (Some (pos n)) refl (omega arith)
-count (Number (negsuc n)) names tops w v steps numbers bw bv named h = absurd (true≢false (sym h))
-count (Held a) names tops w v steps numbers bw bv named h = part_counts a w v steps bv h
-count (Bound n) names tops w v steps numbers bw bv named h =
-    counted (names n) (tops n) (slice_get numbers n) (named.is n (below n 4 h)) (named.low n (below n 4 h))
-count (Old' p e) names tops w v steps numbers bw bv named h = count e names tops w w 0 numbers bw bw named h
-count (Of' function.Byte p e) names tops w v steps numbers bw bv named h =
-    let two = both (counts (phrase_of e) tops) (not (minus (phrase_of e)) && nat_lt (most (phrase_of e) tops) 49152) h in
-    let more = both (not (minus (phrase_of e))) (nat_lt (most (phrase_of e) tops) 49152) two.1 in
-    byte_counts v (view (phrase_of e) names w v) (most (phrase_of e) tops) (value_of e (moment w w 0) (moment w v steps) numbers) bv.ram
-    (plain_of (minus (phrase_of e)) (view (phrase_of e) names w v) (most (phrase_of e) tops) (value_of e (moment w w 0) (moment w v steps) numbers)
-    (count e names tops w v steps numbers bw bv named two.0) (no (minus (phrase_of e)) more.0)) (below (most (phrase_of e) tops) 49152 more.1)
-count (Of' function.Word p e) names tops w v steps numbers bw bv named h =
+-- and no difference that is never below 0 is below it
+record Known (e : Expr) (names tops : ℕ → ℕ) (w v : World) (o : Option ℤ) : Type 0 where
+  number : Counts (minus (phrase_of e)) (view (phrase_of e) names w v) (most (phrase_of e) tops) o
+  above : Above (phrase_of e) tops (view (phrase_of e) names w v)
+
+know : (e : Expr) (names tops : ℕ → ℕ) (w v : World) (steps : ℕ) (numbers : List ℤ) → OnlyBytes w → OnlyBytes v
+    → Named numbers names tops → counts (phrase_of e) tops ≡ true → Known e names tops w v (value_of e (moment w w 0) (moment w v steps) numbers)
+know (Number (pos n)) names tops w v steps numbers bw bv named h =
+    record {
+      number = counted n n (Some (pos n)) refl (omega arith);
+      above = λ never. absurd (true≢false (sym never));
+    }
+know (Number (negsuc n)) names tops w v steps numbers bw bv named h = absurd (true≢false (sym h))
+know (Held a) names tops w v steps numbers bw bv named h =
+    record {
+      number = part_counts a w v steps bv h;
+      above = λ never. absurd (true≢false (sym never));
+    }
+know (Bound n) names tops w v steps numbers bw bv named h =
+    record {
+      number = counted (names n) (tops n) (slice_get numbers n) (named.is n (below n 4 h)) (named.low n (below n 4 h));
+      above = λ never. absurd (true≢false (sym never));
+    }
+know (Old' p e) names tops w v steps numbers bw bv named h = let k = know e names tops w w 0 numbers bw bw named h in record { number = k.number; above = k.above }
+know (Of' function.Byte p e) names tops w v steps numbers bw bv named h =
+    let two = both (counts (phrase_of e) tops) ((not (minus (phrase_of e)) || never_below (phrase_of e) tops) && nat_lt (most (phrase_of e) tops) 49152) h in
+    let more = both (not (minus (phrase_of e)) || never_below (phrase_of e) tops) (nat_lt (most (phrase_of e) tops) 49152) two.1 in
+    let k = know e names tops w v steps numbers bw bv named two.0 in
+    record {
+      number =
+          byte_counts v (same (address (minus (phrase_of e)) (view (phrase_of e) names w v))) (most (phrase_of e) tops)
+          (value_of e (moment w w 0) (moment w v steps) numbers) bv.ram
+          (address_plain (minus (phrase_of e)) (view (phrase_of e) names w v) (most (phrase_of e) tops)
+          (value_of e (moment w w 0) (moment w v steps) numbers) k.number
+          (where_below (phrase_of e) tops (view (phrase_of e) names w v) more.0 k.above)) (below (most (phrase_of e) tops) 49152 more.1);
+      above = λ never. absurd (true≢false (sym never));
+    }
+know (Of' function.Word p e) names tops w v steps numbers bw bv named h =
     let two = both (counts (phrase_of e) tops) (not (minus (phrase_of e)) && nat_lt (most (phrase_of e) tops) 49151) h in
     let more = both (not (minus (phrase_of e))) (nat_lt (most (phrase_of e) tops) 49151) two.1 in
     let low = below (most (phrase_of e) tops) 49151 more.1 in
-    word_counts v (view (phrase_of e) names w v) (most (phrase_of e) tops) (value_of e (moment w w 0) (moment w v steps) numbers) bv.ram
+    record {
+      number = word_counts v (view (phrase_of e) names w v) (most (phrase_of e) tops) (value_of e (moment w w 0) (moment w v steps) numbers) bv.ram
     (plain_of (minus (phrase_of e)) (view (phrase_of e) names w v) (most (phrase_of e) tops) (value_of e (moment w w 0) (moment w v steps) numbers)
-    (count e names tops w v steps numbers bw bv named two.0) (no (minus (phrase_of e)) more.0)) (omega (arith, low))
-count (Of' function.Signed p e) names tops w v steps numbers bw bv named h =
+    (know e names tops w v steps numbers bw bv named two.0).number (no (minus (phrase_of e)) more.0)) (omega (arith, low));
+      above = λ never. absurd (true≢false (sym never));
+    }
+know (Of' function.Signed p e) names tops w v steps numbers bw bv named h =
     let two = both (counts (phrase_of e) tops) (not (minus (phrase_of e)) && is_byte (most (phrase_of e) tops)) h in
     let more = both (not (minus (phrase_of e))) (is_byte (most (phrase_of e) tops)) two.1 in
-    signed_counts (view (phrase_of e) names w v) (most (phrase_of e) tops) (bytes_of v.memory) (value_of e (moment w w 0) (moment w v steps) numbers)
+    record {
+      number = signed_counts (view (phrase_of e) names w v) (most (phrase_of e) tops) (bytes_of v.memory) (value_of e (moment w w 0) (moment w v steps) numbers)
     (plain_of (minus (phrase_of e)) (view (phrase_of e) names w v) (most (phrase_of e) tops) (value_of e (moment w w 0) (moment w v steps) numbers)
-    (count e names tops w v steps numbers bw bv named two.0) (no (minus (phrase_of e)) more.0)) (below (most (phrase_of e) tops) 256 more.1)
-count (Of' function.Abs p e) names tops w v steps numbers bw bv named h =
+    (know e names tops w v steps numbers bw bv named two.0).number (no (minus (phrase_of e)) more.0)) (below (most (phrase_of e) tops) 256 more.1);
+      above = λ never. absurd (true≢false (sym never));
+    }
+know (Of' function.Abs p e) names tops w v steps numbers bw bv named h =
     let two = both (counts (phrase_of e) tops) (in_range (most (phrase_of e) tops)) h in
-    size_counts (minus (phrase_of e)) (view (phrase_of e) names w v) (most (phrase_of e) tops) (bytes_of v.memory)
-    (value_of e (moment w w 0) (moment w v steps) numbers) (count e names tops w v steps numbers bw bv named two.0)
-    (below (most (phrase_of e) tops) (2 ^ 63) two.1)
-count (Pair' op p x q y) names tops w v steps numbers bw bv named h =
+    record {
+      number = size_counts (minus (phrase_of e)) (view (phrase_of e) names w v) (most (phrase_of e) tops) (bytes_of v.memory)
+    (value_of e (moment w w 0) (moment w v steps) numbers) (know e names tops w v steps numbers bw bv named two.0).number
+    (below (most (phrase_of e) tops) (2 ^ 63) two.1);
+      above = λ never. absurd (true≢false (sym never));
+    }
+know (Pair' op p x q y) names tops w v steps numbers bw bv named h =
     let two = both (counts (phrase_of x) tops) (counts (phrase_of y) tops && may_join op (phrase_of x) (phrase_of y) (most (phrase_of x) tops) (most (phrase_of y) tops)) h in
     let more = both (counts (phrase_of y) tops) (may_join op (phrase_of x) (phrase_of y) (most (phrase_of x) tops) (most (phrase_of y) tops)) two.1 in
-    joins (phrase_of x) (phrase_of y) (most (phrase_of x) tops) (most (phrase_of y) tops) (view (phrase_of x) names w v) (view (phrase_of y) names w v)
+    let kx = know x names tops w v steps numbers bw bv named two.0 in
+    let ky = know y names tops w v steps numbers bw bv named more.0 in
+    record {
+      number = joins (phrase_of x) (phrase_of y) (most (phrase_of x) tops) (most (phrase_of y) tops) (view (phrase_of x) names w v) (view (phrase_of y) names w v)
     (value_of x (moment w w 0) (moment w v steps) numbers) (value_of y (moment w w 0) (moment w v steps) numbers)
-    (count x names tops w v steps numbers bw bv named two.0) (count y names tops w v steps numbers bw bv named more.0) op more.1
-    (divisor_of (phrase_of y) names w v)
-count (Choice' p c q x r y) names tops w v steps numbers bw bv named h = absurd (true≢false (sym h))
-count (Each' name p n q e) names tops w v steps numbers bw bv named h = absurd (true≢false (sym h))
-count (Sum' name p n q e) names tops w v steps numbers bw bv named h =
+    kx.number ky.number op more.1
+    (divisor_of (phrase_of y) names w v);
+      above = above_joined op (phrase_of x) (phrase_of y) names tops w v (value_of x (moment w w 0) (moment w v steps) numbers)
+        (value_of y (moment w w 0) (moment w v steps) numbers) kx.number ky.number kx.above ky.above;
+    }
+know (Choice' p c q x r y) names tops w v steps numbers bw bv named h = absurd (true≢false (sym h))
+know (Each' name p n q e) names tops w v steps numbers bw bv named h = absurd (true≢false (sym h))
+know (Sum' name p n q e) names tops w v steps numbers bw bv named h =
     let a = both (counts (phrase_of n) tops) _ h in
     let b = both (not (minus (phrase_of n))) _ a.1 in
     let c = both (nat_lt (most (phrase_of n) tops) 65536) _ b.1 in
@@ -649,8 +785,9 @@ count (Sum' name p n q e) names tops w v steps numbers bw bv named h =
     let number : Plain (view (phrase_of n) names w v) (most (phrase_of n) tops) (value_of n (moment w w 0) (moment w v steps) numbers) =
         plain_of (minus (phrase_of n)) (view (phrase_of n) names w v) (most (phrase_of n) tops)
         (value_of n (moment w w 0) (moment w v steps) numbers)
-        (count n names tops w v steps numbers bw bv named a.0) (no (minus (phrase_of n)) b.0) in
-    sum_counts (view (phrase_of n) names w v) (most (phrase_of n) tops) (most (phrase_of e) (with_name tops name (most (phrase_of n) tops - 1)))
+        (know n names tops w v steps numbers bw bv named a.0).number (no (minus (phrase_of n)) b.0) in
+    record {
+      number = sum_counts (view (phrase_of n) names w v) (most (phrase_of n) tops) (most (phrase_of e) (with_name tops name (most (phrase_of n) tops - 1)))
     (λ k. value_of e (moment w w 0) (moment w v steps) (slice_set numbers name (pos k)))
     (λ k. (view (phrase_of e) (with_name names name k) w v).plain) (value_of n (moment w w 0) (moment w v steps) numbers) number
     (below (most (phrase_of n) tops) 65536 c.0)
@@ -659,7 +796,15 @@ count (Sum' name p n q e) names tops w v steps numbers bw bv named h =
     (plain_of (minus (phrase_of e)) (view (phrase_of e) (with_name names name i) w v)
     (most (phrase_of e) (with_name tops name (most (phrase_of n) tops - 1)))
     (value_of e (moment w w 0) (moment w v steps) (slice_set numbers name (pos i)))
-    (count e (with_name names name i) (with_name tops name (most (phrase_of n) tops - 1)) w v steps (slice_set numbers name (pos i)) bw bv
+    (know e (with_name names name i) (with_name tops name (most (phrase_of n) tops - 1)) w v steps (slice_set numbers name (pos i)) bw bv
     (one_more numbers names tops name i (most (phrase_of n) tops - 1) named (below name 4 d.0)
-    (below_count (view (phrase_of n) names w v).plain (most (phrase_of n) tops) i number.small less)) f.0)
-    (no (minus (phrase_of e)) g.0))) (below (most (phrase_of n) tops * most (phrase_of e) (with_name tops name (most (phrase_of n) tops - 1))) (2 ^ 63) g.1)
+    (below_count (view (phrase_of n) names w v).plain (most (phrase_of n) tops) i number.small less)) f.0).number
+    (no (minus (phrase_of e)) g.0))) (below (most (phrase_of n) tops * most (phrase_of e) (with_name tops name (most (phrase_of n) tops - 1))) (2 ^ 63) g.1);
+      above = λ never. absurd (true≢false (sym never));
+    }
+
+pub count : (e : Expr) (names tops : ℕ → ℕ) (w v : World) (steps : ℕ) (numbers : List ℤ) → OnlyBytes w → OnlyBytes v
+    → Named numbers names tops → counts (phrase_of e) tops ≡ true
+    → Counts (minus (phrase_of e)) (view (phrase_of e) names w v) (most (phrase_of e) tops)
+    (value_of e (moment w w 0) (moment w v steps) numbers)
+count e names tops w v steps numbers bw bv named h = (know e names tops w v steps numbers bw bv named h).number
