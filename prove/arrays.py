@@ -127,12 +127,33 @@ def covers(ranges, low, high):
     return any(first <= low and high <= last for first, last in ranges)
 
 
-class Finder:
-    """Finds the facts that a goal wants of bytes in a state."""
+def reads_of(term):
+    """The bytes that a term speaks of: each its memory and its address."""
+    for found in re.finditer(r"ram_byte ", term):
+        memory, at = argument(term, found.end())
+        address, _ = argument(term, at + 1)
+        yield memory, bare(address)
 
-    def __init__(self, state, tops, named=()):
+
+def argument(text, at):
+    """The argument that begins at a place of a text, and where it ends."""
+    depth, end = 0, at
+    while end < len(text) and (depth or text[end] not in " )"):
+        depth += (text[end] == "(") - (text[end] == ")")
+        end += 1
+    return text[at:end], end
+
+
+class Finder:
+    """Finds the facts that a goal wants of bytes in a state. `decided` says of bytes, each by its memory and address, whether it is the
+    one that was stored last there."""
+
+    def __init__(self, state, tops, named=(), decided=None):
         self.state, self.tops, self.named = state, tops, named
-        self.terms, self.cases, self.seen, self.used = [], [], set(), set()
+        self.decided = decided or {}
+        self.terms, self.cases, self.last_cases, self.seen, self.deep, self.used = [], [], [], set(), set(), set()
+        # a byte of which it is not decided, with the fact that tells both cases
+        self.open = None
         self.queue = []
 
     def know(self, term, says=""):
@@ -147,22 +168,24 @@ class Finder:
     def by(self):
         return self.state.arithmetic()
 
-    def find(self, reads, deep=True):
-        """All that is known of bytes that are read; with what holds of each number below another only where it goes deep."""
-        self.queue = [(memory, bare(address)) for memory, address in reads]
+    def find(self, reads, others=()):
+        """All that is known of bytes that are read; and of others how they came of one another."""
+        self.queue = [(memory, bare(address), True) for memory, address in reads]
+        self.queue += [(memory, bare(address), False) for memory, address in others]
         while self.queue:
-            memory, address = self.queue.pop(0)
-            if (memory, address) in self.seen:
+            memory, address, is_deep = self.queue.pop(0)
+            if is_deep and (memory, address) not in self.deep:
+                self.deep.add((memory, address))
+                self.instances(memory, address)
+            elif (memory, address) in self.seen:
                 continue
             self.seen.add((memory, address))
             self.know(f"{self.has(memory)} {par(address)}")
             link = self.state.links.get(memory)
             if link:
-                self.linked(memory, address, link)
-            if deep:
-                self.instances(memory, address)
-        if deep:
-            self.alike()
+                self.linked(memory, address, link, is_deep)
+        self.alike()
+        self.cases += self.last_cases
 
     def has(self, memory):
         return self.state.all_has[memory]
@@ -172,27 +195,38 @@ class Finder:
         low, high = span(self.tops, address)
         return f"{low} {high} {par(address)} refl {self.by} {self.by}"
 
-    def linked(self, memory, address, link):
-        self.queue.append((link.before, address))
+    def linked(self, memory, address, link, is_deep):
         if isinstance(link, Put):
-            self.put(memory, address, link)
-        elif isinstance(link, Cut):
-            self.cut(memory, address, link)
+            self.put(memory, address, link, is_deep)
+            return
+        self.queue.append((link.before, address, is_deep))
+        if isinstance(link, Cut):
+            self.cut(memory, address, link, is_deep)
         else:
             self.kept(address, link)
 
-    def put(self, memory, address, link):
+    def put(self, memory, address, link, is_deep):
         here = f"{link.before} {memory} {par(link.at)} {par(link.byte)} {link.equation}"
+        was_stored = self.decided.get((memory, address))
         if bare(link.at) == address:
+            was_stored = True
             self.know(f"put_here {here} {link.beside}")
-        elif is_apart(self.tops, address, link.at):
+        elif was_stored is None and is_apart(self.tops, address, link.at):
+            was_stored = False
             self.know(f"put_other {here} {par(address)} (λ e. omega (e, {self.state.facts_listed}))")
-        else:
-            self.case(f"put_read {here} {link.beside} {par(address)}")
+        elif was_stored is None:
+            fact = f"put_read {here} {link.beside} {par(address)}"
+            self.open = self.open or (memory, address, fact) if is_deep else self.open
+            self.case(fact)
+        if was_stored is not True:
+            self.queue.append((link.before, address, is_deep))
+        if was_stored is not False:
+            self.queue += [(*it, is_deep) for it in reads_of(link.byte)]
 
-    def cut(self, memory, address, link):
+    def cut(self, memory, address, link, is_deep):
         if address.isdigit():
             byte = dict(link.stores).get(int(address), f"ram_byte {link.before} {address}")
+            self.queue += [(*it, is_deep) for it in reads_of(byte)]
             proof = "refl" if link.equation == "refl" else f"ap (λ q. ram_byte q {address}) {link.equation}"
             self.know(proof, f"ram_byte {memory} {address} ≡ {byte}")
             return
@@ -213,7 +247,7 @@ class Finder:
             self.know(f"kept_beside {link.names} {link.world} {self.within_named(address)}".replace("@", link.proof))
         elif len(inside) == 1:
             first, last = inside[0]
-            self.case(f"kept_or_in {link.names} {link.world} {first} {last} {self.within_named(address)}".replace("@", link.proof))
+            self.last_cases.append(f"kept_or_in {link.names} {link.world} {first} {last} {self.within_named(address)}".replace("@", link.proof))
 
     def within_named(self, address):
         low, high = span(self.tops, address)
@@ -225,13 +259,14 @@ class Finder:
         for fact, e, words in self.state.universals:
             for place, number, others, sign in patterns(e, words, self.tops):
                 index = index_at(address, number, others, sign, self.tops) if place == memory else None
-                if index is not None and (fact, index) not in self.used and self.may_count(e, index):
+                if index is not None and (fact, index) not in self.used and self.may_count(e, index, words):
                     self.used.add((fact, index))
                     self.instance(fact, e, words, index)
 
-    def may_count(self, e, index):
+    def may_count(self, e, index, words):
         """Whether a number may be below the count."""
-        return len(self.used) < MOST_CASES and span(self.tops, index)[0] < most(e[2], [65535] * e[1])
+        is_counted = linear(index, self.tops) == linear(words.up(e[2]), self.tops) and words.down(e[2]) == "0"
+        return not is_counted and len(self.used) < MOST_CASES and span(self.tops, index)[0] < most(e[2], [65535] * e[1])
 
     def instance(self, fact, e, words, index):
         there = words.counting(e, index)
@@ -240,7 +275,7 @@ class Finder:
         for says in read_as(e[3], True, there, f"{fact} {par(index)} {less}", less):
             self.case(f"at_index ({index} + {words.down(e[2])}) {par(words.up(e[2]))} (λ {less}. {says})")
         there.says(e[3])
-        self.queue += [(memory, bare(address)) for memory, address in there.noted]
+        self.queue += [(memory, bare(address), False) for memory, address in there.noted]
 
     def alike(self):
         """Bytes of one memory whose addresses may be the same."""
@@ -248,13 +283,15 @@ class Finder:
         for memory, address in self.seen:
             if not isinstance(self.state.links.get(memory), (Put, Cut)):
                 of.setdefault(memory, []).append(address)
+        related = {address for _, address in self.deep} | {str(a) for a in self.named}
         for memory, addresses in sorted(of.items()):
             addresses = sorted({*addresses, *(str(a) for a in self.named)})
             for k, a in enumerate(addresses):
                 for b in addresses[k + 1 :]:
+                    if not {a, b} & related:
+                        continue
                     if is_same(self.tops, a, b):
-                        same = f"(omega (arith, {', '.join(self.state.facts)}))"
-                        self.know(f"ap (λ n. ram_byte {memory} n) {same}", f"ram_byte {memory} {par(a)} ≡ ram_byte {memory} {par(b)}")
+                        self.know(f"same_place {memory} {par(a)} {par(b)} {self.by}")
                     elif not is_apart(self.tops, a, b) and not (a.isdigit() and b.isdigit()):
                         self.case(f"same_byte {memory} {par(a)} {par(b)}")
 

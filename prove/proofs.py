@@ -16,6 +16,8 @@ from .trying import cells_in
 MOST_BRANCHES = 9
 # How many numbers are gone through one by one where each below a number is spoken of.
 MOST_UNROLLED = 32
+# How many bytes of a goal are told apart, whether they were stored last.
+MOST_DECIDED = 4
 MAY_CHANGE = "a byte that does not stand behind changes may be another"
 STORES, CHANGES = ("STA", "STX", "STY"), ("INC", "DEC", "ASL", "LSR", "ROL", "ROR")
 MOST_STEPS = 20_000
@@ -157,7 +159,7 @@ class Proof(Run):
 
     def follow(self, state, address):
         finder = Finder(state, self.tops)
-        finder.find([(state.memory_is, str(address))], deep=False)
+        finder.find([], [(state.memory_is, str(address))])
         for term, says in finder.terms:
             self.fact(state, term, says)
         for term in finder.cases:
@@ -558,17 +560,29 @@ class Proof(Run):
             self.flag_number(state, letter)
         if e[0] == "each":
             return self.each_proved(state, e, holds, list(state.facts), words)
-        lets, facts = self.found(state, bytes_in(e, words), list(state.facts))
-        return lets + self.proved_by(state, e, holds, facts, words)
+        return self.by_cases(state, e, holds, list(state.facts), words, {})
 
-    def found(self, state, reads, facts):
-        """The facts that a goal about bytes at addresses that are not numbers wants, named; and their names with the others."""
+    def by_cases(self, state, e, holds, facts, words, decided):
+        """A proof of a fact about bytes at addresses that are not numbers: each was stored last, or is an older one."""
+        lets, more, cases = self.found(state, bytes_in(e, words), facts, decided)
+        if not cases or len(decided) >= MOST_DECIDED:
+            return lets + self.proved_by(state, e, holds, more, words)
+        memory, address, fact = cases
+        h, ways = self.fresh("h"), ""
+        for was_stored in (True, False):
+            way = self.by_cases(state, e, holds, [*facts, h], words, {**decided, (memory, address): was_stored})
+            ways += f"(λ {h}.\n{way})\n"
+        return f"(one_of_two ({fact})\n{ways})"
+
+    def found(self, state, reads, facts, decided=None):
+        """The facts that a goal about bytes at addresses that are not numbers wants, named; their names with the others; and a byte of
+        which it is not decided whether it was stored last, with the fact that tells both."""
         if not reads and not state.reads:
-            return "", facts
+            return "", facts, None
         there = state.copy()
         there.facts = facts
-        finder = Finder(there, self.tops, self.named)
-        finder.find(reads + state.reads)
+        finder = Finder(there, self.tops, self.named, decided)
+        finder.find(reads, state.reads)
         text, names, known = "", list(facts), {it for _, it in state.known}
         for term, says in finder.terms + [(term, "") for term in finder.cases[:MOST_CASES]]:
             if term + says in known:
@@ -576,7 +590,7 @@ class Proof(Run):
             names.append(self.fresh("g"))
             end = self.mark("an address lies elsewhere than is thought" + state.at) if "omega" in term else "\n"
             text += f"let {names[-1]}{' : ' + says if says else ''} = {term} in {end}"
-        return text, names
+        return text, names, finder.open
 
     def compared(self, state, e, holds):
         """A comparison that is known by what it compares alone."""
@@ -592,17 +606,16 @@ class Proof(Run):
         if is_unrolled(e, state):
             return self.unrolled(state, e, facts, words)
         i, h = self.fresh("i"), self.fresh("h")
-        self.tops[i] = max(most(e[2], [self.tops.get(it, 65535) for it in words.names]) - 1, 0)
+        self.tops[i] = max(min(most(e[2], [self.tops.get(it, 65535) for it in words.names]), span(self.tops, words.up(e[2]))[1]) - 1, 0)
         there = words.counting(e, i)
-        lets, facts = self.found(state, bytes_in(e[3], there), [*facts, h])
-        return f"(λ {i} {h}.\n{lets}{self.proved_by(state, e[3], True, facts, there)})"
+        return f"(λ {i} {h}.\n{self.by_cases(state, e[3], True, [*facts, h], there, {})})"
 
     def unrolled(self, state, e, facts, words):
         """One proof for each number."""
         text = "(none_below _)"
         for k in range(e[2][1]):
             there = words.counting(e, k)
-            lets, more = self.found(state, bytes_in(e[3], there), facts)
+            lets, more, _ = self.found(state, bytes_in(e[3], there), facts)
             text = f"(one_more_below _ {k}\n({lets}{self.proved_by(state, e[3], True, more, there)}) {text})"
         return text
 

@@ -56,7 +56,7 @@ use Rattle.a2_rules.proofs.Meeting.{enter, stepped, home, Meets}
 use Rattle.a2_rules.proofs.Proving.{onto, fork, loops, call, bytes_after, whole, le_bit, odd_bit, eq_bit, le_yes, le_no, eq_yes, eq_no, each_byte, product_down, product_up, product_zero, product_ge, mul_swap, yes_le, no_le, yes_eq, no_eq, keeps_as, flag_yes, flag_no, weaken, none_below, one_more_below}
 use Rattle.a2_rules.proofs.Ranges.{is_in, in_ranges, not_among, keeps_behind, kept_beside, kept_or_in}
 use Rattle.a2_rules.proofs.Reaching.{take, put, change, taking, putting, changing}
-use Rattle.a2_rules.proofs.Afresh.{afresh, put_here, put_other, put_read, put_bytes, put_keeps, stores_bytes, stores_keep, stores_other, same_byte, at_index, if_lt, if_le, if_eq, if_ne}
+use Rattle.a2_rules.proofs.Afresh.{afresh, put_here, put_other, put_read, put_bytes, put_keeps, stores_bytes, stores_keep, stores_other, same_byte, same_place, at_index, if_lt, if_le, if_eq, if_ne, one_of_two}
 use Rattle.a2_opcode.specs.Table.{fixed, paged}
 use Rattle.a2_opcode.specs.declared.Mnemonic.TheVariants.{Adc, And, Asl, Cmp, Dec, Eor, Inc, Lda, Ldx, Ldy, Lsr, Ora, Rol, Ror, Sbc, Sta, Stx, Sty}
 use Rattle.a2_opcode.specs.declared.Mode.TheVariants.{ZeroPageX, ZeroPageY, AbsoluteX, AbsoluteY, IndexedIndirect, IndirectIndexed}

@@ -91,3 +91,25 @@ SLOOP   ADC $20,X
         DEX
         BPL SLOOP
         RTS
+
+* from the last byte to the first
+;: ensures for all i < 16: [#$2000 + i] = old [#$200F - i]
+;: changes A, X, Y, $2000..$200F
+REVERSE LDX #0
+        LDY #15
+;: invariant X + Y = 15 and X < 8
+;: invariant for all i < X: [#$2000 + i] = old [#$200F - i]
+;: invariant for all i < X: [#$200F - i] = old [#$2000 + i]
+;: invariant for all i < 16: if X <= i and i <= Y then [#$2000 + i] = old [#$2000 + i]
+;: decreases Y
+RLOOP   LDA $2000,X
+        PHA
+        LDA $2000,Y
+        STA $2000,X
+        PLA
+        STA $2000,Y
+        INX
+        DEY
+        CPX #8
+        BNE RLOOP
+        RTS

@@ -127,6 +127,9 @@ same_byte memory a b = by (a == b) refl
     by true is = let e : a ≡ b = grind (arith, nat_tests, is) in inr (ap (λ n. ram_byte memory n) e)
     by false is = let other : a ≢ b = grind (arith, nat_tests, is) in inl other
 
+pub same_place : (memory : Memory) (a b : ℕ) → a ≡ b → ram_byte memory a ≡ ram_byte memory b
+same_place memory a b is = ap (λ n. ram_byte memory n) is
+
 -- What follows where something holds, or it does not hold
 
 pub if_lt : {P : Type 0} (m n : ℕ) → (m < n → P) → (n ≤ m) ⊎ P
@@ -169,3 +172,8 @@ if_ne {P = P} m n follows = by (same_or m n)
 -- what holds of each number below another holds of this one, or it is not below
 pub at_index : {P : Type 0} (m n : ℕ) → (m < n → P) → (n ≤ m) ⊎ P
 at_index m n each = if_lt m n each
+
+-- what follows in both cases
+pub one_of_two : {A B C : Type 0} → A ⊎ B → (A → C) → (B → C) → C
+one_of_two (inl a) first second = first a
+one_of_two (inr b) first second = second b

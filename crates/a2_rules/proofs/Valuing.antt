@@ -564,7 +564,7 @@ sum_counts x m top f g o h low known small =
     let total : Plain (same (summed x.plain g)) (x.plain * top) (sum_below x.plain f) = sum_is x.plain f g top known (omega (arith, less, small)) in
     let b = total.small in
     let count : count_of o ≡ Some x.plain =
-        ap count_of h.is ∙ ap (λ v. let r : Option ℕ = if v then Some x.plain else None in r) (is_below x.plain 65536 (omega (arith, a, low))) in
+    ap count_of h.is ∙ ap (λ v. let r : Option ℕ = if v then Some x.plain else None in r) (is_below x.plain 65536 (omega (arith, a, low))) in
     counted (summed x.plain g) (m * top) (at_count (count_of o) f sum_below)
     (ap (λ n. at_count n f sum_below) count ∙ total.is) (omega (arith, b, less))
 
@@ -739,8 +739,8 @@ know (Of' function.Word p e) names tops w v steps numbers bw bv named h =
     let low = below (most (phrase_of e) tops) 49151 more.1 in
     record {
       number = word_counts v (view (phrase_of e) names w v) (most (phrase_of e) tops) (value_of e (moment w w 0) (moment w v steps) numbers) bv.ram
-    (plain_of (minus (phrase_of e)) (view (phrase_of e) names w v) (most (phrase_of e) tops) (value_of e (moment w w 0) (moment w v steps) numbers)
-    (know e names tops w v steps numbers bw bv named two.0).number (no (minus (phrase_of e)) more.0)) (omega (arith, low));
+          (plain_of (minus (phrase_of e)) (view (phrase_of e) names w v) (most (phrase_of e) tops) (value_of e (moment w w 0) (moment w v steps) numbers)
+          (know e names tops w v steps numbers bw bv named two.0).number (no (minus (phrase_of e)) more.0)) (omega (arith, low));
       above = λ never. absurd (true≢false (sym never));
     }
 know (Of' function.Signed p e) names tops w v steps numbers bw bv named h =
@@ -748,16 +748,16 @@ know (Of' function.Signed p e) names tops w v steps numbers bw bv named h =
     let more = both (not (minus (phrase_of e))) (is_byte (most (phrase_of e) tops)) two.1 in
     record {
       number = signed_counts (view (phrase_of e) names w v) (most (phrase_of e) tops) (bytes_of v.memory) (value_of e (moment w w 0) (moment w v steps) numbers)
-    (plain_of (minus (phrase_of e)) (view (phrase_of e) names w v) (most (phrase_of e) tops) (value_of e (moment w w 0) (moment w v steps) numbers)
-    (know e names tops w v steps numbers bw bv named two.0).number (no (minus (phrase_of e)) more.0)) (below (most (phrase_of e) tops) 256 more.1);
+          (plain_of (minus (phrase_of e)) (view (phrase_of e) names w v) (most (phrase_of e) tops) (value_of e (moment w w 0) (moment w v steps) numbers)
+          (know e names tops w v steps numbers bw bv named two.0).number (no (minus (phrase_of e)) more.0)) (below (most (phrase_of e) tops) 256 more.1);
       above = λ never. absurd (true≢false (sym never));
     }
 know (Of' function.Abs p e) names tops w v steps numbers bw bv named h =
     let two = both (counts (phrase_of e) tops) (in_range (most (phrase_of e) tops)) h in
     record {
       number = size_counts (minus (phrase_of e)) (view (phrase_of e) names w v) (most (phrase_of e) tops) (bytes_of v.memory)
-    (value_of e (moment w w 0) (moment w v steps) numbers) (know e names tops w v steps numbers bw bv named two.0).number
-    (below (most (phrase_of e) tops) (2 ^ 63) two.1);
+          (value_of e (moment w w 0) (moment w v steps) numbers) (know e names tops w v steps numbers bw bv named two.0).number
+          (below (most (phrase_of e) tops) (2 ^ 63) two.1);
       above = λ never. absurd (true≢false (sym never));
     }
 know (Pair' op p x q y) names tops w v steps numbers bw bv named h =
@@ -767,11 +767,11 @@ know (Pair' op p x q y) names tops w v steps numbers bw bv named h =
     let ky = know y names tops w v steps numbers bw bv named more.0 in
     record {
       number = joins (phrase_of x) (phrase_of y) (most (phrase_of x) tops) (most (phrase_of y) tops) (view (phrase_of x) names w v) (view (phrase_of y) names w v)
-    (value_of x (moment w w 0) (moment w v steps) numbers) (value_of y (moment w w 0) (moment w v steps) numbers)
-    kx.number ky.number op more.1
-    (divisor_of (phrase_of y) names w v);
+          (value_of x (moment w w 0) (moment w v steps) numbers) (value_of y (moment w w 0) (moment w v steps) numbers)
+          kx.number ky.number op more.1
+          (divisor_of (phrase_of y) names w v);
       above = above_joined op (phrase_of x) (phrase_of y) names tops w v (value_of x (moment w w 0) (moment w v steps) numbers)
-        (value_of y (moment w w 0) (moment w v steps) numbers) kx.number ky.number kx.above ky.above;
+          (value_of y (moment w w 0) (moment w v steps) numbers) kx.number ky.number kx.above ky.above;
     }
 know (Choice' p c q x r y) names tops w v steps numbers bw bv named h = absurd (true≢false (sym h))
 know (Each' name p n q e) names tops w v steps numbers bw bv named h = absurd (true≢false (sym h))
@@ -783,23 +783,23 @@ know (Sum' name p n q e) names tops w v steps numbers bw bv named h =
     let f = both (counts (phrase_of e) (with_name tops name (most (phrase_of n) tops - 1))) _ d.1 in
     let g = both (not (minus (phrase_of e))) _ f.1 in
     let number : Plain (view (phrase_of n) names w v) (most (phrase_of n) tops) (value_of n (moment w w 0) (moment w v steps) numbers) =
-        plain_of (minus (phrase_of n)) (view (phrase_of n) names w v) (most (phrase_of n) tops)
-        (value_of n (moment w w 0) (moment w v steps) numbers)
-        (know n names tops w v steps numbers bw bv named a.0).number (no (minus (phrase_of n)) b.0) in
+    plain_of (minus (phrase_of n)) (view (phrase_of n) names w v) (most (phrase_of n) tops)
+    (value_of n (moment w w 0) (moment w v steps) numbers)
+    (know n names tops w v steps numbers bw bv named a.0).number (no (minus (phrase_of n)) b.0) in
     record {
       number = sum_counts (view (phrase_of n) names w v) (most (phrase_of n) tops) (most (phrase_of e) (with_name tops name (most (phrase_of n) tops - 1)))
-    (λ k. value_of e (moment w w 0) (moment w v steps) (slice_set numbers name (pos k)))
-    (λ k. (view (phrase_of e) (with_name names name k) w v).plain) (value_of n (moment w w 0) (moment w v steps) numbers) number
-    (below (most (phrase_of n) tops) 65536 c.0)
-    (λ i less. of_view (view (phrase_of e) (with_name names name i) w v) (most (phrase_of e) (with_name tops name (most (phrase_of n) tops - 1)))
-    (value_of e (moment w w 0) (moment w v steps) (slice_set numbers name (pos i)))
-    (plain_of (minus (phrase_of e)) (view (phrase_of e) (with_name names name i) w v)
-    (most (phrase_of e) (with_name tops name (most (phrase_of n) tops - 1)))
-    (value_of e (moment w w 0) (moment w v steps) (slice_set numbers name (pos i)))
-    (know e (with_name names name i) (with_name tops name (most (phrase_of n) tops - 1)) w v steps (slice_set numbers name (pos i)) bw bv
-    (one_more numbers names tops name i (most (phrase_of n) tops - 1) named (below name 4 d.0)
-    (below_count (view (phrase_of n) names w v).plain (most (phrase_of n) tops) i number.small less)) f.0).number
-    (no (minus (phrase_of e)) g.0))) (below (most (phrase_of n) tops * most (phrase_of e) (with_name tops name (most (phrase_of n) tops - 1))) (2 ^ 63) g.1);
+          (λ k. value_of e (moment w w 0) (moment w v steps) (slice_set numbers name (pos k)))
+          (λ k. (view (phrase_of e) (with_name names name k) w v).plain) (value_of n (moment w w 0) (moment w v steps) numbers) number
+          (below (most (phrase_of n) tops) 65536 c.0)
+          (λ i less. of_view (view (phrase_of e) (with_name names name i) w v) (most (phrase_of e) (with_name tops name (most (phrase_of n) tops - 1)))
+          (value_of e (moment w w 0) (moment w v steps) (slice_set numbers name (pos i)))
+          (plain_of (minus (phrase_of e)) (view (phrase_of e) (with_name names name i) w v)
+          (most (phrase_of e) (with_name tops name (most (phrase_of n) tops - 1)))
+          (value_of e (moment w w 0) (moment w v steps) (slice_set numbers name (pos i)))
+          (know e (with_name names name i) (with_name tops name (most (phrase_of n) tops - 1)) w v steps (slice_set numbers name (pos i)) bw bv
+          (one_more numbers names tops name i (most (phrase_of n) tops - 1) named (below name 4 d.0)
+          (below_count (view (phrase_of n) names w v).plain (most (phrase_of n) tops) i number.small less)) f.0).number
+          (no (minus (phrase_of e)) g.0))) (below (most (phrase_of n) tops * most (phrase_of e) (with_name tops name (most (phrase_of n) tops - 1))) (2 ^ 63) g.1);
       above = λ never. absurd (true≢false (sym never));
     }
 
