@@ -1,7 +1,7 @@
 -- Instructions that reach a byte at an address that is not known by value: one step each.
-use Rattle.std.specs.Prelude.{◌≡◌, ◌<◌, ℕ, ◌+◌, ◌%◌, ◌&&◌, ◌||◌, Bool, true, false, nat_lt, [], ◌∷◌, Some, None, if◌then◌else◌}
+use Rattle.std.specs.Prelude.{◌≡◌, ◌<◌, ℕ, ◌+◌, ◌%◌, ◌&&◌, ◌||◌, Bool, false, nat_lt, [], ◌∷◌, Some, None, if◌then◌else◌}
 use Rattle.std.specs.List.{list_any}
-use Rattle.std.proofs.Common.{ap, ◌∙◌, arith}
+use Rattle.std.proofs.Common.{ap, ◌∙◌}
 use Rattle.std.proofs.lemmas.Bool.{lt-ltb}
 use Rattle.a2_text.specs.Bytes.{is_among}
 use Rattle.a2_opcode.specs.declared.Row.{Row}
@@ -9,13 +9,13 @@ use Rattle.a2_opcode.specs.Table.{length_of}
 use Rattle.a2_bus.specs.Devices.{device_byte, after_access}
 use Rattle.a2_bus.specs.Memory.{Memory, ram_byte, with_ram, ram_end, memory_access}
 use Rattle.a2_cpu.specs.BusStep.{refusal_of}
-use Rattle.a2_cpu.specs.Effect.{Effect, Replacement, sets, takes, replaces, stores, pushes, pulls, branches, jumps, calls, returns, returns_from_interrupt, breaks, effect_of}
+use Rattle.a2_cpu.specs.Effect.{Effect, Replacement, takes, replaces, stores, effect_of}
 use Rattle.a2_cpu.specs.Instruction.{performed}
 use Rattle.a2_cpu.specs.Place.{base_address, is_other_page}
 use Rattle.a2_cpu.specs.Registers.{Registers, StatusFlags, one_if}
 use Rattle.a2_cpu.specs.Stores.{stores_of}
 use Rattle.a2_services.specs.World.{World}
-use Rattle.a2_machine.specs.Meaning.{Code, Decoded}
+use Rattle.a2_machine.specs.Meaning.{Code}
 use Rattle.a2_machine.proofs.Walks.{walked}
 use Rattle.a2_lessons.proofs.Stepping.{Stands, step}
 use Rattle.a2_lessons.proofs.Indexing.{reads_at, stores_at}
