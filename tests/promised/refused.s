@@ -39,5 +39,7 @@ NO13    LDA ($06,X)
 ;: changes A
 NO14    LDA $C000
         RTS
+;: ensures [#$10 - X] = old [#$10 - X]
+NO15    RTS
 ;: ensures A = old A
 GOOD    RTS

@@ -143,3 +143,24 @@ INNER2  DEX
         DEY
         BNE OUTER2
         RTS
+
+* the byte behind the last one comes first
+;: ensures [#$2000] = old [#$2010] and for all i < 16: [#$200F - i] = old [#$200F - i]
+;: changes A, $2000
+FIRST   LDA $2010
+        STA $2000
+        RTS
+
+* all but the first are as they were, of the first nothing is known
+;: ensures for all i < 16: [#$200F - i] = old [#$200F - i] or i = 15 and old X = 3 and old Y = 200
+;: changes X, $2000..$200F
+KEEPS   LDX #0
+;: invariant X <= 1
+;: invariant for all i < 16: if i >= X then [#$2000 + i] = old [#$2000 + i]
+;: decreases 1 - X
+KLOOP   CPX #1
+        BEQ KDONE
+        INC $2000,X
+        INX
+        JMP KLOOP
+KDONE   RTS
