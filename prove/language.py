@@ -195,7 +195,9 @@ class Reader:
             return opened
         if kind == "word" and text in self.counted:
             self.take()
-            return Piece(("bound", self.counted.index(text)), NUMBER, at)
+            # (of two that have one name it is the inner one)
+            number = max(k for k, name in enumerate(self.counted) if name == text)
+            return Piece(("bound", number), NUMBER, at)
         if kind == "decimal":
             return Piece(("number", self.literal()), NUMBER, at)
         return Piece(("of", "Byte", ("number", self.address())), NUMBER, at)

@@ -169,7 +169,9 @@ class Proof(Run):
         """A proof that the state's memory keeps what may not change, where it has no stores on top."""
         if state.base == "w":
             return "(keeps_all 0 w.memory _)"
-        return state.keep if state.base.startswith("(") else f"(keeps_stores [] w.memory _ {state.base} (entered 0 {state.memory_is}) refl refl {state.keep})"
+        if state.base.startswith("("):
+            return state.keep
+        return f"(keeps_stores [] w.memory _ {state.base} (entered 0 {state.memory_is}) refl refl {state.keep})"
 
     def renew(self, state, memory, link, has, keep):
         """The state's memory is another one, of which the link tells how it came of that before."""
@@ -606,7 +608,8 @@ class Proof(Run):
         if is_unrolled(e, state):
             return self.unrolled(state, e, facts, words)
         i, h = self.fresh("i"), self.fresh("h")
-        self.tops[i] = max(min(most(e[2], [self.tops.get(it, 65535) for it in words.names]), span(self.tops, words.up(e[2]))[1]) - 1, 0)
+        top = most(e[2], [self.tops.get(it, 65535) for it in words.names])
+        self.tops[i] = max(min(top, span(self.tops, words.up(e[2]))[1]) - 1, 0)
         there = words.counting(e, i)
         return f"(λ {i} {h}.\n{self.by_cases(state, e[3], True, [*facts, h], there, {})})"
 

@@ -84,6 +84,8 @@ def meet(e, registers, memory):
     if e[0] == "choice" and e[3] == ("number", 0):
         meet(e[1], registers, memory)
         meet(e[2], registers, memory)
+    if e[0] == "each" and e[3][0] == "pair" and e[3][1] in ("Less", "AtMost") and e[3][3][0] == "number":
+        meet_each(e[2][1] if e[2][0] == "number" else 256, e[3], memory)
     if e[:2] != ("pair", "Equal") or e[3][0] != "number":
         return
     held, number = e[2], e[3][1]
@@ -93,6 +95,14 @@ def meet(e, registers, memory):
         memory[held[2][1]] = number & 255
         if held[1] == "Word":
             memory[held[2][1] + 1] = number >> 8
+
+
+def meet_each(count, e, memory):
+    """Makes the bytes of an array less than a number."""
+    at, limit = e[2][2] if e[2][:2] == ("of", "Byte") else (), e[3][1] + (e[1] == "AtMost")
+    if at[:2] == ("pair", "Plus") and at[2][0] == "number" and at[3][0] == "bound" and limit > 0:
+        for a in range(at[2][1], min(at[2][1] + count, 0xC000)):
+            memory[a] %= limit
 
 
 def shown(state, cells, letters="AXYC"):
