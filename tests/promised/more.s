@@ -113,3 +113,13 @@ RLOOP   LDA $2000,X
         CPX #8
         BNE RLOOP
         RTS
+
+* of two names that are one the inner one is meant
+;: ensures for all i < 3: for all i < 2: i < 2
+TWICE   RTS
+
+;: requires for all i < 300: [#$2000 + i] < 7
+;: ensures  A < 7
+;: changes  A
+LOW     LDA $2000,X
+        RTS

@@ -164,3 +164,7 @@ KLOOP   CPX #1
         INX
         JMP KLOOP
 KDONE   RTS
+
+* of two names that are one the inner one is meant
+;: ensures for all i < 2: for all i < 3: i < 2
+TWICE   RTS
