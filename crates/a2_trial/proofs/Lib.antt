@@ -8,6 +8,7 @@ pub mod Walking
 pub mod Home
 pub mod Returning
 pub mod Looking
+pub mod Booting
 pub mod Certifying
 pub mod Knowing
 pub mod Putting

@@ -1,5 +1,5 @@
 -- A state in which a routine is tried, as a machine that enters it. This project's own.
-use Rattle.std.specs.Prelude.{◌≡◌, ℕ, List, [], Option, Some, None, IfSome}
+use Rattle.std.specs.Prelude.{◌≡◌, ℕ, List, Option, Some, None, IfSome}
 use Rattle.a2_services.specs.World.{World}
 use Rattle.a2_machine.specs.Start.{called_at, start_world}
 use Rattle.a2_machine.specs.State.{Device}
@@ -10,12 +10,12 @@ use Rattle.a2_trial.specs.States.{with_values}
 abbrev pub IsFilled : (ℕ → Option ℕ) → (ℕ → Option ℕ) → Type 0
 IsFilled program filled = (a : ℕ) → IfSome (program a) (λ byte. filled a ≡ Some byte)
 
--- The machine at its start, with the program and bytes that may be any laid over its RAM, as by a JSR at the routine of an address;
--- and there these inputs have these values.
-pub record IsEntry (program : ℕ → Option ℕ) (address : ℕ) (inputs : List Input) (values : List ℕ) (world : World) : Type 0 where
+-- The machine at its start, with the program and bytes that may be any laid over its RAM, and these keys typed, as by a JSR at the
+-- routine of an address; and there these inputs have these values.
+pub record IsEntry (program : ℕ → Option ℕ) (address : ℕ) (keys : List ℕ) (inputs : List Input) (values : List ℕ) (world : World) : Type 0 where
   pub filled : ℕ → Option ℕ
   pub is_filled : IsFilled program filled
-  pub world_is : world ≡ with_values inputs values (called_at address (start_world filled address []))
+  pub world_is : world ≡ with_values inputs values (called_at address (start_world filled address keys))
 
 -- it has made no step since its start, and has no guard
 pub record IsFresh (machine : Device) : Type 0 where

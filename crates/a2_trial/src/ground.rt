@@ -233,6 +233,18 @@ fn door_of_return(s: u8) -> Door {
     }
 }
 
+/// The keys that a promise says are taken, which are typed where its routine is entered: the first 4,096.
+pub(crate) fn keys_taken(texts: &Texts) -> Keys {
+    let mut keys = Keys::new();
+    // None is refused: no more keys are promised than fit.
+    for text in &texts.takes {
+        for character in &text.characters {
+            let _ = keys.push(*character);
+        }
+    }
+    keys
+}
+
 impl Ground {
     /// One for the routines of a program.
     pub fn new(alloc: Global, program: &Program<Global>) -> Result<Ground, AllocError> {
@@ -260,14 +272,8 @@ impl Ground {
     pub fn hear(&mut self, texts: &Texts) {
         self.is_heard = !texts.prints.is_empty();
         self.has_keys = !texts.takes.is_empty();
-        let mut keys = Keys::new();
-        // Neither is refused: no more keys are promised than fit, and none waits yet.
-        for text in &texts.takes {
-            for character in &text.characters {
-                let _ = keys.push(*character);
-            }
-        }
-        let _ = self.before.type_keys(&keys);
+        // They fit, for none waits yet.
+        let _ = self.before.type_keys(&keys_taken(texts));
     }
 
     // Whether an address is the keyboard's, and keys were typed.
@@ -438,11 +444,11 @@ impl Ground {
             push_printed(&mut self.printed, service, &exit.regs, &self.now)?;
         }
         let mut live = Live::of(&exit.regs);
-        let served = call(service, &mut live, &mut self.now);
-        if !matches!(served, Served::Next(_)) {
+        let answer = call(service, &mut live, &mut self.now);
+        if !matches!(answer, Served::Next(_)) {
             self.printed.truncate(printed);
         }
-        match served {
+        match answer {
             Served::Next(cycles) => {
                 exit.advance(live.regs(), cycles);
                 for part in given_by(service) {

@@ -7,12 +7,14 @@ ghost use Rattle.a2_trial.specs.Judging.{HasNoText};
 
 use crate::certain::{count_states, holds_in_every_state};
 use crate::ground::{
-    ENTRY_S, Exit, Ground, MOST_LOOKED, MOST_STEPS, Passage, Traced, any_byte, last_steps,
+    ENTRY_S, Exit, Ground, MOST_LOOKED, MOST_STEPS, Passage, Traced, any_byte, keys_taken,
+    last_steps,
 };
 use crate::inputs::{Input, Inputs, inputs_of, with_looked};
 use crate::judge::{Broken, all_hold, broken_by};
 use crate::within::{Tally, broken_within};
 use a2_asm::Program;
+use a2_bus::Keys;
 use a2_cpu::{Regs, Status};
 use a2_opcode::Mode;
 use a2_promise::{Found, Promise, Sight, Texts};
@@ -35,8 +37,12 @@ pub struct Failure {
     pub named: usize,
     /// The value of each.
     pub values: Vec<u8>,
+    /// The keys that are typed at the entry.
+    pub keys: Keys,
     pub broken: Broken,
     pub passage: Option<Passage>,
+    /// What it printed, where that is not as promised, or the keys that it left, with bit 7 set.
+    pub told: Vec<u8>,
     /// How many steps were made, and the registers behind the last one.
     pub steps: u32,
     pub regs: Regs,
@@ -311,8 +317,10 @@ fn failure_of(
         inputs: inputs.all,
         named: inputs.named,
         values,
+        keys: keys_taken(&promise.texts),
         broken,
         passage: ground.passage,
+        told,
         steps: exit.steps,
         regs: exit.regs,
         last,

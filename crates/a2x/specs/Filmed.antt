@@ -30,7 +30,7 @@ FilmsInto source title chapters keys window free page old new (Err _) = new ≡ 
 pub record EntersFailing (program : Assembled) (address : ℕ) (failure : Failure) (machine : Device) : Type 0 where
   pub fresh : IsFresh machine
   pub world : IsTrue (list_all is_input_in_ram failure.inputs.items)
-      → IsEntry (held program.image) address failure.inputs.items failure.values.items (world_of_state machine.state)
+      → IsEntry (held program.image) address failure.keys failure.inputs.items failure.values.items (world_of_state machine.state)
 
 -- where the texts of the files are known: the file of this name is the film of such a machine's guarded run, of the failure's steps,
 -- and each other is as it was; or all files are as they were
