@@ -38,8 +38,8 @@ use std::marker::Model;
 /// The most steps that a machine makes from a start.
 const MOST_STEPS: u64 = 1_000_000_000_000;
 
-/// The entry of a machine with nothing loaded.
-const FIRST_ENTRY: u16 = 0x0300;
+/// Where PC stands with no program, $0300 (this project's profile).
+pub const FIRST_ENTRY: u16 = 0x0300;
 
 // For the prover alone: a count of 64 bits is below 2^64, which the clauses of a field do not tell.
 fn keeps_count(count: u64)

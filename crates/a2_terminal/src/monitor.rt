@@ -21,7 +21,7 @@ use crate::press::{Press, press_of};
 use a2_asm::Program;
 use a2_bus::Keys;
 use a2_hex::{HexFault, load_lines};
-use a2_machine::{Cause, Machine};
+use a2_machine::{Cause, FIRST_ENTRY, Machine};
 use a2_monitor::{MOST_STEPS, MonFault, Session, called_in};
 use a2_run::{RunFault, program_of, started};
 use a2_stream::{Output, WriteFault, put, put_all};
@@ -42,9 +42,6 @@ const HELP: &[u8] = b"300            shows the byte there
 quit, Ctrl-D   ends
 Numbers are hexadecimal.
 ";
-
-// Where PC stands with no program.
-const FIRST_ENTRY: u16 = 0x0300;
 
 /// What tells that a program waits.
 const WAITS: &[u8] = b"IT WAITS FOR A KEY; CTRL-] STOPS IT\n";
