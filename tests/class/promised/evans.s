@@ -1,0 +1,6 @@
+LEAST   LDA $10
+        CMP $11
+        BCC RET
+        LDA $11
+        STA $12
+RET     RTS
