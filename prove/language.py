@@ -46,7 +46,7 @@ JOINS = {
 BEHIND_AND, BEHIND_COMPARISON = 4, 6
 MOST_NAMES = 4
 COUNTED = "here stands what is counted, as in for all i < 8: [#$2000 + i] = 0"
-WORDS = set(ATOMS) | set("iff or and old at not if then else for all sum min max abs bit of signed word nothing".split())
+WORDS = set(ATOMS) | set("iff or and old at not if then else for all sum min max abs bit of signed word text nothing".split())
 TOKEN = re.compile(r"[ \t]*(?:\$([0-9A-Fa-f]*)|(\d+)|([A-Za-z]\w*)|(<=|<>|>=|\.\.|.))", re.DOTALL)
 
 TRUE, FALSE = ("number", 1), ("number", 0)
@@ -225,6 +225,7 @@ class Reader:
             "bit": self.bit,
             "signed": self.signed,
             "word": self.word,
+            "text": self.text_at,
         }.get(text if kind in ("word", "sign") else None)
         if not opening:
             return None
@@ -320,6 +321,9 @@ class Reader:
         place = self.number(self.beginning())
         self.expect("of", "of is wanted here, as in bit 3 of A")
         return Piece(("pair", "Bit", place, self.number(self.beginning())), NUMBER, at)
+
+    def text_at(self, at, _):
+        self.refuse("text can't be proved: compare each of its bytes", at)
 
     def word(self, at, _):
         address = self.bracketed() if self.took("[") else ("number", self.address())

@@ -7,8 +7,10 @@ from .refusal import Refusal
 
 OUTSIDE = "this stands in no routine: lines with requires, ensures or changes before a label begin one"
 KINDS = ("requires", "ensures", "changes", "invariant", "decreases", "note")
+# What is tried, and not proved.
+TRIED = ("prints", "takes")
 # Lines that speak of the run as a whole: they are of `./a2x promise`.
-OF_RUN = ("keys", "stops", "screen", "prints", "cycles", "steps", "memory", "registers")
+OF_RUN = ("keys", "stops", "screen", "cycles", "steps", "memory", "registers")
 
 
 @dataclass
@@ -105,8 +107,10 @@ def take_line(block, number, rest, offset, names):
     start = len(rest) - len(rest.lstrip(" \t")) + len(word)
     reader = Reader(rest[start:], number, offset + start, names)
     try:
+        if word in TRIED:
+            raise Refusal(number, f"{word} can't be proved: a2x promise tries it", offset + start - len(word) + 1)
         if word not in KINDS:
-            says = "a line of a promise begins with requires, ensures, changes, invariant, decreases or note"
+            says = "a line of a promise begins with requires, ensures, changes, prints, takes, invariant, decreases or note"
             raise Refusal(number, says, offset + start - len(word) + 1)
         block.clauses[word].append(None)
         if word == "changes":

@@ -43,3 +43,7 @@ NO14    LDA $C000
 NO15    RTS
 ;: ensures A = old A
 GOOD    RTS
+;: prints "HI"
+NO16    RTS
+;: ensures text $0400 = "HI"
+NO17    RTS

@@ -12,7 +12,7 @@ use Rattle.a2_promise.specs.declared.expr.Operation.TheVariants as operation
 use Rattle.a2_promise.specs.Values.{digit, held as held_atom, operated, operated_on, chosen, count_of, each_below as value_below, at_count, value_of}
 use Rattle.a2_trial.specs.Kept.{moment}
 use Rattle.a2_trial.specs.Judging.{holds, no_names}
-use Rattle.a2_rules.specs.Phrases.{Phrase, number, held, bound, old, of, pair, choice, each, sum, phrase_of}
+use Rattle.a2_rules.specs.Phrases.{Phrase, number, held, bound, old, at, of, pair, choice, each, sum, phrase_of}
 use Rattle.a2_rules.specs.Worlds.{OnlyBytes}
 use Rattle.a2_rules.proofs.Saying.{View, minus, view, most, counts, Claim, flag_is, flag, is_flag, is_fact, constant, agree, equal, less, at_most, compared, choose, one_of, each_below, claim, is_equal, compares, tells, unnamed, with_name}
 use Rattle.a2_rules.proofs.Valuing.{both, neither, below, Counts, Named, one_more, count_is, at_most_is, more_is, less_is, at_least_is, count}
@@ -415,6 +415,7 @@ constant_is (number (negsuc n)) names w v = tt
 constant_is (held a) names w v = tt
 constant_is (bound n) names w v = tt
 constant_is (old e) names w v = tt
+constant_is (at a e) names w v = tt
 constant_is (of f e) names w v = tt
 constant_is (pair op p q) names w v = tt
 constant_is (choice c p q) names w v = tt
@@ -529,6 +530,7 @@ tell (Number (negsuc n)) names tops w v steps numbers bw bv named h = absurd (fa
 tell (Held a) names tops w v steps numbers bw bv named h = held_tells a w v steps h
 tell (Bound n) names tops w v steps numbers bw bv named h = absurd (false≢true h)
 tell (Old' p e) names tops w v steps numbers bw bv named h = tell e names tops w w 0 numbers bw bw named h
+tell (At' a p e) names tops w v steps numbers bw bv named h = absurd (false≢true h)
 tell (Of' f p e) names tops w v steps numbers bw bv named h = absurd (false≢true h)
 tell (Pair' op p x q y) names tops w v steps numbers bw bv named h =
     pair_tells op (phrase_of x) (phrase_of y) names tops w v (value_of x (moment w w 0) (moment w v steps) numbers)

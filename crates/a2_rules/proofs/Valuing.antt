@@ -478,6 +478,7 @@ divisor_of (number (negsuc n)) names w v h = absurd (true≢false (sym h))
 divisor_of (held a) names w v h = absurd (true≢false (sym h))
 divisor_of (bound n) names w v h = absurd (true≢false (sym h))
 divisor_of (old e) names w v h = absurd (true≢false (sym h))
+divisor_of (at a e) names w v h = absurd (true≢false (sym h))
 divisor_of (of f e) names w v h = absurd (true≢false (sym h))
 divisor_of (pair op p q) names w v h = absurd (true≢false (sym h))
 divisor_of (choice c p q) names w v h = absurd (true≢false (sym h))
@@ -607,6 +608,7 @@ lowest_is (number (negsuc n)) names w v = omega arith
 lowest_is (held a) names w v = omega arith
 lowest_is (bound n) names w v = omega arith
 lowest_is (old e) names w v = lowest_is e names w w
+lowest_is (at a e) names w v = omega arith
 lowest_is (of f e) names w v = omega arith
 lowest_is (pair operation.Plus x y) names w v = let a = lowest_is x names w v in let b = lowest_is y names w v in omega (arith, a, b)
 lowest_is (pair operation.Minus x y) names w v = omega arith
@@ -720,6 +722,7 @@ know (Bound n) names tops w v steps numbers bw bv named h =
       above = λ never. absurd (true≢false (sym never));
     }
 know (Old' p e) names tops w v steps numbers bw bv named h = let k = know e names tops w w 0 numbers bw bw named h in record { number = k.number; above = k.above }
+know (At' a p e) names tops w v steps numbers bw bv named h = absurd (true≢false (sym h))
 know (Of' function.Byte p e) names tops w v steps numbers bw bv named h =
     let two = both (counts (phrase_of e) tops) ((not (minus (phrase_of e)) || never_below (phrase_of e) tops) && nat_lt (most (phrase_of e) tops) 49152) h in
     let more = both (not (minus (phrase_of e)) || never_below (phrase_of e) tops) (nat_lt (most (phrase_of e) tops) 49152) two.1 in
