@@ -117,6 +117,18 @@ impl<A: Allocator> AddressSpace<A> {
         typed.map_err(|_| KeysFull)
     }
 
+    /// The byte that a read of the keyboard at $C000 gives: the first waiting key with bit 7 set, 128 to 255, or else the last
+    /// key taken, 0 before any. Nothing changes. Apple II Reference Manual (1979), page 6.
+    #[inline(always)]
+    pub fn keyboard(&self) -> u8
+        ensures { result ≡ keyboard_byte self.now.devices }
+    {
+        match self.keys.first() {
+            Some(key) => 128 + *key,
+            None => self.last_key,
+        }
+    }
+
     /// Takes the first waiting key, as an access of the keyboard's strobe at $C010 does; where none waits nothing changes. Apple II
     /// Reference Manual (1979), page 6.
     pub fn take_key(&mut self)
@@ -200,16 +212,6 @@ impl<A: Allocator> AddressSpace<A> {
         }
     }
 
-    // What $C000 gives.
-    fn key(&self) -> u8
-        ensures { result ≡ keyboard_byte self.now.devices }
-    {
-        match self.keys.first() {
-            Some(key) => 128 + *key,
-            None => self.last_key,
-        }
-    }
-
     // What any access of an address above RAM does.
     #[cold]
     #[inline(never)]
@@ -237,7 +239,7 @@ impl<A: Allocator> AddressSpace<A> {
         ensures byte { result ≡ device_byte self.old.devices address }
         ensures left { self.new ≡ record self.old { devices = after_access self.old.devices address } }
     {
-        let byte = if address == KBD { self.key() } else { 0 };
+        let byte = if address == KBD { self.keyboard() } else { 0 };
         self.touch(address);
         byte
     }
