@@ -109,6 +109,28 @@ impl<A: Allocator + Copy> Machine<A> {
             made: 0,
         })
     }
+
+    /// The machine as it is switched on, in memory of `alloc`, with `image` laid over its RAM, PC at `entry` ($0000 to $FFFF) and
+    /// `keys` waiting: no guard, no steps and no cycles, and every row marked. This project's profile. Refused only for want of memory.
+    pub fn booted<C: Allocator>(
+        alloc: A,
+        image: &Image<C>,
+        entry: u16,
+        keys: &Keys,
+    ) -> Result<Machine<A>, AllocError>
+        ensures world { IfOk result (λ m. world_of_state m.state ≡ start_world (held image.now) entry keys.now) }
+        ensures steps { IfOk result (λ m. m.state.steps ≡ 0) }
+        ensures guard { IfOk result (λ m. m.state.guard ≡ None) }
+        ensures made { IfOk result (λ m. m.made ≡ 0) }
+        ensures marked { IfOk result (λ m. (row : ℕ) → row < 24 → is_row_marked m.state.picture row ≡ true) }
+    {
+        let mut machine = Machine::new(alloc)?;
+        machine.boot(image, entry);
+        // For the prover alone: a list of keys has no more than fit, so that all of these are taken where none wait.
+        let _ = keys.bytes();
+        let _ = machine.type_keys(keys);
+        Ok(machine)
+    }
 }
 
 impl<A: Allocator> Machine<A> {

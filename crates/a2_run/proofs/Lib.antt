@@ -2,7 +2,6 @@ pub mod Reading
 pub mod Fronts
 pub mod Screens
 pub mod Runs
-pub mod Booting
 pub mod OneText
 pub mod FreeText
 pub mod EachText

@@ -8,7 +8,6 @@ pub mod Walking
 pub mod Home
 pub mod Returning
 pub mod Looking
-pub mod Booting
 pub mod Certifying
 pub mod Knowing
 pub mod Putting

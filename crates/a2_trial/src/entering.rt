@@ -4,7 +4,6 @@ ghost use Rattle.std.specs.Prelude.{◌≡◌, ◌<◌, ℕ, IfOk, IfSome, IsTru
 ghost use Rattle.std.specs.List.{list_all};
 ghost use Rattle.a2_bus.specs.Memory.{ram_end};
 ghost use Rattle.a2_hex.specs.Images.{held};
-ghost use Rattle.a2_machine.specs.Start.{start_world};
 ghost use Rattle.a2_machine.specs.State.{world_of_state};
 ghost use Rattle.a2_trial.specs.Certifying.{is_input_in_ram};
 ghost use Rattle.a2_trial.specs.Failing.{IsEntry, IsFilled, IsFresh};
@@ -15,7 +14,6 @@ use crate::ground::byte_at_entry;
 use crate::inputs::Input;
 use crate::trial::Failure;
 use a2_asm::Program;
-use a2_bus::Keys;
 use a2_cpu::live::Live;
 use a2_hex::{Image, RAM_END};
 use a2_machine::Machine;
@@ -80,24 +78,6 @@ fn lay_values(inputs: &[Input], values: &[u8], machine: &mut Machine<Global>)
     lay_value(*input, *value, machine);
 }
 
-// A machine as it is switched on, with an image over its RAM, PC at an address and these keys waiting.
-fn booted(
-    alloc: Global,
-    image: &Image<Global>,
-    address: u16,
-    keys: &Keys,
-) -> Result<Machine<Global>, AllocError>
-    ensures world { IfOk result (λ machine. world_of_state machine.state ≡ start_world (held image.now) address keys.now) }
-    ensures fresh { IfOk result (λ machine. IsFresh machine) }
-{
-    let mut machine = Machine::new(alloc)?;
-    machine.boot(image, address);
-    // For the prover alone: a list of keys has no more than fit, so that all of these are taken where none wait.
-    let _ = keys.bytes();
-    let _ = machine.type_keys(keys);
-    Ok(machine)
-}
-
 /// A machine that enters the routine of a program at this address in the state of a failure, as its trial did: the program is laid
 /// over bytes that may be any, but for those of page 0 that services look at, which are as the machine is switched on; PC is the
 /// address, S is $FD, and the return address leads to $FF69; its keys are typed, and each input has its value. It has made no step, and has no guard.
@@ -113,7 +93,7 @@ pub fn machine_at_entry(
     ensures fresh { IfOk result (λ machine. IsFresh machine) }
 {
     let image = filled(alloc, program.image())?;
-    let mut machine = booted(alloc, &image, address, &failure.keys)?;
+    let mut machine = Machine::booted(alloc, &image, address, &failure.keys)?;
     machine.set_pc(address);
     let (inputs, values) = (failure.inputs.as_slice(), failure.values.as_slice());
     lay_values(inputs, values, &mut machine);
