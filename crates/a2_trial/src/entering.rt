@@ -1,49 +1,22 @@
 //! A machine that enters a routine in the state of a failure.
 
-ghost use Rattle.std.specs.Prelude.{◌≡◌, ◌<◌, ℕ, IfOk, IfSome, IsTrue, Some};
+ghost use Rattle.std.specs.Prelude.{◌≡◌, IfOk, IsTrue};
 ghost use Rattle.std.specs.List.{list_all};
-ghost use Rattle.a2_bus.specs.Memory.{ram_end};
 ghost use Rattle.a2_hex.specs.Images.{held};
 ghost use Rattle.a2_machine.specs.State.{world_of_state};
 ghost use Rattle.a2_trial.specs.Certifying.{is_input_in_ram};
-ghost use Rattle.a2_trial.specs.Failing.{IsEntry, IsFilled, IsFresh};
+ghost use Rattle.a2_trial.specs.Failing.{IsEntry, IsFresh};
 ghost use Rattle.a2_trial.specs.States.{with_value, with_values};
 
 use crate::certain::put_register;
-use crate::ground::byte_at_entry;
+use crate::fill::filled;
 use crate::inputs::Input;
 use crate::trial::Failure;
 use a2_asm::Program;
 use a2_cpu::live::Live;
-use a2_hex::{Image, RAM_END};
+use a2_hex::RAM_END;
 use a2_machine::Machine;
 use std::alloc::{AllocError, Global};
-
-// Lays the byte of an address where routines of a program are entered.
-fn lay_at(program: &Image<Global>, address: u16, image: &mut Image<Global>)
-    requires { address < ram_end }
-    ensures here { IfSome (held program.now address) (λ byte. held image.new address ≡ Some byte) }
-    ensures elsewhere { (a : ℕ) → a < address → held image.new a ≡ held image.old a }
-{
-    if let Some(byte) = byte_at_entry(program, address) {
-        image.set(address, byte);
-    }
-}
-
-// The bytes of RAM where routines of a program are entered.
-fn filled(alloc: Global, program: &Image<Global>) -> Result<Image<Global>, AllocError>
-    ensures { IfOk result (λ image. IsFilled (held program.now) (held image)) }
-{
-    // For the prover, which learns from it that a program lies in RAM.
-    let _first = program.get(0);
-    let Ok(mut image) = Image::new(alloc) else {
-        return Err(AllocError);
-    };
-    for address in 0..RAM_END {
-        lay_at(program, address, &mut image);
-    }
-    Ok(image)
-}
 
 // Gives an input a value; a byte that is not in RAM has none.
 fn lay_value(input: Input, value: u8, machine: &mut Machine<Global>)
@@ -80,8 +53,8 @@ fn lay_values(inputs: &[Input], values: &[u8], machine: &mut Machine<Global>)
 
 /// A machine that enters the routine of a program at this address in the state of a failure, as its trial did: the program is laid
 /// over bytes that may be any, but for those of page 0 that services look at, which are as the machine is switched on; PC is the
-/// address, S is $FD, and the return address leads to $FF69; its keys are typed, and each input has its value. It has made no step, and has no guard.
-/// Refused only for want of memory.
+/// address, S is $FD, and the return address leads to $FF69; its keys are typed, and each input has its value. It has made no step,
+/// and has no guard. Refused only for want of memory.
 pub fn machine_at_entry(
     alloc: Global,
     program: &Program<Global>,

@@ -1,17 +1,12 @@
 //! Where a routine is run: RAM as it was entered, RAM as it is, which bytes were stored at, and what was looked at before it was known.
 
-ghost use Rattle.std.specs.Prelude.{◌≡◌, IfSome, Some};
-ghost use Rattle.a2_hex.specs.Images.{held};
-
+use crate::fill::filled;
 use crate::inputs::{Input, add};
 use crate::parts::Parts;
 use crate::printing::push_printed;
 use crate::services::{given_by, taken_by};
 use a2_asm::Program;
-use a2_bus::locations::{
-    BASH, BASL, COLOR, CSW, CV, H2, INVFLG, KBD, KBDSTRB, KSW, LAST_RETURN, PROMPT, RETURN_ADDRESS,
-    V2, WNDLFT,
-};
+use a2_bus::locations::{KBD, KBDSTRB, LAST_RETURN, RETURN_ADDRESS};
 use a2_bus::{AddressSpace, Bus, Keys};
 use a2_cpu::live::Live;
 use a2_cpu::run::step;
@@ -185,39 +180,10 @@ fn mark_program(marks: &mut [Mark], program: &Program<Global>) {
     }
 }
 
-/// A byte that is like any other, by a number.
-pub(crate) fn any_byte(number: u64) -> u8 {
-    let mixed = number.wrapping_add(1).wrapping_mul(0x9E37_79B9_7F4A_7C15);
-    let mixed = (mixed ^ (mixed >> 29)).wrapping_mul(0xBF58_476D_1CE4_E5B9);
-    ((mixed >> 32) % 256) as u8
-}
-
-// Whether the Monitor's services look at an address: window, cursor, blocks, colour, mask, prompt and hooks.
-fn is_monitors(address: u16) -> bool {
-    matches!(address, WNDLFT..=CV | BASL..=BASH | H2..=V2 | COLOR | INVFLG..=PROMPT)
-        || (CSW <= address && address <= KSW + 1)
-}
-
-/// The byte at an address where routines of a program are entered, unless it is named: the program's own, or one that is like any
-/// other, since what is not named may hold anything. The Monitor's own are none: they are as the machine is switched on.
-pub(crate) fn byte_at_entry(program: &Image<Global>, address: u16) -> Option<u8>
-    ensures { IfSome (held program.now address) (λ byte. result ≡ Some byte) }
-{
-    match program.get(address) {
-        Some(byte) => Some(byte),
-        None if is_monitors(address) => None,
-        None => Some(any_byte(u64::from(address))),
-    }
-}
-
-// RAM where routines of a program are entered, but for what is named.
-fn filled(alloc: Global, program: &Program<Global>) -> Result<AddressSpace<Global>, AllocError> {
+// RAM and devices where routines are entered over this image, with the caller's return address on the stack.
+fn entered(alloc: Global, image: &Image<Global>) -> Result<AddressSpace<Global>, AllocError> {
     let mut space = AddressSpace::new(alloc)?;
-    for address in 0..RAM_END {
-        if let Some(byte) = byte_at_entry(program.image(), address) {
-            space.write(address, byte);
-        }
-    }
+    space.load(image);
     let [low, high] = (RETURN_ADDRESS - 1).to_le_bytes();
     space.write(LAST_RETURN, low);
     space.write(LAST_RETURN + 1, high);
@@ -248,8 +214,9 @@ pub(crate) fn keys_taken(texts: &Texts) -> Keys {
 impl Ground {
     /// One for the routines of a program.
     pub fn new(alloc: Global, program: &Program<Global>) -> Result<Ground, AllocError> {
-        let before = filled(alloc, program)?;
-        let now = filled(alloc, program)?;
+        let image = filled(alloc, program.image())?;
+        let before = entered(alloc, &image)?;
+        let now = entered(alloc, &image)?;
         let mut marks = no_marks(alloc)?;
         mark_program(marks.as_mut_slice(), program);
         Ok(Ground {

@@ -8,6 +8,7 @@ ghost use Rattle.a2_trial.specs.Returning.{AnRtsKeepsAll};
 
 mod certain;
 mod entering;
+mod fill;
 mod ground;
 mod inputs;
 mod judge;

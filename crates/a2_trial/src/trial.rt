@@ -6,9 +6,9 @@ ghost use Rattle.a2_trial.specs.Certain.{IsCertain, most_steps};
 ghost use Rattle.a2_trial.specs.Judging.{HasNoText};
 
 use crate::certain::{count_states, holds_in_every_state};
+use crate::fill::any_byte;
 use crate::ground::{
-    ENTRY_S, Exit, Ground, MOST_LOOKED, MOST_STEPS, Passage, Traced, any_byte, keys_taken,
-    last_steps,
+    ENTRY_S, Exit, Ground, MOST_LOOKED, MOST_STEPS, Passage, Traced, keys_taken, last_steps,
 };
 use crate::inputs::{Input, Inputs, inputs_of, with_looked};
 use crate::judge::{Broken, all_hold, broken_by};

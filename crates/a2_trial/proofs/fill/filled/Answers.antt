@@ -1,7 +1,7 @@
 use Rattle.std.proofs.Common.{arith}
 use Rattle.a2_hex.specs.Images.{held}
 use Rattle.a2_trial.proofs.Filling.{filled_none, filled_next, filled_all}
-use Rattle.a2_trial.proofs.entering.filled.Goals as goal
+use Rattle.a2_trial.proofs.fill.filled.Goals as goal
 
 pub loop-address-init : goal.loop-address-init
 loop-address-init c = filled_none (held c.args.program.now) (held c.in-Ok.image)
