@@ -97,7 +97,23 @@ fn put_held_anywhere<W: Output>(output: &mut W) -> Result<(), WriteFault> {
     put_all(&[b" states: it looks at nothing at its entry\n"], output)
 }
 
-// Writes in how many states a promise held.
+// Writes in how many states a promise held, which may be all that there are.
+fn put_count<W: Output>(kept: u64, is_all: bool, output: &mut W) -> Result<(), WriteFault> {
+    if kept == 1 {
+        let one: &[u8] = if is_all {
+            b"held in the one state"
+        } else {
+            b"held in 1 state"
+        };
+        return put_all(&[one], output);
+    }
+    let before: &[u8] = if is_all { b"held in all " } else { b"held in " };
+    put_all(&[before], output)?;
+    put_grouped(kept, output)?;
+    put_all(&[b" states"], output)
+}
+
+// Writes in how many states a promise held, of which inputs, and of how many.
 fn put_held<W: Output>(
     inputs: &[Input],
     kept: u64,
@@ -108,14 +124,7 @@ fn put_held<W: Output>(
     if inputs.is_empty() {
         return put_held_anywhere(output);
     }
-    let all: &[u8] = if tried == total {
-        b"held in all "
-    } else {
-        b"held in "
-    };
-    put_all(&[all], output)?;
-    put_grouped(kept, output)?;
-    put_all(&[b" states"], output)?;
+    put_count(kept, tried == total, output)?;
     put_inputs(inputs, output)?;
     if kept != tried {
         put_all(&[b" that it requires, of "], output)?;
@@ -494,6 +503,19 @@ fn put_passage<W: Output>(
     )
 }
 
+// Writes that none of these states is as a promise requires.
+fn put_no_state<W: Output>(tried: u64, output: &mut W) -> Result<(), WriteFault> {
+    put_all(&[b"FAILS: "], output)?;
+    if tried == 1 {
+        put_all(&[b"the one state that was tried is not"], output)?;
+    } else {
+        put_all(&[b"none of "], output)?;
+        put_grouped(tried, output)?;
+        put_all(&[b" states is"], output)?;
+    }
+    put_all(&[b" as it requires, so it promises nothing\n"], output)
+}
+
 /// Writes what is found of a promise of a source with these lines.
 pub fn put_verdict<W: Output>(
     program: &Program<Global>,
@@ -523,14 +545,7 @@ pub fn put_verdict<W: Output>(
             put_failure(program, lines, promise, failure, output)?;
             put_passage(program, failure.passage, output)
         }
-        Verdict::NoState(tried) => {
-            put_all(&[b"FAILS: none of "], output)?;
-            put_grouped(*tried, output)?;
-            put_all(
-                &[b" states is as it requires, so it promises nothing\n"],
-                output,
-            )
-        }
+        Verdict::NoState(tried) => put_no_state(*tried, output),
     }
 }
 
