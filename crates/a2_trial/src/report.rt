@@ -173,59 +173,48 @@ fn put_clause<W: Output>(
     }
 }
 
+// The address that is told of how a routine leaves.
+fn address_of(door: Door) -> Option<u16> {
+    match door {
+        Door::Elsewhere(to) | Door::Above(to) => Some(to),
+        Door::Window(service) | Door::Keys(service) => Some(service),
+        Door::Code(at) | Door::Device(at) | Door::Read(at) => Some(at),
+        Door::Returned | Door::Stack | Door::Brk | Door::Decimal | Door::Endless => None,
+    }
+}
+
+// What is told of how a routine leaves: before its address, and behind it.
+fn told_around(door: Door) -> (&'static str, &'static str) {
+    match door {
+        Door::Returned => ("it returns", ""),
+        Door::Stack => ("it returns with another S than its caller left it", ""),
+        Door::Elsewhere(_) => ("it goes to ", ", where no instruction of the source begins"),
+        Door::Above(_) => ("it goes to ", ", above RAM, where no service is"),
+        Door::Window(_) => (
+            "window, cursor or block lie otherwise than the service at ",
+            " needs: require what is left open",
+        ),
+        Door::Keys(_) => ("the service at ", " waits for a key, and none is typed"),
+        Door::Code(_) => ("it would store at ", ", where its own code stands"),
+        Door::Device(_) => ("it would store at ", ", above RAM"),
+        Door::Read(_) => (
+            "it would read ",
+            ", above RAM: what stands there is no part of a state",
+        ),
+        Door::Brk => ("it comes to BRK", ""),
+        Door::Decimal => ("it comes to ADC or SBC with D set", ""),
+        Door::Endless => ("it does not return within 1,000,000 steps", ""),
+    }
+}
+
 // Writes how a routine leaves.
 fn put_door<W: Output>(door: Door, output: &mut W) -> Result<(), WriteFault> {
-    match door {
-        Door::Returned => put_all(&[b"it returns"], output),
-        Door::Stack => put_all(
-            &[b"it returns with another S than its caller left it"],
-            output,
-        ),
-        Door::Elsewhere(address) => {
-            put_all(&[b"it goes to "], output)?;
-            put_address(address, output)?;
-            put_all(&[b", where no instruction of the source begins"], output)
-        }
-        Door::Above(address) => {
-            put_all(&[b"it goes to "], output)?;
-            put_address(address, output)?;
-            put_all(&[b", above RAM, where no service is"], output)
-        }
-        Door::Window(address) => {
-            put_all(
-                &[b"window, cursor or block lie otherwise than the service at "],
-                output,
-            )?;
-            put_address(address, output)?;
-            put_all(&[b" needs: require what is left open"], output)
-        }
-        Door::Keys(address) => {
-            put_all(&[b"the service at "], output)?;
-            put_address(address, output)?;
-            put_all(&[b" waits for a key, and none is typed"], output)
-        }
-        Door::Code(address) => {
-            put_all(&[b"it would store at "], output)?;
-            put_address(address, output)?;
-            put_all(&[b", where its own code stands"], output)
-        }
-        Door::Device(address) => {
-            put_all(&[b"it would store at "], output)?;
-            put_address(address, output)?;
-            put_all(&[b", above RAM"], output)
-        }
-        Door::Read(address) => {
-            put_all(&[b"it would read "], output)?;
-            put_address(address, output)?;
-            put_all(
-                &[b", above RAM: what stands there is no part of a state"],
-                output,
-            )
-        }
-        Door::Brk => put_all(&[b"it comes to BRK"], output),
-        Door::Decimal => put_all(&[b"it comes to ADC or SBC with D set"], output),
-        Door::Endless => put_all(&[b"it does not return within 1,000,000 steps"], output),
+    let (before, behind) = told_around(door);
+    put_all(&[before.as_bytes()], output)?;
+    if let Some(address) = address_of(door) {
+        put_address(address, output)?;
     }
+    put_all(&[behind.as_bytes()], output)
 }
 
 // Writes what has changed and may not.

@@ -338,6 +338,23 @@ enum Round {
     Looked(Inputs),
 }
 
+// What is found of a promise that was kept in so many states of inputs, and broken in none that were tried.
+fn unbroken(ground: &Ground, inputs: Inputs, kept: u64, tried: u64, total: u64) -> Verdict {
+    if kept == 0 {
+        return Verdict::NoState(tried);
+    }
+    let mut varied = inputs.all;
+    varied.truncate(inputs.varied);
+    Verdict::Held {
+        inputs: varied,
+        kept,
+        tried,
+        total,
+        is_everywhere: false,
+        passage: ground.passage,
+    }
+}
+
 // Tries states of inputs, up to one that breaks the promise, or a run that looks at what is not varied.
 fn try_inputs(
     alloc: Global,
@@ -370,19 +387,8 @@ fn try_inputs(
             return Ok(Round::Looked(inputs));
         }
     }
-    if kept == 0 {
-        return Ok(Round::Done(Verdict::NoState(states)));
-    }
-    let mut varied = inputs.all;
-    varied.truncate(inputs.varied);
-    Ok(Round::Done(Verdict::Held {
-        inputs: varied,
-        kept,
-        tried: states,
-        total,
-        is_everywhere: false,
-        passage: ground.passage,
-    }))
+    let found = unbroken(ground, inputs, kept, states, total);
+    Ok(Round::Done(found))
 }
 
 // The same, where only states are tried.
