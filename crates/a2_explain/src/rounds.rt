@@ -46,6 +46,7 @@ fn places_of<A: Allocator + Copy>(
             places.clear();
             return Ok(places);
         }
+        // The run is made again, so that the step is there.
         let _ = machine.step();
         course.strokes.type_due(&mut machine);
     }

@@ -90,6 +90,7 @@ fn changed_by<A: Allocator + Copy>(
     let mut before = byte_at(&machine, address);
     for _ in 0..watched {
         let pc = machine.regs().pc;
+        // The run is made again, so that the step is there.
         let _ = machine.step();
         course.strokes.type_due(&mut machine);
         let after = byte_at(&machine, address);

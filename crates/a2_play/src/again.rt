@@ -98,6 +98,7 @@ fn run_on<A: Allocator>(machine: &mut Machine<A>, log: &[Typed], end: u64)
     let made = machine.steps();
     type_due(machine, log, made);
     let until = next_due(log, made, end);
+    // The run is made again, so that no cause comes before the limit.
     let _ = machine.run((until - made).min(MOST_STEPS) as u32);
 }
 

@@ -314,8 +314,9 @@ fn sum_below<A: Allocator>(
 }
 
 /// What an expression is, of the state where a routine was entered and one that its run came to, behind these visits of labels, where
-/// these are the numbers that names stand for. None where a part of it that counts is none: a quotient by what is not above 0, bits of what is not from 0 to 65,535, a byte
-/// that is not in RAM, a number of 2^63 or more, or what was at a label where the run has not been. This project's profile.
+/// these are the numbers that names stand for. None where a part of it that counts is none: a quotient by what is not above 0, bits of
+/// what is not from 0 to 65,535, a byte that is not in RAM, a number of 2^63 or more, or what was at a label where the run has not been.
+/// This project's profile.
 #[cycle(value)]
 pub fn value_in<A: Allocator>(
     expr: &Expr,

@@ -115,6 +115,7 @@ fn count_chosen<A: Allocator>(
             Err(_) => return count,
         }
     }
+    // For the prover alone: a run of no more steps ends here, by whatever cause.
     let _ = machine.run(0);
     count
 }
