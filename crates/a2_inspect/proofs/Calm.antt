@@ -1,18 +1,23 @@
 -- What a run keeps between the addresses that are marked.
-use Rattle.std.specs.Prelude.{IsTrue, ◌≢◌, not, is_some, length, take, get_or, slice_set, ◌||◌, ◌&&◌, ◌==◌, nat_le, nat_lt, if◌then◌else◌}
+use Rattle.std.specs.Prelude.{IsTrue, ◌≢◌, not, is_some, length, take, get_or, slice_set, Contains, ◌||◌, ◌&&◌, ◌==◌, nat_le, nat_lt, if◌then◌else◌}
 use Rattle.std.specs.List.{list_any}
 use Rattle.std.proofs.Common.{◌≡◌, ◌⊎◌, inl, inr, ℕ, zero, suc, ◌+◌, ◌-◌, ◌<◌, ◌≤◌, Bool, true, false, true≢false, List, [], ◌∷◌, Option, Some, None, Result, Ok, Err, refl, sym, ap, ap₂, subst, ◌∙◌, arith}
 use Rattle.std.proofs.lemmas.Bool.{ne_eqb}
 use Rattle.std.proofs.lemmas.Bool.Decides.{nat_tests}
-use Rattle.std.proofs.lemmas.List.{get_or-set_same, get_or-set_other}
+use Rattle.std.proofs.lemmas.List.{get_or_default, get_or-set_same, get_or-set_other}
 use Rattle.a2_text.specs.Bytes.{is_among}
 use Rattle.a2_opcode.specs.declared.Row.{Row}
-use Rattle.a2_opcode.specs.Table.{row_of, length_of}
-use Rattle.a2_opcode.specs.Encoding.{Fetched, no_byte, undocumented, instruction, value_of, bytes_from, fetched}
+use Rattle.a2_opcode.specs.declared.Instr.{Instr}
+use Rattle.a2_opcode.specs.Table.{IsRowFor}
+use Rattle.a2_opcode.specs.Encoding.{instruction, fetched}
+use Rattle.a2_opcode.proofs.Lookup.{row-is}
 use Rattle.a2_bus.specs.Memory.{Memory, ram_end, ram_byte, peek, memory_access}
 use Rattle.a2_bus.proofs.Frame.{changed_by_writes}
+use Rattle.a2_cpu.specs.Place.{place_of}
+use Rattle.a2_cpu.specs.Effect.{effect_of}
+use Rattle.a2_cpu.specs.Code.{effect_stores}
 use Rattle.a2_cpu.specs.Instruction.{performed}
-use Rattle.a2_cpu.specs.Stores.{IsNotIn}
+use Rattle.a2_cpu.specs.Stores.{stores_of, IsNotIn}
 use Rattle.a2_cpu.proofs.StoresLemmas.{performed-stores}
 use Rattle.a2_cpu.proofs.EffectStores.{stores_of-is}
 use Rattle.a2_services.specs.declared.Service.{Service}
@@ -20,7 +25,7 @@ use Rattle.a2_services.specs.World.{World}
 use Rattle.a2_services.specs.Services.{service_at, served}
 use Rattle.a2_asm.specs.Assembled.{Assembled}
 use Rattle.a2_asm.specs.declared.program.Statement.{Statement}
-use Rattle.a2_asm.specs.Programs.{covers, is_code}
+use Rattle.a2_asm.specs.Programs.{covers, is_code, Holds}
 use Rattle.a2_machine.specs.declared.Cause.{Cause}
 use Rattle.a2_machine.specs.declared.Cause.TheVariants.{Returned, OffStatement}
 use Rattle.a2_machine.specs.ByteRun.{Guard, bytes, decoded_or_cause}
@@ -39,7 +44,7 @@ use Rattle.a2_places.specs.declared.places.Span.{Span}
 use Rattle.a2_inspect.specs.declared.stops.Break.{Break}
 use Rattle.a2_inspect.specs.Inspections.{is_at, is_left}
 use Rattle.a2_inspect.specs.Stops.{Moment, moment_of, holds, is_hit, is_other, is_changed_from, is_span_changed, is_changed_in, is_stop}
-use Rattle.a2_inspect.specs.Alerts.{Alerts, is_marked, KeepsMemory, StandsCalm, IsCalm, MarksAllBut, AreAlerts, alarms, WarnsOfStops}
+use Rattle.a2_inspect.specs.Alerts.{Alerts, is_marked, is_watched, place_in, StandsCalm, IsCalm, MarksAllBut, AreAlerts, alarms, WarnsOfStops}
 
 or-true : (b : Bool) → (b || true) ≡ true
 or-true true = refl
@@ -55,39 +60,43 @@ any-at p (x ∷ xs) zero d low is = ap (λ v. v || list_any p xs) is
 any-at p (x ∷ xs) (suc i) d low is = ap (λ v. p x || v) (any-at p xs i d (omega (arith, low)) is) ∙ or-true (p x)
 
 -- what is calm at a statement
-pub calm-at : (statements : List Statement) (memory : Memory) (i : ℕ) (d : Statement) → i < length statements → StandsCalm memory (get_or statements i d)
-    → IsCalm statements memory (get_or statements i d).addr
-calm-at statements memory i d low calm = record {
-  code = any-at (covers (get_or statements i d).addr) statements i d low
-      (covered (get_or statements i d).addr (get_or statements i d).length (is_some (get_or statements i d).instr) calm.bytes calm.some);
-  none = calm.none;
-  harmless = calm.harmless;
-}
+pub calm-at : (watches : List Span) (statements : List Statement) (memory : Memory) (i : ℕ) (d : Statement)
+    → i < length statements → StandsCalm watches memory (get_or statements i d) → IsCalm watches statements memory (get_or statements i d).addr
+calm-at watches statements memory i d low calm =
+    (get_or statements i d, (i, low, get_or_default statements i (get_or statements i d) d low), refl, calm)
+
+-- a statement's bytes are code
+code-held : (statements : List Statement) (s : Statement) (a : ℕ) → Contains statements s → is_some s.instr ≡ true → Holds s a
+    → IsTrue (is_code statements a)
+code-held statements s a among some held =
+    any-at (covers a) statements among.0 s among.1 (ap (covers a) among.2 ∙ covered (is_some s.instr) some)
   where
-    covered : (at bytes : ℕ) (some : Bool) → 0 < bytes → some ≡ true → (some && nat_le at at && nat_lt at (at + bytes)) ≡ true
-    covered at bytes some l e = grind (arith, nat_tests, l, e)
+    covered : (v : Bool) → v ≡ true → (v && nat_le s.addr a && nat_lt a (s.addr + s.length)) ≡ true
+    covered v is = grind (arith, nat_tests, is, held.0, held.1)
 
 same-or-not : (a b : ℕ) → (a ≡ b) ⊎ (a ≢ b)
 same-or-not a b = grind arith
 
-pub cleared : (memory : Memory) (marks : List Bool) (s : Statement) (at : ℕ) → at ≡ s.addr → StandsCalm memory s
-    → (a : ℕ) → is_marked (slice_set marks at false) a ≡ false → (is_marked marks a ≡ false) ⊎ ((a ≡ s.addr) × StandsCalm memory s)
-cleared memory marks s at here calm a unmarked = go (same-or-not a at)
+pub cleared : (watches : List Span) (memory : Memory) (marks : List Bool) (s : Statement) (at : ℕ) → at ≡ s.addr
+    → StandsCalm watches memory s → (a : ℕ) → is_marked (slice_set marks at false) a ≡ false
+    → (is_marked marks a ≡ false) ⊎ ((s.addr ≡ a) × StandsCalm watches memory s)
+cleared watches memory marks s at here calm a unmarked = go (same-or-not a at)
   where
-    go : (a ≡ at) ⊎ (a ≢ at) → (is_marked marks a ≡ false) ⊎ ((a ≡ s.addr) × StandsCalm memory s)
-    go (inl e) = inr (e ∙ here, calm)
+    go : (a ≡ at) ⊎ (a ≢ at) → (is_marked marks a ≡ false) ⊎ ((s.addr ≡ a) × StandsCalm watches memory s)
+    go (inl e) = inr (sym (e ∙ here), calm)
     go (inr ne) = inl (sym (get_or-set_other marks at a false true ne) ∙ unmarked)
 
-pub calm-more : (statements : List Statement) (memory : Memory) (old new : List Bool) (i : ℕ) (d : Statement) → i < length statements
-    → MarksAllBut statements memory old
+pub calm-more : (watches : List Span) (statements : List Statement) (memory : Memory) (old new : List Bool)
+    (i : ℕ) (d : Statement) → i < length statements → MarksAllBut watches statements memory old
     → ((a : ℕ) → is_marked new a ≡ false
-    → (is_marked old a ≡ false) ⊎ ((a ≡ (get_or statements i d).addr) × StandsCalm memory (get_or statements i d)))
-    → MarksAllBut statements memory new
-calm-more statements memory old new i d low all made a unmarked = go (made a unmarked)
+    → (is_marked old a ≡ false) ⊎ (((get_or statements i d).addr ≡ a) × StandsCalm watches memory (get_or statements i d)))
+    → MarksAllBut watches statements memory new
+calm-more watches statements memory old new i d low all made a unmarked = go (made a unmarked)
   where
-    go : (is_marked old a ≡ false) ⊎ ((a ≡ (get_or statements i d).addr) × StandsCalm memory (get_or statements i d)) → IsCalm statements memory a
+    go : (is_marked old a ≡ false) ⊎ (((get_or statements i d).addr ≡ a) × StandsCalm watches memory (get_or statements i d))
+        → IsCalm watches statements memory a
     go (inl e) = all a e
-    go (inr is) = subst (λ k. IsCalm statements memory k) (sym is.0) (calm-at statements memory i d low is.1)
+    go (inr is) = subst (λ k. IsCalm watches statements memory k) is.0 (calm-at watches statements memory i d low is.1)
 
 left-true : (u v : Bool) → (u || v) ≡ true → v ≡ false → u ≡ true
 left-true true v h e = refl
@@ -125,44 +134,21 @@ logged-byte (t ∷ ts) n w a = logged-byte ts n _ a ∙ one (t.position == n)
     one true = keys-byte t.keys w a
     one false = refl
 
--- what stands at an address, by its opcode
-fetched-row : (show : ℕ → Option ℕ) (pc opcode : ℕ) (row : Row) → show pc ≡ Some opcode → row_of opcode ≡ Some row
-    → (fetched show pc ≡ no_byte) ⊎ ((value : ℕ) × (fetched show pc ≡ instruction row value))
-unfolding fetched
-fetched-row show pc opcode row shown known = go (bytes_from show (pc + 1) (length_of row.mode - 1)) refl
-  where
-    with_row : Option Row → Fetched
-    with_row found = elim found [
-      | None ↦ undocumented
-      | Some r ↦ elim (bytes_from show (pc + 1) (length_of r.mode - 1)) [
-        | None ↦ no_byte
-        | Some operand ↦ instruction r (value_of r.mode pc operand)
-      ]
-    ]
-
-    go : (o : Option (List ℕ)) → bytes_from show (pc + 1) (length_of row.mode - 1) ≡ o
-        → (fetched show pc ≡ no_byte) ⊎ ((value : ℕ) × (fetched show pc ≡ instruction row value))
-    go None e = inl (cc)
-    go (Some operand) e = inr (value_of row.mode pc operand, cc)
-
--- what is found where a known opcode stands
-found-row : (guard : Guard) (w : World) (opcode : ℕ) (row : Row) → peek w.memory w.registers.pc ≡ Some opcode → row_of opcode ≡ Some row
+-- what is found where an instruction is fetched
+found-there : (guard : Guard) (w : World) (row : Row) (value : ℕ) → fetched (peek w.memory) w.registers.pc ≡ instruction row value
     → ((cause : Cause) × (found_at_pc (bytes (Some guard)) w ≡ Err cause))
-    ⊎ ((value : ℕ) × (found_at_pc (bytes (Some guard)) w ≡ Ok (record { row = row; value = value })))
+    ⊎ (found_at_pc (bytes (Some guard)) w ≡ Ok (record { row = row; value = value }))
 unfolding bytes
-found-row guard w opcode row shown known =
-    go (is_among guard.starts w.registers.pc) refl (fetched-row (peek w.memory) w.registers.pc opcode row shown known)
+found-there guard w row value is = go (is_among guard.starts w.registers.pc) refl
   where
     found : Bool → Result Decoded Cause
     found admitted = if admitted then decoded_or_cause (fetched (peek w.memory) w.registers.pc) else Err OffStatement
 
     go : (b : Bool) → is_among guard.starts w.registers.pc ≡ b
-        → (fetched (peek w.memory) w.registers.pc ≡ no_byte) ⊎ ((value : ℕ) × (fetched (peek w.memory) w.registers.pc ≡ instruction row value))
         → ((cause : Cause) × (found_at_pc (bytes (Some guard)) w ≡ Err cause))
-        ⊎ ((value : ℕ) × (found_at_pc (bytes (Some guard)) w ≡ Ok (record { row = row; value = value })))
-    go false e is = inl (OffStatement, ap found e)
-    go true e (inl is) = inl (_, ap found e ∙ ap decoded_or_cause is)
-    go true e (inr is) = inr (is.0, ap found e ∙ ap decoded_or_cause is.1)
+        ⊎ (found_at_pc (bytes (Some guard)) w ≡ Ok (record { row = row; value = value }))
+    go false e = inl (OffStatement, ap found e)
+    go true e = inr (ap found e ∙ ap decoded_or_cause is)
 
 -- where nothing is found a world is stuck
 none-found : (code : Code) (w : World) (cause : Cause) → service_at w.registers.pc ≡ None → found_at_pc code w ≡ Err cause → stuck code w ≡ None → ⊥
@@ -179,25 +165,25 @@ none-found code w cause none found free = told (w.registers.pc == return_address
     told true e = some≢none Returned e
     told false e = some≢none cause e
 
--- an instruction that stores nothing leaves each byte
-calm-next : (guard : Guard) (w : World) (opcode : ℕ) (row : Row) → service_at w.registers.pc ≡ None → peek w.memory w.registers.pc ≡ Some opcode
-    → row_of opcode ≡ Some row → KeepsMemory row → stuck (bytes (Some guard)) w ≡ None
-    → (a : ℕ) → ram_byte (next (bytes (Some guard)) w).memory a ≡ ram_byte w.memory a
+-- an instruction leaves each byte but those at which it stores
+calm-next : (guard : Guard) (w : World) (row : Row) (value : ℕ) → service_at w.registers.pc ≡ None
+    → fetched (peek w.memory) w.registers.pc ≡ instruction row value → stuck (bytes (Some guard)) w ≡ None
+    → (a : ℕ) → IsNotIn a (stores_of memory_access row value w)
+    → ram_byte (next (bytes (Some guard)) w).memory a ≡ ram_byte w.memory a
 unfolding next next_at
-calm-next guard w opcode row none shown known keeps free a = go (found-row guard w opcode row shown known)
+calm-next guard w row value none there free a away = go (found-there guard w row value there)
   where
     go : ((cause : Cause) × (found_at_pc (bytes (Some guard)) w ≡ Err cause))
-        ⊎ ((value : ℕ) × (found_at_pc (bytes (Some guard)) w ≡ Ok (record { row = row; value = value })))
+        ⊎ (found_at_pc (bytes (Some guard)) w ≡ Ok (record { row = row; value = value }))
         → ram_byte (next (bytes (Some guard)) w).memory a ≡ ram_byte w.memory a
     go (inl is) = absurd (none-found (bytes (Some guard)) w is.0 none is.1 free)
     go (inr is) =
-        ap (λ (f : Result Decoded Cause). ram_byte (next_at f w).memory a) is.1
+        ap (λ (f : Result Decoded Cause). ram_byte (next_at f w).memory a) is
         ∙ ap (λ (s : Option Service). ram_byte (elim s as (λ _. World) [
           | Some service ↦ served service w
-          | None ↦ performed memory_access row is.0 w
+          | None ↦ performed memory_access row value w
         ]).memory a) none
-        ∙ performed-stores memory_access ram_byte changed_by_writes row is.0 w a
-        (subst (λ (xs : List ℕ). IsNotIn a xs) (sym (stores_of-is memory_access row is.0 w ∙ keeps w is.0)) tt)
+        ∙ performed-stores memory_access ram_byte changed_by_writes row value w a away
 
 -- keys and steps that store nothing into code leave it
 module _ (course : Course) (laid : ℕ → ℕ) where
@@ -247,13 +233,34 @@ or-false : (u v : Bool) → (u || v) ≡ false → (u ≡ false) × (v ≡ false
 or-false false v e = (refl, e)
 or-false true v e = absurd (true≢false e)
 
--- where there is a byte is RAM
-byte-low : (m : Memory) (a byte : ℕ) → peek m a ≡ Some byte → a < ram_end
-byte-low m a byte e = go (nat_lt a ram_end) refl e
+-- an address that passes is not among those of which none does
+away-from : (test : ℕ → Bool) (a : ℕ) (xs : List ℕ) → list_any test xs ≡ false → test a ≡ true → IsNotIn a xs
+away-from test a [] none is = tt
+away-from test a (x ∷ xs) none is =
+    let parts = or-false (test x) (list_any test xs) none in
+    (λ e. true≢false (sym is ∙ ap test e ∙ parts.0), away-from test a xs parts.1 is)
+
+-- whether one of some bytes is changed is told by them alone
+span-same : (first n : ℕ) (before one other : ℕ → Option ℕ) → ((k : ℕ) → k < n → one (first + k) ≡ other (first + k))
+    → is_changed_from first n before one ≡ is_changed_from first n before other
+unfolding is_changed_from
+span-same first zero before one other same = refl
+span-same first (suc n) before one other same =
+    ap₂ (λ x y. x || y) (span-same first n before one other (λ k l. same k (omega (arith, l))))
+    (ap (λ o. is_other o (before (first + n))) (same n (omega arith)))
+
+watched-same : (watches : List Span) (before one other : ℕ → Option ℕ) → ((a : ℕ) → is_watched watches a ≡ true → one a ≡ other a)
+    → list_any (is_span_changed before one) watches ≡ list_any (is_span_changed before other) watches
+watched-same [] before one other same = refl
+watched-same (s ∷ ss) before one other same =
+    ap₂ (λ x y. x || y)
+    (span-same s.first (s.last + 1 - s.first) before one other
+    (λ k l. same (s.first + k) (ap (λ v. v || is_watched ss (s.first + k)) (inside s.first s.last k l))))
+    (watched-same ss before one other
+    (λ a is. same a (ap (λ v. (nat_le s.first a && nat_le a s.last) || v) is ∙ or-true (nat_le s.first a && nat_le a s.last))))
   where
-    go : (b : Bool) → nat_lt a ram_end ≡ b → (if b then Some (ram_byte m a) else None) ≡ Some byte → a < ram_end
-    go true is shown = grind (arith, nat_tests, is)
-    go false is shown = absurd (some≢none byte (sym shown))
+    inside : (first last k : ℕ) → k < last + 1 - first → (nat_le first (first + k) && nat_le (first + k) last) ≡ true
+    inside first last k l = grind (arith, nat_tests, l)
 
 same-peek : (v w : World) (a : ℕ) → ram_byte v.memory a ≡ ram_byte w.memory a → peek v.memory a ≡ peek w.memory a
 same-peek v w a e = ap (λ (b : ℕ). if nat_lt a ram_end then Some b else None) e
@@ -278,36 +285,61 @@ module _ (free : Bool) (program : Assembled) (course : Course) (from : ℕ) (bre
       (holds-on course (λ b. ram_byte (world_on course from).memory b) (k - from) from (λ b _. refl) (λ j m. went j (omega (arith, m, l)))) in
       h a (subst (λ (c : Code). IsTrue (is_among c.protected a)) (sym (code-is e)) (code-among a low is))
 
+  shown-held : (k : ℕ) → from ≤ k → NoneStuck course (k + 1) → free ≡ false → (s : Statement) → Contains program.statements s
+      → is_some s.instr ≡ true → (a : ℕ) → Holds s a → peek (world_on course k).memory a ≡ peek (world_on course from).memory a
+  shown-held k l went e s among some a inside = go (nat_lt a ram_end) refl
+    where
+      shown : Bool → World → Option ℕ
+      shown low w = if low then Some (ram_byte w.memory a) else None
+
+      go : (low : Bool) → nat_lt a ram_end ≡ low → peek (world_on course k).memory a ≡ peek (world_on course from).memory a
+      go true is =
+          same-peek (world_on course k) (world_on course from) a
+          (held k l went e a (grind (arith, nat_tests, is)) (code-held program.statements s a among some inside))
+      go false is = ap (λ v. shown v (world_on course k)) is ∙ sym (ap (λ v. shown v (world_on course from)) is)
+
   calm-step : (k : ℕ) → from ≤ k → NoneStuck course (k + 1) → free ≡ false
-      → IsCalm program.statements (world_on course from).memory (world_on course k).registers.pc
-      → (a : ℕ) → ram_byte (world_on course (k + 1)).memory a ≡ ram_byte (world_on course k).memory a
+      → IsCalm watches program.statements (world_on course from).memory (world_on course k).registers.pc
+      → (a : ℕ) → is_watched watches a ≡ true
+      → ram_byte (world_on course (k + 1)).memory a ≡ ram_byte (world_on course k).memory a
   unfolding world_on arrived
-  calm-step k l went e calm a =
-      let pc = (world_on course k).registers.pc in
+  calm-step k l went e calm a watched =
+      let w : World = world_on course k in
+      let s : Statement = calm.0 in
+      let i : Instr = calm.3.harmless.instr in
       let at : k + 1 ≡ suc k = omega arith in
-      let low : pc < ram_end = byte-low (world_on course from).memory pc calm.harmless.code calm.harmless.held in
-      let shown : peek (world_on course k).memory pc ≡ Some calm.harmless.code =
-      same-peek (world_on course k) (world_on course from) pc (held k l went e pc low calm.code) ∙ calm.harmless.held in
-      let free : stuck (bytes (Some (guard_of_program program))) (world_on course k) ≡ None =
-      subst (λ (c : Code). stuck c (world_on course k) ≡ None) (code-is e) (went k (omega arith)) in
+      let found = calm.3.harmless.stands w.memory (shown-held k l went e s calm.1 calm.3.some) in
+      let is : IsRowFor i.mnemonic i.mode found.0 = row-is i.mnemonic i.mode found.0 found.1 in
+      let there : fetched (peek w.memory) w.registers.pc ≡ instruction found.0 i.value =
+      subst (λ (n : ℕ). fetched (peek w.memory) n ≡ instruction found.0 i.value) calm.2 found.2 in
+      let none : service_at w.registers.pc ≡ None = subst (λ (n : ℕ). service_at n ≡ None) calm.2 calm.3.none in
+      let stores : stores_of memory_access found.0 i.value w
+      ≡ effect_stores (effect_of i.mnemonic) (place_in w i) w.registers.s =
+      stores_of-is memory_access found.0 i.value w
+      ∙ ap₂ (λ m o. effect_stores (effect_of m) (place_of memory_access w.memory w.registers o i.value) w.registers.s)
+      is.mnemonic_is is.mode_is in
+      let away : IsNotIn a (stores_of memory_access found.0 i.value w) =
+      away-from (is_watched watches) a _ (ap (list_any (is_watched watches)) stores ∙ calm.3.harmless.spares w) watched in
+      let free : stuck (bytes (Some (guard_of_program program))) w ≡ None =
+      subst (λ (c : Code). stuck c w ≡ None) (code-is e) (went k (omega arith)) in
       ap (λ n. ram_byte (world_on course n).memory a) at
       ∙ logged-byte course.log (suc k) (arrived course (suc k)) a
-      ∙ ap (λ (c : Code). ram_byte (next c (world_on course k)).memory a) (code-is e)
-      ∙ calm-next (guard_of_program program) (world_on course k) calm.harmless.code calm.harmless.row calm.none shown calm.harmless.known
-      calm.harmless.keeps free a
+      ∙ ap (λ (c : Code). ram_byte (next c w).memory a) (code-is e)
+      ∙ calm-next (guard_of_program program) w found.0 i.value none there free a away
 
-  -- the same bytes are changed behind a step that stores nothing as before it, and so it is not the first
-  was-changed : (k : ℕ) → from ≤ k → ((a : ℕ) → ram_byte (world_on course (k + 1)).memory a ≡ ram_byte (world_on course k).memory a)
+  -- the same watched bytes are changed behind a step that stores at none as before it, and so it is not the first
+  was-changed : (k : ℕ) → from ≤ k
+      → ((a : ℕ) → is_watched watches a ≡ true
+      → ram_byte (world_on course (k + 1)).memory a ≡ ram_byte (world_on course k).memory a)
       → list_any (is_changed_in (world_on course from) (world_on course (k + 1))) watches ≡ true
       → (from < k) × (list_any (is_changed_in (world_on course from) (world_on course k)) watches ≡ true)
   was-changed k l same changed = (later (split k l), before)
     where
-      ram : peek (world_on course (k + 1)).memory ≡ peek (world_on course k).memory
-      ram = λ i a. same-peek (world_on course (k + 1)) (world_on course k) a (same a) i
-
       before : list_any (is_changed_in (world_on course from) (world_on course k)) watches ≡ true
       before =
-          sym (ap (λ (r : ℕ → Option ℕ). list_any (is_span_changed (peek (world_on course from).memory) r) watches) ram) ∙ changed
+          sym (watched-same watches (peek (world_on course from).memory) (peek (world_on course (k + 1)).memory)
+          (peek (world_on course k).memory) (λ a is. same-peek (world_on course (k + 1)) (world_on course k) a (same a is)))
+          ∙ changed
 
       split : (k : ℕ) → from ≤ k → (from ≡ k) ⊎ (from < k)
       split k l = grind (arith, l)
@@ -334,11 +366,11 @@ module _ (free : Bool) (program : Assembled) (course : Course) (from : ℕ) (bre
           (was.0, ap (λ v. list_any (is_hit (moment_of (world_on course k))) breaks || v) was.1 ∙ or-true (list_any (is_hit (moment_of (world_on course k))) breaks))
 
       watched : list_any (is_changed_in (world_on course from) (world_on course (k + 1))) watches ≡ true
-          → (watches ≡ []) ⊎ ((free ≡ false) × IsCalm program.statements (world_on course from).memory pc)
+          → (watches ≡ []) ⊎ ((free ≡ false) × IsCalm watches program.statements (world_on course from).memory pc)
           → (from < k) × (is_stop breaks watches (world_on course from) (world_on course k) ≡ true)
       watched changed (inl none) =
           absurd (true≢false (sym changed ∙ ap (λ (ws : List Span). list_any (is_changed_in (world_on course from) (world_on course (k + 1))) ws) none))
-      watched changed (inr is) = seen-before (was-changed k l (λ a. calm-step k l went is.0 is.1 a) changed)
+      watched changed (inr is) = seen-before (was-changed k l (λ a among. calm-step k l went is.0 is.1 a among) changed)
 
       go : (b : Bool) → list_any (is_hit (moment_of (world_on course (k + 1)))) breaks ≡ b
           → (b || list_any (is_changed_in (world_on course from) (world_on course (k + 1))) watches) ≡ true

@@ -1,1 +1,2 @@
 mod Calm
+mod Fetching

@@ -1,15 +1,16 @@
 //! Which steps alarm of a run that is gone along in bursts.
 
-ghost use Rattle.std.specs.Prelude.{◌≡◌, ◌⊎◌, ℕ, true, false, [], length, IfOk};
+ghost use Rattle.std.specs.Prelude.{◌≡◌, ◌⊎◌, ℕ, true, false, [], length, IfOk, IfSome};
 ghost use Rattle.std.specs.List.{list_any};
 ghost use Rattle.a2_machine.specs.State.{world_of_state};
 ghost use Rattle.a2_inspect.specs.Stops.{Moment, is_hit};
-ghost use Rattle.a2_inspect.specs.Alerts.{is_marked, KeepsMemory, IsHarmless, StandsCalm, IsCalm, MarksAllBut, AreAlerts};
+ghost use Rattle.a2_inspect.specs.Alerts as alert;
+ghost use Rattle.a2_inspect.specs.Alerts.{is_marked, IsHarmless, StandsCalm, IsCalm, MarksAllBut, AreAlerts};
 
-use crate::stops::Break;
+use crate::stops::{Break, ram_of};
 use a2_asm::{Program, Statement};
 use a2_machine::Machine;
-use a2_opcode::{Mnemonic, Mode, Row, row_of};
+use a2_opcode::{Instr, Mnemonic, Mode, decode};
 use a2_places::Span;
 use a2_services::service_at;
 use std::alloc::{AllocError, Allocator, Global};
@@ -18,7 +19,7 @@ use std::marker::Model;
 /// How many addresses there are.
 const ADDRESSES: usize = 0x1_0000;
 
-/// For each address, whether there is a breakpoint, and whether a step there may store.
+/// For each address, whether there is a breakpoint, and whether a step there may change a watched byte.
 #[derive(Drop)]
 pub struct Marks<A: Allocator = Global> {
     stops: Vec<bool, A>,
@@ -54,69 +55,103 @@ impl<'a> Model for Alerts<'a> {
     ghost invariant = { λ a. (length a.stops.now ≡ 65536) × (length a.stores.now ≡ 65536) };
 }
 
-// Whether an instruction stores nothing and pushes nothing, whatever its operand is.
-#[tactic(auto, unfolding(a2_cpu::specs::Effect::effect_of))]
-fn keeps_memory(row: Row) -> bool
-    ensures { result ≡ true → KeepsMemory row }
+// Whether an address is watched.
+fn is_watched(watches: &[Span], address: u16) -> bool
+    ensures { result ≡ alert.is_watched watches.now address }
 {
-    match row.mnemonic {
-        Mnemonic::Asl | Mnemonic::Lsr | Mnemonic::Rol | Mnemonic::Ror => {
-            row.mode == Mode::Accumulator
-        }
-        Mnemonic::Inc
+    watches
+        .iter()
+        .any(|span| span.first <= address && address <= span.last)
+}
+
+// Whether an instruction's operand is at no watched address, whatever registers and memory are.
+fn spares_operand(instr: Instr, watches: &[Span]) -> bool
+    ensures { result ≡ true → alert.SparesAt watches.now instr }
+{
+    match instr.mode {
+        Mode::Accumulator => true,
+        Mode::ZeroPage | Mode::Absolute => !is_watched(watches, instr.value),
+        _ => false,
+    }
+}
+
+// Whether an instruction stores and pushes at no watched address, whatever registers and memory are.
+#[tactic(auto, unfolding(a2_cpu::specs::Effect::effect_of))]
+fn spares(instr: Instr, watches: &[Span]) -> bool
+    ensures { result ≡ true → alert.Spares watches.now instr }
+{
+    match instr.mnemonic {
+        Mnemonic::Asl
+        | Mnemonic::Lsr
+        | Mnemonic::Rol
+        | Mnemonic::Ror
+        | Mnemonic::Inc
         | Mnemonic::Dec
         | Mnemonic::Sta
         | Mnemonic::Stx
-        | Mnemonic::Sty
-        | Mnemonic::Pha
-        | Mnemonic::Php
-        | Mnemonic::Jsr => false,
+        | Mnemonic::Sty => spares_operand(instr, watches),
+        Mnemonic::Pha | Mnemonic::Php | Mnemonic::Jsr => false,
         _ => true,
     }
 }
 
-// Whether a byte is the opcode of such an instruction.
-fn is_harmless(opcode: Option<u8>) -> bool
-    ensures { result ≡ true → IsHarmless opcode }
+// The instruction that a statement's bytes are, as a machine holds them.
+fn standing<A: Allocator>(statement: &Statement, machine: &Machine<A>) -> Option<Instr>
+    ensures { IfSome result (λ instr. alert.Stands (world_of_state machine.now.state).memory statement.now instr) }
 {
-    let Some(opcode) = opcode else {
-        return false;
-    };
-    match row_of(opcode) {
-        Some(row) => keeps_memory(row),
+    let first = usize::from(statement.addr);
+    let bytes = ram_of(machine).get(first..first + usize::from(statement.length))?;
+    decode(bytes, statement.addr)
+}
+
+// Whether there is one, and it spares what is watched.
+fn is_harmless<A: Allocator>(statement: &Statement, machine: &Machine<A>, watches: &[Span]) -> bool
+    ensures { result ≡ true → IsHarmless watches.now (world_of_state machine.now.state).memory statement.now }
+{
+    match standing(statement, machine) {
+        Some(instr) => spares(instr, watches),
         None => false,
     }
 }
 
-// Whether such an instruction is a statement's, as a machine holds it, and no service.
-fn is_calm<A: Allocator>(statement: &Statement, machine: &Machine<A>) -> bool
-    ensures { result ≡ true → StandsCalm (world_of_state machine.now.state).memory statement.now }
+// Whether a statement is such an instruction, and no service.
+fn is_calm<A: Allocator>(statement: &Statement, machine: &Machine<A>, watches: &[Span]) -> bool
+    ensures { result ≡ true → StandsCalm watches.now (world_of_state machine.now.state).memory statement.now }
 {
     statement.instr.is_some()
-        && statement.length > 0
         && service_at(statement.addr).is_none()
-        && is_harmless(machine.peek(statement.addr))
+        && is_harmless(statement, machine, watches)
 }
 
 // Marks a statement's first byte no longer where that is so.
-fn calm<A: Allocator>(marks: &mut [bool], statement: &Statement, machine: &Machine<A>)
+fn calm<A: Allocator>(
+    marks: &mut [bool],
+    statement: &Statement,
+    machine: &Machine<A>,
+    watches: &[Span],
+)
     requires { length marks.old ≡ 65536 }
     ensures { (address : ℕ) → is_marked marks.new address ≡ false → (is_marked marks.old address ≡ false)
-        ⊎ ((address ≡ statement.now.addr) × StandsCalm (world_of_state machine.now.state).memory statement.now) }
+        ⊎ ((statement.now.addr ≡ address) × StandsCalm watches.now (world_of_state machine.now.state).memory statement.now) }
 {
-    if is_calm(statement, machine) {
+    if is_calm(statement, machine, watches) {
         marks[usize::from(statement.addr)] = false;
     }
 }
 
 // The same for each statement.
-fn calm_all<A: Allocator>(marks: &mut [bool], statements: &[Statement], machine: &Machine<A>)
+fn calm_all<A: Allocator>(
+    marks: &mut [bool],
+    statements: &[Statement],
+    machine: &Machine<A>,
+    watches: &[Span],
+)
     requires size { length marks.old ≡ 65536 }
-    requires all { MarksAllBut statements.now (world_of_state machine.now.state).memory marks.old }
-    ensures { MarksAllBut statements.now (world_of_state machine.now.state).memory marks.new }
+    requires all { MarksAllBut watches.now statements.now (world_of_state machine.now.state).memory marks.old }
+    ensures { MarksAllBut watches.now statements.now (world_of_state machine.now.state).memory marks.new }
 {
     for statement in statements {
-        calm(marks, statement, machine);
+        calm(marks, statement, machine, watches);
     }
 }
 
@@ -138,7 +173,7 @@ fn fill(marks: &mut [bool], mark: bool)
     marks.fill(mark);
 }
 
-// Marks where a step may store, if bytes are watched: everywhere but where instructions stand that store nothing.
+// Marks where a step may change a watched byte, if there are any: all but where instructions stand that store at none.
 fn mark_stores<A: Allocator>(
     marks: &mut [bool],
     free: bool,
@@ -148,11 +183,12 @@ fn mark_stores<A: Allocator>(
 )
     requires { length marks.old ≡ 65536 }
     ensures { (address : ℕ) → is_marked marks.new address ≡ false
-        → (watches.now ≡ []) ⊎ ((free ≡ false) × IsCalm statements.now (world_of_state machine.now.state).memory address) }
+        → (watches.now ≡ [])
+        ⊎ ((free ≡ false) × IsCalm watches.now statements.now (world_of_state machine.now.state).memory address) }
 {
     fill(marks, !watches.is_empty());
     if !free && !watches.is_empty() {
-        calm_all(marks, statements, machine);
+        calm_all(marks, statements, machine, watches);
     }
 }
 
@@ -194,8 +230,9 @@ impl<A: Allocator + Copy> Marks<A> {
 }
 
 impl<A: Allocator> Marks<A> {
-    /// Marks the addresses of breakpoints; and where bytes are watched all at which a step may store: all but those at which an
-    /// instruction of a program stands that is not free of the guard, as a machine holds it, and that stores nothing.
+    /// Marks the addresses of breakpoints; and where bytes are watched all at which a step may change one: all but those at
+    /// which an instruction of a program stands that is not free of the guard, as a machine holds it, and that stores nothing,
+    /// or at the address alone that is its operand, which is not watched.
     pub fn set<C: Allocator>(
         &mut self,
         free: bool,
@@ -236,7 +273,7 @@ impl Alerts<'_> {
         self.stops[usize::from(address)]
     }
 
-    /// Whether a step at an address may store, where bytes are watched.
+    /// Whether a step at an address may change a watched byte.
     #[inline(always)]
     pub fn may_store(&self, address: u16) -> bool
         ensures { result ≡ is_marked self.now.stores address }

@@ -6,6 +6,6 @@ use Rattle.a2_inspect.proofs.alerts.calm_all.Goals as goal
 pub loop-statement-preserved : goal.loop-statement-preserved
 loop-statement-preserved g c = record {
   size = c.calm.auto.marks ∙ c.loop-statement.invariant.size;
-  all = calm-more c.args.statements.now (world_of_state c.args.machine.now.state).memory c.loop-statement.marks c.calm.new.marks
-      c.loop-statement.statement-index _ c.loop-statement-test.true c.loop-statement.invariant.all c.calm.ensures;
+  all = calm-more c.args.watches.now c.args.statements.now (world_of_state c.args.machine.now.state).memory
+      c.loop-statement.marks c.calm.new.marks c.loop-statement.statement-index _ c.loop-statement-test.true c.loop-statement.invariant.all c.calm.ensures;
 }

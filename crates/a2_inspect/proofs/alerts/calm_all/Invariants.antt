@@ -7,5 +7,5 @@ use Rattle.a2_inspect.proofs.alerts.calm_all.Given as goal
 abbrev pub invariant-loop-statement : goal.invariant-loop-statement
 invariant-loop-statement g l = record {
   size : length l.marks ≡ 65536;
-  all : MarksAllBut l.statements (world_of_state l.machine.state).memory l.marks;
+  all : MarksAllBut l.watches l.statements (world_of_state l.machine.state).memory l.marks;
 }
