@@ -18,7 +18,6 @@ class Put:
     at: str
     byte: str
     equation: str
-    beside: str
 
 
 @dataclass
@@ -180,7 +179,7 @@ class Finder:
             elif (memory, address) in self.seen:
                 continue
             self.seen.add((memory, address))
-            self.know(f"{self.has(memory)} {par(address)}")
+            self.know(f"{self.has(memory)}.bytes {par(address)}")
             link = self.state.links.get(memory)
             if link:
                 self.linked(memory, address, link, is_deep)
@@ -188,6 +187,7 @@ class Finder:
         self.cases += self.last_cases
 
     def has(self, memory):
+        """The fact that a memory is whole."""
         return self.state.all_has[memory]
 
     def within(self, address):
@@ -210,12 +210,12 @@ class Finder:
         was_stored = self.decided.get((memory, address))
         if bare(link.at) == address:
             was_stored = True
-            self.know(f"put_here {here} {link.beside}")
+            self.know(f"put_here {here} {self.has(link.before)}")
         elif was_stored is None and is_apart(self.tops, address, link.at):
             was_stored = False
             self.know(f"put_other {here} {par(address)} (λ e. omega (e, {self.state.facts_listed}))")
         elif was_stored is None:
-            fact = f"put_read {here} {link.beside} {par(address)}"
+            fact = f"put_read {here} {self.has(link.before)} {par(address)}"
             self.open = self.open or (memory, address, fact) if is_deep else self.open
             self.case(fact)
         if was_stored is not True:
@@ -227,7 +227,8 @@ class Finder:
         if address.isdigit():
             byte = dict(link.stores).get(int(address), f"ram_byte {link.before} {address}")
             self.queue += [(*it, is_deep) for it in reads_of(byte)]
-            proof = "refl" if link.equation == "refl" else f"ap (λ q. ram_byte q {address}) {link.equation}"
+            stores = list_of(f"({at}, {term})" for at, term in link.stores)
+            proof = f"stores_read {stores} {link.before} {memory} {link.equation} {self.has(link.before)} {address}"
             self.know(proof, f"ram_byte {memory} {address} ≡ {byte}")
             return
         low, high = span(self.tops, address)

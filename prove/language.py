@@ -49,6 +49,10 @@ COUNTED = "here stands what is counted, as in for all i < 8: [#$2000 + i] = 0"
 WORDS = set(ATOMS) | set("iff or and old at not if then else for all sum min max abs bit of signed word text nothing".split())
 TOKEN = re.compile(r"[ \t]*(?:\$([0-9A-Fa-f]*)|(\d+)|([A-Za-z]\w*)|(<=|<>|>=|\.\.|.))", re.DOTALL)
 
+# A text between quotes, from the blank to ~.
+TEXT = re.compile(r"""[ \t]*(?:"([ !#-~]+)"|'([ -&(-~]+)')""")
+TEXT_WANTED = 'a text in quotes is wanted here, as in text $0400 = "HI", which ASC "HI" lays'
+
 TRUE, FALSE = ("number", 1), ("number", 0)
 
 
@@ -323,7 +327,20 @@ class Reader:
         return Piece(("pair", "Bit", place, self.number(self.beginning())), NUMBER, at)
 
     def text_at(self, at, _):
-        self.refuse("text can't be proved: compare each of its bytes", at)
+        """The bytes from a place on are those of a text as ASC lays it: one after another, and all of them."""
+        is_computed = self.took("[")
+        start = self.bracketed() if is_computed else self.address()
+        self.expect("=", TEXT_WANTED)
+        found = TEXT.match(self.text, self.at)
+        if not found:
+            self.refuse(TEXT_WANTED)
+        self.at = found.end()
+        made = None
+        for k, c in enumerate(found[1] or found[2]):
+            place = ("pair", "Plus", start, ("number", k)) if is_computed else ("number", start + k)
+            same = ("pair", "Equal", ("of", "Byte", place), ("number", ord(c) + (128 if found[1] else 0)))
+            made = both(made, same) if made else same
+        return Piece(made, FACT, at)
 
     def word(self, at, _):
         address = self.bracketed() if self.took("[") else ("number", self.address())

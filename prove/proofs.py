@@ -4,7 +4,7 @@ with an invariant is gone through once, a call is what the routine called promis
 import copy
 import re
 
-from .arrays import MOST_CASES, Cut, Finder, Kept, Put, span
+from .arrays import MOST_CASES, Cut, Finder, Kept, Put, is_apart, span
 from .assembling import BRANCHES
 from .refusal import Refusal
 from .saying import FLAGS, Words, constant, is_fact, is_minus, most, shape, signed_in
@@ -59,7 +59,7 @@ class Proof(Run):
 
     def proof_of(self, routine, s):
         """The proof that a routine meets its promise where it is entered with this S."""
-        self.routine, self.s = routine, s
+        self.routine, self.s, self.saying = routine, s, ""
         self.changed = routine.changed(s)
         self.tops = {}
         self.touched, self.calls, self.marks, self.ways, self.fuel = set(), set(), [], 0, MOST_STEPS
@@ -71,7 +71,7 @@ class Proof(Run):
         for k, clause in enumerate(promise.wanted, 1):
             self.learn(state, clause.expr, f"before.r{k}", Words("w", "w"))
         for address in sorted(self.named):
-            self.fact(state, f"bytes.ram {address}")
+            self.fact(state, f"bytes.ram.bytes {address}")
         state.ground = Ground(*(list(it) for it in (state.facts, state.known, state.reads, state.universals)))
         return self.lines(state) + self.tree(state, [])
 
@@ -79,7 +79,8 @@ class Proof(Run):
         clauses = list(self.routine.promise.wanted + self.routine.promise.promised)
         for loop in self.routine.loops.values():
             clauses += loop.invariants
-        for other in self.routines.values():
+        called = {it.value for it in self.program.statements if it.is_instruction and it.mnemonic == "JSR"}
+        for other in [self.routines[a] for a in sorted(called & set(self.routines))]:
             clauses += other.promise.promised + other.promise.wanted
         return {a for clause in clauses for a in cells_in(clause.expr) if a < 0xC000}
 
@@ -101,8 +102,8 @@ class Proof(Run):
 
     def learn(self, state, e, fact, words):
         """Has the arithmetic know what a fact says in these words."""
-        for term in known_by(e, fact, True, lambda letter: None):
-            self.fact(state, term)
+        for term, part in known_by(e, fact, True, lambda letter: None):
+            self.fact(state, term, keys=keys_of(part))
         self.signs(state, e, words)
         self.tops.update(tops_in(e, words))
         state.reads += bytes_in(e, words)
@@ -122,6 +123,9 @@ class Proof(Run):
     def tree(self, state, loops):
         """From a state to the return, or back to the top of a loop."""
         while True:
+            if any(is_cell(address) for address in state.memory):
+                begin, end = self.cut(state)
+                return f"{begin}{self.tree(state, loops)}{end}"
             it = self.program.instruction_at(state.pc)
             if it is None:
                 raise Refusal(0, f"{self.routine.name} goes to ${state.pc:04X}, where no instruction of the source begins")
@@ -155,6 +159,32 @@ class Proof(Run):
         state.steps += 1
         state.pc = (low + 256 * high + 1) & 0xFFFF
 
+    @staticmethod
+    def fits(state):
+        """A proof that what was stored are bytes."""
+        fits = "tt"
+        for _, term in reversed(state.stores):
+            fits = f"({'(omega arith)' if isinstance(term, int) else state.arithmetic()}, {fits})"
+        return fits
+
+    @staticmethod
+    def small(state, letter):
+        """A proof that a register holds a byte."""
+        term = state.registers[letter]
+        if term == f"{state.origin}.registers.{letter.lower()}":
+            return f"{state.whole}.{letter.lower()}"
+        return "(omega arith)" if isinstance(term, int) else state.arithmetic()
+
+    def only(self, state, keys):
+        """The facts that speak of these bytes and registers, or of such of which those speak; and those of others."""
+        keys, before = set(keys), 0
+        while len(keys) > before:
+            before = len(keys)
+            for name in state.facts:
+                if (self.keys.get(name) or set()) & keys:
+                    keys |= self.keys[name]
+        return [it for it in state.facts if not self.keys.get(it) or self.keys[it] & keys]
+
     # Addresses that are not known
 
     def follow(self, state, address):
@@ -185,20 +215,48 @@ class Proof(Run):
             return "", ""
         m, equation, has, keep = (self.fresh(letter) for letter in "meqk")
         begin, here, ranges = self.lines(state), here_of(state), f"{self.routine.name}_ranges"
-        stores, low, fits = list_of(f"({a}, {term})" for a, term in state.stores), state.arithmetic(), "tt"
-        for _ in state.stores:
-            fits = f"({low}, refl, {fits})"
+        stores = list_of(f"({a}, {term})" for a, term in state.stores)
         common = f"{stores} {state.memory_is} {m} {equation}"
         begin += f"afresh code {state.world} {here} {state.steps} _ refl (λ {m} {equation}.\n"
-        begin += f"let {has} = stores_bytes {common} {state.has} {fits} in {self.mark('bytes are stored' + state.at)}"
+        whole = f"stores_whole {common} {state.has} {self.fits(state)}"
+        begin += f"let {has} = {whole} in {self.mark('bytes are stored' + state.at)}"
         begin += f"let {keep} = stores_keep {common} w.memory {ranges} refl {self.keep_entered(state)} in " + self.mark(MAY_CHANGE + state.at)
         link = Cut(state.memory_is, [(a, str(term)) for a, term in state.stores], equation)
+        joined, link = self.joined(state, m, link)
         state.world = f"(record {here} {{ memory = {m} }})"
         self.renew(state, m, link, has, keep)
-        return begin, ")"
+        return begin + joined, ")"
 
-    def pointed(self, zero_page):
-        """Where a pointer points, as lines say."""
+    def joined(self, state, m, link):
+        """A line that says how a memory came of the one before all stores that follow one another, and the link."""
+        first = state.links.get(state.memory_is)
+        if not isinstance(first, Cut) or first.equation == "refl":
+            return "", link
+        equation, stores = self.fresh("e"), first.stores + link.stores
+        lists = [list_of(f"({a}, {term})" for a, term in it) for it in (first.stores, link.stores, stores)]
+        proof = f"then_stores {lists[0]} {lists[1]} {first.before} {state.memory_is} {m} {first.equation} {link.equation}"
+        line = f"let {equation} : {m} ≡ after_stores {lists[2]} {first.before} = {proof} in\n"
+        return line, Cut(first.before, stores, equation)
+
+    def number_at(self, state, address):
+        """A byte, where it was stored as a number."""
+        if address in state.memory:
+            return state.memory[address] if isinstance(state.memory[address], int) else None
+        link = state.links.get(state.memory_is)
+        while isinstance(link, (Cut, Put)):
+            if isinstance(link, Put) and not is_apart(self.tops, str(address), link.at):
+                return None
+            byte = dict(link.stores).get(address) if isinstance(link, Cut) else None
+            if byte is not None:
+                return int(byte) if byte.isdigit() else None
+            link = state.links.get(link.before)
+        return None
+
+    def pointed(self, state, zero_page, behind):
+        """Where a pointer points, by the numbers that were stored there, or as lines say."""
+        low, high = self.number_at(state, zero_page), self.number_at(state, behind)
+        if low is not None and high is not None:
+            return low + 256 * high
         clauses = self.routine.promise.wanted + [it for loop in self.routine.loops.values() for it in loop.invariants]
         for e in (part for clause in clauses for part in parts_of(clause.expr)):
             if e[0] == "pair" and e[1] == "Equal" and e[3][0] == "number" and without_old(e[2]) == ("of", "Word", ("number", zero_page)):
@@ -211,9 +269,9 @@ class Proof(Run):
             at = f"({it.value} + {state.registers[it.mode[-1]]})"
             return f"({at} % {256 if it.mode.startswith('Zero') else 65536})", at
         low, high = (self.cell(state, a) for a in self.pointer(state, it))
-        known = low + 256 * high if isinstance(low, int) and isinstance(high, int) else None
-        word = str(known) if known is not None else f"({low} + 256 * {high})"
-        where = self.pointed(self.pointer(state, it)[0]) if known is None else known
+        is_known = isinstance(low, int) and isinstance(high, int)
+        word = str(low + 256 * high) if is_known else f"({low} + 256 * {high})"
+        where = self.pointed(state, *self.pointer(state, it))
         if it.mode == "IndexedIndirect":
             return word, word if where is None else str(where)
         y = state.registers["Y"]
@@ -228,8 +286,6 @@ class Proof(Run):
         found = next((it for it in ranges if it[0] == low), max(ranges, key=lambda it: it[1] - it[0]))
         if self.program_has_code(*found):
             raise Refusal(it.line, f"{it.mnemonic} by an index may store where its own code stands")
-        if found[0] < 0xC00 and found[1] >= 0x400:
-            raise Refusal(it.line, f"a store at ${found[0]:04X} or above, on a text page, can't be proved yet")
         return found
 
     def program_has_code(self, low, high):
@@ -259,7 +315,7 @@ class Proof(Run):
         begin += f"{coming_to(state)}onto code {here} {to} 1 _\n(take {common} {low} {low}) {self.no_wrap(state, it)}"
         self.reached = f"(ram_byte {state.memory_is} {par(at)})"
         state.reads.append((state.memory_is, bare(at)))
-        self.fact(state, f"{state.has} {par(at)}")
+        self.fact(state, f"{state.has}.bytes {par(at)}")
         self.act(state, it)
         state.world, state.steps, state.top = to, 0, None
         return begin
@@ -281,22 +337,21 @@ class Proof(Run):
         self.reached = f"(ram_byte {before} {par(at)})"
         if it.mnemonic in CHANGES:
             state.reads.append((before, bare(at)))
-            self.fact(state, f"{held} {par(at)}")
+            self.fact(state, f"{held}.bytes {par(at)}")
         come = coming_to(state)
         self.act(state, it)
         byte, by = par(self.put), state.arithmetic()
-        beside = f"(inr {by})" if low >= 0xC00 else f"(inl {by})"
         rule, behind = ("change", "changing") if it.mnemonic in CHANGES else ("put", "putting")
         to = f"({behind} {row} {it.value} {par(at)} {here})"
         begin += f"{self.lines(state)}{come}afresh code {here} {to} 1 _\n"
         begin += f"({rule} {common} {by} {by} (not_among code.protected {low} {high} {par(at)} refl {first} {last})) {self.no_wrap(state, it)}"
         link = f"{before} {m} {par(at)} {byte} {equation}"
         inside = f"(in_ranges {self.routine.name}_ranges {low} {high} {par(at)} refl {first} {last})"
-        begin += f"(λ {m} {equation}.\nlet {has} = put_bytes {link} {beside} {held} {by} in {self.mark('bytes are stored' + state.at)}"
+        begin += f"(λ {m} {equation}.\nlet {has} = put_whole {link} {held} {by} in {self.mark('bytes are stored' + state.at)}"
         begin += f"let {keep} = put_keeps {link} w.memory {self.routine.name}_ranges {inside} {kept} in {self.mark(MAY_CHANGE + state.at)}"
         self.put = None
         state.world = f"(record {to} {{ memory = {m} }})"
-        self.renew(state, m, Put(before, at, byte, equation, beside), has, keep)
+        self.renew(state, m, Put(before, at, byte, equation), has, keep)
         return begin
 
     def act(self, state, it):
@@ -356,11 +411,8 @@ class Proof(Run):
         return f"keeps_stores {self.stored(state)} w.memory _ {par(state.base)} {to} refl refl {state.keep}"
 
     def only_bytes(self, state):
-        low, fits = state.arithmetic(), "tt"
-        for _ in state.stores:
-            fits = f"({low}, refl, {fits})"
-        registers = "".join(f"{it} = {low};\n" for it in "axy")
-        ram = f"bytes_after {self.stored(state)} {state.memory_is} _ (λ q. {state.has} q) {fits} refl"
+        registers = "".join(f"{it.lower()} = {self.small(state, it)};\n" for it in "AXY")
+        ram = f"whole_after {self.stored(state)} {state.memory_is} _ {state.has} {self.fits(state)} refl"
         return f"record {{\n{registers}ram = {ram};\n}}"
 
     def leaf(self, state, it, loops):
@@ -397,8 +449,11 @@ class Proof(Run):
         for register in "AXY":
             if register in self.routine.promise.changes.registers:
                 continue
-            same = state.registers[register] == f"w.registers.{register.lower()}"
-            proof = "refl" if same else f"omega ({state.facts_listed})"
+            proof = f"omega ({state.facts_listed})"
+            if state.registers[register] == f"w.registers.{register.lower()}":
+                proof = "refl"
+            elif state.registers[register] == f"{state.origin}.registers.{register.lower()}":
+                proof = f"omega ({', '.join(['arith', *self.only(state, {register})])})"
             mark = self.mark(f"{register} does not stand behind changes, and may be another" + state.at)
             body += f"keep_{register.lower()} = {proof}; {mark}"
         return body
@@ -457,7 +512,7 @@ class Proof(Run):
     def state_known_by(self, state, base, world, pc, fact, loop):
         """A state of which is known what stands at the entry, and these clauses, by a record's fields."""
         made = State(base, world, pc, state.s)
-        made.path, made.ground, made.keep = list(state.path), state.ground, f"{fact}.rest"
+        made.path, made.ground, made.keep, made.whole = list(state.path), state.ground, f"{fact}.rest", f"{fact}.bytes"
         known = state if loop.labels else state.ground
         made.facts, made.known, made.reads, made.universals = (list(it) for it in (known.facts, known.known, known.reads, known.universals))
         made.all_has = {**state.all_has, made.memory_is: f"{fact}.bytes.ram"}
@@ -471,7 +526,7 @@ class Proof(Run):
             if register not in self.routine.promise.changes.registers:
                 self.fact(made, f"{fact}.keep_{register.lower()}")
         for address in sorted(self.named):
-            self.fact(made, f"{fact}.bytes.ram {address}")
+            self.fact(made, f"{fact}.bytes.ram.bytes {address}")
             if not is_in(self.changed, address):
                 self.fact(made, f"{fact}.rest.bytes {address} refl")
         return made
@@ -510,15 +565,13 @@ class Proof(Run):
 
     def with_memory(self, state, memory):
         """A state whose memory, with its stores, is one that this term names."""
-        made = state.copy()
         if not state.stores:
-            return made
-        has, low, fits = self.fresh("q"), state.arithmetic(), "tt"
-        for _ in state.stores:
-            fits = f"({low}, refl, {fits})"
+            return state
+        made, has = state.copy(), self.fresh("q")
         stores = [(a, str(term)) for a, term in state.stores]
         of = list_of(f"({a}, {term})" for a, term in stores)
-        made.lines = [(f"{has} : HasBytes ({memory})", f"stores_bytes {of} {state.memory_is} ({memory}) refl {state.has} {fits}")]
+        whole = f"stores_whole {of} {state.memory_is} ({memory}) refl {state.has} {self.fits(state)}"
+        made.lines = [(f"{has} : Whole ({memory})", whole)]
         made.memory_is = f"({memory})"
         made.links[made.memory_is], made.all_has[made.memory_is] = Cut(state.memory_is, stores, "refl"), has
         return made
@@ -527,6 +580,7 @@ class Proof(Run):
         """Behind a call: what the other routine promises, of the state before it."""
         made = State(u, f"(enter {it.address + 3} {state.s + 2} {u})", it.address + 3, state.s + 2)
         made.path, made.depth, made.ground, made.loop = list(state.path), state.depth, state.ground, state.loop
+        made.whole = f"{after}.bytes"
         for name in ("facts", "known", "reads", "universals", "links", "all_has", "labels"):
             setattr(made, name, copy.copy(getattr(state, name)))
         made.all_has[made.memory_is] = f"{after}.bytes.ram"
@@ -540,7 +594,7 @@ class Proof(Run):
             if register not in other.promise.changes.registers:
                 self.fact(made, f"{after}.keep_{register.lower()}")
         for address in sorted(self.named):
-            self.fact(made, f"{after}.bytes.ram {address}")
+            self.fact(made, f"{after}.bytes.ram.bytes {address}")
             if not is_in(changed, address):
                 self.fact(made, f"{after}.rest.bytes {address} refl")
         return made
@@ -549,6 +603,7 @@ class Proof(Run):
 
     def goal(self, state, clause, says):
         """The proof of a clause, up to the end of its line."""
+        self.saying = says + state.at
         return f"{self.proved(state, clause.expr, True)}; {self.mark(says + state.at)}"
 
     def proved(self, state, e, holds):
@@ -560,6 +615,7 @@ class Proof(Run):
                 return simple
         for letter in letters_in(e):
             self.flag_number(state, letter)
+        bytes_in(e, words)
         if e[0] == "each":
             return self.each_proved(state, e, holds, list(state.facts), words)
         return self.by_cases(state, e, holds, list(state.facts), words, {})
@@ -573,7 +629,7 @@ class Proof(Run):
         h, ways = self.fresh("h"), ""
         for was_stored in (True, False):
             way = self.by_cases(state, e, holds, [*facts, h], words, {**decided, (memory, address): was_stored})
-            ways += f"(λ {h}.\n{way})\n"
+            ways += f"(λ {h}.\n{way} {self.mark(self.saying)})\n"
         return f"(one_of_two ({fact})\n{ways})"
 
     def found(self, state, reads, facts, decided=None):
@@ -615,7 +671,10 @@ class Proof(Run):
 
     def unrolled(self, state, e, facts, words):
         """One proof for each number."""
-        text = "(none_below _)"
+        text, known = "(none_below _)", len(state.facts)
+        for k in range(e[2][1]):
+            words.counting(e, k).says(e[3])
+        facts = facts + state.facts[known:]
         for k in range(e[2][1]):
             there = words.counting(e, k)
             lets, more, _ = self.found(state, bytes_in(e[3], there), facts)
@@ -678,7 +737,7 @@ class Proof(Run):
             if value != by_holds:
                 return f"(λ {h}. absurd (true≢false {h if value else f'(sym {h})'}))"
         learnt, names = "", []
-        for term in known_by(by, h, by_holds, lambda letter: state.flags[letter]):
+        for term, _ in known_by(by, h, by_holds, lambda letter: state.flags[letter]):
             name = self.fresh("p")
             learnt += f"let {name} = {term} in "
             names.append(name)
@@ -788,6 +847,11 @@ def coming_to(state):
     return f"onto code {state.world} {here_of(state)} {state.steps} _ refl (" if state.steps else ""
 
 
+def is_cell(address):
+    """Whether an address lies on a text page, where what is stored is read back by a rule, and not by computing."""
+    return 0x400 <= address < 0xC00
+
+
 def merged(ranges):
     """The same addresses, as ranges no two of which touch."""
     made = []
@@ -852,7 +916,8 @@ def has_each(e):
 
 def is_unrolled(e, state):
     """Whether each number is gone through, as there are few and no byte was stored at an address that is not known."""
-    return e[2][0] == "number" and e[2][1] <= MOST_UNROLLED and not state.links and not state.universals
+    is_few = e[2][0] == "number" and e[2][1] <= MOST_UNROLLED
+    return is_few and all(isinstance(link, Cut) for link in state.links.values()) and not state.universals
 
 
 def is_of_arrays(e, state):
@@ -910,17 +975,17 @@ def without_marks(text):
 
 
 def known_by(e, fact, holds, flag_of):
-    """The terms by which the arithmetic knows that a fact holds, or not; a flag by what it is in a state."""
+    """Terms by which the arithmetic knows that a fact holds, or not, with what they say; a flag by what it is in a state."""
     if e[0] == "held":
         flag = flag_of(FLAGS[e[1]])
         if flag is None or flag[0] in ("unknown", "overflow"):
-            return [f"ap (λ b. one_if b) {fact}"]
+            return [(f"ap (λ b. one_if b) {fact}", e)]
         if flag[0] in ("known", "opaque"):
             return []
         test, m, n = Run.test(flag)
-        return [f"{test}_{'yes' if holds else 'no'} {par(m)} {par(n)} {fact}"]
+        return [(f"{test}_{'yes' if holds else 'no'} {par(m)} {par(n)} {fact}", e)]
     if e[0] == "old" and e[1][0] == "held":
-        return [f"ap (λ b. one_if b) {fact}"]
+        return [(f"ap (λ b. one_if b) {fact}", e)]
     if e[0] == "each":
         return []
     if e[0] == "choice":
@@ -930,7 +995,7 @@ def known_by(e, fact, holds, flag_of):
         if kind in ("and", "or") and (kind == "and") == holds:
             second = e[2] if kind == "and" else e[3]
             return known_by(e[1], f"({fact}).0", holds, flag_of) + known_by(second, f"({fact}).1", holds, flag_of)
-    return [fact]
+    return [(fact, e)]
 
 
 def letters_in(e):
@@ -953,6 +1018,13 @@ def products_in(e):
     for part in e[1:]:
         if isinstance(part, tuple):
             yield from products_in(part)
+
+
+def keys_of(e):
+    """The registers and bytes of which an expression speaks; None where it speaks of others."""
+    if any(it[0] == "of" and it[2][0] != "number" or it[0] == "held" and it[1] not in ("A", "X", "Y") for it in parts_of(e)):
+        return None
+    return cells_in(e) | {it[1] for it in parts_of(e) if it[0] == "held"}
 
 
 def cell_of(e):

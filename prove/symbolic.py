@@ -30,7 +30,7 @@ class State:
         self.steps = 0
         # the loop at whose top it stands
         self.top = None
-        # its memory; the facts that it holds bytes, and that what may not be changed is as at the entry, None where it is that world's
+        # its memory; and the fact that what may not be changed is as at the entry, None where it is that world's
         self.memory_is, self.keep = f"{base}.memory", None
         self.registers = {it: f"{base}.registers.{it.lower()}" for it in "AXY"}
         self.flags = {it: ("unknown", f"{base}.registers.flags.{it.lower()}") for it in "NVZC"}
@@ -46,8 +46,10 @@ class State:
         self.links, self.reads, self.universals = {}, [], []
         # the worlds in which the run last came to the labels of loops
         self.labels = {}
-        # facts that memories hold bytes
+        # facts that memories are whole
         self.all_has = {self.memory_is: "bytes.ram"}
+        # the world whose registers it began with, and the fact that it is whole
+        self.origin, self.whole = base, "bytes"
         # what a loop's top was, where a round of it is under way; and what was known at the entry of the routine
         self.loop = None
         self.ground = Ground([], [], [], [])
@@ -110,6 +112,8 @@ class Run:
         self.program = program
         self.names = 0
         self.touched = set()
+        # of which bytes and registers facts speak, by their names, where that is known
+        self.keys = {}
         # the byte that an instruction reads at an address that is not a number, and the one that it stores there
         self.reached, self.put = None, None
 
@@ -117,11 +121,12 @@ class Run:
         self.names += 1
         return f"{letter}{self.names}"
 
-    def fact(self, state, term, says=""):
+    def fact(self, state, term, says="", keys=None):
         """Has the arithmetic know what a term proves; where that is not what it computes to, it is said."""
         if any(term + says == known for _, known in state.known):
             return
         name = self.fresh("f")
+        self.keys[name] = keys or keys_in(term)
         state.known.append((name, term + says))
         state.lines.append((f"{name} : {says}" if says else name, term))
         state.facts.append(name)
@@ -129,7 +134,7 @@ class Run:
     def cell(self, state, address):
         if address in state.memory:
             return state.memory[address]
-        self.fact(state, f"{state.has} {address}")
+        self.fact(state, f"{state.has}.bytes {address}")
         self.follow(state, address)
         return f"(ram_byte {state.memory_is} {address})"
 
@@ -230,8 +235,6 @@ class Run:
     def store(self, state, it, address, term):
         if self.program.is_code(address):
             raise Refusal(it.line, f"it stores at ${address:04X}, where its own code stands")
-        if 0x400 <= address < 0xC00:
-            raise Refusal(it.line, f"a store at ${address:04X}, on a text page, can't be proved yet")
         state.memory[address] = term
         state.stores.append((address, term))
         self.touched.add(address)
@@ -353,6 +356,17 @@ class Run:
 
     def do_nop(self, state, it):
         pass
+
+
+OF_BYTE, OF_REGISTER = re.compile(r"(?:bytes|stores_read \S.*) (\d+)(?: refl)?"), re.compile(r"\S*(?:bytes\.|keep_)([axy])")
+
+
+def keys_in(term):
+    """The byte or register of which a fact speaks, where its term tells."""
+    byte, register = OF_BYTE.fullmatch(term.rpartition(".")[2]) or OF_BYTE.fullmatch(term), OF_REGISTER.fullmatch(term)
+    if byte:
+        return {int(byte[1])}
+    return {register[1].upper()} if register else None
 
 
 def overflow_of(a, byte, carry):

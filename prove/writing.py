@@ -45,18 +45,17 @@ use Rattle.a2_cpu.specs.Registers.{one_if}
 use Rattle.a2_bus.specs.Memory.{Memory, ram_byte}
 use Rattle.a2_services.specs.World.{World}
 use Rattle.a2_machine.proofs.Computing.{computing}
-use Rattle.a2_lessons.specs.Routines.{entered, HasBytes, Keeps, word}
+use Rattle.a2_lessons.specs.Routines.{entered, Keeps, word}
 use Rattle.a2_lessons.proofs.Branching.{N, V, Z, C, with_flag}
-use Rattle.a2_lessons.proofs.Keeping.{kept, keeps_all, keeps_stores}
+use Rattle.a2_lessons.proofs.Keeping.{after_stores, kept, keeps_all, keeps_stores}
 use Rattle.a2_lessons.proofs.Carrying.{fits_word}
-use Rattle.a2_rules.specs.Worlds.{OnlyBytes}
 use Rattle.a2_rules.proofs.Bits.{bit_small, digits_small}
 use Rattle.a2_rules.proofs.Overflow.{overflow_bit}
-use Rattle.a2_rules.proofs.Meeting.{enter, stepped, home, Meets}
-use Rattle.a2_rules.proofs.Proving.{onto, fork, loops, call, bytes_after, whole, le_bit, odd_bit, eq_bit, le_yes, le_no, eq_yes, eq_no, each_byte, product_down, product_up, product_zero, product_ge, mul_swap, yes_le, no_le, yes_eq, no_eq, keeps_as, flag_yes, flag_no, weaken, none_below, one_more_below}
+use Rattle.a2_rules.proofs.Meeting.{Whole, IsWhole, enter, stepped, home, Meets}
+use Rattle.a2_rules.proofs.Proving.{onto, fork, loops, call, whole_after, whole, le_bit, odd_bit, eq_bit, le_yes, le_no, eq_yes, eq_no, each_byte, product_down, product_up, product_zero, product_ge, mul_swap, yes_le, no_le, yes_eq, no_eq, keeps_as, flag_yes, flag_no, weaken, none_below, one_more_below}
 use Rattle.a2_rules.proofs.Ranges.{is_in, in_ranges, not_among, keeps_behind, kept_beside, kept_or_in}
 use Rattle.a2_rules.proofs.Reaching.{take, put, change, taking, putting, changing}
-use Rattle.a2_rules.proofs.Afresh.{afresh, put_here, put_other, put_read, put_bytes, put_keeps, stores_bytes, stores_keep, stores_other, same_byte, same_place, at_index, if_lt, if_le, if_eq, if_ne, one_of_two}
+use Rattle.a2_rules.proofs.Afresh.{afresh, put_here, put_other, put_read, put_whole, put_keeps, stores_whole, stores_read, then_stores, stores_keep, stores_other, same_byte, same_place, at_index, if_lt, if_le, if_eq, if_ne, one_of_two}
 use Rattle.a2_opcode.specs.Table.{fixed, paged}
 use Rattle.a2_opcode.specs.declared.Mnemonic.TheVariants.{Adc, And, Asl, Cmp, Dec, Eor, Inc, Lda, Ldx, Ldy, Lsr, Ora, Rol, Ror, Sbc, Sta, Stx, Sty}
 use Rattle.a2_opcode.specs.declared.Mode.TheVariants.{ZeroPageX, ZeroPageY, AbsoluteX, AbsoluteY, IndexedIndirect, IndirectIndexed}
@@ -167,7 +166,7 @@ def contract(written):
     text = record(f"{written.name}_Before", "(w : World)", facts("r", promise.wanted, Words("w", "w")))
     text += f"\nabbrev pub {routine.name}_ranges : List (ℕ × ℕ)\n{routine.name}_ranges = {ranges_text(written.changed)}\n"
     text += f"\nabbrev pub {routine.name}_changed : ℕ → Bool\n{routine.name}_changed = is_in {routine.name}_ranges\n"
-    rest = [f"pub rest : Keeps w.memory {routine.name}_changed v", "pub bytes : OnlyBytes v"]
+    rest = [f"pub rest : Keeps w.memory {routine.name}_changed v", "pub bytes : IsWhole v"]
     text += record(f"{written.name}_After", "(w v : World)", facts("e", promise.promised, words) + registers_kept(promise) + rest)
     for loop in routine.loops.values():
         outer = [f"o_{label}" for label in loop.labels]

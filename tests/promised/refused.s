@@ -21,15 +21,12 @@ NO8     RTS
 NO9     RTS
 ;: ensures A = if C then 1 else 0
 NO10    RTS
-;: ensures $0400 = 0
-;: changes A, $0400
-NO11    LDA #0
-        STA $0400
-        RTS
+;: ensures text $0400 = HI
+NO11    RTS
 ;: ensures A = 0
 ;: changes A, $0400..$04FF
 NO12    LDA #0
-        STA $0400,X
+        STA ($06),Y
         RTS
 ;: ensures  A = A
 ;: changes  A
@@ -45,5 +42,5 @@ NO15    RTS
 GOOD    RTS
 ;: prints "HI"
 NO16    RTS
-;: ensures text $0400 = "HI"
+;: ensures text $0400 = ""
 NO17    RTS

@@ -1,22 +1,18 @@
 -- Memory taken afresh: behind stores it is a name again, of which only what is used is known.
-use Rattle.std.specs.Prelude.{◌≡◌, ◌≢◌, ◌⊎◌, ◌<◌, ◌≤◌, ℕ, ◌==◌, Bool, true, false, ◌&&◌, ◌||◌, if◌then◌else◌, nat_lt, List, [], ◌∷◌, Option, Some, None, refl}
+use Rattle.std.specs.Prelude.{◌≡◌, ◌≢◌, ◌⊎◌, ◌<◌, ◌≤◌, ℕ, ◌==◌, Bool, true, false, ◌&&◌, ◌||◌, if◌then◌else◌, nat_lt, List, [], ◌∷◌, ◌++◌, Some, refl}
 use Rattle.std.specs.List.{list_all}
-use Rattle.std.proofs.Common.{sym, ap, ◌∙◌, arith, inl, inr, true≢false}
+use Rattle.std.proofs.Common.{sym, ap, ◌∙◌, subst, arith, inl, inr, true≢false}
 use Rattle.std.proofs.lemmas.Bool.Decides.{nat_tests}
-use Rattle.a2_page.specs.declared.Page.{Page}
-use Rattle.a2_page.specs.declared.Page.TheVariants.{One, Two}
-use Rattle.a2_page.specs.Cells.{Cell, cell_at, address_of}
-use Rattle.a2_page.specs.Grid.{with_byte, byte_in}
-use Rattle.a2_page.proofs.Finding.{StandsAt, cell_at-stands}
-use Rattle.a2_bus.specs.Memory.{Memory, grid, with_grid, ram_byte, with_ram}
+use Rattle.a2_bus.specs.Memory.{Memory, ram_byte, with_ram}
 use Rattle.a2_bus.proofs.Frame.{ram_byte-with_ram}
 use Rattle.a2_services.specs.World.{World}
 use Rattle.a2_machine.specs.Meaning.{Code}
 use Rattle.a2_machine.proofs.Walks.{walked}
-use Rattle.a2_lessons.specs.Routines.{HasBytes, Keeps, entered}
+use Rattle.a2_lessons.specs.Routines.{Keeps, entered}
 use Rattle.a2_lessons.proofs.Keeping.{after_stores, keeps_stores}
-use Rattle.a2_rules.proofs.Meeting.{Reaches}
-use Rattle.a2_rules.proofs.Proving.{onto, Fits, bytes_after}
+use Rattle.a2_reads.proofs.Agreeing.{Pages, pages-with_ram, written_back}
+use Rattle.a2_rules.proofs.Meeting.{Whole, Reaches}
+use Rattle.a2_rules.proofs.Proving.{onto, Fits, whole_with, whole_after}
 use Rattle.a2_rules.proofs.Ranges.{is_in}
 
 -- a part that is computed, and what follows in any memory that is the one behind it
@@ -24,48 +20,15 @@ pub afresh : (code : Code) (w v : World) (n : ℕ) (Q : World → Type 0) → wa
     → ((m : Memory) → m ≡ v.memory → Reaches code (record v { memory = m }) Q) → Reaches code w Q
 afresh code w v n Q walk later = onto code w v n Q walk (later v.memory refl)
 
--- Text pages
-
--- an address beside the text pages is no cell's
-no_cell : (a : ℕ) → (a < 0x400) ⊎ (0xC00 ≤ a) → cell_at a ≡ None
-no_cell a beside = go (cell_at a) refl
-  where
-    out : (n : ℕ) → n ≡ a → 0x400 ≤ n → n < 0xC00 → (a < 0x400) ⊎ (0xC00 ≤ a) → ⊥
-    out n is low high (inl less) = omega (arith, is, low, less)
-    out n is low high (inr more) = omega (arith, is, high, more)
-
-    at_page : (page : Page) (row column : ℕ) → row < 24 → column < 40 → address_of page row column ≡ a → ⊥
-    at_page One row column r c is = out (address_of One row column) is (omega (arith, r, c)) (omega (arith, r, c)) beside
-    at_page Two row column r c is = out (address_of Two row column) is (omega (arith, r, c)) (omega (arith, r, c)) beside
-
-    go : (found : Option Cell) → cell_at a ≡ found → found ≡ None
-    go None is = refl
-    go (Some cell) is =
-        let stands : StandsAt a cell = cell_at-stands a cell is in
-        absurd (at_page cell.page cell.row cell.column stands.row_ok stands.column_ok stands.address_is)
-
--- a byte that is stored beside them is the byte that is read
-pub put_there : (memory : Memory) (a byte : ℕ) → (a < 0x400) ⊎ (0xC00 ≤ a) → ram_byte (with_ram memory a byte) a ≡ byte
-unfolding ram_byte with_ram
-put_there memory a byte beside = go (cell_at a) (no_cell a beside)
-  where
-    go : (found : Option Cell) → found ≡ None
-        → (let m : Memory = elim found as (λ _. Memory) [
-          | Some cell ↦ with_grid memory cell.page (with_byte (grid memory cell.page) cell.row cell.column byte)
-          | None ↦ record memory { plain = λ other. if other == a then byte else memory.plain other }
-        ] in (elim found [ Some cell ↦ byte_in (grid m cell.page) cell.row cell.column | None ↦ m.plain a ])) ≡ byte
-    go None is = let e : (a == a) ≡ true = grind (arith, nat_tests) in ap (λ b. if b then byte else memory.plain a) e
-    go (Some cell) is = cc
-
 -- One store
 
 module _ (before m : Memory) (at byte : ℕ) (is : m ≡ with_ram before at byte) where
   pub put_other : (a : ℕ) → a ≢ at → ram_byte m a ≡ ram_byte before a
   put_other a other = ap (λ q. ram_byte q a) is ∙ ram_byte-with_ram before at byte a other
 
-  module _ (beside : (at < 0x400) ⊎ (0xC00 ≤ at)) where
+  module _ (whole : Whole before) where
     pub put_here : ram_byte m at ≡ byte
-    put_here = ap (λ q. ram_byte q at) is ∙ put_there before at byte beside
+    put_here = ap (λ q. ram_byte q at) is ∙ written_back before at byte whole.pages
 
     pub put_read : (a : ℕ) → ((a ≡ at) × (ram_byte m a ≡ byte)) ⊎ ((a ≢ at) × (ram_byte m a ≡ ram_byte before a))
     put_read a = by (a == at) refl
@@ -74,12 +37,8 @@ module _ (before m : Memory) (at byte : ℕ) (is : m ≡ with_ram before at byte
         by true is_at = let e : a ≡ at = grind (arith, nat_tests, is_at) in inl (e, ap (λ n. ram_byte m n) e ∙ put_here)
         by false is_at = let other : a ≢ at = grind (arith, nat_tests, is_at) in inr (other, put_other a other)
 
-    pub put_bytes : HasBytes before → byte < 256 → HasBytes m
-    put_bytes bytes small a = by (put_read a)
-      where
-        by : ((a ≡ at) × (ram_byte m a ≡ byte)) ⊎ ((a ≢ at) × (ram_byte m a ≡ ram_byte before a)) → ram_byte m a < 256
-        by (inl (e, here)) = omega (arith, here, small)
-        by (inr (other, old)) = let b = bytes a in omega (arith, old, b)
+    pub put_whole : byte < 256 → Whole m
+    put_whole small = subst Whole (sym is) (whole_with before at byte whole small)
 
   pub put_keeps : (memory : Memory) (ranges : List (ℕ × ℕ)) → is_in ranges at ≡ true → Keeps memory (is_in ranges) (entered 0 before)
       → Keeps memory (is_in ranges) (entered 0 m)
@@ -88,9 +47,45 @@ module _ (before m : Memory) (at byte : ℕ) (is : m ≡ with_ram before at byte
 
 -- Stores whose addresses are numbers
 
+-- what stands at an address behind them, of what stood there
+abbrev pub last_stored : List (ℕ × ℕ) → (a old : ℕ) → ℕ
+last_stored [] a old = old
+last_stored ((at, byte) ∷ later) a old = last_stored later a (if at == a then byte else old)
+
+-- stores behind others
+pub then_stores : (first second : List (ℕ × ℕ)) (before middle m : Memory) → middle ≡ after_stores first before
+    → m ≡ after_stores second middle → m ≡ after_stores (first ++ second) before
+then_stores first second before middle m is then_is = then_is ∙ ap (after_stores second) is ∙ joined first before
+  where
+    joined : (first : List (ℕ × ℕ)) (memory : Memory)
+        → after_stores second (after_stores first memory) ≡ after_stores (first ++ second) memory
+    joined [] memory = refl
+    joined ((at, byte) ∷ later) memory = joined later (with_ram memory at byte)
+
 module _ (stores : List (ℕ × ℕ)) (before m : Memory) (is : m ≡ after_stores stores before) where
-  pub stores_bytes : HasBytes before → Fits stores before → HasBytes m
-  stores_bytes bytes fits = bytes_after stores before m bytes fits is
+  pub stores_whole : Whole before → Fits stores → Whole m
+  stores_whole whole fits = whole_after stores before m whole fits is
+
+  -- a byte behind them
+  pub stores_read : Whole before → (a : ℕ) → ram_byte m a ≡ last_stored stores a (ram_byte before a)
+  stores_read whole a = ap (λ q. ram_byte q a) is ∙ go stores before whole.pages
+    where
+      one : (memory : Memory) (at byte : ℕ) → Pages memory
+          → ram_byte (with_ram memory at byte) a ≡ (if at == a then byte else ram_byte memory a)
+      one memory at byte pages = by (at == a) refl
+        where
+          by : (v : Bool) → (at == a) ≡ v → ram_byte (with_ram memory at byte) a ≡ (if v then byte else ram_byte memory a)
+          by true is_at =
+              let e : at ≡ a = grind (arith, nat_tests, is_at) in
+              subst (λ n. ram_byte (with_ram memory at byte) n ≡ byte) e (written_back memory at byte pages)
+          by false is_at = let other : a ≢ at = grind (arith, nat_tests, is_at) in ram_byte-with_ram memory at byte a other
+
+      go : (stores : List (ℕ × ℕ)) (memory : Memory) → Pages memory
+          → ram_byte (after_stores stores memory) a ≡ last_stored stores a (ram_byte memory a)
+      go [] memory pages = refl
+      go ((at, byte) ∷ later) memory pages =
+          go later (with_ram memory at byte) (pages-with_ram memory at byte pages)
+          ∙ ap (last_stored later a) (one memory at byte pages)
 
   pub stores_keep : (memory : Memory) (ranges : List (ℕ × ℕ)) → list_all (λ s. is_in ranges s.0) stores ≡ true
       → Keeps memory (is_in ranges) (entered 0 before) → Keeps memory (is_in ranges) (entered 0 m)

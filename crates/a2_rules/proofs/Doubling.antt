@@ -12,7 +12,7 @@ use Rattle.a2_lessons.proofs.Texts.{entry_of, statements_of}
 use Rattle.a2_rules.specs.Doubling.{doubling, double, DoublingIsProved}
 use Rattle.a2_rules.proofs.Kept.{After, code_of, proved}
 use Rattle.a2_rules.proofs.Meeting.{Meets, home}
-use Rattle.a2_rules.proofs.Proving.{bytes_after}
+use Rattle.a2_rules.proofs.Proving.{whole_after}
 use Rattle.a2_rules.proofs.Saying.{all_say}
 
 listing : List Statement
@@ -54,7 +54,7 @@ meets w bytes before = (
         x = λ no. refl;
         y = λ no. refl;
         rest = kept [] w.memory _ _ refl refl;
-        bytes = record { a = omega arith; x = bytes.x; y = bytes.y; ram = bytes_after [] w.memory _ (λ q. bytes.ram q) tt refl };
+        bytes = record { a = omega arith; x = bytes.x; y = bytes.y; ram = whole_after [] w.memory _ bytes.ram tt refl };
       },
     ),
   ),

@@ -41,7 +41,7 @@ use Rattle.a2_rules.specs.Promised.{Said, Says, KeepsPromise, IsProved}
 use Rattle.a2_rules.specs.Worlds.{OnlyBytes}
 use Rattle.a2_rules.proofs.Bytes as run
 use Rattle.a2_rules.proofs.Ranges.{all_pass, is_in, passes_not}
-use Rattle.a2_rules.proofs.Meeting.{enter, Back, Meets, Reaches}
+use Rattle.a2_rules.proofs.Meeting.{IsWhole, only_bytes, enter, Back, Meets, Reaches}
 use Rattle.a2_rules.proofs.Saying.{all_say, all_tell, tells, unnamed}
 use Rattle.a2_rules.proofs.Telling.{said_holds, holds_said}
 
@@ -96,7 +96,7 @@ pub record After (said : Said) (changed : List (ℕ × ℕ)) (w v : World) : Typ
   pub x : said.x ≡ false → v.registers.x ≡ w.registers.x
   pub y : said.y ≡ false → v.registers.y ≡ w.registers.y
   pub rest : KeepsRest w.memory (is_in changed) v
-  pub bytes : OnlyBytes v
+  pub bytes : IsWhole v
 
 -- A world at the entry
 
@@ -177,7 +177,7 @@ module _ (all : List Statement) (program : Assembled) (sound : IsSound program) 
     ensured : IsTrue (all_hold promise.promised.items (moment w w 0) (moment w (world_at (bytes None) w (suc n)) (suc n)))
     ensured =
         subst (λ x. IsTrue (all_hold promise.promised.items (moment w w 0) (moment w x (suc n)))) (sym whole.there)
-        (all_said w v (suc n) bytes_w after.bytes promise.promised.items tell
+        (all_said w v (suc n) bytes_w (only_bytes v after.bytes) promise.promised.items tell
         (subst (λ l. all_say l w v) (sym says.promised) after.says))
 
     registers : (part : Part) → may_change promise.changes part ≡ false
@@ -230,8 +230,12 @@ proved text all entry said changed read stated wanted promised stored meets = re
     is = accepted text entry read
 
     kept_of : (program : Assembled) → IsProgramOf text program → (promise : Promise) → Says promise said → KeepsPromise program promise
-    kept_of program program_is promise says world bytes_w enters required = go (meets world bytes_w required_is)
+    kept_of program program_is promise says world bytes_w enters required = go (meets world whole required_is)
       where
+        whole : IsWhole world
+        whole =
+            record { a = bytes_w.a; x = bytes_w.x; y = bytes_w.y; ram = record { bytes = bytes_w.ram; pages = enters.pages } }
+
         made : IsMade (source_of text) program
         made =
             made-of (source_of text) program

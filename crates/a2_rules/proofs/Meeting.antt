@@ -1,10 +1,27 @@
 -- What a routine meets, wherever it is called from: the words that proofs of promises are made of.
-use Rattle.std.specs.Prelude.{◌≡◌, ℕ, ◌+◌, ◌*◌, ◌%◌, false, Some, unwrap_or}
-use Rattle.a2_bus.specs.Memory.{ram_byte}
+use Rattle.std.specs.Prelude.{◌≡◌, ℕ, ◌<◌, ◌+◌, ◌*◌, ◌%◌, false, Some, unwrap_or}
+use Rattle.a2_bus.specs.Memory.{Memory, ram_byte}
 use Rattle.a2_services.specs.World.{World}
 use Rattle.a2_machine.specs.Meaning.{Code}
 use Rattle.a2_machine.proofs.Walks.{walked, Leads}
+use Rattle.a2_lessons.specs.Routines.{HasBytes}
+use Rattle.a2_reads.proofs.Agreeing.{Pages}
 use Rattle.a2_rules.specs.Worlds.{OnlyBytes}
+
+-- a memory whose RAM holds bytes, and whose text pages have 24 rows of 40 cells: what is stored in a cell is read back there
+pub record Whole (m : Memory) : Type 0 where
+  pub bytes : HasBytes m
+  pub pages : Pages m
+
+-- a world of bytes in such a memory
+pub record IsWhole (w : World) : Type 0 where
+  pub a : w.registers.a < 256
+  pub x : w.registers.x < 256
+  pub y : w.registers.y < 256
+  pub ram : Whole w.memory
+
+pub only_bytes : (w : World) → IsWhole w → OnlyBytes w
+only_bytes w whole = record { a = whole.a; x = whole.x; y = whole.y; ram = whole.ram.bytes }
 
 -- a world with PC and S there, and D clear
 abbrev pub enter : (pc s : ℕ) → World → World
@@ -31,7 +48,7 @@ pub record Back (code : Code) (s : ℕ) (w u v : World) : Type 0 where
   pub home : to ≡ home s w
   pub decimal : u.registers.flags.d ≡ false
 
--- Entered with this S in any world of bytes of which `Before` holds, the routine comes to its RTS, behind which `After` holds.
+-- Entered with this S in any whole world of which `Before` holds, the routine comes to its RTS, behind which `After` holds.
 abbrev pub Meets : Code → (to s : ℕ) → (Before : World → Type 0) → (After : World → World → Type 0) → Type 0
 Meets code to s Before After =
-    (w : World) → OnlyBytes w → Before w → Reaches code (enter to s w) (λ u. (v : World) × Back code s w u v × After w v)
+    (w : World) → IsWhole w → Before w → Reaches code (enter to s w) (λ u. (v : World) × Back code s w u v × After w v)

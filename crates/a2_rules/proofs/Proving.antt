@@ -10,12 +10,12 @@ use Rattle.a2_cpu.specs.Registers.{one_if}
 use Rattle.a2_services.specs.World.{World}
 use Rattle.a2_machine.specs.Meaning.{Code}
 use Rattle.a2_machine.proofs.Walks.{walked}
-use Rattle.a2_lessons.specs.Routines.{HasBytes, Keeps}
+use Rattle.a2_lessons.specs.Routines.{Keeps}
 use Rattle.a2_lessons.proofs.Branching.{Flag, flag_of, with_flag, onward}
 use Rattle.a2_lessons.proofs.Places.{along}
 use Rattle.a2_lessons.proofs.Keeping.{after_stores}
-use Rattle.a2_rules.specs.Worlds.{OnlyBytes}
-use Rattle.a2_rules.proofs.Meeting.{enter, Reaches, Back, home, Meets}
+use Rattle.a2_reads.proofs.Agreeing.{pages-with_ram, written_back}
+use Rattle.a2_rules.proofs.Meeting.{Whole, IsWhole, enter, Reaches, Back, home, Meets}
 
 -- a part that is computed, and what follows
 pub onto : (code : Code) (w v : World) (m : ℕ) (Q : World → Type 0) → walked code w m ≡ Some v → Reaches code v Q → Reaches code w Q
@@ -73,7 +73,7 @@ loops code pc s Inv measure Q once v inv = go (suc (measure v)) v (omega arith) 
 
 -- a call of a routine that meets its contract, and what follows
 pub call : (code : Code) (to s behind : ℕ) (Before : World → Type 0) (After : World → World → Type 0) (Q : World → Type 0)
-    → Meets code to s Before After → (v : World) → OnlyBytes v → Before v → home s v ≡ behind
+    → Meets code to s Before After → (v : World) → IsWhole v → Before v → home s v ≡ behind
     → ((u : World) → After v u → Reaches code (enter behind (s + 2) u) Q) → Reaches code (enter to s v) Q
 call code to s behind Before After Q meets v bytes before home_is later = go (meets v bytes before)
   where
@@ -86,30 +86,33 @@ call code to s behind Before After Q meets v bytes before home_is later = go (me
     go (n, (u, walk, (last, back, after))) =
         onto code (enter to s v) u n Q walk (onto code u last 1 Q back.step (at_last last u back after))
 
--- bytes stay bytes
-abbrev pub Fits : List (ℕ × ℕ) → Memory → Type 0
-Fits [] memory = Unit {0}
-Fits ((at, byte) ∷ later) memory = (byte < 256) × (ram_byte (with_ram memory at byte) at ≡ byte) × Fits later (with_ram memory at byte)
+-- bytes that are stored are bytes
+abbrev pub Fits : List (ℕ × ℕ) → Type 0
+Fits [] = Unit {0}
+Fits ((at, byte) ∷ later) = (byte < 256) × Fits later
 
-pub bytes_after : (stores : List (ℕ × ℕ)) (memory last : Memory) → HasBytes memory → Fits stores memory → last ≡ after_stores stores memory
-    → HasBytes last
-bytes_after stores memory last bytes fits is a = subst (λ m. ram_byte m a < 256) (sym is) (go stores memory bytes fits a)
+-- a store into a whole memory
+pub whole_with : (memory : Memory) (at byte : ℕ) → Whole memory → byte < 256 → Whole (with_ram memory at byte)
+whole_with memory at byte whole small =
+    record { bytes = λ a. by a (a == at) refl; pages = pages-with_ram memory at byte whole.pages }
   where
-    one : (memory : Memory) (at byte : ℕ) → HasBytes memory → byte < 256 → ram_byte (with_ram memory at byte) at ≡ byte
-        → HasBytes (with_ram memory at byte)
-    one memory at byte bytes small same a = by (a == at) refl
-      where
-        by : (v : Bool) → (a == at) ≡ v → ram_byte (with_ram memory at byte) a < 256
-        by true is =
-            let e : a ≡ at = grind (arith, nat_tests, is) in
-            subst (λ n. ram_byte (with_ram memory at byte) n < 256) (sym e) (subst (λ n. n < 256) (sym same) small)
-        by false is =
-            let other : a ≢ at = grind (arith, nat_tests, is) in
-            subst (λ n. n < 256) (sym (ram_byte-with_ram memory at byte a other)) (bytes a)
+    by : (a : ℕ) (v : Bool) → (a == at) ≡ v → ram_byte (with_ram memory at byte) a < 256
+    by a true is =
+        let e : a ≡ at = grind (arith, nat_tests, is) in
+        subst (λ n. ram_byte (with_ram memory at byte) n < 256) (sym e)
+        (subst (λ n. n < 256) (sym (written_back memory at byte whole.pages)) small)
+    by a false is =
+        let other : a ≢ at = grind (arith, nat_tests, is) in
+        subst (λ n. n < 256) (sym (ram_byte-with_ram memory at byte a other)) (whole.bytes a)
 
-    go : (stores : List (ℕ × ℕ)) (memory : Memory) → HasBytes memory → Fits stores memory → HasBytes (after_stores stores memory)
-    go [] memory bytes fits = bytes
-    go ((at, byte) ∷ later) memory bytes (small, same, fits) = go later (with_ram memory at byte) (one memory at byte bytes small same) fits
+pub whole_after : (stores : List (ℕ × ℕ)) (memory last : Memory) → Whole memory → Fits stores → last ≡ after_stores stores memory
+    → Whole last
+whole_after stores memory last whole fits is = subst Whole (sym is) (go stores memory whole fits)
+  where
+    go : (stores : List (ℕ × ℕ)) (memory : Memory) → Whole memory → Fits stores → Whole (after_stores stores memory)
+    go [] memory whole fits = whole
+    go ((at, byte) ∷ later) memory whole (small, fits) =
+        go later (with_ram memory at byte) (whole_with memory at byte whole small) fits
 
 -- what ADC leaves and carries
 pub whole : (sum : ℕ) → sum < 512 → sum % 256 + 256 * one_if (nat_le 256 sum) ≡ sum
