@@ -7,6 +7,7 @@ import re
 from .arrays import MOST_CASES, Cut, Finder, Kept, Put, is_apart, span
 from .assembling import BRANCHES
 from .refusal import Refusal
+from .services import SERVICES, services_of
 from .saying import FLAGS, Words, constant, is_fact, is_minus, most, shape, signed_in
 from .promises import labels_in
 from .symbolic import Ground, Run, State, StateWords
@@ -80,7 +81,7 @@ class Proof(Run):
         for loop in self.routine.loops.values():
             clauses += loop.invariants
         called = {it.value for it in self.program.statements if it.is_instruction and it.mnemonic == "JSR"}
-        for other in [self.routines[a] for a in sorted(called & set(self.routines))]:
+        for other in [self.routines[a] for a in sorted(called & set(self.routines))] + services_of(self.program):
             clauses += other.promise.promised + other.promise.wanted
         return {a for clause in clauses for a in cells_in(clause.expr) if a < 0xC000}
 
@@ -127,6 +128,9 @@ class Proof(Run):
                 begin, end = self.cut(state)
                 return f"{begin}{self.tree(state, loops)}{end}"
             it = self.program.instruction_at(state.pc)
+            if it is None and state.pc in SERVICES:
+                says = f"goes to the service at ${state.pc:04X} by a jump: what goes back to the caller has to be its own RTS"
+                raise Refusal(0, f"{self.routine.name} {says}")
             if it is None:
                 raise Refusal(0, f"{self.routine.name} goes to ${state.pc:04X}, where no instruction of the source begins")
             self.fuel -= 1
@@ -145,7 +149,9 @@ class Proof(Run):
             elif it.mnemonic in BRANCHES:
                 return self.fork(state, it, loops)
             elif it.mnemonic == "JSR" and it.value in self.routines and it.value != self.routine.promise.address:
-                return self.call(state, it, loops)
+                return self.call(state, it, self.routines[it.value], loops)
+            elif it.mnemonic == "JSR" and it.value in SERVICES:
+                return self.call(state, it, SERVICES[it.value], loops)
             elif self.is_reached(state, it):
                 return self.reach(state, it, loops)
             else:
@@ -533,18 +539,22 @@ class Proof(Run):
 
     # Calls
 
-    def call(self, state, it, loops):
-        other = self.routines[it.value]
+    def call(self, state, it, other, loops):
         self.step(state, it)
         s = state.s
-        self.calls.add((it.value, s))
+        self.may_call(it, other.promise)
+        rule, meets, home, cut, end = "call", f"{other.name}_{s}_meets", "refl", "", ""
+        if isinstance(other, Routine):
+            self.calls.add((it.value, s))
+        else:
+            cut, end = self.cut(state)
+            rule, meets, home = "call_service", other.proof(s), self.home(state, s)
         here = here_of(state)
         self.prepare(state, other.promise.wanted)
-        there = self.with_memory(state, f"{here}.memory")
-        body = "".join(
-            f"r{k} = {self.goal(there, clause, f'line {it.line}: the call of {other.name} wants {clause.text}')}"
-            for k, clause in enumerate(other.promise.wanted, 1)
-        )
+        there, body = self.with_memory(state, f"{here}.memory"), ""
+        for k, clause in enumerate(other.promise.wanted, 1):
+            says = f"line {it.line}: the call of {other.name} wants {clause.text}"
+            body += f"r{k} = {self.wanted(there, clause, other, says)}"
         bytes_ = self.only_bytes(state)
         begin, mark = self.lines(state) + self.lines(there), self.mark(f"line {it.line}: the call of {other.name}" + state.at)
         u, after, kept = self.fresh("u"), self.fresh("a"), self.fresh("k")
@@ -558,9 +568,9 @@ class Proof(Run):
         last.lines.insert(0, (kept, f"keeps_as w.memory {self.routine.name}_changed {u} ({keep})"))
         rest = self.tree(last, loops)
         return (
-            f"{begin}onto code {state.world} {here} {state.steps} _ refl "
-            f"(call code {it.value} {s} {it.address + 3} _ _ _ {other.name}_{s}_meets {here}\n({bytes_})\n"
-            f"(record {{ {body or 'none = tt;'} }}) {mark}refl (λ {u} {after}.\n{rest}))"
+            f"{cut}{begin}onto code {state.world} {here} {state.steps} _ refl "
+            f"({rule} code {it.value} {s} {it.address + 3} _ _ _ {meets} {here}\n({bytes_})\n"
+            f"(record {{ {body or 'none = tt;'} }}) {mark}{home} (λ {u} {after}.\n{rest})){end}"
         )
 
     def with_memory(self, state, memory):
@@ -575,6 +585,30 @@ class Proof(Run):
         made.memory_is = f"({memory})"
         made.links[made.memory_is], made.all_has[made.memory_is] = Cut(state.memory_is, stores, "refl"), has
         return made
+
+    def home(self, state, s):
+        """The proof that a JSR has left its return address on the stack, behind which memory is taken afresh."""
+        link = state.links[state.memory_is]
+        stores = list_of(f"({a}, {term})" for a, term in link.stores)
+        read = f"stores_read {stores} {link.before} {state.memory_is} {link.equation} {state.all_has[link.before]}"
+        return f"(ap₂ (λ l h. (l + 256 * h + 1) % 65536) ({read} {0x101 + s}) ({read} {0x102 + s}))"
+
+    def wanted(self, state, clause, other, says):
+        """The proof of what a call wants."""
+        if isinstance(other, Routine):
+            return self.goal(state, clause, says)
+        StateWords(self, state).says(clause.expr)
+        facts, state.facts = state.facts, self.only(state, cells_in(clause.expr))
+        text = self.goal(state, clause, says)
+        state.facts = facts
+        return text
+
+    def may_call(self, it, other):
+        """Refuses a call that may change what does not stand behind changes."""
+        for first, last in other.changes.ranges:
+            if not any(low <= first and last <= high for low, high in self.changed):
+                where = f"${first:02X}" + (f"..${last:02X}" if last > first else "")
+                raise Refusal(it.line, f"{other.name} may change {where}, which does not stand behind changes")
 
     def state_behind(self, state, other, it, u, after, changed):
         """Behind a call: what the other routine promises, of the state before it."""

@@ -7,6 +7,8 @@ pub mod Meeting
 pub mod Proving
 pub mod Reaching
 pub mod Afresh
+pub mod Printing
+pub mod Calling
 pub mod Bytes
 pub mod Kept
 pub mod Overflow

@@ -35,7 +35,8 @@ fork code flag w v m Q walk set clear = by (flag_of flag v) refl
     by false is = go false is (clear is)
 
 -- a world that stands there is one that is entered there
-stands : (code : Code) (pc s : ℕ) (w : World) (Q : World → Type 0) → w.registers.pc ≡ pc → w.registers.s ≡ s → w.registers.flags.d ≡ false
+pub stands : (code : Code) (pc s : ℕ) (w : World) (Q : World → Type 0) → w.registers.pc ≡ pc → w.registers.s ≡ s
+    → w.registers.flags.d ≡ false
     → Reaches code (enter pc s w) Q → Reaches code w Q
 stands code pc s w Q at is_s d reaches = subst (λ v. Reaches code v Q) same reaches
   where
