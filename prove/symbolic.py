@@ -13,6 +13,14 @@ ONES = re.compile(r"0*1+0*")
 INDEXED = ("ZeroPageX", "ZeroPageY", "AbsoluteX", "AbsoluteY")
 
 
+# How many stores on text pages at known addresses may follow one another: each is a part of a proof within the one before.
+MOST_CELLS = 8
+TOO_MANY_CELLS = (
+    f"more than {MOST_CELLS} stores on text pages one behind another take too long: "
+    "a loop wants lines invariant and decreases before its label"
+)
+
+
 class Ground(NamedTuple):
     """What is known of the world at the entry, wherever the run is."""
 
@@ -48,6 +56,8 @@ class State:
         self.labels = {}
         # facts that memories are whole
         self.all_has = {self.memory_is: "bytes.ram"}
+        # how many stores on text pages lie behind it, up to the loop or call before
+        self.cells = 0
         # the world whose registers it began with, and the fact that it is whole
         self.origin, self.whole = base, "bytes"
         # what a loop's top was, where a round of it is under way; and what was known at the entry of the routine
@@ -235,6 +245,10 @@ class Run:
     def store(self, state, it, address, term):
         if self.program.is_code(address):
             raise Refusal(it.line, f"it stores at ${address:04X}, where its own code stands")
+        if 0x400 <= address < 0xC00:
+            state.cells += 1
+        if state.cells > MOST_CELLS:
+            raise Refusal(it.line, TOO_MANY_CELLS)
         state.memory[address] = term
         state.stores.append((address, term))
         self.touched.add(address)

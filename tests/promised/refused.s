@@ -44,3 +44,11 @@ GOOD    RTS
 NO16    RTS
 ;: ensures text $0400 = ""
 NO17    RTS
+;: ensures $0400 = 0
+;: changes A, X, $0400..$040F
+NO18    LDA #0
+        LDX #15
+N18     STA $0400,X
+        DEX
+        BPL N18
+        RTS
