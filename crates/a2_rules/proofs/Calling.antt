@@ -1,18 +1,18 @@
 -- What is known behind a call of a service: which registers and bytes it keeps, and that window and cursor lie on the screen.
 use Rattle.std.specs.Prelude.{◌≡◌, ◌<◌, ◌≤◌, ℕ, ◌+◌, ◌*◌, ◌/◌, ◌%◌, ◌==◌, ◌&&◌, not, nat_le, nat_lt, Bool, true, false, List, [], ◌∷◌, Some, None, if◌then◌else◌, refl}
-use Rattle.std.specs.List.{list_any}
-use Rattle.std.proofs.Common.{sym, ap, ap₂, ◌∙◌, arith}
+use Rattle.std.specs.List.{list_any, list_all}
+use Rattle.std.proofs.Common.{sym, ap, ap₂, ◌∙◌, subst, arith}
 use Rattle.std.proofs.lemmas.Bool.Decides.{nat_tests}
 use Rattle.a2_page.specs.Window.{IsWindow}
-use Rattle.a2_bus.specs.Memory.{Memory, ram_byte}
+use Rattle.a2_bus.specs.Memory.{Memory, ram_byte, with_ram}
 use Rattle.a2_services.specs.declared.Service.{Service}
-use Rattle.a2_services.specs.declared.Service.TheVariants.{Cout, Cout1, Crout, Home, Prbyte}
+use Rattle.a2_services.specs.declared.Service.TheVariants.{Cout, Cout1, Crout, Home, Prbyte, Prhex, Setinv, Setnorm, Vtab, Clreol, Wait}
 use Rattle.a2_services.specs.Fits.{CursorFits}
 use Rattle.a2_services.specs.Put.{window_of, after_put, with_base_address}
 use Rattle.a2_services.specs.Rows.{service_row}
-use Rattle.a2_services.specs.Services.{service_at, window_fits, cursor_fits, reach, output_reach, back, output, effect, served, cycles_of, digit_byte}
+use Rattle.a2_services.specs.Services.{service_at, window_fits, cursor_fits, reach, output_reach, base_reach, page_reach, cleared_to_end, back, output, with_memory, with_a, effect, served, cycles_of, digit_byte}
 use Rattle.a2_services.specs.World.{World}
-use Rattle.a2_services.proofs.Counting.{base_devices}
+use Rattle.a2_services.proofs.Counting.{base_devices, cleared_devices}
 use Rattle.a2_services.proofs.Effects.{served-kept}
 use Rattle.a2_services.proofs.Fitting.{put_fits}
 use Rattle.a2_services.proofs.Lines.{put_devices, ram_devices}
@@ -22,10 +22,11 @@ use Rattle.a2_machine.specs.Meaning.{Code, return_address, service_cause}
 use Rattle.a2_machine.proofs.Walks.{walked}
 use Rattle.a2_lessons.specs.Routines.{Keeps, word}
 use Rattle.a2_lessons.proofs.Stepping.{serve}
+use Rattle.a2_reads.proofs.Agreeing.{written_back}
 use Rattle.a2_rules.proofs.Meeting.{Whole, IsWhole, enter, home, Reaches}
-use Rattle.a2_rules.proofs.Printing.{printed_whole, home_whole, home_fits, base_whole, base_fits}
-use Rattle.a2_rules.proofs.Proving.{onto, stands, weaken}
-use Rattle.a2_rules.proofs.Ranges.{is_in, out_of_ranges}
+use Rattle.a2_rules.proofs.Printing.{printed_whole, to_end_whole, home_whole, home_fits, base_whole, base_fits}
+use Rattle.a2_rules.proofs.Proving.{onto, stands, weaken, whole_with}
+use Rattle.a2_rules.proofs.Ranges.{is_in, is_beside, out_of_ranges}
 
 -- a world behind the call that left a return address on the stack
 pub record Behind (s : ℕ) (w u : World) : Type 0 where
@@ -79,6 +80,10 @@ pub record HasHook (w : World) : Type 0 where
   pub r6 : ram_byte w.memory 0x20 + ram_byte w.memory 0x24 < 40
   pub r7 : word w.memory 0x36 ≡ 0xFDF0
 
+-- nothing is wanted
+pub record Anywhere (w : World) : Type 0 where
+  pub none : Unit {0}
+
 window_test : (w : World) → HasWindow w → window_fits w.memory ≡ true
 window_test w h = λ i. one 1 _ h.r1 i && one _ 40 h.r2 i && less _ _ h.r3 i && one _ 24 h.r4 i
   where
@@ -126,57 +131,92 @@ pub record Returned (w u : World) : Type 0 where
   pub rest : Keeps w.memory (is_in print_ranges) u
   pub bytes : IsWhole u
 
-module _ (code : Code) (at s : ℕ) (room : s < 254) (service : Service) (w : World) (whole : IsWhole w) (m : Memory)
+-- Behind others
+
+pub record Stayed (ranges : List (ℕ × ℕ)) (w u : World) : Type 0 where
+  pub keep_a : u.registers.a ≡ w.registers.a
+  pub keep_x : u.registers.x ≡ w.registers.x
+  pub keep_y : u.registers.y ≡ w.registers.y
+  pub rest : Keeps w.memory (is_in ranges) u
+  pub bytes : IsWhole u
+
+abbrev pub mask_ranges : List (ℕ × ℕ)
+mask_ranges = (0x32, 0x32) ∷ []
+
+pub record Masked (byte : ℕ) (w u : World) : Type 0 where
+  pub e1 : ram_byte u.memory 0x32 ≡ byte
+  pub keep_a : u.registers.a ≡ w.registers.a
+  pub keep_x : u.registers.x ≡ w.registers.x
+  pub keep_y : u.registers.y ≡ w.registers.y
+  pub rest : Keeps w.memory (is_in mask_ranges) u
+  pub bytes : IsWhole u
+
+pub record Waited (w u : World) : Type 0 where
+  pub e1 : u.registers.a ≡ 0
+  pub keep_x : u.registers.x ≡ w.registers.x
+  pub keep_y : u.registers.y ≡ w.registers.y
+  pub rest : Keeps w.memory (is_in []) u
+  pub bytes : IsWhole u
+
+-- What a service leaves that stores in these ranges at most
+
+record Left (ranges : List (ℕ × ℕ)) (a : ℕ) (n : Memory) (w u : World) : Type 0 where
+  a_is : u.registers.a ≡ a
+  keep_x : u.registers.x ≡ w.registers.x
+  keep_y : u.registers.y ≡ w.registers.y
+  memory : u.memory ≡ n
+  rest : Keeps w.memory (is_in ranges) u
+  bytes : IsWhole u
+
+module _ (code : Code) (at s : ℕ) (room : s < 254) (service : Service) (w : World) (whole : IsWhole w)
     (here : service_at at ≡ Some service) (away : (at == return_address) ≡ false)
-    (free : service_cause code.protected service (enter at s w) ≡ None)
-    (is : effect service (enter at s w) ≡ back (output m (enter at s w)))
-    (reaches : (b : ℕ) → is_in print_ranges b ≡ false → reach service b ≡ false)
-    (m_whole : Whole m) (m_fits : CursorFits m) (devices : m.devices ≡ w.memory.devices) where
+    (free : service_cause code.protected service (enter at s w) ≡ None) (ranges : List (ℕ × ℕ))
+    (reaches : (b : ℕ) → is_in ranges b ≡ false → reach service b ≡ false)
+    (beside : (b : ℕ) → 0x100 ≤ b → b ≤ 0x1FF → is_in ranges b ≡ false) (n : Memory) (a : ℕ)
+    (is : effect service (enter at s w) ≡ back (with_memory n (with_a a (enter at s w)))) (n_whole : Whole n) (small : a < 256)
+    (devices : n.devices ≡ w.memory.devices) where
   -- the cycles behind it
   abbrev there : ℕ
   there = w.cycles + cycles_of (service_row service).takes (enter at s w).registers
 
   after : World
   after = record {
-    registers = record (enter at s w).registers { s = s + 2; pc = home s w };
-    memory = with_base_address m;
+    registers = record (enter at s w).registers { a = a; s = s + 2; pc = home s w };
+    memory = n;
     cycles = there;
   }
 
   -- behind a return that pulls as this one does
   pulled : ℕ → ℕ → ℕ → World
   pulled to low high = record {
-    registers = record (enter at s w).registers { s = to; pc = (low + 256 * high + 1) % 65536 };
-    memory = with_base_address m;
+    registers = record (enter at s w).registers { a = a; s = to; pc = (low + 256 * high + 1) % 65536 };
+    memory = n;
     cycles = there;
   }
 
   served_there : served service (enter at s w)
-      ≡ pulled (((s + 1) % 256 + 1) % 256) (ram_byte (with_base_address m) (256 + (s + 1) % 256))
-      (ram_byte (with_base_address m) (256 + ((s + 1) % 256 + 1) % 256))
+      ≡ pulled (((s + 1) % 256 + 1) % 256) (ram_byte n (256 + (s + 1) % 256)) (ram_byte n (256 + ((s + 1) % 256 + 1) % 256))
   unfolding served pulled
   served_there =
       ap (λ (x : World). let y : World = record x { cycles = there } in y)
-      (is ∙ returned_is (output m (enter at s w)))
+      (is ∙ returned_is (with_memory n (with_a a (enter at s w))))
 
-  made : (served service (enter at s w)).memory ≡ with_base_address m
+  made : (served service (enter at s w)).memory ≡ n
   unfolding pulled
   made = ap (λ (x : World). x.memory) served_there
 
-  kept : (b : ℕ) → is_in print_ranges b ≡ false → ram_byte (with_base_address m) b ≡ ram_byte w.memory b
+  kept : (b : ℕ) → is_in ranges b ≡ false → ram_byte n b ≡ ram_byte w.memory b
   kept b out = ap (λ q. ram_byte q b) (sym made) ∙ served-kept service (enter at s w) b (reaches b out)
 
-  low : ram_byte (with_base_address m) (256 + (s + 1) % 256) ≡ ram_byte w.memory (0x101 + s)
+  low : ram_byte n (256 + (s + 1) % 256) ≡ ram_byte w.memory (0x101 + s)
   low =
       let e : 256 + (s + 1) % 256 ≡ 0x101 + s = omega (arith, room) in
-      ap (λ b. ram_byte (with_base_address m) b) e
-      ∙ kept (0x101 + s) (out_of_ranges print_ranges 0x100 0x1FF (0x101 + s) refl (omega arith) (omega (arith, room)))
+      ap (λ b. ram_byte n b) e ∙ kept (0x101 + s) (beside (0x101 + s) (omega arith) (omega (arith, room)))
 
-  high : ram_byte (with_base_address m) (256 + ((s + 1) % 256 + 1) % 256) ≡ ram_byte w.memory (0x102 + s)
+  high : ram_byte n (256 + ((s + 1) % 256 + 1) % 256) ≡ ram_byte w.memory (0x102 + s)
   high =
       let e : 256 + ((s + 1) % 256 + 1) % 256 ≡ 0x102 + s = omega (arith, room) in
-      ap (λ b. ram_byte (with_base_address m) b) e
-      ∙ kept (0x102 + s) (out_of_ranges print_ranges 0x100 0x1FF (0x102 + s) refl (omega arith) (omega (arith, room)))
+      ap (λ b. ram_byte n b) e ∙ kept (0x102 + s) (beside (0x102 + s) (omega arith) (omega (arith, room)))
 
   comes : walked code (enter at s w) 1 ≡ Some after
   unfolding after pulled
@@ -184,29 +224,103 @@ module _ (code : Code) (at s : ℕ) (room : s < 254) (service : Service) (w : Wo
       let to : ((s + 1) % 256 + 1) % 256 ≡ s + 2 = omega (arith, room) in
       serve code (enter at s w) service here away free ∙ ap Some (served_there ∙ (λ i. pulled (to i) (low i) (high i)))
 
-  fits_there : CursorFits (with_base_address m)
-  fits_there = base_fits m m_whole m_fits
-
   behind : Behind s w after
   unfolding after
   behind = record { pc_is = refl; s_is = refl; d_is = refl }
 
-  printed : Printed w after
+  left : Left ranges a n w after
   unfolding after
-  printed = record {
-    e1 = fits_there.line.row;
-    e2 = fits_there.column;
-    keep_a = refl;
+  left = record {
+    a_is = refl;
     keep_x = refl;
     keep_y = refl;
-    rest = record { bytes = kept; devices = base_devices m ∙ devices };
-    bytes = record { a = whole.a; x = whole.x; y = whole.y; ram = base_whole m m_whole m_fits };
+    memory = refl;
+    rest = record { bytes = kept; devices = devices };
+    bytes = record { a = small; x = whole.x; y = whole.y; ram = n_whole };
   }
 
-  pub print : Reaches code (enter at s w) (λ u. Behind s w u × Printed w u)
-  print = (1, (after, comes, (behind, printed)))
+  leave : Reaches code (enter at s w) (λ u. Behind s w u × Left ranges a n w u)
+  leave = (1, (after, comes, (behind, left)))
+
+in_stack : (ranges : List (ℕ × ℕ)) → list_all (is_beside 0x100 0x1FF) ranges ≡ true → (b : ℕ) → 0x100 ≤ b → b ≤ 0x1FF
+    → is_in ranges b ≡ false
+in_stack ranges all b from to = out_of_ranges ranges 0x100 0x1FF b all from to
+
+module _ (code : Code) (at s : ℕ) (room : s < 254) (service : Service) (w : World) (whole : IsWhole w)
+    (here : service_at at ≡ Some service) (away : (at == return_address) ≡ false)
+    (free : service_cause code.protected service (enter at s w) ≡ None) where
+  -- one that prints
+  print : (m : Memory) → effect service (enter at s w) ≡ back (output m (enter at s w))
+      → ((b : ℕ) → is_in print_ranges b ≡ false → reach service b ≡ false) → Whole m → CursorFits m
+      → m.devices ≡ w.memory.devices → Reaches code (enter at s w) (λ u. Behind s w u × Printed w u)
+  print m is reaches m_whole m_fits devices =
+      weaken code (enter at s w) _ _
+      (leave code at s room service w whole here away free print_ranges reaches (in_stack print_ranges refl)
+      (with_base_address m) w.registers.a is (base_whole m m_whole m_fits) whole.a (base_devices m ∙ devices))
+      (λ u h. (h.0, printed u h.1))
+    where
+      fits_there : CursorFits (with_base_address m)
+      fits_there = base_fits m m_whole m_fits
+
+      printed : (u : World) → Left print_ranges w.registers.a (with_base_address m) w u → Printed w u
+      printed u h = record {
+        e1 = subst (λ n. ram_byte n 0x25 < 24) (sym h.memory) fits_there.line.row;
+        e2 = subst (λ n. ram_byte n 0x20 + ram_byte n 0x24 < 40) (sym h.memory) fits_there.column;
+        keep_a = h.a_is;
+        keep_x = h.keep_x;
+        keep_y = h.keep_y;
+        rest = h.rest;
+        bytes = h.bytes;
+      }
+
+  -- one that leaves the registers
+  stay : (ranges : List (ℕ × ℕ)) → ((b : ℕ) → is_in ranges b ≡ false → reach service b ≡ false)
+      → list_all (is_beside 0x100 0x1FF) ranges ≡ true → (n : Memory)
+      → effect service (enter at s w) ≡ back (with_memory n (enter at s w)) → Whole n → n.devices ≡ w.memory.devices
+      → Reaches code (enter at s w) (λ u. Behind s w u × Stayed ranges w u)
+  stay ranges reaches all n is n_whole devices =
+      weaken code (enter at s w) _ _
+      (leave code at s room service w whole here away free ranges reaches (in_stack ranges all) n w.registers.a is n_whole whole.a
+      devices)
+      (λ u h. (h.0, record { keep_a = h.1.a_is; keep_x = h.1.keep_x; keep_y = h.1.keep_y; rest = h.1.rest; bytes = h.1.bytes }))
+
+  -- one that sets the mask of characters
+  mask : (byte : ℕ) → byte < 256 → ((b : ℕ) → is_in mask_ranges b ≡ false → reach service b ≡ false)
+      → effect service (enter at s w) ≡ back (with_memory (with_ram w.memory 0x32 byte) (enter at s w))
+      → Reaches code (enter at s w) (λ u. Behind s w u × Masked byte w u)
+  mask byte small reaches is =
+      weaken code (enter at s w) _ _
+      (leave code at s room service w whole here away free mask_ranges reaches (in_stack mask_ranges refl)
+      (with_ram w.memory 0x32 byte) w.registers.a is (whole_with w.memory 0x32 byte whole.ram small) whole.a
+      (ram_devices w.memory 0x32 byte))
+      (λ u h. (h.0, masked u h.1))
+    where
+      masked : (u : World) → Left mask_ranges w.registers.a (with_ram w.memory 0x32 byte) w u → Masked byte w u
+      masked u h = record {
+        e1 = ap (λ n. ram_byte n 0x32) h.memory ∙ written_back w.memory 0x32 byte whole.ram.pages;
+        keep_a = h.a_is;
+        keep_x = h.keep_x;
+        keep_y = h.keep_y;
+        rest = h.rest;
+        bytes = h.bytes;
+      }
 
 -- The services
+
+abbrev base_ranges : List (ℕ × ℕ)
+base_ranges = (0x28, 0x29) ∷ []
+
+abbrev page_ranges : List (ℕ × ℕ)
+page_ranges = (0x400, 0x7FF) ∷ []
+
+no_base : (b : ℕ) → is_in base_ranges b ≡ false → base_reach b ≡ false
+no_base b h = grind (arith, nat_tests, h)
+
+no_page : (b : ℕ) → is_in page_ranges b ≡ false → page_reach b ≡ false
+no_page b h = grind (arith, nat_tests, h)
+
+no_mask : (b : ℕ) → is_in mask_ranges b ≡ false → (b == 0x32) ≡ false
+no_mask b h = grind (arith, nat_tests, h)
 
 digit_small : (digit : ℕ) → digit < 16 → digit_byte digit < 256
 digit_small digit small = by (nat_lt digit 10)
@@ -243,7 +357,7 @@ module _ (code : Code) (s : ℕ) (room : s < 254) where
   pub home_serves : list_any (reach Home) code.protected ≡ false → Serves code 0xFC58 s HasWindow Printed
   unfolding service_at effect reach
   home_serves away w whole before =
-      print code 0xFC58 s room Home w whole _ refl refl free refl not_reached
+      print code 0xFC58 s room Home w whole refl refl free _ refl not_reached
       (home_whole w.memory whole.ram window) (home_fits w.memory _ window)
       (ram_devices _ 0x25 _ ∙ ram_devices _ 0x24 _)
     where
@@ -257,7 +371,7 @@ module _ (code : Code) (s : ℕ) (room : s < 254) where
     pub prbyte_serves : Serves code 0xFDDA s HasCursor Printed
     unfolding service_at effect reach
     prbyte_serves w whole before =
-        print code 0xFDDA s room Prbyte w whole _ refl refl free refl not_reached
+        print code 0xFDDA s room Prbyte w whole refl refl free _ refl not_reached
         (printed_whole (digit_byte (w.registers.a % 16)) _ first (put_fits high w.memory fits_there)
         (digit_small (w.registers.a % 16) (omega arith)))
         (put_fits (digit_byte (w.registers.a % 16)) _ (put_fits high w.memory fits_there))
@@ -275,11 +389,68 @@ module _ (code : Code) (s : ℕ) (room : s < 254) where
         free : service_cause code.protected Prbyte (enter 0xFDDA s w) ≡ None
         free = λ i. if away i then Some CodeWrite else if not (cursor_test w before i) then Some Window else None
 
+  module _ (away : list_any (reach Prhex) code.protected ≡ false) where
+    pub prhex_serves : Serves code 0xFDE3 s HasCursor Printed
+    unfolding service_at effect reach
+    prhex_serves w whole before =
+        let digit = digit_byte (w.registers.a % 16) in
+        print code 0xFDE3 s room Prhex w whole refl refl free _ refl not_reached
+        (printed_whole digit w.memory whole.ram fits_there (digit_small (w.registers.a % 16) (omega arith)))
+        (put_fits digit w.memory fits_there) (put_devices digit w.memory)
+      where
+        fits_there : CursorFits w.memory
+        fits_there = fits_tells w.memory (cursor_test w before)
+
+        free : service_cause code.protected Prhex (enter 0xFDE3 s w) ≡ None
+        free = λ i. if away i then Some CodeWrite else if not (cursor_test w before i) then Some Window else None
+
+  module _ (away : list_any (reach Vtab) code.protected ≡ false) where
+    pub vtab_serves : Serves code 0xFC22 s HasCursor (Stayed base_ranges)
+    unfolding service_at effect reach
+    vtab_serves w whole before =
+        stay code 0xFC22 s room Vtab w whole refl refl free base_ranges no_base refl (with_base_address w.memory) refl
+        (base_whole w.memory whole.ram (fits_tells w.memory (cursor_test w before))) (base_devices w.memory)
+      where
+        free : service_cause code.protected Vtab (enter 0xFC22 s w) ≡ None
+        free = λ i. if away i then Some CodeWrite else if not (cursor_test w before i) then Some Window else None
+
+  module _ (away : list_any (reach Clreol) code.protected ≡ false) where
+    pub clreol_serves : Serves code 0xFC9C s HasCursor (Stayed page_ranges)
+    unfolding service_at effect reach
+    clreol_serves w whole before =
+        stay code 0xFC9C s room Clreol w whole refl refl free page_ranges no_page refl (cleared_to_end w.memory) refl
+        (to_end_whole w.memory whole.ram (fits_tells w.memory (cursor_test w before))) (cleared_devices w.memory)
+      where
+        free : service_cause code.protected Clreol (enter 0xFC9C s w) ≡ None
+        free = λ i. if away i then Some CodeWrite else if not (cursor_test w before i) then Some Window else None
+
+  module _ (away : list_any (reach Setinv) code.protected ≡ false) where
+    pub setinv_serves : Serves code 0xFE80 s Anywhere (Masked 0x3F)
+    unfolding service_at effect reach
+    setinv_serves w whole before =
+        mask code 0xFE80 s room Setinv w whole refl refl (λ i. if away i then Some CodeWrite else None) 0x3F (omega arith) no_mask refl
+
+  module _ (away : list_any (reach Setnorm) code.protected ≡ false) where
+    pub setnorm_serves : Serves code 0xFE84 s Anywhere (Masked 0xFF)
+    unfolding service_at effect reach
+    setnorm_serves w whole before =
+        mask code 0xFE84 s room Setnorm w whole refl refl (λ i. if away i then Some CodeWrite else None) 0xFF (omega arith) no_mask
+        refl
+
+  module _ (away : list_any (reach Wait) code.protected ≡ false) where
+    pub wait_serves : Serves code 0xFCA8 s Anywhere Waited
+    unfolding service_at effect reach
+    wait_serves w whole before =
+        weaken code (enter 0xFCA8 s w) _ _
+        (leave code 0xFCA8 s room Wait w whole refl refl (λ i. if away i then Some CodeWrite else None) [] (λ b out. refl)
+        (in_stack [] refl) w.memory 0 refl whole.ram (omega arith) refl)
+        (λ u h. (h.0, record { e1 = h.1.a_is; keep_x = h.1.keep_x; keep_y = h.1.keep_y; rest = h.1.rest; bytes = h.1.bytes }))
+
   module _ (away : list_any (reach Cout1) code.protected ≡ false) where
     pub cout1_serves : Serves code 0xFDF0 s HasCursor Printed
     unfolding service_at effect reach
     cout1_serves w whole before =
-        print code 0xFDF0 s room Cout1 w whole _ refl refl free refl not_reached
+        print code 0xFDF0 s room Cout1 w whole refl refl free _ refl not_reached
         (printed_whole w.registers.a w.memory whole.ram fits_there whole.a) (put_fits w.registers.a w.memory fits_there)
         (put_devices w.registers.a w.memory)
       where

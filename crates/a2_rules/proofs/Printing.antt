@@ -1,5 +1,5 @@
 -- What the Monitor's services put on the screen: memory stays whole, and window and cursor lie on the screen.
-use Rattle.std.specs.Prelude.{◌≡◌, ◌≢◌, ◌⊎◌, ℕ, ◌+◌, ◌-◌, ◌/◌, ◌%◌, ◌<◌, ◌≤◌, ◌==◌, ◌&&◌, nat_lt, nat_le, Bool, true, false, List, [], length, slice_index, slice_index_or, slice_range, Option, Some, None, if◌then◌else◌, refl}
+use Rattle.std.specs.Prelude.{◌≡◌, ◌≢◌, ◌⊎◌, ℕ, ◌+◌, ◌-◌, ◌/◌, ◌%◌, ◌<◌, ◌≤◌, ◌==◌, ◌&&◌, nat_lt, nat_le, Bool, true, false, List, [], length, replicate, slice_index, slice_index_or, slice_range, Option, Some, None, if◌then◌else◌, refl}
 use Rattle.std.proofs.Common.{sym, ◌∙◌, subst, arith, inl, inr}
 use Rattle.std.proofs.lemmas.List.{get_or_past, get_or-replicate, length-replicate}
 use Rattle.std.proofs.lemmas.Bool.{cases_eq, cases_lt}
@@ -7,10 +7,10 @@ use Rattle.a2_page.specs.declared.Page.{Page}
 use Rattle.a2_page.specs.declared.Page.TheVariants.{One, Two}
 use Rattle.a2_page.specs.Cells.{Cell, cell_at, address_of, row_start}
 use Rattle.a2_page.specs.Window.{IsWindow}
-use Rattle.a2_page.specs.Grid.{Grid, IsGrid, Window, byte_in, with_byte, with_part, blank, blank_part, scrolled, cleared}
+use Rattle.a2_page.specs.Grid.{Grid, IsGrid, Window, byte_in, with_byte, with_part, with_row_part, blank, blank_part, scrolled, cleared}
 use Rattle.a2_page.proofs.Finding.{cell_at-stands, finds_each_cell}
 use Rattle.a2_page.proofs.GridLemmas.{byte_in-with_byte, byte_in-with_byte_row, byte_in-with_byte_column, IsGrid-with_byte}
-use Rattle.a2_page.proofs.Parts.{spliced-length, spliced-before, spliced-in, spliced-after, range-at, range_long, scrolled-in, scrolled-last, scrolled-out, scrolled-height, cleared-in, cleared-out, cleared-height}
+use Rattle.a2_page.proofs.Parts.{spliced-length, spliced-before, spliced-in, spliced-after, range-at, range_long, scrolled-in, scrolled-last, scrolled-out, scrolled-height, with_row_part-height, with_row_part-here, with_row_part-other, cleared-in, cleared-out, cleared-height}
 use Rattle.a2_bus.specs.Memory.{Memory, grid, ram_byte, with_ram}
 use Rattle.a2_bus.proofs.Frame.{ram_byte-with_ram}
 use Rattle.a2_bus.proofs.Viewing.{plain_written}
@@ -18,6 +18,7 @@ use Rattle.a2_cpu.specs.Arithmetic.{by_digits}
 use Rattle.a2_lessons.specs.Routines.{HasBytes}
 use Rattle.a2_services.specs.Fits.{LineFits, CursorFits}
 use Rattle.a2_services.specs.Put.{window_of, cursor_row, cursor_column, with_cursor_row, with_cursor_column, screen_column, with_page1, inverse_mask, after_line_feed, after_return, after_backspace, after_character, after_put_unmasked, after_put, with_base_address}
+use Rattle.a2_services.specs.Services.{cleared_to_end}
 use Rattle.a2_services.proofs.Fitting.{column_line, column_fits, page_line, other_fits, home_line}
 use Rattle.a2_rules.proofs.Bits.{digits_small}
 use Rattle.a2_rules.proofs.Meeting.{Whole}
@@ -59,13 +60,16 @@ range_bytes cells left width fits bytes c = by (cases_lt c width)
         (omega (arith, range_long cells left width fits, behind)) in
         omega (arith, is)
 
-blank_bytes : (w : Window) → AreBytes (blank_part w)
-blank_bytes w c = by (cases_lt c w.width)
+blanks_bytes : (n : ℕ) → AreBytes (replicate n blank)
+blanks_bytes n c = by (cases_lt c n)
   where
-    by : (c < w.width) ⊎ (w.width ≤ c) → slice_index (blank_part w) c < 256
-    by (inl inside) = let is = get_or-replicate w.width c blank 0 inside in omega (arith, is)
+    by : (c < n) ⊎ (n ≤ c) → slice_index (replicate n blank) c < 256
+    by (inl inside) = let is = get_or-replicate n c blank 0 inside in omega (arith, is)
     by (inr behind) =
-        let is = get_or_past (blank_part w) c 0 (omega (arith, length-replicate w.width blank, behind)) in omega (arith, is)
+        let is = get_or_past (replicate n blank) c 0 (omega (arith, length-replicate n blank, behind)) in omega (arith, is)
+
+blank_bytes : (w : Window) → AreBytes (blank_part w)
+blank_bytes w = blanks_bytes w.width
 
 -- a row of 40 bytes
 record IsRow (cells : List ℕ) : Type 0 where
@@ -75,12 +79,17 @@ record IsRow (cells : List ℕ) : Type 0 where
 row_of : (g : Grid) → IsOfBytes g → (row : ℕ) → row < 24 → IsRow (slice_index_or g row [])
 row_of g h row low = record { long = h.shape.width row low; bytes = h.bytes row low }
 
--- with a part in a window
+-- with a part in place of its own
+row_with : (row : List ℕ) (left : ℕ) (part : List ℕ) → IsRow row → left + length part ≤ 40 → AreBytes part
+    → IsRow (with_part row left part)
+row_with row left part is fits bytes =
+    let inside : left + length part ≤ length row = omega (arith, is.long, fits) in
+    record { long = spliced-length row left part inside ∙ is.long; bytes = part_bytes row left part inside is.bytes bytes }
+
+-- in a window
 part_row : (w : Window) (row part : List ℕ) → IsWindow w → IsRow row → length part ≡ w.width → AreBytes part
     → IsRow (with_part row w.left part)
-part_row w row part window is long bytes =
-    let fits : w.left + length part ≤ length row = omega (arith, is.long, long, window.right) in
-    record { long = spliced-length row w.left part fits ∙ is.long; bytes = part_bytes row w.left part fits is.bytes bytes }
+part_row w row part window is long bytes = row_with row w.left part is (omega (arith, long, window.right)) bytes
 
 of_rows : (g : Grid) → length g ≡ 24 → ((row : ℕ) → row < 24 → IsRow (slice_index_or g row [])) → IsOfBytes g
 of_rows g high rows = record {
@@ -131,6 +140,19 @@ module _ (w : Window) (g : Grid) (window : IsWindow w) (is : IsOfBytes g) where
           (blank_bytes w))
       by row low (inr from) (inr below) =
           subst IsRow (sym (cleared-out w g window is.shape.height row (inr below))) (row_of g is row low)
+
+part_page : (g : Grid) (row column : ℕ) (part : List ℕ) → IsOfBytes g → row < 24 → column + length part ≤ 40 → AreBytes part
+    → IsOfBytes (with_row_part g row column part)
+part_page g row column part is low fits new =
+    of_rows (with_row_part g row column part) (with_row_part-height g row column part ∙ is.shape.height)
+    (λ r r_low. by r r_low (cases_eq r row))
+  where
+    by : (r : ℕ) → r < 24 → (r ≡ row) ⊎ (r ≢ row) → IsRow (slice_index_or (with_row_part g row column part) r [])
+    by r r_low (inl same) =
+        subst (λ k. IsRow (slice_index_or (with_row_part g row column part) k [])) (sym same)
+        (subst IsRow (sym (with_row_part-here g row column part (omega (arith, low, is.shape.height))))
+        (row_with (slice_index_or g row []) column part (row_of g is row low) fits new))
+    by r r_low (inr other) = subst IsRow (sym (with_row_part-other g row column part r other)) (row_of g is r r_low)
 
 cell_bytes : (g : Grid) (row column byte : ℕ) → IsOfBytes g → row < 24 → column < 40 → byte < 256
     → IsOfBytes (with_byte g row column byte)
@@ -261,6 +283,16 @@ home_whole m whole window =
     let blank = page_whole m (cleared (window_of m) m.page1) whole
     (cleared_bytes (window_of m) m.page1 window (page_bytes m whole)) in
     row_whole _ (window_of m).top (column_whole _ 0 blank (omega arith)) (omega (arith, window.height, window.bottom))
+
+pub to_end_whole : (m : Memory) → Whole m → CursorFits m → Whole (cleared_to_end m)
+unfolding cleared_to_end
+to_end_whole m whole fits =
+    let count = (window_of m).width - cursor_column m in
+    let room : screen_column m + length (replicate count blank) ≤ 40 =
+    omega (arith, length-replicate count blank, fits.column, fits.line.window.right) in
+    page_whole m _ whole
+    (part_page m.page1 (cursor_row m) (screen_column m) (replicate count blank) (page_bytes m whole) fits.line.row room
+    (blanks_bytes count))
 
 no_cell : cell_at 0x24 ≡ None
 unfolding cell_at
