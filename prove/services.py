@@ -8,8 +8,8 @@ WINDOW = ("$21 >= 1", "$20 + $21 <= 40", "$22 < $23", "$23 <= 24")
 CURSOR = (*WINDOW, "$25 < 24", "$20 + $24 < 40")
 HOOK = (*CURSOR, "word $36 = #$FDF0")
 LEFT = ("$25 < 24", "$20 + $24 < 40")
-# CH and CV, BASL and BASH, and page 1
-PRINTED = [(0x24, 0x25), (0x28, 0x29), (0x400, 0x7FF)]
+# CH and CV, BASL and BASH, the mask of characters, and page 1
+PLACE, BASE, MASK, PAGE = (0x24, 0x25), (0x28, 0x29), (0x32, 0x32), (0x400, 0x7FF)
 BLANK, RETURN, FEED, BACKSPACE = 0xA0, 0x8D, 0x8A, 0x88
 
 
@@ -20,12 +20,12 @@ def clauses(texts):
 class Service:
     """A service, called as a routine with a promise is; it needs no proof but a rule."""
 
-    def __init__(self, name, address, wanted, left, rule, registers=()):
-        self.name, self.rule = name, rule
-        self.promise = Promise(name, 0, address, clauses(wanted), clauses(left), Changes(set(registers), PRINTED))
+    def __init__(self, name, address, wanted, left, rule, registers="", ranges=(PLACE, BASE, PAGE)):
+        self.name, self.wanted, self.rule = name, wanted, rule
+        self.promise = Promise(name, 0, address, clauses(wanted), clauses(left), Changes(set(registers), list(ranges)))
 
     def changed(self, s):
-        return PRINTED
+        return self.promise.changes.ranges
 
     def proof(self, s):
         """The proof that it keeps what is promised, where it is called with this S."""
@@ -37,9 +37,15 @@ SERVICES = {
     for it in (
         Service("HOME", 0xFC58, WINDOW, LEFT, "home_serves @ refl"),
         Service("PRBYTE", 0xFDDA, CURSOR, LEFT, "prbyte_serves @ refl"),
+        Service("PRHEX", 0xFDE3, CURSOR, LEFT, "prhex_serves @ refl"),
         Service("COUT1", 0xFDF0, CURSOR, LEFT, "cout1_serves @ refl"),
         Service("COUT", 0xFDED, HOOK, LEFT, "cout_serves @ refl refl"),
         Service("CROUT", 0xFD8E, HOOK, (*LEFT, "A = 141"), "crout_serves @ refl refl", "A"),
+        Service("VTAB", 0xFC22, CURSOR, (), "vtab_serves @ refl", ranges=[BASE]),
+        Service("CLREOL", 0xFC9C, CURSOR, (), "clreol_serves @ refl", ranges=[PAGE]),
+        Service("SETINV", 0xFE80, (), ("$32 = #$3F",), "setinv_serves @ refl", ranges=[MASK]),
+        Service("SETNORM", 0xFE84, (), ("$32 = #$FF",), "setnorm_serves @ refl", ranges=[MASK]),
+        Service("WAIT", 0xFCA8, (), ("A = 0",), "wait_serves @ refl", "A", []),
     )
 }
 
@@ -116,6 +122,10 @@ class Screen:
         self.store(0x24, 0)
         self.store(0x25, self.top)
 
+    def clear_to_end(self):
+        for column in range(self.memory[0x24], self.width):
+            self.store(self.row(self.memory[0x25]) + self.left + column, BLANK)
+
     def base(self):
         """BASL and BASH as output leaves them."""
         at = self.row(self.memory[0x25]) + self.left
@@ -125,19 +135,32 @@ class Screen:
 
 def served(address, registers, memory):
     """Does what a service does; the addresses that it stores at, or None where window, cursor or hook do not let it."""
-    name, screen = SERVICES[address].name, Screen(memory)
-    if not (screen.is_window and (name == "HOME" or screen.has_cursor)):
+    it, screen = SERVICES[address], Screen(memory)
+    if it.wanted and not (screen.is_window and (it.wanted == WINDOW or screen.has_cursor)):
         return None
-    if name in ("COUT", "CROUT") and (memory[0x36], memory[0x37]) != (0xF0, 0xFD):
+    if it.wanted == HOOK and (memory[0x36], memory[0x37]) != (0xF0, 0xFD):
         return None
+    if it.name in ("SETINV", "SETNORM"):
+        screen.store(0x32, 0x3F if it.name == "SETINV" else 0xFF)
+    elif it.name == "WAIT":
+        registers["A"] = 0
+    elif it.name == "CLREOL":
+        screen.clear_to_end()
+    else:
+        put_by(it.name, registers, screen)
+        screen.base()
+    return screen.stored
+
+
+def put_by(name, registers, screen):
+    """What a service puts that leaves the base address."""
     if name == "CROUT":
         registers["A"] = RETURN
     if name == "HOME":
         screen.clear()
-    elif name == "PRBYTE":
+    if name == "PRBYTE":
         screen.put_digit(registers["A"] >> 4)
+    if name in ("PRBYTE", "PRHEX"):
         screen.put_digit(registers["A"] & 15)
-    else:
+    if name in ("COUT", "COUT1", "CROUT"):
         screen.put(registers["A"])
-    screen.base()
-    return screen.stored

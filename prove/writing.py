@@ -56,7 +56,7 @@ use Rattle.a2_rules.proofs.Proving.{onto, fork, loops, call, whole_after, whole,
 use Rattle.a2_rules.proofs.Ranges.{is_in, in_ranges, not_among, keeps_behind, kept_beside, kept_or_in}
 use Rattle.a2_rules.proofs.Reaching.{take, put, change, taking, putting, changing}
 use Rattle.a2_rules.proofs.Afresh.{afresh, put_here, put_other, put_read, put_whole, put_keeps, stores_whole, stores_read, then_stores, stores_keep, stores_other, same_byte, same_place, at_index, if_lt, if_le, if_eq, if_ne, one_of_two}
-use Rattle.a2_rules.proofs.Calling.{call_service, home_serves, prbyte_serves, cout1_serves, cout_serves, crout_serves}
+use Rattle.a2_rules.proofs.Calling.{call_service, home_serves, prbyte_serves, prhex_serves, cout1_serves, cout_serves, crout_serves, vtab_serves, clreol_serves, setinv_serves, setnorm_serves, wait_serves}
 use Rattle.a2_opcode.specs.Table.{fixed, paged}
 use Rattle.a2_opcode.specs.declared.Mnemonic.TheVariants.{Adc, And, Asl, Cmp, Dec, Eor, Inc, Lda, Ldx, Ldy, Lsr, Ora, Rol, Ror, Sbc, Sta, Stx, Sty}
 use Rattle.a2_opcode.specs.declared.Mode.TheVariants.{ZeroPageX, ZeroPageY, AbsoluteX, AbsoluteY, IndexedIndirect, IndirectIndexed}

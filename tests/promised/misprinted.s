@@ -60,3 +60,16 @@ JUMP    JMP $FDF0
 ;: changes  $24..$25, $28..$29, $0400..$07FF
 STAYS   JSR $FDF0
         RTS
+
+* SETINV leaves another mask
+;: ensures  $32 = 255
+;: changes  $32
+MASK    JSR $FE80
+        RTS
+
+* that it is a blank is not known
+;: requires $20 = 0 and $21 = 40 and $22 = 0 and $23 = 24 and $24 = 0 and $25 = 0
+;: ensures  $0400 = 160
+;: changes  $0400..$07FF
+CLEAN   JSR $FC9C
+        RTS

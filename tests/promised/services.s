@@ -50,3 +50,30 @@ TLOOP   LDA $2000,X
         INX
         BNE TLOOP
 TDONE   RTS
+
+* a digit, behind which the row is cleared
+;: requires $21 >= 1 and $20 + $21 <= 40 and $22 < $23 <= 24 and $20 + $24 < 40 and $25 < 24
+;: ensures  A = old A and $20 + $24 < 40 and $32 = old $32
+;: changes  $24..$25, $28..$29, $0400..$07FF
+DIGIT   JSR $FDE3
+        JSR $FC9C
+        RTS
+
+* the base address of another row, and no byte of the screen
+;: requires $21 >= 1 and $20 + $21 <= 40 and $22 < $23 <= 24 and $20 + $24 < 40 and $06 < 24
+;: ensures  $25 = $06 and A = $25 and $0400 = old $0400
+;: changes  A, $25, $28..$29
+ROW     LDA $06
+        STA $25
+        JSR $FC22
+        RTS
+
+* the mask of characters, with a pause
+;: ensures  A = 0 and X = old X and $06 = 63 and $32 = 255
+;: changes  A, $06, $32
+MASKS   JSR $FE80
+        LDA $32
+        STA $06
+        JSR $FCA8
+        JSR $FE84
+        RTS
