@@ -7,7 +7,7 @@ import re
 from .arrays import MOST_CASES, Cut, Finder, Kept, Put, is_apart, span
 from .assembling import BRANCHES
 from .refusal import Refusal
-from .services import SERVICES, services_of
+from .services import SERVICES, services_of, why_unproved
 from .saying import FLAGS, Words, constant, is_fact, is_minus, most, shape, signed_in
 from .promises import labels_in
 from .symbolic import Ground, Run, State, StateWords
@@ -152,6 +152,8 @@ class Proof(Run):
                 return self.call(state, it, self.routines[it.value], loops)
             elif it.mnemonic == "JSR" and it.value in SERVICES:
                 return self.call(state, it, SERVICES[it.value], loops)
+            elif it.mnemonic in ("JSR", "JMP") and it.mode == "Absolute" and why_unproved(it.value):
+                raise Refusal(it.line, why_unproved(it.value))
             elif self.is_reached(state, it):
                 return self.reach(state, it, loops)
             else:

@@ -48,6 +48,24 @@ SERVICES = {
         Service("WAIT", 0xFCA8, (), ("A = 0",), "wait_serves @ refl", "A", []),
     )
 }
+# The others, those that want a key apart.
+WITH_KEYS = {0xFD0C: "RDKEY can't come back from KEYIN", 0xFD1B: "KEYIN can't come back", 0xFD6A: "GETLN can't come back"}
+OTHERS = {
+    0xFC42: "CLREOP",
+    0xF864: "SETCOL",
+    0xF800: "PLOT",
+    0xF819: "HLINE",
+    0xF828: "VLINE",
+    0xF871: "SCRN",
+    0xF832: "CLRSCR",
+}
+
+
+def why_unproved(address):
+    """Why what calls a service can't be proved; None where no service is, or one that may be called."""
+    if address in WITH_KEYS:
+        return f"no key waits in the worlds that PROVED speaks of, so {WITH_KEYS[address]}: a2x promise tries it, with a line takes"
+    return f"a call of {OTHERS[address]} can't be proved yet: a2x promise tries it" if address in OTHERS else None
 
 
 def services_of(program):

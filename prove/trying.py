@@ -149,6 +149,8 @@ def failure(program, promise):
         says, behind = fails_in(machine, promise, entry)
         if says and may_be_long and machine.is_endless:
             long_runs += 1
+        elif says and machine.is_beyond:
+            return says
         elif says:
             cells = sorted(cells_of(promise) | machine.looked_at)[:MOST_SHOWN]
             return f"{says}; entered with {shown(entry, cells)}; left with {shown(behind, cells)}"

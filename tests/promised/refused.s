@@ -52,3 +52,31 @@ N18     STA $0400,X
         DEX
         BPL N18
         RTS
+* services of which nothing is proved: those that want a key, and others
+;: ensures A >= 128
+;: changes A
+NO19    JSR $FD0C
+        RTS
+;: ensures A >= 128
+;: changes A
+NO20    JSR $FD1B
+        RTS
+;: ensures X < 256
+;: changes A, X, $24..$25, $28..$29, $0200..$02FF, $0400..$07FF
+NO21    JSR $FD6A
+        RTS
+;: ensures A = old A
+;: changes $0400..$07FF
+NO22    JSR $F800
+        RTS
+* so rarely that no trial comes to it
+;: ensures X = old X
+;: changes A
+NO23    LDA $06
+        CMP #77
+        BNE N23
+        LDA $07
+        CMP #99
+        BNE N23
+        JSR $FD0C
+N23     RTS
