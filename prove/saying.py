@@ -383,7 +383,7 @@ def signed_in(e, words):
 
 
 def phrase(e):
-    """An expression as a phrase of specs/Phrases.antt."""
+    """An expression as a phrase of specs/Phrases.antt of a2_promise."""
     kind = e[0]
     if kind == "number":
         return f"(number (pos {e[1]}))"

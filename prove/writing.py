@@ -21,7 +21,7 @@ use Rattle.std.specs.List.{concat}
 use Rattle.a2_promise.specs.declared.expr.Atom.TheVariants as atom
 use Rattle.a2_promise.specs.declared.expr.Function.TheVariants as function
 use Rattle.a2_promise.specs.declared.expr.Operation.TheVariants as operation
-use Rattle.a2_rules.specs.Phrases.{number, held, bound, old, of, pair, choice, each, sum}
+use Rattle.a2_promise.specs.Phrases.{number, held, bound, old, of, pair, choice, each, sum}
 use Rattle.a2_rules.specs.Promised.{Said}
 """
 

@@ -36,7 +36,7 @@ use Rattle.a2_trial.specs.Kept.{Keeps, is_own, may_change, may_store, moment}
 use Rattle.a2_trial.specs.States.{Enters}
 use Rattle.a2_lessons.specs.Routines.{Keeps as KeepsRest}
 use Rattle.a2_lessons.proofs.Texts.{IsAccepted, accepted, entry_of, not_refused, source_of, statements_of}
-use Rattle.a2_rules.specs.Phrases.{Phrase, phrase_of}
+use Rattle.a2_promise.specs.Phrases.{Phrase, phrase_of}
 use Rattle.a2_rules.specs.Promised.{Said, Says, KeepsPromise, IsProved}
 use Rattle.a2_rules.specs.Worlds.{OnlyBytes}
 use Rattle.a2_rules.proofs.Bytes as run

@@ -9,7 +9,7 @@ use Rattle.a2_promise.specs.declared.expr.Atom.TheVariants as atom
 use Rattle.a2_promise.specs.declared.expr.Function.TheVariants as function
 use Rattle.a2_promise.specs.declared.expr.Operation.{Operation}
 use Rattle.a2_promise.specs.declared.expr.Operation.TheVariants as operation
-use Rattle.a2_rules.specs.Phrases.{Phrase, number, held, bound, old, of, pair, choice, each, sum}
+use Rattle.a2_promise.specs.Phrases.{Phrase, number, held, bound, old, of, pair, choice, each, sum}
 use Rattle.a2_lessons.specs.Routines.{word}
 
 -- Names that are counted

@@ -3,7 +3,7 @@ use Rattle.std.specs.Prelude.{pos, true, false, ℕ, List, [], ◌∷◌, codes}
 use Rattle.std.specs.List.{concat}
 use Rattle.a2_promise.specs.declared.expr.Atom.TheVariants as atom
 use Rattle.a2_promise.specs.declared.expr.Operation.TheVariants as operation
-use Rattle.a2_rules.specs.Phrases.{number, held, old, pair}
+use Rattle.a2_promise.specs.Phrases.{number, held, old, pair}
 use Rattle.a2_rules.specs.Promised.{Said, IsProved}
 
 abbrev pub doubling : List ℕ

@@ -1,4 +1,3 @@
 pub mod Worlds
-pub mod Phrases
 pub mod Promised
 pub mod Doubling

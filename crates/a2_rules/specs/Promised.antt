@@ -9,7 +9,7 @@ use Rattle.a2_promise.specs.declared.promises.Promise.{Promise}
 use Rattle.a2_trial.specs.Entering.{laid}
 use Rattle.a2_trial.specs.Kept.{IsRequired, Keeps}
 use Rattle.a2_trial.specs.States.{Enters}
-use Rattle.a2_rules.specs.Phrases.{Phrase, phrase_of}
+use Rattle.a2_promise.specs.Phrases.{Phrase, phrase_of}
 use Rattle.a2_rules.specs.Worlds.{OnlyBytes}
 
 -- what a promise says: where its routine is entered, what it requires and ensures, and what `changes` names, registers and bytes
