@@ -22,6 +22,7 @@ pub use fault::Refusal;
 pub use promises::{Changes, Clause, Found, Promise, Range, Within, promise_in, promises_of};
 pub use texts::{Text, Texts};
 pub use valuing::{Bounds, Sight, Visit, value, value_in};
+pub use words::{Infix, Relation};
 
 /// A theorem, and no code: the value of an expression depends on nothing but the bytes, registers and flags that it looks at.
 pub fn values_depend_on_looks()

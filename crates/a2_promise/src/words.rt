@@ -13,7 +13,7 @@ pub(crate) enum Kind {
 
 /// How two numbers compare.
 #[derive(Clone, Copy)]
-pub(crate) enum Relation {
+pub enum Relation {
     Equal,
     Other,
     Less,
@@ -24,7 +24,7 @@ pub(crate) enum Relation {
 
 /// What joins two expressions.
 #[derive(Clone, Copy)]
-pub(crate) enum Infix {
+pub enum Infix {
     Iff,
     Or,
     And,
