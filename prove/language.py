@@ -1,11 +1,10 @@
-"""Expressions of promises, as docs/manual/promises.md has them: the same words, signs and refusals as in crates/a2_promise.
-
-An expression is a tuple: ('number', n), ('held', ATOM), ('bound', i), ('old', e), ('of', FUNCTION, e), ('pair', OPERATION, x, y),
-('choice', c, x, y), ('each', i, n, e), ('sum', i, n, e), ('at', LABEL, e); atoms, functions and operations are named as in a2_promise."""
+"""Expressions of promises, as docs/manual/promises.md has them: the same words, signs and refusals as in crates/a2_promise. An
+expression is read as a tree, which prove/written.py has."""
 
 import re
 
 from .refusal import Refusal
+from .written import OPERATIONS, RELATIONS, Token, is_comparison
 
 NUMBER, FACT, FLAG = "number", "fact", "flag"
 ATOMS = {
@@ -22,61 +21,28 @@ ATOMS = {
     "cycles": ("Cycles", NUMBER),
     "steps": ("Steps", NUMBER),
 }
-# What joins two expressions: how tight, and what it makes of them.
-IFF, OR, AND, COMPARISON, BITS, BIT_AND, SUM, PRODUCT = 1, 2, 3, 5, 6, 7, 8, 9
-JOINS = {
-    "iff": (IFF, "iff"),
-    "or": (OR, "or"),
-    "and": (AND, "and"),
-    "=": (COMPARISON, "="),
-    "<>": (COMPARISON, "<>"),
-    "<": (COMPARISON, "<"),
-    "<=": (COMPARISON, "<="),
-    ">": (COMPARISON, ">"),
-    ">=": (COMPARISON, ">="),
-    "|": (BITS, "BitOr"),
-    "^": (BITS, "BitXor"),
-    "&": (BIT_AND, "BitAnd"),
-    "+": (SUM, "Plus"),
-    "-": (SUM, "Minus"),
-    "*": (PRODUCT, "Times"),
-    "/": (PRODUCT, "Over"),
-    "%": (PRODUCT, "Modulo"),
-}
-BEHIND_AND, BEHIND_COMPARISON = 4, 6
+# How tight what joins two expressions binds them.
+IFF, OR, AND, BEHIND_AND, COMPARISON, BITS, BIT_AND, SUM, PRODUCT = range(1, 10)
+BEHIND_COMPARISON = BITS
+RANKS = {"iff": IFF, "or": OR, "and": AND, "|": BITS, "^": BITS, "&": BIT_AND, "+": SUM, "-": SUM}
+RANKS |= {sign: PRODUCT for sign in "*/%"} | {sign: COMPARISON for sign in RELATIONS}
 MOST_NAMES = 4
 COUNTED = "here stands what is counted, as in for all i < 8: [#$2000 + i] = 0"
-WORDS = set(ATOMS) | set("iff or and old at not if then else for all sum min max abs bit of signed word text nothing".split())
-TOKEN = re.compile(r"[ \t]*(?:\$([0-9A-Fa-f]*)|(\d+)|([A-Za-z]\w*)|(<=|<>|>=|\.\.|.))", re.DOTALL)
+# Words that mean something else than a name that is counted.
+OPENINGS = set("old at text not if for sum min max abs bit signed word".split())
+WORDS = set(ATOMS) | OPENINGS | {"iff", "or", "and"}
+TOKEN = re.compile(r"[ \t]*(?:\$([0-9A-Fa-f]*)|([0-9]+)|([A-Za-z][A-Za-z0-9_]*)|(<=|<>|>=|\.\.|.))", re.DOTALL)
 
 # A text between quotes, from the blank to ~.
 TEXT = re.compile(r"""[ \t]*(?:"([ !#-~]+)"|'([ -&(-~]+)')""")
 TEXT_WANTED = 'a text in quotes is wanted here, as in text $0400 = "HI", which ASC "HI" lays'
 
-TRUE, FALSE = ("number", 1), ("number", 0)
-
-
-def negation(e):
-    return ("choice", e, FALSE, TRUE)
-
-
-def both(x, y):
-    return ("choice", x, y, FALSE)
-
-
-def compared(sign, x, y):
-    if sign == "<>":
-        return negation(("pair", "Equal", x, y))
-    turned = sign in (">", ">=")
-    operation = {"=": "Equal", "<": "Less", "<=": "AtMost", ">": "Less", ">=": "AtMost"}[sign]
-    return ("pair", operation, y, x) if turned else ("pair", operation, x, y)
-
 
 class Piece:
-    """An expression as it was read: its kind, where it begins, and of a comparison its last number."""
+    """An expression as it was read: its tree, its kind, and where it begins."""
 
-    def __init__(self, expr, kind, at, last=None):
-        self.expr, self.kind, self.at, self.last = expr, kind, at, last
+    def __init__(self, tree, kind, at):
+        self.tree, self.kind, self.at = tree, kind, at
 
 
 class Reader:
@@ -93,23 +59,19 @@ class Reader:
         raise Refusal(self.line, says, self.offset + (self.at if at is None else at) + blanks + 1)
 
     def next(self):
-        """The class and text of what stands next."""
+        """What stands next, a token of class end where nothing does."""
         found = TOKEN.match(self.text, self.at)
         if not found:
-            return "end", ""
-        place, decimal, word, sign = found.groups()
-        for kind, text in (("place", place), ("decimal", decimal), ("word", word), ("sign", sign)):
-            if text is not None:
-                return kind, text
-        return "end", ""
+            return Token("end", "")
+        kinds = zip(("place", "decimal", "word", "sign"), found.groups())
+        return next(Token(kind, text) for kind, text in kinds if text is not None)
 
     def take(self):
         found = TOKEN.match(self.text, self.at)
         self.at = found.end() if found else len(self.text)
 
     def took(self, text):
-        kind, here = self.next()
-        if kind in ("word", "sign") and here == text:
+        if self.next() in (("word", text), ("sign", text)):
             self.take()
             return True
         return False
@@ -124,43 +86,39 @@ class Reader:
 
     # Numbers and addresses
 
+    def valued(self, token):
+        """The number of four digits at most, or of a name of the source, if a token is one."""
+        if token.kind == "place":
+            return int(token.text, 16) if 1 <= len(token.text) <= 4 else None
+        return self.names.get(token.text) if token.kind == "word" else None
+
     def literal(self):
-        kind, text = self.next()
-        number = None
-        if kind == "decimal" and int(text) < 2**32:
-            number = int(text)
-        elif kind == "place" and 1 <= len(text) <= 4:
-            number = int(text, 16)
-        elif kind == "word":
-            number = self.names.get(text)
+        token = self.next()
+        number = int(token.text) if token.kind == "decimal" and int(token.text) < 2**32 else self.valued(token)
         if number is None:
             self.refuse("a number, $ and up to four digits, or a name of the source is wanted here")
         self.take()
-        return number
+        return token, number
 
     def address(self):
-        kind, text = self.next()
-        address = None
-        if kind == "place" and 1 <= len(text) <= 4:
-            address = int(text, 16)
-        elif kind == "word":
-            address = self.names.get(text)
+        token = self.next()
+        address = self.valued(token)
         if address is None:
             self.refuse("this is no name of the source, no register (A X Y S), no flag (C Z N V D I) and no address")
         self.take()
-        return address
+        return token, address
 
     # Kinds
 
     def number(self, piece):
         if piece.kind == FACT:
             self.refuse("a number is wanted here, and this says that something holds", piece.at)
-        return piece.expr
+        return piece.tree
 
     def fact(self, piece):
         if piece.kind == NUMBER:
             self.refuse("something that holds or not is wanted here, as A = 3, and this is a number", piece.at)
-        return piece.expr
+        return piece.tree
 
     # Expressions
 
@@ -168,55 +126,45 @@ class Reader:
         left = self.beginning()
         while True:
             kind, text = self.next()
-            join = JOINS.get(text) if kind in ("word", "sign") else None
-            if not join or join[0] < rank:
+            join = RANKS.get(text, 0) if kind in ("word", "sign") else 0
+            if join < rank:
                 return left
             self.take()
-            left = self.joined(left, *join)
+            left = self.joined(left, join, text)
 
     def joined(self, left, rank, sign):
-        if rank == COMPARISON:
-            return self.comparison(left, sign)
-        if rank > COMPARISON:
-            x = self.number(left)
-            return Piece(("pair", sign, x, self.number(self.expression(rank + 1))), NUMBER, left.at)
-        x = self.fact(left)
-        y = self.fact(self.expression(rank + 1))
-        made = {"or": ("choice", x, TRUE, y), "and": both(x, y), "iff": ("pair", "Equal", x, y)}[sign]
-        return Piece(made, FACT, left.at)
-
-    def comparison(self, left, sign):
-        x = left.last if left.last is not None else self.number(left)
-        y = self.number(self.expression(BEHIND_COMPARISON))
-        made = compared(sign, x, y)
-        return Piece(made if left.last is None else both(left.expr, made), FACT, left.at, y)
+        kind, wanted = (NUMBER, self.number) if sign in OPERATIONS else (FACT, self.number if sign in RELATIONS else self.fact)
+        # (a comparison may go on with its last number)
+        x = left.tree if rank == COMPARISON and is_comparison(left.tree) else wanted(left)
+        return Piece(("joined", sign, x, wanted(self.expression(rank + 1))), kind, left.at)
 
     def beginning(self):
         at = self.at
-        kind, text = self.next()
-        opened = self.opened(kind, text, at)
+        token = self.next()
+        opened = self.opened(token, at)
         if opened:
             return opened
-        if kind == "word" and text in self.counted:
+        if token.kind == "word" and token.text in self.counted:
             self.take()
             # (of two that have one name it is the inner one)
-            number = max(k for k, name in enumerate(self.counted) if name == text)
-            return Piece(("bound", number), NUMBER, at)
-        if kind == "decimal":
-            return Piece(("number", self.literal()), NUMBER, at)
-        return Piece(("of", "Byte", ("number", self.address())), NUMBER, at)
+            number = max(k for k, name in enumerate(self.counted) if name == token.text)
+            return Piece(("counted", token.text, number), NUMBER, at)
+        if token.kind == "decimal":
+            return Piece(("decimal", *self.literal()), NUMBER, at)
+        return Piece(("byte", *self.address()), NUMBER, at)
 
-    def opened(self, kind, text, at):
+    def opened(self, token, at):
         """What a word or sign opens."""
+        kind, text = token
         if kind == "word" and text in ATOMS:
             self.take()
             atom, what = ATOMS[text]
-            return Piece(("held", atom), what, at)
+            return Piece(("atom", atom), what, at)
         opening = {
             "(": self.group,
             "[": self.byte,
             "#": self.hash,
-            "-": self.negative,
+            "-": self.of_next,
             "old": self.old,
             "at": self.at_label,
             "not": self.negated,
@@ -225,9 +173,9 @@ class Reader:
             "sum": self.sum_of,
             "min": self.pair_of,
             "max": self.pair_of,
-            "abs": self.absolute,
+            "abs": self.of_next,
             "bit": self.bit,
-            "signed": self.signed,
+            "signed": self.of_next,
             "word": self.word,
             "text": self.text_at,
         }.get(text if kind in ("word", "sign") else None)
@@ -239,7 +187,7 @@ class Reader:
     def group(self, at, _):
         within = self.expression()
         self.expect(")", "a ) is wanted here")
-        return Piece(within.expr, within.kind, at)
+        return Piece(("group", within.tree), within.kind, at)
 
     def bracketed(self):
         address = self.number(self.expression())
@@ -247,17 +195,19 @@ class Reader:
         return address
 
     def byte(self, at, _):
-        return Piece(("of", "Byte", self.bracketed()), NUMBER, at)
+        return Piece(("byte_in", self.bracketed()), NUMBER, at)
 
     def hash(self, at, _):
-        return Piece(("number", self.literal()), NUMBER, at)
+        return Piece(("literal", *self.literal()), NUMBER, at)
 
-    def negative(self, at, _):
-        return Piece(("pair", "Minus", FALSE, self.number(self.beginning())), NUMBER, at)
+    def of_next(self, at, word):
+        """The number that a word or sign makes of the one that stands next."""
+        form = {"-": "minus", "abs": "magnitude", "signed": "signed"}[word]
+        return Piece((form, self.number(self.beginning())), NUMBER, at)
 
     def old(self, at, _):
         within = self.beginning()
-        return Piece(("old", within.expr), within.kind, at)
+        return Piece(("before", within.tree), within.kind, at)
 
     def at_label(self, at, _):
         kind, name = self.next()
@@ -265,26 +215,26 @@ class Reader:
             self.refuse("a label of the source is wanted here, as in at LOOP X")
         self.take()
         within = self.beginning()
-        return Piece(("at", name, within.expr), within.kind, at)
+        return Piece(("there", name, self.names[name], within.tree), within.kind, at)
 
     def negated(self, at, _):
-        return Piece(negation(self.fact(self.expression(BEHIND_AND))), FACT, at)
+        return Piece(("negated", self.fact(self.expression(BEHIND_AND))), FACT, at)
 
     def conditional(self, at, _):
         by = self.fact(self.expression())
         self.expect("then", "then is wanted here, as in if C then A = 1 else A = 0")
         one = self.expression()
         if not self.took("else"):
-            return Piece(("choice", by, self.fact(one), TRUE), FACT, at)
+            return Piece(("provided", by, self.fact(one)), FACT, at)
         other = self.expression()
-        made = ("choice", by, one.expr, other.expr)
+        made = ("one_of", by, one.tree, other.tree)
         if NUMBER in (one.kind, other.kind):
             self.number(one)
             self.number(other)
             return Piece(made, NUMBER, at)
         return Piece(made, FACT, at)
 
-    def count(self, kind):
+    def count(self, form, kind):
         what, name = self.next()
         if what != "word" or name in WORDS:
             self.refuse(COUNTED)
@@ -297,14 +247,14 @@ class Reader:
         self.counted.append(name)
         within = self.fact(self.expression()) if kind == FACT else self.number(self.expression(BEHIND_COMPARISON))
         self.counted.pop()
-        return len(self.counted), number, within
+        return form, name, len(self.counted), number, within
 
     def each(self, at, _):
         self.expect("all", "all is wanted here, as in for all i < 8: [#$2000 + i] = 0")
-        return Piece(("each", *self.count(FACT)), FACT, at)
+        return Piece(self.count("for_all", FACT), FACT, at)
 
     def sum_of(self, at, _):
-        return Piece(("sum", *self.count(NUMBER)), NUMBER, at)
+        return Piece(self.count("sum_of", NUMBER), NUMBER, at)
 
     def pair_of(self, at, word):
         says = "is wanted here, as in min(A, X)"
@@ -313,35 +263,21 @@ class Reader:
         self.expect(",", f"a comma {says}")
         y = self.number(self.expression())
         self.expect(")", f"a ) {says}")
-        return Piece(("pair", word.capitalize(), x, y), NUMBER, at)
-
-    def absolute(self, at, _):
-        return Piece(("of", "Abs", self.number(self.beginning())), NUMBER, at)
-
-    def signed(self, at, _):
-        return Piece(("of", "Signed", self.number(self.beginning())), NUMBER, at)
+        return Piece(("least" if word == "min" else "greatest", x, y), NUMBER, at)
 
     def bit(self, at, _):
         place = self.number(self.beginning())
         self.expect("of", "of is wanted here, as in bit 3 of A")
-        return Piece(("pair", "Bit", place, self.number(self.beginning())), NUMBER, at)
+        return Piece(("bit", place, self.number(self.beginning())), NUMBER, at)
 
     def text_at(self, at, _):
-        """The bytes from a place on are those of a text as ASC lays it: one after another, and all of them."""
-        is_computed = self.took("[")
-        start = self.bracketed() if is_computed else self.address()
+        start = ("text_in", self.bracketed()) if self.took("[") else ("text", *self.address())
         self.expect("=", TEXT_WANTED)
         found = TEXT.match(self.text, self.at)
         if not found:
             self.refuse(TEXT_WANTED)
         self.at = found.end()
-        made = None
-        for k, c in enumerate(found[1] or found[2]):
-            place = ("pair", "Plus", start, ("number", k)) if is_computed else ("number", start + k)
-            same = ("pair", "Equal", ("of", "Byte", place), ("number", ord(c) + (128 if found[1] else 0)))
-            made = both(made, same) if made else same
-        return Piece(made, FACT, at)
+        return Piece((*start, ord('"' if found[1] else "'"), found[1] or found[2]), FACT, at)
 
     def word(self, at, _):
-        address = self.bracketed() if self.took("[") else ("number", self.address())
-        return Piece(("of", "Word", address), NUMBER, at)
+        return Piece(("word_in", self.bracketed()) if self.took("[") else ("word_of", *self.address()), NUMBER, at)

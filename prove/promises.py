@@ -1,16 +1,19 @@
 """The promises of a source: which lines belong to which label."""
 
+import re
 from dataclasses import dataclass, field
 
-from .language import Reader
+from .language import ATOMS, Reader
 from .refusal import Refusal
+from .written import said
 
 OUTSIDE = "this stands in no routine: lines with requires, ensures or changes before a label begin one"
 KINDS = ("requires", "ensures", "changes", "invariant", "decreases", "note")
 # What is tried, and not proved.
 TRIED = ("prints", "takes")
-# Lines that speak of the run as a whole: they are of `./a2x promise`.
-OF_RUN = ("keys", "stops", "screen", "cycles", "steps", "memory", "registers")
+# What lines begin with that speak of the run as a whole: they are of `./a2x promise`.
+OF_RUN = set("case keys limit call screen mem reg stop stops cycles bytes must".split())
+VERBS = "a line of a promise begins with requires, ensures, changes, prints, takes, invariant, decreases or note"
 
 
 @dataclass
@@ -32,6 +35,17 @@ class Changes:
 
 
 @dataclass
+class Line:
+    """A line before a routine's label: its number, what stands behind its ;:, its verb, and what it says, which is a tree or a list of
+    what may change."""
+
+    number: int
+    text: str
+    verb: str
+    says: object
+
+
+@dataclass
 class Within:
     """What is said at a label within a routine."""
 
@@ -50,6 +64,7 @@ class Promise:
     wanted: list
     promised: list
     changes: Changes
+    lines: list = field(default_factory=list)
     within: list = field(default_factory=list)
 
 
@@ -60,6 +75,7 @@ class Block:
     first: int = 0
     clauses: dict = field(default_factory=lambda: {kind: [] for kind in KINDS})
     changes: Changes = field(default_factory=Changes)
+    lines: list = field(default_factory=list)
     refused: Refusal = None
 
     @property
@@ -73,58 +89,79 @@ def promise_in(text):
     return (rest[2:], len(text) - len(rest) + 2) if rest.startswith(";:") else None
 
 
+def is_of_run(rest):
+    here = rest.lstrip(" \t")
+    return here.startswith("|") or re.split("[ \t]", here)[0] in OF_RUN
+
+
 def take_changes(reader, changes):
+    """What may change, each as it is written."""
     if reader.took("nothing"):
-        return reader.ended()
+        reader.ended()
+        return []
+    taken = []
     while True:
-        take_change(reader, changes)
+        taken.append(take_change(reader, changes))
         if not reader.took(","):
-            return reader.ended()
+            reader.ended()
+            return taken
 
 
 def take_change(reader, changes):
     for register in "AXY":
         if reader.took(register):
             changes.registers.add(register)
-            return
+            return "held", register
     if reader.took("S"):
         reader.refuse("S is as it should be where a routine returns: it is not among what changes")
-    if any(reader.took(flag) for flag in "CZNVDI"):
-        return
-    first = reader.address()
-    last = reader.address() if reader.took("..") else first
+    for flag in "CZNVDI":
+        if reader.took(flag):
+            return "held", ATOMS[flag][0]
+    token, first = reader.address()
+    if not reader.took(".."):
+        changes.ranges.append((first, first))
+        return "byte", token, first
+    other, last = reader.address()
     if last < first:
         reader.refuse("the last address is below the first")
     changes.ranges.append((first, last))
+    return "bytes", token, first, other, last
 
 
 def take_line(block, number, rest, offset, names):
-    """Takes up a line of a promise; what begins with another word is left to others."""
-    word = rest.split()[0] if rest.split() else ""
-    if word in OF_RUN:
+    """Takes up a line of a promise; what says something of the run is left to others."""
+    if is_of_run(rest):
         return
     block.first = block.first or number
-    start = len(rest) - len(rest.lstrip(" \t")) + len(word)
-    reader = Reader(rest[start:], number, offset + start, names)
+    reader = Reader(rest, number, offset, names)
     try:
-        if word in TRIED:
-            raise Refusal(number, f"{word} can't be proved: a2x promise tries it", offset + start - len(word) + 1)
-        if word not in KINDS:
-            says = "a line of a promise begins with requires, ensures, changes, prints, takes, invariant, decreases or note"
-            raise Refusal(number, says, offset + start - len(word) + 1)
-        block.clauses[word].append(None)
-        if word == "changes":
-            take_changes(reader, block.changes)
-            return
-        piece = reader.expression()
-        expr = reader.number(piece) if word == "decreases" else reader.fact(piece)
-        if word in ("requires", "ensures") and labels_in(expr):
-            reader.refuse("at a label speaks of a run on its way: lines invariant, decreases and note may have it", 0)
-        reader.ended()
-        text = rest[start:]
-        block.clauses[word][-1] = Clause(number, offset + len(rest) - len(text.lstrip(" \t")) + 1, text.strip(), expr)
+        take_verb(block, reader)
     except Refusal as refused:
         block.refused = block.refused or refused
+
+
+def take_verb(block, reader):
+    verb = reader.next().text
+    if verb in TRIED:
+        reader.refuse(f"{verb} can't be proved: a2x promise tries it")
+    if verb not in KINDS:
+        reader.refuse(VERBS)
+    reader.take()
+    block.clauses[verb].append(None)
+    if verb == "changes":
+        block.lines.append(Line(reader.line, reader.text, verb, take_changes(reader, block.changes)))
+        return
+    start = reader.at
+    piece = reader.expression()
+    tree = reader.number(piece) if verb == "decreases" else reader.fact(piece)
+    expr = said(tree)
+    if verb in ("requires", "ensures") and labels_in(expr):
+        reader.refuse("at a label speaks of a run on its way: lines invariant, decreases and note may have it", start)
+    reader.ended()
+    text = reader.text[start:]
+    column = reader.offset + len(reader.text) - len(text.lstrip(" \t")) + 1
+    block.clauses[verb][-1] = Clause(reader.line, column, text.strip(" \t"), expr)
+    block.lines.append(Line(reader.line, reader.text, verb, tree))
 
 
 def labels_in(e):
@@ -149,7 +186,7 @@ def close(found, program, block, line):
     elif block.is_within:
         attach(found, block, label, line.number, address)
     else:
-        promise = Promise(label, line.number, address, block.clauses["requires"], block.clauses["ensures"], block.changes)
+        promise = Promise(label, line.number, address, block.clauses["requires"], block.clauses["ensures"], block.changes, block.lines)
         add_within(promise, block, label, line.number, address)
         found.append((label, promise))
 
@@ -165,6 +202,12 @@ def attach(found, block, label, line, address):
         found.append((label, Refusal(block.first, OUTSIDE, 1)))
     elif isinstance(found[-1][1], Promise):
         add_within(found[-1][1], block, label, line, address)
+
+
+def without_run(text):
+    """A line, blank where it says something of the run."""
+    said = promise_in(text)
+    return "" if said and is_of_run(said[0]) else text
 
 
 def promises_of(texts, lines, program):

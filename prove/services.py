@@ -3,6 +3,7 @@ what they do in a trial."""
 
 from .language import Reader
 from .promises import Changes, Clause, Promise
+from .written import said
 
 WINDOW = ("$21 >= 1", "$20 + $21 <= 40", "$22 < $23", "$23 <= 24")
 CURSOR = (*WINDOW, "$25 < 24", "$20 + $24 < 40")
@@ -14,7 +15,7 @@ BLANK, RETURN, FEED, BACKSPACE = 0xA0, 0x8D, 0x8A, 0x88
 
 
 def clauses(texts):
-    return [Clause(0, 0, text, Reader(text, 0, 0, {}).expression().expr) for text in texts]
+    return [Clause(0, 0, text, said(Reader(text, 0, 0, {}).expression().tree)) for text in texts]
 
 
 class Service:

@@ -41,6 +41,13 @@ def list_of(items):
     return "(" + "".join(f"{it} ∷ " for it in items) + "[])"
 
 
+def codes(text):
+    """A text as the list of its bytes."""
+    if all(" " <= c <= "~" and c not in '"\\' for c in text):
+        return f'(codes "{text}")'
+    return list_of(text.encode("latin-1"))
+
+
 # Places of worlds, as a promise names them.
 PLACES = (
     (r"\(stepped code .*?\)\.registers\.([axy])\b", lambda m: m[1].upper()),
