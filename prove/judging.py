@@ -4,11 +4,11 @@ from pathlib import Path
 
 from . import kit, saying
 from .assembling import Assembler
-from .promises import Promise, promises_of
+from .promises import Promise, promises_of, without_run
 from .proofs import Proof, Routine
 from .refusal import Refusal
 from .trying import failure
-from .writing import S, Written, write_crate
+from .writing import PROGRAM_MARKS, S, Written, write_crate
 
 PROVED, NOT_PROVED, REFUSED = "PROVED", "NOT PROVED", "REFUSED"
 
@@ -20,6 +20,7 @@ class Judge:
         lines = lines_of(text)
         assembler = Assembler(lines)
         self.text, self.program = text, assembler.program()
+        self.lines = [without_run(line) for line in lines]
         self.found = promises_of(lines, assembler.lines, self.program)
         self.answers = {}
         self.routines = {it.address: Routine(it) for _, it in self.found if isinstance(it, Promise)}
@@ -38,6 +39,9 @@ class Judge:
     def look(self, promises):
         """Refuses what the rules do not speak of; a routine that is called too."""
         for promise in promises:
+            other = self.routines[promise.address].promise
+            if other is not promise:
+                self.answers[promise.name] = (NOT_PROVED, f"{other.name} begins here too, and its promise alone is judged")
             for clause, why in self.reasons(promise):
                 self.answers.setdefault(promise.name, (REFUSED, str(Refusal(clause.line, why, clause.column))))
 
@@ -75,7 +79,7 @@ class Judge:
         for top in tops:
             self.take(top, needed)
         folder = room_of()
-        write_crate(folder, self.text, self.program, needed)
+        write_crate(folder, self.text, self.lines, self.program, needed)
         answers = kit.Answers(kit.check(folder), folder)
         for top in tops:
             self.answers[top.routine.name] = self.answer(top, answers)
@@ -111,7 +115,8 @@ class Judge:
         self.take(top, needed)
         if answers.is_proved(top, needed.values()):
             return PROVED, ""
-        reasons = [reason for it in needed.values() for reason in answers.reasons(it)]
+        reasons = answers.misread("Program", PROGRAM_MARKS) + answers.misread(top.told.module, top.told.marks)
+        reasons += [reason for it in needed.values() for reason in answers.reasons(it)]
         return NOT_PROVED, "; ".join(reasons[:2]) or f"what the kit said stands in {answers.keep(answers.folder / 'said')}"
 
 

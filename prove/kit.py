@@ -10,13 +10,15 @@ from .terms import in_words
 from .writing import BELOW, CRATE, function_of
 
 PROVED = re.compile(r"^fn \w+::(\w+): proved", re.MULTILINE)
+# A proof of which a part is refused is not looked at.
+BEHIND_OTHERS = re.compile(r"\d+ declarations? that depends? on")
 ERROR = re.compile(
     r"^\./(?:proofs|specs)/([\w/]+)\.antt:(\d+):\d+: error: (.*?)(?=^\./|^fn |^logic|^crate |^statements|^library|\Z)",
     re.MULTILINE | re.DOTALL,
 )
 VALUE = re.compile(r"\(?(old )?(\$[0-9A-F]{2,4}|[AXYNVZC])\)? = \d+")
 VALUES = re.compile(r"goal fails, at (.*?)\. It read", re.DOTALL)
-
+OTHERWISE = "the definitions read this otherwise, so nothing is proved of it"
 
 # Files that are open as long as this process lives.
 LOCKS = []
@@ -130,7 +132,7 @@ class Answers:
 
     def is_proved(self, written, needed):
         """Whether the kit says that a routine is proved, and finds nothing wrong in what its proof stands on."""
-        modules = {"Program", *(it.module for it in needed)}
+        modules = {"Program", written.told.module, *(it.module for it in needed)}
         return function_of(written) in self.proved and not modules & set(self.errors)
 
     def keep(self, file):
@@ -147,16 +149,26 @@ class Answers:
                 return int(found[1])
         return None
 
+    def marked(self, module, marks):
+        """The marks of a module's lines that are refused, each with what the kit says."""
+        for line, says in self.errors.get(module, []):
+            at = self.mark_at(module, line)
+            # (what stands on a proof that is none is told by that one)
+            if at is not None:
+                yield marks[at], says
+
+    def misread(self, module, marks):
+        """What the definitions read otherwise than the script."""
+        found = (mark for mark, says in self.marked(module, marks) if not BEHIND_OTHERS.match(says))
+        return list(dict.fromkeys(f"{mark}: {OTHERWISE}" for mark in found))
+
     def reasons(self, written):
         """Why a proof is not one, told of the source."""
         reasons = []
-        for line, says in self.errors.get(written.module, []):
-            at = self.mark_at(written.module, line)
-            # (what stands on a proof that is none is told by that one)
-            if at is not None:
-                found = VALUES.search(says)
-                values = readable(found[1]) if found else ""
-                reasons.append(f"{written.marks[at]}: " + (f"fails at {values}" if values else "this does not follow"))
+        for mark, says in self.marked(written.module, written.marks):
+            found = VALUES.search(says)
+            values = readable(found[1]) if found else ""
+            reasons.append(f"{mark}: " + (f"fails at {values}" if values else "this does not follow"))
         return list(dict.fromkeys(reasons))
 
 

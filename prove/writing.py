@@ -1,11 +1,13 @@
-"""The crate in which the kit checks proofs: its statements, and its proofs, as files."""
+"""The crate in which the kit checks proofs, as files: the text, statements about it, and their proofs."""
 
 import re
 import shutil
 from dataclasses import dataclass
+from functools import cached_property
 
-from .saying import Words, is_minus, phrase
-from .terms import list_of
+from .saying import Words, is_minus
+from .telling import Told
+from .terms import codes, list_of
 
 CRATE = "promised"
 # The crates that it stands on.
@@ -16,24 +18,22 @@ BELOW = (
 S = 0xFD
 LINE = re.compile(r"[^\n]*\n|[^\n]+")
 
-STATEMENT_USES = """use Rattle.std.specs.Prelude.{ℕ, pos, true, false, List, [], ◌∷◌, codes}
+STATEMENT_USES = """use Rattle.std.specs.Prelude.{ℕ, List, [], ◌∷◌, codes}
 use Rattle.std.specs.List.{concat}
-use Rattle.a2_promise.specs.declared.expr.Atom.TheVariants as atom
-use Rattle.a2_promise.specs.declared.expr.Function.TheVariants as function
-use Rattle.a2_promise.specs.declared.expr.Operation.TheVariants as operation
-use Rattle.a2_promise.specs.Phrases.{number, held, bound, old, of, pair, choice, each, sum}
-use Rattle.a2_rules.specs.Promised.{Said}
 """
 
-PROGRAM_USES = """use Rattle.std.specs.Prelude.{◌≡◌, List, [], ◌∷◌, Some, None, refl}
+PROGRAM_USES = """use Rattle.std.specs.Prelude.{◌≡◌, ℕ, List, [], ◌∷◌, codes, Some, None, refl}
+use Rattle.a2_text.specs.Words.{first_word}
 use Rattle.a2_opcode.specs.declared.Mnemonic.TheVariants.{%s}
 use Rattle.a2_opcode.specs.declared.Mode.TheVariants.{%s}
+use Rattle.a2_asm.specs.Values.{Names}
 use Rattle.a2_asm.specs.declared.program.Statement.{Statement}
 use Rattle.a2_machine.specs.Meaning.{Code}
 use Rattle.a2_lessons.specs.Routines.{op}
 use Rattle.a2_lessons.proofs.Texts.{entry_of, statements_of}
 use Rattle.a2_lessons.proofs.Reading.{reading}
-use Rattle.a2_rules.proofs.Kept.{code_of}
+use Rattle.a2_rules.specs.Promised.{lines_of_routines}
+use Rattle.a2_rules.proofs.Kept.{code_of, names_of}
 use Rattle.promised.specs.Statements.{text}
 """
 
@@ -63,11 +63,16 @@ use Rattle.a2_opcode.specs.declared.Mode.TheVariants.{ZeroPageX, ZeroPageY, Abso
 use Rattle.promised.proofs.Program.{code}
 """
 
-END_USES = """use Rattle.a2_rules.specs.Promised.{IsProved}
-use Rattle.a2_rules.proofs.Kept.{proved}
-use Rattle.promised.specs.Statements.{text, %s}
-use Rattle.promised.proofs.Program.{listing, read, stated}
+END_USES = """use Rattle.std.specs.Prelude.{codes}
+use Rattle.a2_rules.specs.Promised.{IsProved}
+use Rattle.a2_rules.proofs.Kept.{proved, told_of}
+use Rattle.promised.specs.Statements.{text}
+use Rattle.promised.proofs.Program.{listing, lines, names, read, stated, cut, named}
+use Rattle.promised.proofs.%s.{terms, tells}
 """
+
+# What the marked lines of Program.antt check.
+PROGRAM_MARKS = ("where the source begins", "the statements of the source", "the lines of the source", "the names of the source")
 
 
 @dataclass
@@ -81,6 +86,10 @@ class Written:
     ways: int
     changed: list
     calls: set
+
+    @cached_property
+    def told(self):
+        return Told(self.routine.promise)
 
     @property
     def name(self):
@@ -99,29 +108,10 @@ def literal(text):
     return list_of(text.encode("latin-1"))
 
 
-def flag(is_set):
-    return "true" if is_set else "false"
-
-
-def said(promise):
-    """A promise as `Said` of specs/Promised.antt."""
-    fields = [f"address = {promise.address}"]
-    for name, clauses in (("wanted", promise.wanted), ("promised", promise.promised)):
-        fields.append(f"{name} = {list_of(phrase(clause.expr) for clause in clauses)}")
-    fields += [f"{it.lower()} = {flag(it in promise.changes.registers)}" for it in "AXY"]
-    fields.append(f"ranges = {list_of(f'({first}, {last})' for first, last in promise.changes.ranges)}")
-    return "record {\n" + "".join(f"  {it};\n" for it in fields) + "}"
-
-
-def statements_file(source, promises):
-    text = "-- Written by a2-prove: a source text, and what its routines promise.\n" + STATEMENT_USES
+def statements_file(source):
+    text = "-- Written by a2-prove: a source text.\n" + STATEMENT_USES
     text += "\nabbrev pub text : List ℕ\ntext = concat (\n"
-    text += "".join(f"    {literal(line)} ∷\n" for line in LINE.findall(source)) + "    [])\n"
-    for promise in promises:
-        clauses = "".join(f"-- {clause.text}\n" for clause in promise.wanted + promise.promised)
-        name = f"{promise.name}_said"
-        text += f"\n-- {promise.name}, line {promise.line}\n{clauses}abbrev pub {name} : Said\n{name} = {said(promise)}\n"
-    return text
+    return text + "".join(f"    {literal(line)} ∷\n" for line in LINE.findall(source)) + "    [])\n"
 
 
 def statement(it):
@@ -131,15 +121,27 @@ def statement(it):
     return f"record {{ line = {it.line}; addr = {it.address}; length = {it.length}; instr = {instr} }}"
 
 
-def program_file(program):
+def rows(name, kind, items):
+    return f"\nabbrev pub {name} : {kind}\n{name} =\n" + "".join(f"    {it} ∷\n" for it in items) + "    []\n"
+
+
+def computed(k, name, says, unfolded):
+    """What is computed of the text."""
+    return f"\npub {name} : {says}\nunfolding {unfolded}\n{name} = refl -- @{k}\n"
+
+
+def program_file(program, lines):
     of = [it for it in program.statements if it.is_instruction]
     uses = PROGRAM_USES % (", ".join(sorted({it.mnemonic.capitalize() for it in of})), ", ".join(sorted({it.mode for it in of})))
-    text = "-- Written by a2-prove: the statements of the text, which are computed of it.\n" + uses
-    rows = "".join(f"    {statement(it)} ∷\n" for it in program.statements)
-    text += f"\nabbrev pub listing : List Statement\nlisting =\n{rows}    []\n"
+    text = "-- Written by a2-prove: the statements, lines and names of the text, which are computed of it.\n" + uses
+    text += rows("listing", "List Statement", (statement(it) for it in program.statements))
     text += "\nabbrev pub code : Code\ncode = code_of listing\n"
-    text += f"\npub read : entry_of text ≡ Some {program.entry()}\nunfolding reading\nread = refl\n"
-    return text + "\npub stated : statements_of text ≡ listing\nunfolding reading\nstated = refl\n"
+    text += rows("lines", "List (List ℕ)", (codes(line) for line in lines))
+    text += rows("names", "Names", (f"({codes(name)}, {value})" for name, value in program.names.items()))
+    text += computed(0, "read", f"entry_of text ≡ Some {program.entry()}", "reading")
+    text += computed(1, "stated", "statements_of text ≡ listing", "reading")
+    text += computed(2, "cut", "lines_of_routines text ≡ lines", "first_word")
+    return text + computed(3, "named", "names_of text ≡ names", "reading")
 
 
 def record(name, worlds, fields):
@@ -210,18 +212,20 @@ def ending(written):
         kept += f"{it.lower()} = {proof}; "
     after = f"record {{ says = {pairs('e', len(promise.promised), 'h.2')}; {kept}rest = h.2.rest; bytes = h.2.bytes }}"
     meets = f"({written.name}_meets w bytes ({before_of(promise)}))"
+    label, above = codes(promise.name), promise.line - 1
     body = (
-        f"proved text listing _ {name}_said {name}_ranges read stated refl refl refl\n"
+        f"proved text {label} listing _ {above} terms {name}_ranges read stated\n"
+        f"(told_of text {label} lines names {above} terms cut named tells) refl refl refl refl refl\n"
         f"(λ w bytes before. weaken code (enter {promise.address} {S} w) _ _ {meets}\n"
         f"(λ u h. (h.0, h.1, {after}))) -- @@\n"
     )
-    return f"\npub {name}_is_proved : IsProved text {name}_said\n{name}_is_proved =\n{indented(body)}"
+    return f"\npub {name}_is_proved : IsProved text {label}\n{name}_is_proved =\n{indented(body)}"
 
 
 def proof_file(written, all_written):
     text = "-- Written by a2-prove.\n" + PROOF_USES
     if written.s == S:
-        text += END_USES % f"{written.routine.name}_said"
+        text += END_USES % written.told.module
     for address, s in sorted(written.calls):
         other = all_written[address, s]
         text += f"use Rattle.promised.proofs.{other.module}.{{{other.name}_meets}}\n"
@@ -237,13 +241,11 @@ def function_of(written):
 
 
 def library_file(tops):
-    uses = ", ".join(["text"] + [f"{it.routine.name}_said" for it in tops])
-    text = "//! Written by a2-prove.\n#![tactic(auto)]\n\n"
-    text += f"ghost use Rattle.promised.specs.Statements.{{{uses}}};\nghost use Rattle.a2_rules.specs.Promised.{{IsProved}};\n"
+    text = "//! Written by a2-prove.\n#![tactic(auto)]\n\nghost use Rattle.std.specs.Prelude.{codes};\n"
+    text += "ghost use Rattle.promised.specs.Statements.{text};\nghost use Rattle.a2_rules.specs.Promised.{IsProved};\n"
     for it in tops:
         name = it.routine.name
-        ensures = f"    ensures {{ IsProved text {name}_said }}\n"
-        text += f"\n/// {name} keeps its promise.\npub fn {function_of(it)}()\n{ensures}{{}}\n"
+        text += f"\n/// {name} keeps its promise.\npub fn {function_of(it)}()\n    ensures {{ IsProved text {codes(name)} }}\n{{}}\n"
     return text
 
 
@@ -255,23 +257,24 @@ def answer_file(written):
     )
 
 
-def write_crate(folder, source, program, all_written):
+def write_crate(folder, source, lines, program, all_written):
     """Writes the crate's files; what another run left there goes, but for what the kit keeps."""
     for part in ("specs", "proofs", "src"):
         shutil.rmtree(folder / part, ignore_errors=True)
         (folder / part).mkdir(parents=True)
     tops = [it for it in all_written.values() if it.s == S]
-    modules = ["Program"] + [it.module for it in all_written.values()]
+    modules = ["Program"] + [it.told.module for it in tops] + [it.module for it in all_written.values()]
     files = {
         "specs/Lib.antt": "pub mod Statements\n",
-        "specs/Statements.antt": statements_file(source, [it.routine.promise for it in tops]),
+        "specs/Statements.antt": statements_file(source),
         "proofs/Lib.antt": "".join(f"pub mod {it}\n" for it in modules),
-        "proofs/Program.antt": program_file(program),
+        "proofs/Program.antt": program_file(program, lines),
         "src/lib.rt": library_file(tops),
     }
     for it in all_written.values():
         files[f"proofs/{it.module}.antt"] = proof_file(it, all_written)
     for it in tops:
+        files[f"proofs/{it.told.module}.antt"] = it.told.text
         files[f"proofs/{function_of(it)}/Answers.antt"] = answer_file(it)
     for name, text in files.items():
         path = folder / name

@@ -1,5 +1,5 @@
 -- The example is proved, as a2-prove proves each.
-use Rattle.std.specs.Prelude.{◌≡◌, ◌<◌, ℕ, ◌+◌, ◌*◌, ◌%◌, List, [], ◌∷◌, Some, refl}
+use Rattle.std.specs.Prelude.{◌≡◌, ◌<◌, ℕ, ◌+◌, ◌*◌, ◌%◌, List, [], ◌∷◌, codes, Some, refl}
 use Rattle.std.proofs.Common.{arith, true≢false}
 use Rattle.a2_opcode.specs.declared.Mnemonic.TheVariants.{Asl, Rts}
 use Rattle.a2_opcode.specs.declared.Mode.TheVariants.{Accumulator, Implied}
@@ -9,8 +9,21 @@ use Rattle.a2_lessons.specs.Routines.{op}
 use Rattle.a2_lessons.proofs.Keeping.{kept}
 use Rattle.a2_lessons.proofs.Reading.{reading}
 use Rattle.a2_lessons.proofs.Texts.{entry_of, statements_of}
-use Rattle.a2_rules.specs.Doubling.{doubling, double, DoublingIsProved}
-use Rattle.a2_rules.proofs.Kept.{After, code_of, proved}
+use Rattle.a2_text.specs.Words.{first_word}
+use Rattle.a2_promise.specs.declared.expr.Atom.TheVariants as atom
+use Rattle.a2_promise.specs.declared.expr.Operation.TheVariants as operation
+use Rattle.a2_promise.specs.declared.words.Infix.TheVariants as join
+use Rattle.a2_promise.specs.declared.words.Relation.TheVariants as relation
+use Rattle.a2_promise.specs.Grammar.{fits}
+use Rattle.a2_promise.specs.Tokens.{tokens}
+use Rattle.a2_promise.specs.Tokens as token
+use Rattle.a2_promise.specs.Told.{Line}
+use Rattle.a2_promise.specs.Told as told
+use Rattle.a2_promise.specs.Written.{meant, spelled}
+use Rattle.a2_promise.specs.Written as written
+use Rattle.a2_rules.specs.Doubling.{doubling, double, DoublingIsProved, DoublingTells}
+use Rattle.a2_rules.proofs.Told.{not_nothing}
+use Rattle.a2_rules.proofs.Kept.{After, code_of, names_of, proved, told_of}
 use Rattle.a2_rules.proofs.Meeting.{Meets, home}
 use Rattle.a2_rules.proofs.Proving.{whole_after}
 use Rattle.a2_rules.proofs.Saying.{all_say}
@@ -27,6 +40,30 @@ read = refl
 stated : statements_of doubling ≡ listing
 unfolding reading listing
 stated = refl
+
+named : names_of doubling ≡ ((codes "DOUBLE", 0x300) ∷ [])
+unfolding reading
+named = refl
+
+-- what the lines before DOUBLE say
+said : List Line
+said =
+    told.requires (written.joined (join.Compare relation.Less) (written.atom atom.A) (written.decimal (token.decimal (codes "128")) 128))
+    ∷ told.ensures (written.joined (join.Compare relation.Equal) (written.atom atom.A) (written.joined (join.Apply operation.Times) (written.decimal (token.decimal (codes "2")) 2) (written.before (written.atom atom.A))))
+    ∷ told.changes (told.held atom.A ∷ []) ∷ []
+
+pub doubling_tells : DoublingTells
+unfolding first_word tokens spelled meant fits said
+doubling_tells = record {
+  line = _;
+  stands = refl;
+  is_label = refl;
+  told = said;
+  are_lines = ((refl, refl), ((refl, refl), ((_, refl, (refl, refl, not_nothing _ refl)), tt)));
+  is_promise = refl;
+  address = refl;
+  are_terms = refl;
+}
 
 doubled : (a : ℕ) → a < 128 → (2 * a + 0) % 256 ≡ 2 * a
 doubled a low = omega (arith, low)
@@ -61,4 +98,6 @@ meets w bytes before = (
 )
 
 pub doubling_is_proved : DoublingIsProved
-doubling_is_proved = proved doubling listing 0x300 double [] read stated refl refl refl meets
+doubling_is_proved =
+    proved doubling _ listing 0x300 3 double [] read stated (told_of doubling _ _ _ 3 double refl named doubling_tells)
+    refl refl refl refl refl meets

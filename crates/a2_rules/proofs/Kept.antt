@@ -7,7 +7,10 @@ use Rattle.a2_hex.specs.Images.{held}
 use Rattle.a2_bus.specs.Memory.{ram_byte, ram_end}
 use Rattle.a2_syntax.proofs.OneReading.{one-source}
 use Rattle.a2_asm.specs.Assembled.{Assembled}
+use Rattle.a2_asm.specs.Layout.{names}
+use Rattle.a2_asm.specs.Pass.{source_rows}
 use Rattle.a2_asm.specs.Programs.{IsProgram, IsSound, instr_at, is_code}
+use Rattle.a2_asm.specs.Values.{Names}
 use Rattle.a2_asm.specs.declared.program.Statement.{Statement}
 use Rattle.a2_asm.proofs.MadeLaws.{IsMade, made-of}
 use Rattle.a2_asm.proofs.RunLaws.{program-sound}
@@ -37,7 +40,8 @@ use Rattle.a2_trial.specs.States.{Enters}
 use Rattle.a2_lessons.specs.Routines.{Keeps as KeepsRest}
 use Rattle.a2_lessons.proofs.Texts.{IsAccepted, accepted, entry_of, not_refused, source_of, statements_of}
 use Rattle.a2_promise.specs.Phrases.{Phrase, phrase_of}
-use Rattle.a2_rules.specs.Promised.{Said, Says, KeepsPromise, IsProved}
+use Rattle.a2_promise.specs.Told.{Terms, IsTold, IsPromise}
+use Rattle.a2_rules.specs.Promised.{lines_of_routines, KeepsPromise, IsProved}
 use Rattle.a2_rules.specs.Worlds.{OnlyBytes}
 use Rattle.a2_rules.proofs.Bytes as run
 use Rattle.a2_rules.proofs.Ranges.{all_pass, is_in, passes_not}
@@ -81,8 +85,8 @@ module _ (w v : World) (steps : ℕ) (bw : OnlyBytes w) (bv : OnlyBytes v) where
 -- Bytes that may change
 
 -- an address that `changes` names, or one of the stack below the return address
-abbrev pub may_be_stored : Said → ℕ → Bool
-may_be_stored said a = is_in said.ranges a || is_own a
+abbrev pub may_be_stored : Terms → ℕ → Bool
+may_be_stored terms a = is_in terms.ranges a || is_own a
 
 same_ranges : (ranges : List Range) (a : ℕ)
     → list_any (λ range. nat_le range.first a && nat_le a range.last) ranges ≡ is_in (map (λ range. (range.first, range.last)) ranges) a
@@ -90,11 +94,11 @@ same_ranges [] a = refl
 same_ranges (range ∷ more) a = ap (λ v. (nat_le range.first a && nat_le a range.last) || v) (same_ranges more a)
 
 -- what is known behind the routine
-pub record After (said : Said) (changed : List (ℕ × ℕ)) (w v : World) : Type 0 where
-  pub says : all_say said.promised w v
-  pub a : said.a ≡ false → v.registers.a ≡ w.registers.a
-  pub x : said.x ≡ false → v.registers.x ≡ w.registers.x
-  pub y : said.y ≡ false → v.registers.y ≡ w.registers.y
+pub record After (terms : Terms) (changed : List (ℕ × ℕ)) (w v : World) : Type 0 where
+  pub says : all_say terms.promised w v
+  pub a : terms.a ≡ false → v.registers.a ≡ w.registers.a
+  pub x : terms.x ≡ false → v.registers.x ≡ w.registers.x
+  pub y : terms.y ≡ false → v.registers.y ≡ w.registers.y
   pub rest : KeepsRest w.memory (is_in changed) v
   pub bytes : IsWhole v
 
@@ -126,8 +130,8 @@ module _ (program : Assembled) (sound : IsSound program) (promise : Promise) (wo
 -- THE PROMISE IS KEPT: of what the routine meets
 
 module _ (all : List Statement) (program : Assembled) (sound : IsSound program) (stated : program.statements ≡ all)
-    (low : list_all (λ n. nat_lt n ram_end) (code_bytes all) ≡ true) (said : Said) (promise : Promise) (says : Says promise said) (changed : List (ℕ × ℕ))
-    (promised : all_tell said.promised ≡ true) (stored : all_pass (may_be_stored said) changed ≡ true) where
+    (low : list_all (λ n. nat_lt n ram_end) (code_bytes all) ≡ true) (terms : Terms) (promise : Promise) (says : IsPromise promise terms) (changed : List (ℕ × ℕ))
+    (promised : all_tell terms.promised ≡ true) (stored : all_pass (may_be_stored terms) changed ≡ true) where
   low_program : list_all (λ n. nat_lt n ram_end) (code_bytes program.statements) ≡ true
   low_program = subst (λ l. list_all (λ n. nat_lt n ram_end) (code_bytes l) ≡ true) (sym stated) low
 
@@ -142,7 +146,7 @@ module _ (all : List Statement) (program : Assembled) (sound : IsSound program) 
   one_more n = omega arith
 
   module _ (w : World) (enters : Enters (laid (held program.image) promise.address []) w) (bytes_w : OnlyBytes w) (n : ℕ) (u v : World)
-      (walk : walked (code_of all) w n ≡ Some u) (back : Back (code_of all) 0xFD w u v) (after : After said changed w v) where
+      (walk : walked (code_of all) w n ≡ Some u) (back : Back (code_of all) 0xFD w u v) (after : After terms changed w v) where
     laid_there : HoldsCode (guard_of_program program).code (laid_by program) w.memory
     laid_there = holds_code program sound promise w enters low_program
 
@@ -192,7 +196,7 @@ module _ (all : List Statement) (program : Assembled) (sound : IsSound program) 
     registers part_z h = absurd (true≢false h)
     registers part_c h = absurd (true≢false h)
 
-    not_stored : (a : ℕ) → is_own a ≡ false → may_store promise.changes a ≡ false → may_be_stored said a ≡ false
+    not_stored : (a : ℕ) → is_own a ≡ false → may_store promise.changes a ≡ false → may_be_stored terms a ≡ false
     not_stored a own may =
         ap₂ (λ x y. x || y)
         (sym (same_ranges promise.changes.ranges.items a ∙ ap (λ l. is_in l a) says.ranges) ∙ may) own
@@ -201,7 +205,7 @@ module _ (all : List Statement) (program : Assembled) (sound : IsSound program) 
         → ram_byte (world_at (bytes None) w (suc n)).memory a ≡ ram_byte w.memory a
     rest a here own may =
         ap (λ (x : World). ram_byte x.memory a) whole.there
-        ∙ after.rest.bytes a (passes_not (may_be_stored said) changed a stored (not_stored a own may))
+        ∙ after.rest.bytes a (passes_not (may_be_stored terms) changed a stored (not_stored a own may))
 
     kept : Keeps promise (suc n) w
     kept = record {
@@ -214,32 +218,51 @@ module _ (all : List Statement) (program : Assembled) (sound : IsSound program) 
     }
 
 -- what a routine that is entered with S = $FD meets
-abbrev MeetsPromise : List Statement → Said → List (ℕ × ℕ) → Type 0
-MeetsPromise all said changed = Meets (code_of all) said.address 0xFD (λ w. all_say said.wanted w w) (After said changed)
+abbrev MeetsPromise : List Statement → Terms → List (ℕ × ℕ) → Type 0
+MeetsPromise all terms changed = Meets (code_of all) terms.address 0xFD (λ w. all_say terms.wanted w w) (After terms changed)
 
--- THE THEOREM: a text that is read, whose statements are these, keeps what its routine meets
-pub proved : (text : List ℕ) (all : List Statement) (entry : ℕ) (said : Said) (changed : List (ℕ × ℕ)) → entry_of text ≡ Some entry
-    → statements_of text ≡ all → all_tell said.wanted ≡ true → all_tell said.promised ≡ true
-    → all_pass (may_be_stored said) changed ≡ true → MeetsPromise all said changed → IsProved text said
-proved text all entry said changed read stated wanted promised stored meets = record {
+-- the names of a text, with their values
+abbrev pub names_of : List ℕ → Names
+names_of text = names (source_rows (source_of text))
+
+-- what lines and names tell is told of the text that has them
+pub told_of : (text label : List ℕ) (lines : List (List ℕ)) (known : Names) (above : ℕ) (terms : Terms) → lines_of_routines text ≡ lines
+    → names_of text ≡ known → IsTold lines known above label terms → IsTold (lines_of_routines text) (names_of text) above label terms
+told_of text label lines known above terms cut named told =
+    subst (λ l. IsTold l (names_of text) above label terms) (sym cut)
+    (subst (λ names. IsTold lines names above label terms) (sym named) told)
+
+-- THE THEOREM: a text that is read, whose statements are these and whose lines tell this, keeps what its routine meets
+pub proved : (text label : List ℕ) (all : List Statement) (entry above : ℕ) (terms : Terms) (changed : List (ℕ × ℕ))
+    → entry_of text ≡ Some entry → statements_of text ≡ all → IsTold (lines_of_routines text) (names_of text) above label terms
+    → terms.prints ≡ [] → terms.takes ≡ [] → all_tell terms.wanted ≡ true → all_tell terms.promised ≡ true
+    → all_pass (may_be_stored terms) changed ≡ true → MeetsPromise all terms changed → IsProved text label
+proved text label all entry above terms changed read stated told prints takes wanted promised stored meets = record {
   accepted = λ fault refused. not_refused text entry is fault refused;
-  kept = kept_of;
+  kept = λ program program_is. record {
+    above = above;
+    terms = terms;
+    told = subst (λ names. IsTold (lines_of_routines text) names above label terms) (sym (made program program_is).named) told;
+    prints = prints;
+    takes = takes;
+    kept = kept_of program program_is;
+  };
 }
   where
     is : IsAccepted text entry
     is = accepted text entry read
 
-    kept_of : (program : Assembled) → IsProgramOf text program → (promise : Promise) → Says promise said → KeepsPromise program promise
+    made : (program : Assembled) → IsProgramOf text program → IsMade (source_of text) program
+    made program program_is =
+        made-of (source_of text) program
+        (subst (λ s. IsProgram s program) (one-source text program_is.source (source_of text) program_is.is_source is.read) program_is.is_program)
+
+    kept_of : (program : Assembled) → IsProgramOf text program → (promise : Promise) → IsPromise promise terms → KeepsPromise program promise
     kept_of program program_is promise says world bytes_w enters required = go (meets world whole required_is)
       where
         whole : IsWhole world
         whole =
             record { a = bytes_w.a; x = bytes_w.x; y = bytes_w.y; ram = record { bytes = bytes_w.ram; pages = enters.pages } }
-
-        made : IsMade (source_of text) program
-        made =
-            made-of (source_of text) program
-            (subst (λ s. IsProgram s program) (one-source text program_is.source (source_of text) program_is.is_source is.read) program_is.is_program)
 
         sound : IsSound program
         sound = program-sound program_is.source program program_is.is_program
@@ -247,18 +270,18 @@ proved text all entry said changed read stated wanted promised stored meets = re
         low : list_all (λ n. nat_lt n ram_end) (code_bytes all) ≡ true
         low = subst (λ l. list_all (λ n. nat_lt n ram_end) (code_bytes l) ≡ true) stated is.in_ram
 
-        required_is : all_say said.wanted world world
+        required_is : all_say terms.wanted world world
         required_is =
             subst (λ l. all_say l world world) says.wanted
             (all_required world world 0 bytes_w bytes_w promise.wanted.items (subst (λ l. all_tell l ≡ true) (sym says.wanted) wanted) required)
 
-        there : enter said.address 0xFD world ≡ world
+        there : enter terms.address 0xFD world ≡ world
         there = ap (λ a. enter a 0xFD world) (sym says.address) ∙ entered_there program sound promise world enters
 
-        go : Reaches (code_of all) (enter said.address 0xFD world) (λ u. (v : World) × Back (code_of all) 0xFD world u v × After said changed world v)
+        go : Reaches (code_of all) (enter terms.address 0xFD world) (λ u. (v : World) × Back (code_of all) 0xFD world u v × After terms changed world v)
             → (limit : ℕ) × Keeps promise limit world
         go (n, (u, walk, (v, back, after))) = (
           suc n,
-          kept all program sound (made.stated ∙ stated) low said promise says changed promised stored world enters bytes_w n u v
+          kept all program sound ((made program program_is).stated ∙ stated) low terms promise says changed promised stored world enters bytes_w n u v
               (subst (λ x. walked (code_of all) x n ≡ Some u) there walk) back after,
         )

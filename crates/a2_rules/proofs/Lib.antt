@@ -11,5 +11,6 @@ pub mod Printing
 pub mod Calling
 pub mod Bytes
 pub mod Kept
+pub mod Told
 pub mod Overflow
 pub mod Doubling

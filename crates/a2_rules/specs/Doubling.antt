@@ -4,7 +4,8 @@ use Rattle.std.specs.List.{concat}
 use Rattle.a2_promise.specs.declared.expr.Atom.TheVariants as atom
 use Rattle.a2_promise.specs.declared.expr.Operation.TheVariants as operation
 use Rattle.a2_promise.specs.Phrases.{number, held, old, pair}
-use Rattle.a2_rules.specs.Promised.{Said, IsProved}
+use Rattle.a2_promise.specs.Told.{Terms, IsTold}
+use Rattle.a2_rules.specs.Promised.{lines_of_routines, IsProved}
 
 abbrev pub doubling : List ℕ
 doubling = concat (
@@ -15,7 +16,7 @@ doubling = concat (
     codes "       RTS\n" ∷
     [])
 
-abbrev pub double : Said
+abbrev pub double : Terms
 double = record {
   address = 0x300;
   wanted = pair operation.Less (held atom.A) (number (pos 128)) ∷ [];
@@ -24,7 +25,13 @@ double = record {
   x = false;
   y = false;
   ranges = [];
+  prints = [];
+  takes = [];
 }
 
+-- its lines promise this, with three lines above the label
+abbrev pub DoublingTells : Type 0
+DoublingTells = IsTold (lines_of_routines doubling) ((codes "DOUBLE", 0x300) ∷ []) 3 (codes "DOUBLE") double
+
 abbrev pub DoublingIsProved : Type 0
-DoublingIsProved = IsProved doubling double
+DoublingIsProved = IsProved doubling (codes "DOUBLE")

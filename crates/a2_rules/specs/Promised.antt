@@ -1,37 +1,33 @@
--- What it is that a routine of a source text keeps its promise, in every world of bytes. This project's own.
-use Rattle.std.specs.Prelude.{◌≡◌, ℕ, Bool, List, [], map}
+-- What it is that a routine of a source text keeps what the text promises of it, in every world of bytes. This project's own.
+use Rattle.std.specs.Prelude.{◌≡◌, ℕ, Bool, ◌||◌, List, [], ◌∷◌, map, codes, if◌then◌else◌}
+use Rattle.std.specs.List.{list_any}
+use Rattle.a2_text.specs.Lines.{lines}
+use Rattle.a2_text.specs.Signs.{sign as code}
+use Rattle.a2_text.specs.Words.{behind_blanks, first_word}
 use Rattle.a2_hex.specs.Images.{held}
 use Rattle.a2_syntax.specs.declared.fault.Fault.{Fault}
 use Rattle.a2_asm.specs.Assembled.{Assembled}
 use Rattle.a2_services.specs.World.{World}
 use Rattle.a2_run.specs.Meaning.{IsProgramOf, IsRefused}
 use Rattle.a2_promise.specs.declared.promises.Promise.{Promise}
+use Rattle.a2_promise.specs.Grammar.{is_name_among}
+use Rattle.a2_promise.specs.Told.{Terms, IsTold, IsPromise, begins_with, text_behind}
 use Rattle.a2_trial.specs.Entering.{laid}
 use Rattle.a2_trial.specs.Kept.{IsRequired, Keeps}
 use Rattle.a2_trial.specs.States.{Enters}
-use Rattle.a2_promise.specs.Phrases.{Phrase, phrase_of}
 use Rattle.a2_rules.specs.Worlds.{OnlyBytes}
 
--- what a promise says: where its routine is entered, what it requires and ensures, and what `changes` names, registers and bytes
--- from one address to another
-pub record Said : Type 0 where
-  pub address : ℕ
-  pub wanted : List Phrase
-  pub promised : List Phrase
-  pub a : Bool
-  pub x : Bool
-  pub y : Bool
-  pub ranges : List (ℕ × ℕ)
+-- words that begin a line behind ;: which says something of a run; docs/manual/class.md has these lines
+abbrev pub run_words : List (List ℕ)
+run_words =
+    map codes ("case" ∷ "keys" ∷ "limit" ∷ "call" ∷ "screen" ∷ "mem" ∷ "reg" ∷ "stop" ∷ "stops" ∷ "cycles" ∷ "bytes" ∷ "must" ∷ [])
 
--- a promise as it was read says this
-pub record Says (promise : Promise) (said : Said) : Type 0 where
-  pub address : promise.address ≡ said.address
-  pub wanted : map (λ clause. phrase_of clause.expr) promise.wanted.items ≡ said.wanted
-  pub promised : map (λ clause. phrase_of clause.expr) promise.promised.items ≡ said.promised
-  pub a : promise.changes.a ≡ said.a
-  pub x : promise.changes.x ≡ said.x
-  pub y : promise.changes.y ≡ said.y
-  pub ranges : map (λ range. (range.first, range.last)) promise.changes.ranges.items ≡ said.ranges
+abbrev pub is_of_run : List ℕ → Bool
+is_of_run text = begins_with (code "|") (behind_blanks text) || is_name_among run_words (first_word text)
+
+-- the lines of a text, of which one that says something of a run is as blank where a routine's promise is read
+abbrev pub lines_of_routines : List ℕ → List (List ℕ)
+lines_of_routines text = map (λ line. if list_any is_of_run (text_behind (behind_blanks line)) then [] else line) (lines text)
 
 -- A program keeps a promise: in each world of bytes in which the routine is entered and that is as the promise requires, whatever else
 -- memory and registers hold, it is kept within some number of steps.
@@ -40,7 +36,17 @@ KeepsPromise program promise =
     (world : World) → OnlyBytes world → Enters (laid (held program.image) promise.address []) world → IsRequired promise world
     → (limit : ℕ) × Keeps promise limit world
 
--- a text is not refused, and its program keeps each promise that says this
-pub record IsProved (text : List ℕ) (said : Said) : Type 0 where
+-- A text's lines promise something of the routine with a label, no text that is printed or typed, and the program keeps each promise
+-- that says this.
+pub record KeepsTold (text label : List ℕ) (program : Assembled) : Type 0 where
+  pub above : ℕ
+  pub terms : Terms
+  pub told : IsTold (lines_of_routines text) program.names above label terms
+  pub prints : terms.prints ≡ []
+  pub takes : terms.takes ≡ []
+  pub kept : (promise : Promise) → IsPromise promise terms → KeepsPromise program promise
+
+-- a text is not refused, and its program keeps what is promised of the routine with this label
+pub record IsProved (text label : List ℕ) : Type 0 where
   pub accepted : (fault : Fault) → IsRefused text fault → ⊥
-  pub kept : (program : Assembled) → IsProgramOf text program → (promise : Promise) → Says promise said → KeepsPromise program promise
+  pub kept : (program : Assembled) → IsProgramOf text program → KeepsTold text label program

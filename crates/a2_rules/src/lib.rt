@@ -4,9 +4,11 @@
 //! How it is called is shown in CALLING.md.
 #![tactic(auto)]
 
-ghost use Rattle.a2_rules.specs.Doubling.{DoublingIsProved};
+ghost use Rattle.a2_rules.specs.Doubling.{DoublingIsProved, DoublingTells};
 
 /// A theorem, and no code: in every world of bytes in which A is below 128, the routine of `doubling` doubles A, and all else stays.
+/// That this is what it promises is read in its lines.
 pub fn doubling_is_proved()
-    ensures { DoublingIsProved }
+    ensures told { DoublingTells }
+    ensures kept { DoublingIsProved }
 {}

@@ -1,0 +1,94 @@
+"""What the lines before a routine's label say, written for the prover, which computes it of the text: each line as a `Line` of
+crates/a2_promise/specs/Told.antt, and what all of them say as `Terms`."""
+
+from .saying import phrase
+from .terms import codes, list_of
+from .written import part_term, written
+
+USES = """use Rattle.std.specs.Prelude.{◌≡◌, ℕ, pos, true, false, List, [], ◌∷◌, codes, refl}
+use Rattle.a2_promise.specs.declared.expr.Atom.TheVariants as atom
+use Rattle.a2_promise.specs.declared.expr.Function.TheVariants as function
+use Rattle.a2_promise.specs.declared.expr.Operation.TheVariants as operation
+use Rattle.a2_promise.specs.declared.words.Infix.TheVariants as join
+use Rattle.a2_promise.specs.declared.words.Relation.TheVariants as relation
+use Rattle.a2_promise.specs.Grammar.{fits}
+use Rattle.a2_promise.specs.Phrases.{Phrase, number, held, bound, old, of, pair, choice, each, sum}
+use Rattle.a2_promise.specs.Tokens.{tokens}
+use Rattle.a2_promise.specs.Tokens as token
+use Rattle.a2_promise.specs.Told.{Line, Terms, IsLine, IsTold}
+use Rattle.a2_promise.specs.Told as told
+use Rattle.a2_promise.specs.Written.{meant, said, spelled}
+use Rattle.a2_promise.specs.Written as written
+use Rattle.a2_rules.proofs.Told.{not_nothing}
+use Rattle.promised.proofs.Program.{lines, names}
+"""
+FACTS = ("requires", "ensures")
+NOTHING = "(_, refl, refl)"
+SOMETHING = "(_, refl, (refl, refl, not_nothing _ refl))"
+UNDERWAY = "(_, _, refl, refl, refl)"
+
+
+def flag(is_set):
+    return "true" if is_set else "false"
+
+
+def change(form, *parts):
+    if form == "held":
+        return f"told.held atom.{parts[0]}"
+    return f"told.{form} {' '.join(part_term(it) for it in parts)}"
+
+
+def terms_of(promise):
+    """A promise as `Terms`."""
+    fields = [f"address = {promise.address}"]
+    for name, clauses in (("wanted", promise.wanted), ("promised", promise.promised)):
+        fields.append(f"{name} = {list_of(phrase(clause.expr) for clause in clauses)}")
+    fields += [f"{it.lower()} = {flag(it in promise.changes.registers)}" for it in "AXY"]
+    fields.append(f"ranges = {list_of(f'({first}, {last})' for first, last in promise.changes.ranges)}")
+    return fields + ["prints = []", "takes = []"]
+
+
+class Told:
+    """The module of a promise: its text, and what its marked lines check."""
+
+    def __init__(self, promise):
+        self.module = f"Told_{promise.name}"
+        self.marks = []
+        facts = iter(promise.wanted), iter(promise.promised)
+        self.clauses = dict(zip(FACTS, facts))
+        self.text = f"-- Written by a2-prove: what the lines before {promise.name} say.\n" + USES
+        for k, line in enumerate(promise.lines, 1):
+            self.text += f"\n-- line {line.number}\n" + self.line(k, line)
+        self.text += self.end(promise)
+
+    def mark(self, says):
+        self.marks.append(says)
+        return f"-- @{len(self.marks) - 1}"
+
+    def line(self, k, line):
+        """A line: what it is, that it stands there, and what a fact says."""
+        where = f"line {line.number}: {line.text.strip()}"
+        if line.verb in FACTS:
+            text = f"abbrev fact_{k} : written.Written\nfact_{k} = {written(line.says)}\n\n"
+            what, proof = f"told.{line.verb} fact_{k}", "(refl, refl)"
+        elif line.verb == "changes":
+            text, what = "", f"told.changes {list_of(change(*it) for it in line.says)}"
+            proof = SOMETHING if line.says else NOTHING
+        else:
+            text, what, proof = "", f"told.underway (tokens {codes(line.text)})", UNDERWAY
+        text += f"abbrev line_{k} : Line\nline_{k} = {what}\n\n"
+        text += f"is_line_{k} : IsLine names {codes(line.text)} line_{k}\nunfolding tokens spelled fits\n"
+        text += f"is_line_{k} = {proof} {self.mark(where)}\n"
+        if line.verb in FACTS:
+            says = phrase(next(self.clauses[line.verb]).expr)
+            text += f"\nsays_{k} : said fact_{k} ≡ {says}\nunfolding meant\nsays_{k} = refl {self.mark(where)}\n"
+        return text
+
+    def end(self, promise):
+        count = range(1, len(promise.lines) + 1)
+        text = "\nabbrev pub terms : Terms\nterms = record {\n" + "".join(f"  {it};\n" for it in terms_of(promise)) + "}\n"
+        text += f"\npub tells : IsTold lines names {promise.line - 1} {codes(promise.name)} terms\nunfolding tokens meant\n"
+        fields = ["line = _", "stands = refl", "is_label = refl", f"told = {list_of(f'line_{k}' for k in count)}"]
+        fields += [f"are_lines = {''.join(f'(is_line_{k}, ' for k in count)}tt{')' * len(count)}", "is_promise = refl", "address = refl"]
+        mark = self.mark(f"line {promise.line}: the lines before {promise.name}")
+        return text + f"tells = record {{ {'; '.join(fields + ['are_terms = refl'])} }} {mark}\n"
