@@ -1,3 +1,4 @@
 pub mod Worlds
 pub mod Promised
 pub mod Doubling
+pub mod Readings
