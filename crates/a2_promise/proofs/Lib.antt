@@ -1,1 +1,11 @@
 mod Looking
+mod Finder
+mod Stopping
+mod Meanings
+mod Inner
+mod Operands
+mod Clauses
+mod Leaves
+mod Joints
+mod Changing
+mod Telling

@@ -5,6 +5,7 @@
 #![tactic(auto)]
 
 ghost use Rattle.a2_promise.specs.Looks.{ValuesDependOnLooks};
+ghost use Rattle.a2_promise.specs.OneReading.{LinesTellOnePromise, WordsAreOneExpression};
 
 mod expr;
 mod fault;
@@ -27,4 +28,14 @@ pub use words::{Infix, Relation};
 /// A theorem, and no code: the value of an expression depends on nothing but the bytes, registers and flags that it looks at.
 pub fn values_depend_on_looks()
     ensures { ValuesDependOnLooks }
+{}
+
+/// A theorem, and no code: the words and signs of an expression are those of no other.
+pub fn words_are_one_expression()
+    ensures { WordsAreOneExpression }
+{}
+
+/// A theorem, and no code: the lines of a source promise no more than one thing of a routine.
+pub fn lines_tell_one_promise()
+    ensures { LinesTellOnePromise }
 {}

@@ -1,0 +1,134 @@
+-- Where the reader of words and signs stops: at what would not belong to the expression before it.
+use Rattle.std.specs.Prelude.{◌≡◌, ℕ, ◌≤◌, ◌<◌, min, Bool, true, false, ◌&&◌, nat_lt, nat_le, List, [], ◌∷◌, Option, Some, None}
+use Rattle.std.proofs.Common.{refl, arith}
+use Rattle.std.proofs.lemmas.Bool.{cond-false, ltb-true, lt-ltb, lt-leb}
+use Rattle.a2_promise.specs.declared.expr.Operation.TheVariants as operation
+use Rattle.a2_promise.specs.declared.words.Infix.{Infix}
+use Rattle.a2_promise.specs.declared.words.Infix.TheVariants.{Iff, Or, And, Compare, Apply}
+use Rattle.a2_promise.specs.declared.words.Relation.TheVariants.{Equal, Other, Less, AtMost, More, AtLeast}
+use Rattle.a2_promise.specs.Tokens.{Token}
+use Rattle.a2_promise.specs.Written.{Written, minus, magnitude, signed, before, there, bit, negated, joined, provided, one_of, for_all, sum_of, infix_token}
+use Rattle.a2_promise.specs.Grammar.{infix_rank, tightest, rank, takes_from, takes_else}
+use Rattle.a2_promise.proofs.Finder.{joint_of, if_tight, joint_next, is_else}
+
+-- no joint stands next that binds as tight as this
+abbrev pub is_looser : ℕ → Option Infix → Bool
+is_looser limit None = true
+is_looser limit (Some join) = nat_lt (infix_rank join) limit
+
+abbrev pub is_past : ℕ → List Token → Bool
+is_past limit [] = true
+is_past limit (token ∷ more) = is_looser limit (joint_of token)
+
+-- what stands behind an expression that was read up to its end: nothing that its last part would take
+pub record Ends (e : Written) (rest : List Token) : Type 0 where
+  pub joints : is_past (takes_from e) rest ≡ true
+  pub choice : (takes_else e && is_else rest) ≡ false
+
+looser_mono : (a b : ℕ) (o : Option Infix) → a ≤ b → is_looser a o ≡ true → is_looser b o ≡ true
+looser_mono a b None l h = refl
+looser_mono a b (Some join) l h = let lt = ltb-true (infix_rank join) a h in lt-ltb (infix_rank join) b (omega (arith, lt, l))
+
+pub past_mono : (a b : ℕ) (rest : List Token) → a ≤ b → is_past a rest ≡ true → is_past b rest ≡ true
+past_mono a b [] l h = refl
+past_mono a b (token ∷ more) l h = looser_mono a b (joint_of token) l h
+
+pub past_min_left : (a b : ℕ) (rest : List Token) → is_past (min a b) rest ≡ true → is_past a rest ≡ true
+past_min_left a b rest h = let l : min a b ≤ a = omega arith in past_mono (min a b) a rest l h
+
+pub past_min_right : (a b : ℕ) (rest : List Token) → is_past (min a b) rest ≡ true → is_past b rest ≡ true
+past_min_right a b rest h = let l : min a b ≤ b = omega arith in past_mono (min a b) b rest l h
+
+not_tight : (r : ℕ) (o : Option Infix) → is_looser r o ≡ true → if_tight r o ≡ None
+not_tight r None h = refl
+not_tight r (Some join) h =
+    let lt = ltb-true (infix_rank join) r h in
+    cond-false (nat_le r (infix_rank join)) (Some join) None (lt-leb r (infix_rank join) lt)
+
+pub none_next : (r : ℕ) (rest : List Token) → is_past r rest ≡ true → joint_next r rest ≡ None
+none_next r [] h = refl
+none_next r (token ∷ more) h = not_tight r (joint_of token) h
+
+-- a joint that something fits behind is told by its token
+pub joint_is : (join : Infix) → infix_rank join < tightest → joint_of (infix_token join) ≡ Some join
+joint_is Iff l = refl
+joint_is Or l = refl
+joint_is And l = refl
+joint_is (Compare Equal) l = refl
+joint_is (Compare Other) l = refl
+joint_is (Compare Less) l = refl
+joint_is (Compare AtMost) l = refl
+joint_is (Compare More) l = refl
+joint_is (Compare AtLeast) l = refl
+joint_is (Apply operation.BitOr) l = refl
+joint_is (Apply operation.BitXor) l = refl
+joint_is (Apply operation.BitAnd) l = refl
+joint_is (Apply operation.Plus) l = refl
+joint_is (Apply operation.Minus) l = refl
+joint_is (Apply operation.Times) l = refl
+joint_is (Apply operation.Over) l = refl
+joint_is (Apply operation.Modulo) l = refl
+joint_is (Apply op) l = absurd (omega (arith, l))
+
+pub no_else : (join : Infix) (rest : List Token) → is_else (infix_token join ∷ rest) ≡ false
+no_else Iff rest = refl
+no_else Or rest = refl
+no_else And rest = refl
+no_else (Compare relation) rest = refl
+no_else (Apply op) rest = refl
+
+pub rank_le : (e : Written) → rank e ≤ tightest
+rank_le (joined Iff e f) = omega arith
+rank_le (joined Or e f) = omega arith
+rank_le (joined And e f) = omega arith
+rank_le (joined (Compare relation) e f) = omega arith
+rank_le (joined (Apply operation.BitOr) e f) = omega arith
+rank_le (joined (Apply operation.BitXor) e f) = omega arith
+rank_le (joined (Apply operation.BitAnd) e f) = omega arith
+rank_le (joined (Apply operation.Plus) e f) = omega arith
+rank_le (joined (Apply operation.Minus) e f) = omega arith
+rank_le (joined (Apply op) e f) = omega arith
+rank_le e = omega arith
+
+pub one_le_rank : (e : Written) → 1 ≤ rank e
+one_le_rank (joined Iff e f) = omega arith
+one_le_rank (joined Or e f) = omega arith
+one_le_rank (joined And e f) = omega arith
+one_le_rank (joined (Compare relation) e f) = omega arith
+one_le_rank (joined (Apply operation.BitOr) e f) = omega arith
+one_le_rank (joined (Apply operation.BitXor) e f) = omega arith
+one_le_rank (joined (Apply operation.BitAnd) e f) = omega arith
+one_le_rank (joined (Apply operation.Plus) e f) = omega arith
+one_le_rank (joined (Apply operation.Minus) e f) = omega arith
+one_le_rank (joined (Apply op) e f) = omega arith
+one_le_rank e = omega arith
+
+pub takes_le : (e : Written) → takes_from e ≤ tightest
+takes_le (joined join e f) = let l = takes_le f in omega (arith, l)
+takes_le (negated e) = omega arith
+takes_le (provided e f) = omega arith
+takes_le (one_of e f g) = omega arith
+takes_le (for_all name k e f) = omega arith
+takes_le (sum_of name k e f) = omega arith
+takes_le (minus e) = takes_le e
+takes_le (magnitude e) = takes_le e
+takes_le (signed e) = takes_le e
+takes_le (before e) = takes_le e
+takes_le (there label a e) = takes_le e
+takes_le (bit e f) = takes_le f
+takes_le e = omega arith
+
+pub one_le_takes : (e : Written) → 1 ≤ takes_from e
+one_le_takes (joined join e f) = let l = one_le_takes f in omega (arith, l)
+one_le_takes (negated e) = let l = one_le_takes e in omega (arith, l)
+one_le_takes (provided e f) = omega arith
+one_le_takes (one_of e f g) = omega arith
+one_le_takes (for_all name k e f) = omega arith
+one_le_takes (sum_of name k e f) = let l = one_le_takes f in omega (arith, l)
+one_le_takes (minus e) = one_le_takes e
+one_le_takes (magnitude e) = one_le_takes e
+one_le_takes (signed e) = one_le_takes e
+one_le_takes (before e) = one_le_takes e
+one_le_takes (there label a e) = one_le_takes e
+one_le_takes (bit e f) = one_le_takes f
+one_le_takes e = omega arith
