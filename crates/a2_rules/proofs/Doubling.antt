@@ -6,14 +6,13 @@ use Rattle.a2_opcode.specs.declared.Mode.TheVariants.{Accumulator, Implied}
 use Rattle.a2_asm.specs.declared.program.Statement.{Statement}
 use Rattle.a2_machine.proofs.Computing.{computing}
 use Rattle.a2_lessons.specs.Routines.{op}
-use Rattle.a2_lessons.proofs.Keeping.{kept}
 use Rattle.a2_lessons.proofs.Reading.{reading}
 use Rattle.a2_lessons.proofs.Texts.{entry_of, statements_of}
 use Rattle.a2_rules.specs.Doubling.{doubling, double, DoublingIsProved}
-use Rattle.a2_rules.proofs.Kept.{After, code_of, proved}
+use Rattle.a2_rules.proofs.Kept.{After, Before, code_of, proved}
+use Rattle.a2_rules.proofs.Leaving.{leaves}
 use Rattle.a2_rules.proofs.Meeting.{Meets, home}
 use Rattle.a2_rules.proofs.Proving.{whole_after}
-use Rattle.a2_rules.proofs.Saying.{all_say}
 
 listing : List Statement
 listing =
@@ -31,7 +30,7 @@ stated = refl
 doubled : (a : ℕ) → a < 128 → (2 * a + 0) % 256 ≡ 2 * a
 doubled a low = omega (arith, low)
 
-meets : Meets (code_of listing) 0x300 0xFD (λ w. all_say double.wanted w w) (After double [])
+meets : Meets (code_of listing) 0x300 0xFD (Before double) (After double [])
 unfolding computing listing
 meets w bytes before = (
   1,
@@ -49,11 +48,11 @@ meets w bytes before = (
         decimal = refl;
       },
       record {
-        says = (doubled w.registers.a before.0, tt);
+        says = (doubled w.registers.a before.says.0, tt);
         a = λ no. absurd (true≢false no);
         x = λ no. refl;
         y = λ no. refl;
-        rest = kept [] w.memory _ _ refl refl;
+        rest = leaves [] w.memory _ _ refl refl;
         bytes = record { a = omega arith; x = bytes.x; y = bytes.y; ram = whole_after [] w.memory _ bytes.ram tt refl };
       },
     ),

@@ -1,4 +1,5 @@
 pub mod Bits
+pub mod Leaving
 pub mod Ranges
 pub mod Saying
 pub mod Valuing

@@ -24,6 +24,7 @@ double = record {
   x = false;
   y = false;
   ranges = [];
+  keys = [];
 }
 
 abbrev pub DoublingIsProved : Type 0

@@ -1,4 +1,5 @@
 pub mod Worlds
 pub mod Phrases
+pub mod Typed
 pub mod Promised
 pub mod Doubling
