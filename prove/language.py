@@ -53,6 +53,12 @@ TOKEN = re.compile(r"[ \t]*(?:\$([0-9A-Fa-f]*)|(\d+)|([A-Za-z]\w*)|(<=|<>|>=|\.\
 TEXT = re.compile(r"""[ \t]*(?:"([ !#-~]+)"|'([ -&(-~]+)')""")
 TEXT_WANTED = 'a text in quotes is wanted here, as in text $0400 = "HI", which ASC "HI" lays'
 
+# Keys as they are spelt between quotes, up to the line's end: \ and a letter are one.
+ESCAPED = {"r": 0x0D, "b": 0x08, "f": 0x15, "x": 0x18, "\\": 0x5C}
+TYPED, KEY = re.compile(r'[ \t]*"((?:\\[rbfx\\]|[ -\[\]-~])*)"'), re.compile(r"\\([rbfx\\])|([ -\[\]-~])")
+TYPED_WANTED = 'a text in quotes is wanted here and nothing behind it, as in prints "YES\\r": \\r is a return, and \\\\ a \\'
+MOST_TYPED = 4096
+
 TRUE, FALSE = ("number", 1), ("number", 0)
 
 
@@ -70,6 +76,12 @@ def compared(sign, x, y):
     turned = sign in (">", ">=")
     operation = {"=": "Equal", "<": "Less", "<=": "AtMost", ">": "Less", ">=": "AtMost"}[sign]
     return ("pair", operation, y, x) if turned else ("pair", operation, x, y)
+
+
+def spelt(keys):
+    """Keys as a text in quotes."""
+    letters = {key: "\\" + letter for letter, key in ESCAPED.items()}
+    return '"' + "".join(letters.get(key, chr(key)) for key in keys) + '"'
 
 
 class Piece:
@@ -341,6 +353,13 @@ class Reader:
             same = ("pair", "Equal", ("of", "Byte", place), ("number", ord(c) + (128 if found[1] else 0)))
             made = both(made, same) if made else same
         return Piece(made, FACT, at)
+
+    def typed(self):
+        """The keys that the rest of the line spells."""
+        found = TYPED.fullmatch(self.text, self.at)
+        if not found:
+            self.refuse(TYPED_WANTED)
+        return [ESCAPED[letter] if letter else ord(key) for letter, key in KEY.findall(found[1])]
 
     def word(self, at, _):
         address = self.bracketed() if self.took("[") else ("number", self.address())

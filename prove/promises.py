@@ -2,13 +2,13 @@
 
 from dataclasses import dataclass, field
 
-from .language import Reader
+from .language import MOST_TYPED, Reader
 from .refusal import Refusal
 
-OUTSIDE = "this stands in no routine: lines with requires, ensures or changes before a label begin one"
-KINDS = ("requires", "ensures", "changes", "invariant", "decreases", "note")
+OUTSIDE = "this stands in no routine: lines with requires, ensures, changes or takes before a label begin one"
+KINDS = ("requires", "ensures", "changes", "takes", "invariant", "decreases", "note")
 # What is tried, and not proved.
-TRIED = ("prints", "takes")
+TRIED = ("prints",)
 # Lines that speak of the run as a whole: they are of `./a2x promise`.
 OF_RUN = ("keys", "stops", "screen", "cycles", "steps", "memory", "registers")
 
@@ -50,6 +50,8 @@ class Promise:
     wanted: list
     promised: list
     changes: Changes
+    # the keys that it takes, which wait where it is entered
+    keys: list = field(default_factory=list)
     within: list = field(default_factory=list)
 
 
@@ -60,11 +62,12 @@ class Block:
     first: int = 0
     clauses: dict = field(default_factory=lambda: {kind: [] for kind in KINDS})
     changes: Changes = field(default_factory=Changes)
+    keys: list = field(default_factory=list)
     refused: Refusal = None
 
     @property
     def is_within(self):
-        return not (self.clauses["requires"] or self.clauses["ensures"] or self.clauses["changes"])
+        return not any(self.clauses[kind] for kind in ("requires", "ensures", "changes", "takes"))
 
 
 def promise_in(text):
@@ -98,6 +101,13 @@ def take_change(reader, changes):
     changes.ranges.append((first, last))
 
 
+def take_keys(reader, keys):
+    more = reader.typed()
+    if len(keys) + len(more) > MOST_TYPED:
+        reader.refuse("these are more than 4,096 characters")
+    keys += more
+
+
 def take_line(block, number, rest, offset, names):
     """Takes up a line of a promise; what begins with another word is left to others."""
     word = rest.split()[0] if rest.split() else ""
@@ -115,6 +125,9 @@ def take_line(block, number, rest, offset, names):
         block.clauses[word].append(None)
         if word == "changes":
             take_changes(reader, block.changes)
+            return
+        if word == "takes":
+            take_keys(reader, block.keys)
             return
         piece = reader.expression()
         expr = reader.number(piece) if word == "decreases" else reader.fact(piece)
@@ -149,7 +162,7 @@ def close(found, program, block, line):
     elif block.is_within:
         attach(found, block, label, line.number, address)
     else:
-        promise = Promise(label, line.number, address, block.clauses["requires"], block.clauses["ensures"], block.changes)
+        promise = Promise(label, line.number, address, block.clauses["requires"], block.clauses["ensures"], block.changes, block.keys)
         add_within(promise, block, label, line.number, address)
         found.append((label, promise))
 
