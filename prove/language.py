@@ -37,6 +37,18 @@ TOKEN = re.compile(r"[ \t]*(?:\$([0-9A-Fa-f]*)|([0-9]+)|([A-Za-z][A-Za-z0-9_]*)|
 TEXT = re.compile(r"""[ \t]*(?:"([ !#-~]+)"|'([ -&(-~]+)')""")
 TEXT_WANTED = 'a text in quotes is wanted here, as in text $0400 = "HI", which ASC "HI" lays'
 
+# Keys as they are spelt between quotes, up to the line's end: \ and a letter are one.
+ESCAPED = {"r": 0x0D, "b": 0x08, "f": 0x15, "x": 0x18, "\\": 0x5C}
+TYPED, KEY = re.compile(r'[ \t]*"((?:\\[rbfx\\]|[ -\[\]-~])*)"'), re.compile(r"\\([rbfx\\])|([ -\[\]-~])")
+TYPED_WANTED = 'a text in quotes is wanted here and nothing behind it, as in prints "YES\\r": \\r is a return, and \\\\ a \\'
+MOST_TYPED = 4096
+
+
+def spelt(keys):
+    """Keys as a text in quotes."""
+    letters = {key: "\\" + letter for letter, key in ESCAPED.items()}
+    return '"' + "".join(letters.get(key, chr(key)) for key in keys) + '"'
+
 
 class Piece:
     """An expression as it was read: its tree, its kind, and where it begins."""
@@ -278,6 +290,13 @@ class Reader:
             self.refuse(TEXT_WANTED)
         self.at = found.end()
         return Piece((*start, ord('"' if found[1] else "'"), found[1] or found[2]), FACT, at)
+
+    def typed(self):
+        """The keys that the rest of the line spells."""
+        found = TYPED.fullmatch(self.text, self.at)
+        if not found:
+            self.refuse(TYPED_WANTED)
+        return [ESCAPED[letter] if letter else ord(key) for letter, key in KEY.findall(found[1])]
 
     def word(self, at, _):
         return Piece(("word_in", self.bracketed()) if self.took("[") else ("word_of", *self.address()), NUMBER, at)

@@ -3,14 +3,14 @@
 import re
 from dataclasses import dataclass, field
 
-from .language import ATOMS, Reader
+from .language import ATOMS, MOST_TYPED, Reader
 from .refusal import Refusal
 from .written import said
 
-OUTSIDE = "this stands in no routine: lines with requires, ensures or changes before a label begin one"
-KINDS = ("requires", "ensures", "changes", "invariant", "decreases", "note")
+OUTSIDE = "this stands in no routine: lines with requires, ensures, changes or takes before a label begin one"
+KINDS = ("requires", "ensures", "changes", "takes", "invariant", "decreases", "note")
 # What is tried, and not proved.
-TRIED = ("prints", "takes")
+TRIED = ("prints",)
 # What lines begin with that speak of the run as a whole: they are of `./a2x promise`.
 OF_RUN = set("case keys limit call screen mem reg stop stops cycles bytes must".split())
 VERBS = "a line of a promise begins with requires, ensures, changes, prints, takes, invariant, decreases or note"
@@ -36,8 +36,8 @@ class Changes:
 
 @dataclass
 class Line:
-    """A line before a routine's label: its number, what stands behind its ;:, its verb, and what it says, which is a tree or a list of
-    what may change."""
+    """A line before a routine's label: its number, what stands behind its ;:, its verb, and what it says, which is a tree, a list of
+    what may change, or one of keys."""
 
     number: int
     text: str
@@ -64,6 +64,8 @@ class Promise:
     wanted: list
     promised: list
     changes: Changes
+    # the keys that it takes, which wait where it is entered
+    keys: list = field(default_factory=list)
     lines: list = field(default_factory=list)
     within: list = field(default_factory=list)
 
@@ -75,12 +77,13 @@ class Block:
     first: int = 0
     clauses: dict = field(default_factory=lambda: {kind: [] for kind in KINDS})
     changes: Changes = field(default_factory=Changes)
+    keys: list = field(default_factory=list)
     lines: list = field(default_factory=list)
     refused: Refusal = None
 
     @property
     def is_within(self):
-        return not (self.clauses["requires"] or self.clauses["ensures"] or self.clauses["changes"])
+        return not any(self.clauses[kind] for kind in ("requires", "ensures", "changes", "takes"))
 
 
 def promise_in(text):
@@ -128,6 +131,15 @@ def take_change(reader, changes):
     return "bytes", token, first, other, last
 
 
+def take_keys(reader, keys):
+    """The keys of a line, which come behind those of the lines above."""
+    more = reader.typed()
+    if len(keys) + len(more) > MOST_TYPED:
+        reader.refuse("these are more than 4,096 characters")
+    keys += more
+    return more
+
+
 def take_line(block, number, rest, offset, names):
     """Takes up a line of a promise; what says something of the run is left to others."""
     if is_of_run(rest):
@@ -150,6 +162,9 @@ def take_verb(block, reader):
     block.clauses[verb].append(None)
     if verb == "changes":
         block.lines.append(Line(reader.line, reader.text, verb, take_changes(reader, block.changes)))
+        return
+    if verb == "takes":
+        block.lines.append(Line(reader.line, reader.text, verb, take_keys(reader, block.keys)))
         return
     start = reader.at
     piece = reader.expression()
@@ -186,7 +201,8 @@ def close(found, program, block, line):
     elif block.is_within:
         attach(found, block, label, line.number, address)
     else:
-        promise = Promise(label, line.number, address, block.clauses["requires"], block.clauses["ensures"], block.changes, block.lines)
+        wanted, promised = block.clauses["requires"], block.clauses["ensures"]
+        promise = Promise(label, line.number, address, wanted, promised, block.changes, block.keys, block.lines)
         add_within(promise, block, label, line.number, address)
         found.append((label, promise))
 

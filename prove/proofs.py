@@ -6,8 +6,9 @@ import re
 
 from .arrays import MOST_CASES, Cut, Finder, Kept, Put, is_apart, span
 from .assembling import BRANCHES
+from .language import spelt
 from .refusal import Refusal
-from .services import SERVICES, services_of, why_unproved
+from .services import SERVICES, TAKERS, Unproved, services_of, taker_of, why_unproved
 from .saying import FLAGS, Words, constant, is_fact, is_minus, most, shape, signed_in
 from .promises import labels_in
 from .symbolic import Ground, Run, State, StateWords
@@ -17,8 +18,11 @@ from .trying import cells_in
 MOST_BRANCHES = 9
 # How many numbers are gone through one by one where each below a number is spoken of.
 MOST_UNROLLED = 32
+# With more facts than these a comparison is proved by those of them that speak of what it compares.
+MANY_FACTS = 100
 # How many bytes of a goal are told apart, whether they were stored last.
 MOST_DECIDED = 4
+NO_KEYS_IN_LINES = "what is said at a label can't speak of keys"
 MAY_CHANGE = "a byte that does not stand behind changes may be another"
 STORES, CHANGES = ("STA", "STX", "STY"), ("INC", "DEC", "ASL", "LSR", "ROL", "ROR")
 MOST_STEPS = 20_000
@@ -35,6 +39,19 @@ class Loop:
         self.invariants = within.invariants
         self.measure = within.measures[0] if within.measures else None
         self.labels = sorted({label for clause in within.invariants + within.measures for label in labels_in(clause.expr)})
+        # the keys that are taken where the run comes to it, once that is known
+        self.taken = None
+
+    def come(self, taken, turns):
+        """Notes the keys that are taken where a way comes to it, or comes back; they are the same each time."""
+        if self.taken is None:
+            self.taken = list(taken)
+        label, line, more = self.within.label, self.within.line, taken[len(self.taken) :]
+        if self.taken != taken and turns:
+            says = f"each turn of {label} takes keys, {spelt(more)}, and {NO_KEYS_IN_LINES}"
+            raise Refusal(line, f"{says}: without lines before its label a loop is gone through step by step")
+        if self.taken != taken:
+            raise Refusal(line, f"ways come to {label} behind other keys, {spelt(self.taken)} and {spelt(taken)}, and {NO_KEYS_IN_LINES}")
 
 
 class Routine:
@@ -64,6 +81,8 @@ class Proof(Run):
         self.changed = routine.changed(s)
         self.tops = {}
         self.touched, self.calls, self.marks, self.ways, self.fuel = set(), set(), [], 0, MOST_STEPS
+        for loop in routine.loops.values():
+            loop.taken = None
         self.named = self.cells_named()
         promise = routine.promise
         state = State("w", f"(enter {promise.address} {s} w)", promise.address, s)
@@ -128,7 +147,7 @@ class Proof(Run):
                 begin, end = self.cut(state)
                 return f"{begin}{self.tree(state, loops)}{end}"
             it = self.program.instruction_at(state.pc)
-            if it is None and state.pc in SERVICES:
+            if it is None and (state.pc in SERVICES or state.pc in TAKERS):
                 says = f"goes to the service at ${state.pc:04X} by a jump: what goes back to the caller has to be its own RTS"
                 raise Refusal(0, f"{self.routine.name} {says}")
             if it is None:
@@ -152,6 +171,8 @@ class Proof(Run):
                 return self.call(state, it, self.routines[it.value], loops)
             elif it.mnemonic == "JSR" and it.value in SERVICES:
                 return self.call(state, it, SERVICES[it.value], loops)
+            elif it.mnemonic == "JSR" and it.value in TAKERS:
+                return self.take_key(state, it, loops)
             elif it.mnemonic in ("JSR", "JMP") and it.mode == "Absolute" and why_unproved(it.value):
                 raise Refusal(it.line, why_unproved(it.value))
             elif self.is_reached(state, it):
@@ -184,14 +205,17 @@ class Proof(Run):
         return "(omega arith)" if isinstance(term, int) else state.arithmetic()
 
     def only(self, state, keys):
-        """The facts that speak of these bytes and registers, or of such of which those speak; and those of others."""
+        """The facts of a state that speak of these bytes and registers, or of such of which those speak; and those of others."""
+        return self.about(state.facts, keys)
+
+    def about(self, facts, keys):
         keys, before = set(keys), 0
         while len(keys) > before:
             before = len(keys)
-            for name in state.facts:
+            for name in facts:
                 if (self.keys.get(name) or set()) & keys:
                     keys |= self.keys[name]
-        return [it for it in state.facts if not self.keys.get(it) or self.keys[it] & keys]
+        return [it for it in facts if not self.keys.get(it) or self.keys[it] & keys]
 
     # Addresses that are not known
 
@@ -203,13 +227,17 @@ class Proof(Run):
         for term in finder.cases:
             self.fact(state, term)
 
+    def left(self, state):
+        """The keys that wait in a state."""
+        return self.routine.promise.keys[len(state.taken) :]
+
     def keep_entered(self, state):
         """A proof that the state's memory keeps what may not change, where it has no stores on top."""
         if state.base == "w":
-            return "(keeps_all 0 w.memory _)"
+            return "(leaves_all w.memory _)"
         if state.base.startswith("("):
             return state.keep
-        return f"(keeps_stores [] w.memory _ {state.base} (entered 0 {state.memory_is}) refl refl {state.keep})"
+        return f"(leaves_stores [] w.memory _ {list_of(state.taken)} {state.base} (entered 0 {state.memory_is}) refl refl {state.keep})"
 
     def renew(self, state, memory, link, has, keep):
         """The state's memory is another one, of which the link tells how it came of that before."""
@@ -228,7 +256,8 @@ class Proof(Run):
         begin += f"afresh code {state.world} {here} {state.steps} _ refl (λ {m} {equation}.\n"
         whole = f"stores_whole {common} {state.has} {self.fits(state)}"
         begin += f"let {has} = {whole} in {self.mark('bytes are stored' + state.at)}"
-        begin += f"let {keep} = stores_keep {common} w.memory {ranges} refl {self.keep_entered(state)} in " + self.mark(MAY_CHANGE + state.at)
+        begin += f"let {keep} = stores_leave {common} w.memory {ranges} {list_of(state.taken)} refl {self.keep_entered(state)} in "
+        begin += self.mark(MAY_CHANGE + state.at)
         link = Cut(state.memory_is, [(a, str(term)) for a, term in state.stores], equation)
         joined, link = self.joined(state, m, link)
         state.world = f"(record {here} {{ memory = {m} }})"
@@ -356,7 +385,8 @@ class Proof(Run):
         link = f"{before} {m} {par(at)} {byte} {equation}"
         inside = f"(in_ranges {self.routine.name}_ranges {low} {high} {par(at)} refl {first} {last})"
         begin += f"(λ {m} {equation}.\nlet {has} = put_whole {link} {held} {by} in {self.mark('bytes are stored' + state.at)}"
-        begin += f"let {keep} = put_keeps {link} w.memory {self.routine.name}_ranges {inside} {kept} in {self.mark(MAY_CHANGE + state.at)}"
+        begin += f"let {keep} = put_leaves {link} w.memory {self.routine.name}_ranges {list_of(state.taken)} {inside} {kept} in "
+        begin += self.mark(MAY_CHANGE + state.at)
         self.put = None
         state.world = f"(record {to} {{ memory = {m} }})"
         self.renew(state, m, Put(before, at, byte, equation), has, keep)
@@ -388,10 +418,12 @@ class Proof(Run):
         if flag[0] in ("unknown", "overflow"):
             one.lines.append((h + "f : one_if " + par(flag[1]) + f" ≡ {int(value)}", f"ap (λ b. one_if b) {h}"))
             one.facts.append(h + "f")
+            one.turned = (h + "f", f"one_if {par(flag[1])} ≡ {int(not value)}")
         else:
             test, m, n = self.test(flag)
             one.lines.append((h + "f", f"{test}_{'yes' if value else 'no'} {par(m)} {par(n)} {h}"))
             one.facts.append(h + "f")
+            one.turned = (h + "f", OPPOSITE[test, value].format(m, n))
             if flag[0] == "eq" and flag[2] == 0 and value:
                 one.zeros[bare(flag[1])] = h + "f"
         one.flags[letter] = ("known", value)
@@ -399,6 +431,15 @@ class Proof(Run):
         one.top, one.steps = None, 1
         one.pc = it.value if value == is_set else it.address + it.length
         return f"(λ {h}.\n{self.tree(one, loops)})"
+
+    def never(self, state, why):
+        """A way on which the routine can't keep its promise: it is none, as what is known there contradicts itself."""
+        last, opposite = state.turned or (None, None)
+        if last not in state.facts:
+            raise why
+        others, name = [it for it in state.facts if it != last], self.fresh("n")
+        proof = f"let {name} : {opposite} = omega ({', '.join(['arith', *others])}) in {self.mark(str(why) + state.at)}"
+        return f"{self.lines(state)}{proof}(absurd (omega (arith, {name}, {last})))"
 
     # Ends of ways
 
@@ -415,8 +456,8 @@ class Proof(Run):
 
     def keeps(self, state, to="_"):
         if state.base == "w":
-            return f"kept {self.stored(state)} w.memory _ {to} refl refl"
-        return f"keeps_stores {self.stored(state)} w.memory _ {par(state.base)} {to} refl refl {state.keep}"
+            return f"leaves {self.stored(state)} w.memory _ {to} refl refl"
+        return f"leaves_stores {self.stored(state)} w.memory _ {list_of(state.taken)} {par(state.base)} {to} refl refl {state.keep}"
 
     def only_bytes(self, state):
         registers = "".join(f"{it.lower()} = {self.small(state, it)};\n" for it in "AXY")
@@ -425,6 +466,8 @@ class Proof(Run):
 
     def leaf(self, state, it, loops):
         """The return."""
+        if self.left(state):
+            return self.never(state, Refusal(it.line, f"keys are left where it returns: {spelt(self.left(state))}"))
         before, behind = self.settled(state, self.routine.promise.promised)
         for loop, old in loops:
             state.loop = old
@@ -483,7 +526,9 @@ class Proof(Run):
         loop = self.routine.loops[state.pc]
         for turn, (outer, old) in enumerate(reversed(loops)):
             if outer is loop:
+                loop.come(state.taken, True)
                 return self.turn(state, loop, loops, turn, old)
+        loop.come(state.taken, False)
         return self.enter_loop(state, loop, loops)
 
     def turn(self, state, loop, loops, turn, old):
@@ -521,6 +566,7 @@ class Proof(Run):
         """A state of which is known what stands at the entry, and these clauses, by a record's fields."""
         made = State(base, world, pc, state.s)
         made.path, made.ground, made.keep, made.whole = list(state.path), state.ground, f"{fact}.rest", f"{fact}.bytes"
+        made.taken = list(state.taken)
         known = state if loop.labels else state.ground
         made.facts, made.known, made.reads, made.universals = (list(it) for it in (known.facts, known.known, known.reads, known.universals))
         made.all_has = {**state.all_has, made.memory_is: f"{fact}.bytes.ram"}
@@ -557,6 +603,7 @@ class Proof(Run):
         for k, clause in enumerate(other.promise.wanted, 1):
             says = f"line {it.line}: the call of {other.name} wants {clause.text}"
             body += f"r{k} = {self.wanted(there, clause, other, says)}"
+        body += self.waiting(state, it, other, here)
         bytes_ = self.only_bytes(state)
         begin, mark = self.lines(state) + self.lines(there), self.mark(f"line {it.line}: the call of {other.name}" + state.at)
         u, after, kept = self.fresh("u"), self.fresh("a"), self.fresh("k")
@@ -564,16 +611,40 @@ class Proof(Run):
         self.touched |= {a for first, last in changed for a in range(max(first, 0x100), min(last, 0x1FF) + 1)}
         before = self.keeps(state, f"(entered 0 {here}.memory)")
         inner = list_of(f"({first}, {last})" for first, last in changed)
-        keep = f"keeps_behind w.memory {here}.memory {self.routine.name}_ranges {inner} {u} {after}.rest refl ({before})"
+        name, taken = self.routine.name, f"{list_of(state.taken)} {list_of(other.promise.keys)}"
+        keep = f"leaves_behind w.memory {here}.memory {name}_ranges {inner} {taken} {u} {after}.rest refl ({before})"
         last = self.state_behind(there, other, it, u, after, changed)
         last.keep = kept
-        last.lines.insert(0, (kept, f"keeps_as w.memory {self.routine.name}_changed {u} ({keep})"))
+        last.lines.insert(0, (kept, f"leaves_as w.memory {name}_changed {list_of(last.taken)} {u} ({keep})"))
+        written = "" if isinstance(other, Routine) else self.as_numbers(state, last, other)
+        rule = "call_as" if written else rule
         rest = self.tree(last, loops)
         return (
             f"{cut}{begin}onto code {state.world} {here} {state.steps} _ refl "
             f"({rule} code {it.value} {s} {it.address + 3} _ _ _ {meets} {here}\n({bytes_})\n"
-            f"(record {{ {body or 'none = tt;'} }}) {mark}{home} (λ {u} {after}.\n{rest})){end}"
+            f"(record {{ {body or 'none = tt;'} }}) {mark}{home} {written}(λ {u} {after}.\n{rest})){end}"
         )
+
+    def waiting(self, state, it, other, here):
+        """The proof that the keys wait which a call takes."""
+        keys, left = other.promise.keys, self.left(state)
+        if not keys:
+            return ""
+        if left[: len(keys)] != keys:
+            raise Refusal(it.line, f"{other.name} takes {spelt(keys)}, and {spelt(left) if left else 'no key'} waits here" + state.at)
+        lists = " ".join(list_of(them) for them in (state.taken, keys, left[len(keys) :]))
+        before = self.keeps(state, f"(entered 0 {here}.memory)")
+        return f"waits = still {lists} w.memory _ (entered 0 {here}.memory) before.waits ({before}); "
+
+    def take_key(self, state, it, loops):
+        """A call of a service that takes keys."""
+        try:
+            service = taker_of(it.value, self.left(state), self.routine.promise.keys, it.line)
+        except Unproved:
+            raise
+        except Refusal as why:
+            return self.never(state, why)
+        return self.call(state, it, service, loops)
 
     def with_memory(self, state, memory):
         """A state whose memory, with its stores, is one that this term names."""
@@ -616,6 +687,7 @@ class Proof(Run):
         """Behind a call: what the other routine promises, of the state before it."""
         made = State(u, f"(enter {it.address + 3} {state.s + 2} {u})", it.address + 3, state.s + 2)
         made.path, made.depth, made.ground, made.loop = list(state.path), state.depth, state.ground, state.loop
+        made.turned = state.turned
         made.whole = f"{after}.bytes"
         for name in ("facts", "known", "reads", "universals", "links", "all_has", "labels"):
             setattr(made, name, copy.copy(getattr(state, name)))
@@ -633,7 +705,28 @@ class Proof(Run):
             self.fact(made, f"{after}.bytes.ram.bytes {address}")
             if not is_in(changed, address):
                 self.fact(made, f"{after}.rest.bytes {address} refl")
+        made.taken = state.taken + other.promise.keys
         return made
+
+    @staticmethod
+    def as_numbers(state, made, other):
+        """Has registers and bytes be numbers behind a service where they are known; what its rule wants of a world that is written
+        so, nothing where none is known."""
+        known = {it: (state.registers[it], f"keep_{it.lower()}") for it in "AXY" if it not in other.promise.changes.registers}
+        known = {letter: it for letter, it in {**known, **other.known}.items() if isinstance(it[0], int)}
+        if not known and not other.stores:
+            return ""
+        numbers = {letter: number for letter, (number, _) in known.items()}
+        stores = list_of(f"({a}, {byte})" for a, byte in other.stores)
+
+        def written(world):
+            return world_with(world, numbers, other.stores and f"after_stores {stores} {world}.memory")
+
+        made.world = f"(enter {made.pc} {made.s} ({written(made.base)}))"
+        made.registers.update(numbers)
+        made.memory, made.stores = dict(other.stores), list(other.stores)
+        proof = world_with("u", {letter: f"sym h.{fact} i" for letter, (_, fact) in known.items()}, other.stores and "h.stands i")
+        return f"(λ u. {written('u')}) (λ u h. λ i. {proof}) "
 
     # Goals
 
@@ -743,7 +836,9 @@ class Proof(Run):
             first = self.supposed(state, e[2], True, e[3], holds, facts, words)
             return f"({first}, {self.supposed(state, e[2], False, e[3], not holds, facts, words)})"
         if kind == "pair":
-            return by
+            keys = keys_of(e)
+            few = facts if keys is None or len(facts) <= MANY_FACTS else self.about(facts, keys)
+            return f"(omega ({', '.join(['arith', *few])}))"
         return self.choice_proved(state, e, holds, facts, words)
 
     def choice_proved(self, state, e, holds, facts, words):
@@ -873,6 +968,13 @@ def wanted_by(term):
     return f"that {wants} is wanted here, and no line says it," if wants else "bytes are wanted below 256"
 
 
+def world_with(world, registers, memory):
+    """A world with these registers, and with this memory if there is one."""
+    fields = "".join(f"{letter.lower()} = {term}; " for letter, term in sorted(registers.items()))
+    memory = f" memory = {memory};" if memory else ""
+    return f"record {world} {{ registers = record {world}.registers {{ {fields}}};{memory} }}"
+
+
 def here_of(state):
     """The world that a state is, as a term."""
     return f"(stepped code {state.world} {state.steps})" if state.steps else state.world
@@ -903,6 +1005,8 @@ def is_in(ranges, address):
     return any(first <= address <= last for first, last in ranges)
 
 
+# What does not hold where a test of two numbers came out so.
+OPPOSITE = {("eq", True): "{} ≢ {}", ("eq", False): "{} ≡ {}", ("le", True): "{1} < {0}", ("le", False): "{} ≤ {}"}
 # Opcodes of modes whose address may not be known: those of A's operations lie as far apart as these from the first.
 OPERATIONS = {"ORA": 0x00, "AND": 0x20, "EOR": 0x40, "ADC": 0x60, "STA": 0x80, "LDA": 0xA0, "CMP": 0xC0, "SBC": 0xE0}
 OPERATION_MODES = {"ZeroPageX": (0x15, 4), "AbsoluteX": (0x1D, 4), "AbsoluteY": (0x19, 4), "IndexedIndirect": (0x01, 6), "IndirectIndexed": (0x11, 5)}

@@ -1,8 +1,10 @@
-"""The Monitor's services that a routine may call: what they want and leave, as crates/a2_rules/proofs/Calling.antt has it, and
-what they do in a trial."""
+"""The Monitor's services that a routine may call: what they want and leave, as crates/a2_rules/proofs/Calling.antt and Typing.antt
+have it, and what they do in a trial."""
 
-from .language import Reader
+from .language import Reader, spelt
 from .promises import Changes, Clause, Promise
+from .refusal import Refusal
+from .terms import list_of
 from .written import said
 
 WINDOW = ("$21 >= 1", "$20 + $21 <= 40", "$22 < $23", "$23 <= 24")
@@ -12,6 +14,10 @@ LEFT = ("$25 < 24", "$20 + $24 < 40")
 # CH and CV, BASL and BASH, the mask of characters, and page 1
 PLACE, BASE, MASK, PAGE = (0x24, 0x25), (0x28, 0x29), (0x32, 0x32), (0x400, 0x7FF)
 BLANK, RETURN, FEED, BACKSPACE = 0xA0, 0x8D, 0x8A, 0x88
+# The input hook where it leads to KEYIN; the line that GETLN reads, the most keys of one, and the keys that edit it.
+KEY_HOOK = ("word $38 = #$FD1B",)
+LINE, LINE_START, MOST_OF_LINE, RETURN_KEY = (0x200, 0x2FF), 0x200, 255, 0x0D
+EDITING = {0x08: "a left arrow", 0x15: "a right arrow", 0x18: "Ctrl-X"}
 
 
 def clauses(texts):
@@ -21,9 +27,11 @@ def clauses(texts):
 class Service:
     """A service, called as a routine with a promise is; it needs no proof but a rule."""
 
-    def __init__(self, name, address, wanted, left, rule, registers="", ranges=(PLACE, BASE, PAGE)):
+    def __init__(self, name, address, wanted, left, rule, registers="", ranges=(PLACE, BASE, PAGE), keys=(), known=None, stores=()):
         self.name, self.wanted, self.rule = name, wanted, rule
-        self.promise = Promise(name, 0, address, clauses(wanted), clauses(left), Changes(set(registers), list(ranges)))
+        # the registers that are numbers behind it, each with the name of the fact; and the bytes
+        self.known, self.stores = known or {}, list(stores)
+        self.promise = Promise(name, 0, address, clauses(wanted), clauses(left), Changes(set(registers), list(ranges)), list(keys))
 
     def changed(self, s):
         return self.promise.changes.ranges
@@ -41,16 +49,17 @@ SERVICES = {
         Service("PRHEX", 0xFDE3, CURSOR, LEFT, "prhex_serves @ refl"),
         Service("COUT1", 0xFDF0, CURSOR, LEFT, "cout1_serves @ refl"),
         Service("COUT", 0xFDED, HOOK, LEFT, "cout_serves @ refl refl"),
-        Service("CROUT", 0xFD8E, HOOK, (*LEFT, "A = 141"), "crout_serves @ refl refl", "A"),
+        Service("CROUT", 0xFD8E, HOOK, (*LEFT, "A = 141"), "crout_serves @ refl refl", "A", known={"A": (0x8D, "e3")}),
         Service("VTAB", 0xFC22, CURSOR, (), "vtab_serves @ refl", ranges=[BASE]),
         Service("CLREOL", 0xFC9C, CURSOR, (), "clreol_serves @ refl", ranges=[PAGE]),
         Service("SETINV", 0xFE80, (), ("$32 = #$3F",), "setinv_serves @ refl", ranges=[MASK]),
         Service("SETNORM", 0xFE84, (), ("$32 = #$FF",), "setnorm_serves @ refl", ranges=[MASK]),
-        Service("WAIT", 0xFCA8, (), ("A = 0",), "wait_serves @ refl", "A", []),
+        Service("WAIT", 0xFCA8, (), ("A = 0",), "wait_serves @ refl", "A", [], known={"A": (0, "e1")}),
     )
 }
-# The others, those that want a key apart.
-WITH_KEYS = {0xFD0C: "RDKEY can't come back from KEYIN", 0xFD1B: "KEYIN can't come back", 0xFD6A: "GETLN can't come back"}
+# Those that take keys, and others.
+RDKEY, KEYIN, GETLN = 0xFD0C, 0xFD1B, 0xFD6A
+TAKERS = {RDKEY: "RDKEY", KEYIN: "KEYIN", GETLN: "GETLN"}
 OTHERS = {
     0xFC42: "CLREOP",
     0xF864: "SETCOL",
@@ -64,15 +73,69 @@ OTHERS = {
 
 def why_unproved(address):
     """Why what calls a service can't be proved; None where no service is, or one that may be called."""
-    if address in WITH_KEYS:
-        return f"no key waits in the worlds that PROVED speaks of, so {WITH_KEYS[address]}: a2x promise tries it, with a line takes"
     return f"a call of {OTHERS[address]} can't be proved yet: a2x promise tries it" if address in OTHERS else None
 
 
 def services_of(program):
-    """The services that a program calls."""
+    """The services that a program calls; those that take keys as they take some."""
     called = {it.value for it in program.statements if it.is_instruction and it.mnemonic == "JSR"}
-    return [SERVICES[address] for address in sorted(called & set(SERVICES))]
+    takers = [LineTaker([]) if address == GETLN else KeyTaker(address, 0) for address in sorted(called & set(TAKERS))]
+    return [SERVICES[address] for address in sorted(called & set(SERVICES))] + takers
+
+
+class Unproved(Refusal):
+    """What may be so, and can't be proved."""
+
+
+class KeyTaker(Service):
+    """KEYIN, or RDKEY where its hook leads there, as it takes this key."""
+
+    def __init__(self, address, key):
+        wanted, rule = ((), "keyin_serves @") if address == KEYIN else (KEY_HOOK, "rdkey_serves @")
+        rule = f"{rule} {key} (omega arith) refl{' refl' if address == RDKEY else ''}"
+        super().__init__(TAKERS[address], address, wanted, (), rule, "A", [], [key], {"A": (0x80 + key, "e1")})
+
+
+class LineTaker(Service):
+    """GETLN as it takes the keys of this line, and RETURN."""
+
+    def __init__(self, line):
+        rule = f"getln_serves @ {list_of(line)} refl (omega arith) refl"
+        ranges, known = [PLACE, BASE, LINE, PAGE], {"X": (len(line), "e3")}
+        super().__init__("GETLN", GETLN, CURSOR, LEFT, rule, "X", ranges, [*line, RETURN_KEY], known, line_stores(line))
+
+
+def line_stores(line):
+    """The bytes of a line and of its return, with their addresses."""
+    return list(enumerate([*(plain_byte(key) for key in line), RETURN], LINE_START))
+
+
+def plain_byte(key):
+    """The byte that a key stands for in a line: small letters are capitals."""
+    return 0x80 + key - (0x20 if key >= 0x60 else 0)
+
+
+def taker_of(address, keys, promised, line):
+    """A service as it takes the first of the keys that wait, of those that are promised to be taken."""
+    name = TAKERS[address]
+    if not keys and not promised:
+        raise Refusal(line, f"{name} waits for a key, and no line takes types one: it does not come back")
+    if not keys:
+        raise Refusal(line, f"{name} waits for a key, and those of takes are taken: it does not come back")
+    return LineTaker(line_of(keys, line)) if address == GETLN else KeyTaker(address, keys[0])
+
+
+def line_of(keys, line):
+    """The keys before the first RETURN."""
+    if RETURN_KEY not in keys:
+        raise Refusal(line, f"GETLN waits for RETURN, \\r, which is not among the keys that are left, {spelt(keys)}: it does not come back")
+    found = keys[: keys.index(RETURN_KEY)]
+    edits = next((EDITING[key] for key in found if key in EDITING), None)
+    if edits:
+        raise Unproved(line, f"{edits} among the keys of a line, {spelt(found)}, edits it, which can't be proved yet: a2x promise tries it")
+    if len(found) > MOST_OF_LINE:
+        raise Unproved(line, f"GETLN gives up a line of more than {MOST_OF_LINE} keys, which can't be proved yet: a2x promise tries it")
+    return found
 
 
 class Screen:
@@ -115,7 +178,9 @@ class Screen:
             self.store(0x25, self.memory[0x25] - 1)
 
     def put(self, byte):
-        byte = byte & self.memory[0x32] if byte >= BLANK else byte
+        self.put_unmasked(byte & self.memory[0x32] if byte >= BLANK else byte)
+
+    def put_unmasked(self, byte):
         if byte == RETURN:
             self.store(0x24, 0)
             self.feed()
@@ -145,6 +210,15 @@ class Screen:
         for column in range(self.memory[0x24], self.width):
             self.store(self.row(self.memory[0x25]) + self.left + column, BLANK)
 
+    def read(self, keys):
+        """Reads the keys of a line and RETURN, with its prompt before."""
+        self.put(self.memory[0x33])
+        for at, byte in line_stores(keys[:-1]):
+            self.store(at, byte)
+            if byte == RETURN:
+                self.clear_to_end()
+            self.put_unmasked(byte)
+
     def base(self):
         """BASL and BASH as output leaves them."""
         at = self.row(self.memory[0x25]) + self.left
@@ -152,29 +226,31 @@ class Screen:
         self.store(0x29, at >> 8)
 
 
-def served(address, registers, memory):
+def served(it, registers, memory):
     """Does what a service does; the addresses that it stores at, or None where window, cursor or hook do not let it."""
-    it, screen = SERVICES[address], Screen(memory)
-    if it.wanted and not (screen.is_window and (it.wanted == WINDOW or screen.has_cursor)):
+    screen = Screen(memory)
+    if it.wanted and it.wanted != KEY_HOOK and not (screen.is_window and (it.wanted == WINDOW or screen.has_cursor)):
         return None
     if it.wanted == HOOK and (memory[0x36], memory[0x37]) != (0xF0, 0xFD):
         return None
+    if it.wanted == KEY_HOOK and (memory[0x38], memory[0x39]) != (0x1B, 0xFD):
+        return None
+    registers.update({letter: number for letter, (number, _) in it.known.items()})
     if it.name in ("SETINV", "SETNORM"):
         screen.store(0x32, 0x3F if it.name == "SETINV" else 0xFF)
-    elif it.name == "WAIT":
-        registers["A"] = 0
     elif it.name == "CLREOL":
         screen.clear_to_end()
-    else:
-        put_by(it.name, registers, screen)
+    elif it.name not in ("WAIT", "KEYIN", "RDKEY"):
+        put_by(it, registers, screen)
         screen.base()
     return screen.stored
 
 
-def put_by(name, registers, screen):
+def put_by(it, registers, screen):
     """What a service puts that leaves the base address."""
-    if name == "CROUT":
-        registers["A"] = RETURN
+    name = it.name
+    if name == "GETLN":
+        screen.read(it.promise.keys)
     if name == "HOME":
         screen.clear()
     if name == "PRBYTE":

@@ -13,6 +13,12 @@ ONES = re.compile(r"0*1+0*")
 INDEXED = ("ZeroPageX", "ZeroPageY", "AbsoluteX", "AbsoluteY")
 
 
+# What is a copy's own of a state.
+COPIED = (
+    *("registers", "flags", "memory", "stores", "facts", "lines", "known", "path"),
+    *("zeros", "links", "reads", "universals", "all_has", "taken"),
+)
+
 # How many stores on text pages at known addresses may follow one another: each is a part of a proof within the one before.
 MOST_CELLS = 8
 TOO_MANY_CELLS = (
@@ -36,8 +42,8 @@ class State:
     def __init__(self, base, world, pc, s):
         self.base, self.world, self.pc, self.s = base, world, pc, s
         self.steps = 0
-        # the loop at whose top it stands
-        self.top = None
+        # the loop at whose top it stands; and the keys that were taken since the entry
+        self.top, self.taken = None, []
         # its memory; and the fact that what may not be changed is as at the entry, None where it is that world's
         self.memory_is, self.keep = f"{base}.memory", None
         self.registers = {it: f"{base}.registers.{it.lower()}" for it in "AXY"}
@@ -48,6 +54,8 @@ class State:
         self.facts, self.lines, self.known = [], [], []
         # how it came here, and how many branches that are not known lie behind it
         self.path, self.depth = [], 0
+        # the fact of the last branch that is not known, and what holds where it goes the other way
+        self.turned = None
         # facts that a term is 0
         self.zeros = {}
         # how each memory came of another; bytes that were read at addresses that are not numbers; what holds of each number below another
@@ -66,7 +74,7 @@ class State:
 
     def copy(self):
         made = copy.copy(self)
-        for name in ("registers", "flags", "memory", "stores", "facts", "lines", "known", "path", "zeros", "links", "reads", "universals", "all_has"):
+        for name in COPIED:
             setattr(made, name, copy.copy(getattr(self, name)))
         return made
 
@@ -136,7 +144,7 @@ class Run:
         if any(term + says == known for _, known in state.known):
             return
         name = self.fresh("f")
-        self.keys[name] = keys or keys_in(term)
+        self.keys[name] = keys or keys_in(term, says)
         state.known.append((name, term + says))
         state.lines.append((f"{name} : {says}" if says else name, term))
         state.facts.append(name)
@@ -372,14 +380,17 @@ class Run:
         pass
 
 
+SAID_BYTE = re.compile(r"ram_byte \S+ (\d+)")
 OF_BYTE, OF_REGISTER = re.compile(r"(?:bytes|stores_read \S.*) (\d+)(?: refl)?"), re.compile(r"\S*(?:bytes\.|keep_)([axy])")
 
 
-def keys_in(term):
-    """The byte or register of which a fact speaks, where its term tells."""
+def keys_in(term, says=""):
+    """The bytes or the register of which a fact speaks, where its term tells, and what it says."""
+    if "ram_byte (" in says or "registers" in says:
+        return None
     byte, register = OF_BYTE.fullmatch(term.rpartition(".")[2]) or OF_BYTE.fullmatch(term), OF_REGISTER.fullmatch(term)
     if byte:
-        return {int(byte[1])}
+        return {int(byte[1]), *(int(it) for it in SAID_BYTE.findall(says))}
     return {register[1].upper()} if register else None
 
 

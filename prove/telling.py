@@ -19,13 +19,14 @@ use Rattle.a2_promise.specs.Told.{Line, Terms, IsLine, IsTold}
 use Rattle.a2_promise.specs.Told as told
 use Rattle.a2_promise.specs.Written.{meant, said, spelled}
 use Rattle.a2_promise.specs.Written as written
-use Rattle.a2_rules.proofs.Told.{not_nothing}
+use Rattle.a2_rules.proofs.Told.{not_nothing, spells_keys}
 use Rattle.promised.proofs.Program.{lines, names}
 """
 FACTS = ("requires", "ensures")
 NOTHING = "(_, refl, refl)"
 SOMETHING = "(_, refl, (refl, refl, not_nothing _ refl))"
 UNDERWAY = "(_, _, refl, refl, refl)"
+SPELT = "record {{ rest = _; inner = {0}; begins = refl; is_quoted = refl; spells = spells_keys {0} {1} refl }}"
 
 
 def flag(is_set):
@@ -45,7 +46,12 @@ def terms_of(promise):
         fields.append(f"{name} = {list_of(phrase(clause.expr) for clause in clauses)}")
     fields += [f"{it.lower()} = {flag(it in promise.changes.registers)}" for it in "AXY"]
     fields.append(f"ranges = {list_of(f'({first}, {last})' for first, last in promise.changes.ranges)}")
-    return fields + ["prints = []", "takes = []"]
+    takes = list_of(list_of(line.says) for line in promise.lines if line.verb == "takes")
+    return fields + ["prints = []", f"takes = {takes}"]
+
+
+def between_quotes(text):
+    return text[text.index('"') + 1 : text.rindex('"')]
 
 
 class Told:
@@ -74,6 +80,9 @@ class Told:
         elif line.verb == "changes":
             text, what = "", f"told.changes {list_of(change(*it) for it in line.says)}"
             proof = SOMETHING if line.says else NOTHING
+        elif line.verb == "takes":
+            text, what = "", f"told.takes {list_of(line.says)}"
+            proof = SPELT.format(codes(between_quotes(line.text)), list_of(line.says))
         else:
             text, what, proof = "", f"told.underway (tokens {codes(line.text)})", UNDERWAY
         text += f"abbrev line_{k} : Line\nline_{k} = {what}\n\n"

@@ -3,6 +3,7 @@ no state meets is not proved."""
 
 import random
 
+from .language import spelt
 from .machine import Machine, Stuck
 from .values import State, holds, value
 
@@ -131,10 +132,11 @@ def fails_in(machine, promise, entry):
     """What fails in a state; the state that the routine leaves."""
     behind = State(dict(entry.registers), dict(entry.flags), bytearray(entry.memory))
     try:
-        stored = machine.run(behind, promise.address, STEPS)
+        stored = machine.run(behind, promise.address, STEPS, promise.keys)
     except Stuck as stuck:
         return f"line {stuck.line}: {stuck.says}", behind
-    return judge(promise, entry, behind, stored), behind
+    says = judge(promise, entry, behind, stored)
+    return says or (f"it leaves keys that were typed: {spelt(machine.keys)}" if machine.keys else None), behind
 
 
 def failure(program, promise):

@@ -45,18 +45,20 @@ use Rattle.a2_cpu.specs.Registers.{one_if}
 use Rattle.a2_bus.specs.Memory.{Memory, ram_byte}
 use Rattle.a2_services.specs.World.{World}
 use Rattle.a2_machine.proofs.Computing.{computing}
-use Rattle.a2_lessons.specs.Routines.{entered, Keeps, word}
+use Rattle.a2_lessons.specs.Routines.{entered, word}
 use Rattle.a2_lessons.proofs.Branching.{N, V, Z, C, with_flag}
-use Rattle.a2_lessons.proofs.Keeping.{after_stores, kept, keeps_all, keeps_stores}
+use Rattle.a2_lessons.proofs.Keeping.{after_stores}
 use Rattle.a2_lessons.proofs.Carrying.{fits_word}
 use Rattle.a2_rules.proofs.Bits.{bit_small, digits_small}
 use Rattle.a2_rules.proofs.Overflow.{overflow_bit}
+use Rattle.a2_rules.proofs.Leaving.{Leaves, Waits, leaves, leaves_all, leaves_as, leaves_stores, still}
 use Rattle.a2_rules.proofs.Meeting.{Whole, IsWhole, enter, stepped, home, Meets}
-use Rattle.a2_rules.proofs.Proving.{onto, fork, loops, call, whole_after, whole, le_bit, odd_bit, eq_bit, le_yes, le_no, eq_yes, eq_no, each_byte, product_down, product_up, product_zero, product_ge, mul_swap, yes_le, no_le, yes_eq, no_eq, keeps_as, flag_yes, flag_no, weaken, none_below, one_more_below}
-use Rattle.a2_rules.proofs.Ranges.{is_in, in_ranges, not_among, keeps_behind, kept_beside, kept_or_in}
+use Rattle.a2_rules.proofs.Proving.{onto, fork, loops, call, whole_after, whole, le_bit, odd_bit, eq_bit, le_yes, le_no, eq_yes, eq_no, each_byte, product_down, product_up, product_zero, product_ge, mul_swap, yes_le, no_le, yes_eq, no_eq, flag_yes, flag_no, weaken, none_below, one_more_below}
+use Rattle.a2_rules.proofs.Ranges.{is_in, in_ranges, not_among, leaves_behind, kept_beside, kept_or_in}
 use Rattle.a2_rules.proofs.Reaching.{take, put, change, taking, putting, changing}
-use Rattle.a2_rules.proofs.Afresh.{afresh, put_here, put_other, put_read, put_whole, put_keeps, stores_whole, stores_read, then_stores, stores_keep, stores_other, same_byte, same_place, at_index, if_lt, if_le, if_eq, if_ne, one_of_two}
-use Rattle.a2_rules.proofs.Calling.{call_service, home_serves, prbyte_serves, prhex_serves, cout1_serves, cout_serves, crout_serves, vtab_serves, clreol_serves, setinv_serves, setnorm_serves, wait_serves}
+use Rattle.a2_rules.proofs.Afresh.{afresh, put_here, put_other, put_read, put_whole, put_leaves, stores_whole, stores_read, then_stores, stores_leave, stores_other, same_byte, same_place, at_index, if_lt, if_le, if_eq, if_ne, one_of_two}
+use Rattle.a2_rules.proofs.Calling.{call_as, call_service, home_serves, prbyte_serves, prhex_serves, cout1_serves, cout_serves, crout_serves, vtab_serves, clreol_serves, setinv_serves, setnorm_serves, wait_serves}
+use Rattle.a2_rules.proofs.Typing.{getln_serves, keyin_serves, rdkey_serves}
 use Rattle.a2_opcode.specs.Table.{fixed, paged}
 use Rattle.a2_opcode.specs.declared.Mnemonic.TheVariants.{Adc, And, Asl, Cmp, Dec, Eor, Inc, Lda, Ldx, Ldy, Lsr, Ora, Rol, Ror, Sbc, Sta, Stx, Sty}
 use Rattle.a2_opcode.specs.declared.Mode.TheVariants.{ZeroPageX, ZeroPageY, AbsoluteX, AbsoluteY, IndexedIndirect, IndirectIndexed}
@@ -162,19 +164,26 @@ def ranges_text(ranges):
     return list_of(f"({first}, {last})" for first, last in ranges)
 
 
+def rest_of(routine, taken):
+    """That all else is as it was, where these keys were taken."""
+    return [f"pub rest : Leaves w.memory {routine.name}_changed {list_of(taken)} v", "pub bytes : IsWhole v"]
+
+
 def contract(written):
     """What is known before and behind a routine, as records."""
     routine, promise = written.routine, written.routine.promise
     words = Words("v", "w")
-    text = record(f"{written.name}_Before", "(w : World)", facts("r", promise.wanted, Words("w", "w")))
+    waits = [f"pub waits : Waits {list_of(promise.keys)} w"] if promise.keys else []
+    text = record(f"{written.name}_Before", "(w : World)", facts("r", promise.wanted, Words("w", "w")) + waits)
     text += f"\nabbrev pub {routine.name}_ranges : List (ℕ × ℕ)\n{routine.name}_ranges = {ranges_text(written.changed)}\n"
     text += f"\nabbrev pub {routine.name}_changed : ℕ → Bool\n{routine.name}_changed = is_in {routine.name}_ranges\n"
-    rest = [f"pub rest : Keeps w.memory {routine.name}_changed v", "pub bytes : IsWhole v"]
+    rest = rest_of(routine, promise.keys)
     text += record(f"{written.name}_After", "(w v : World)", facts("e", promise.promised, words) + registers_kept(promise) + rest)
     for loop in routine.loops.values():
         outer = [f"o_{label}" for label in loop.labels]
         there = Words("v", "w", labels=dict(zip(loop.labels, outer)))
         worlds = " ".join(["w", *outer, "v"])
+        rest = rest_of(routine, loop.taken or [])
         text += record(f"{loop.name}_Inv", f"({worlds} : World)", facts("e", loop.invariants, there) + registers_kept(promise) + rest)
         measure = measure_of(loop.measure.expr, there) if loop.measure else "0"
         text += f"\nabbrev {loop.name}_measure : {'World → ' * len(outer)}World → ℕ\n{loop.name}_measure {' '.join([*outer, 'v'])} = {measure}\n"
@@ -199,7 +208,8 @@ def pairs(letter, count, of):
 
 
 def before_of(promise):
-    fields = [f"r{k} = before{'.1' * (k - 1)}.0; " for k in range(1, len(promise.wanted) + 1)]
+    fields = [f"r{k} = before.says{'.1' * (k - 1)}.0; " for k in range(1, len(promise.wanted) + 1)]
+    fields += ["waits = before.waits; "] if promise.keys else []
     return "record { " + ("".join(fields) or "none = tt; ") + "}"
 
 
@@ -215,7 +225,7 @@ def ending(written):
     label, above = codes(promise.name), promise.line - 1
     body = (
         f"proved text {label} listing _ {above} terms {name}_ranges read stated\n"
-        f"(told_of text {label} lines names {above} terms cut named tells) refl refl refl refl refl\n"
+        f"(told_of text {label} lines names {above} terms cut named tells) refl refl refl refl\n"
         f"(λ w bytes before. weaken code (enter {promise.address} {S} w) _ _ {meets}\n"
         f"(λ u h. (h.0, h.1, {after}))) -- @@\n"
     )

@@ -80,3 +80,8 @@ NO23    LDA $06
         BNE N23
         JSR $FD0C
 N23     RTS
+* keys are a text in quotes
+;: takes YES
+NO24    RTS
+;: takes "YES\n"
+NO25    RTS

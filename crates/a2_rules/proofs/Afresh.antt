@@ -8,9 +8,10 @@ use Rattle.a2_bus.proofs.Frame.{ram_byte-with_ram}
 use Rattle.a2_services.specs.World.{World}
 use Rattle.a2_machine.specs.Meaning.{Code}
 use Rattle.a2_machine.proofs.Walks.{walked}
-use Rattle.a2_lessons.specs.Routines.{Keeps, entered}
-use Rattle.a2_lessons.proofs.Keeping.{after_stores, keeps_stores}
+use Rattle.a2_lessons.specs.Routines.{entered}
+use Rattle.a2_lessons.proofs.Keeping.{after_stores}
 use Rattle.a2_reads.proofs.Agreeing.{Pages, pages-with_ram, written_back}
+use Rattle.a2_rules.proofs.Leaving.{Leaves, leaves_stores}
 use Rattle.a2_rules.proofs.Meeting.{Whole, Reaches}
 use Rattle.a2_rules.proofs.Proving.{onto, Fits, whole_with, whole_after}
 use Rattle.a2_rules.proofs.Ranges.{is_in}
@@ -40,10 +41,10 @@ module _ (before m : Memory) (at byte : ℕ) (is : m ≡ with_ram before at byte
     pub put_whole : byte < 256 → Whole m
     put_whole small = subst Whole (sym is) (whole_with before at byte whole small)
 
-  pub put_keeps : (memory : Memory) (ranges : List (ℕ × ℕ)) → is_in ranges at ≡ true → Keeps memory (is_in ranges) (entered 0 before)
-      → Keeps memory (is_in ranges) (entered 0 m)
-  put_keeps memory ranges inside keeps =
-      keeps_stores ((at, byte) ∷ []) memory (is_in ranges) (entered 0 before) (entered 0 m) (ap (λ b. b && true) inside) is keeps
+  pub put_leaves : (memory : Memory) (ranges : List (ℕ × ℕ)) (taken : List ℕ) → is_in ranges at ≡ true
+      → Leaves memory (is_in ranges) taken (entered 0 before) → Leaves memory (is_in ranges) taken (entered 0 m)
+  put_leaves memory ranges taken inside it =
+      leaves_stores ((at, byte) ∷ []) memory (is_in ranges) taken (entered 0 before) (entered 0 m) (ap (λ b. b && true) inside) is it
 
 -- Stores whose addresses are numbers
 
@@ -87,9 +88,10 @@ module _ (stores : List (ℕ × ℕ)) (before m : Memory) (is : m ≡ after_stor
           go later (with_ram memory at byte) (pages-with_ram memory at byte pages)
           ∙ ap (last_stored later a) (one memory at byte pages)
 
-  pub stores_keep : (memory : Memory) (ranges : List (ℕ × ℕ)) → list_all (λ s. is_in ranges s.0) stores ≡ true
-      → Keeps memory (is_in ranges) (entered 0 before) → Keeps memory (is_in ranges) (entered 0 m)
-  stores_keep memory ranges all keeps = keeps_stores stores memory (is_in ranges) (entered 0 before) (entered 0 m) all is keeps
+  pub stores_leave : (memory : Memory) (ranges : List (ℕ × ℕ)) (taken : List ℕ) → list_all (λ s. is_in ranges s.0) stores ≡ true
+      → Leaves memory (is_in ranges) taken (entered 0 before) → Leaves memory (is_in ranges) taken (entered 0 m)
+  stores_leave memory ranges taken all it =
+      leaves_stores stores memory (is_in ranges) taken (entered 0 before) (entered 0 m) all is it
 
   -- they leave a byte whose address is another than theirs
   pub stores_other : (low high a : ℕ) → list_all (λ s. nat_lt s.0 low || nat_lt high s.0) stores ≡ true → low ≤ a → a ≤ high

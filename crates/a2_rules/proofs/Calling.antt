@@ -1,16 +1,17 @@
 -- What is known behind a call of a service: which registers and bytes it keeps, and that window and cursor lie on the screen.
-use Rattle.std.specs.Prelude.{◌≡◌, ◌<◌, ◌≤◌, ℕ, ◌+◌, ◌*◌, ◌/◌, ◌%◌, ◌==◌, ◌&&◌, not, nat_le, nat_lt, Bool, true, false, List, [], ◌∷◌, Some, None, if◌then◌else◌, refl}
+use Rattle.std.specs.Prelude.{◌≡◌, ◌<◌, ◌≤◌, ℕ, ◌+◌, ◌*◌, ◌/◌, ◌%◌, ◌==◌, ◌&&◌, not, nat_le, nat_lt, Bool, true, false, List, [], ◌∷◌, ◌++◌, Some, None, if◌then◌else◌, refl}
 use Rattle.std.specs.List.{list_any, list_all}
 use Rattle.std.proofs.Common.{sym, ap, ap₂, ◌∙◌, subst, arith}
 use Rattle.std.proofs.lemmas.Bool.Decides.{nat_tests}
 use Rattle.a2_page.specs.Window.{IsWindow}
+use Rattle.a2_bus.specs.Devices.{Devices}
 use Rattle.a2_bus.specs.Memory.{Memory, ram_byte, with_ram}
 use Rattle.a2_services.specs.declared.Service.{Service}
 use Rattle.a2_services.specs.declared.Service.TheVariants.{Cout, Cout1, Crout, Home, Prbyte, Prhex, Setinv, Setnorm, Vtab, Clreol, Wait}
 use Rattle.a2_services.specs.Fits.{CursorFits}
 use Rattle.a2_services.specs.Put.{window_of, after_put, with_base_address}
 use Rattle.a2_services.specs.Rows.{service_row}
-use Rattle.a2_services.specs.Services.{service_at, window_fits, cursor_fits, reach, output_reach, base_reach, page_reach, cleared_to_end, back, output, with_memory, with_a, effect, served, cycles_of, digit_byte}
+use Rattle.a2_services.specs.Services.{service_at, window_fits, cursor_fits, reach, output_reach, base_reach, page_reach, cleared_to_end, back, output, with_memory, with_a, with_x, effect, served, cycles_of, digit_byte}
 use Rattle.a2_services.specs.World.{World}
 use Rattle.a2_services.proofs.Counting.{base_devices, cleared_devices}
 use Rattle.a2_services.proofs.Effects.{served-kept}
@@ -20,9 +21,10 @@ use Rattle.a2_services.proofs.Returning.{returned_is, window_tells, fits_tells}
 use Rattle.a2_machine.specs.declared.Cause.TheVariants.{CodeWrite, Window}
 use Rattle.a2_machine.specs.Meaning.{Code, return_address, service_cause}
 use Rattle.a2_machine.proofs.Walks.{walked}
-use Rattle.a2_lessons.specs.Routines.{Keeps, word}
+use Rattle.a2_lessons.specs.Routines.{word}
 use Rattle.a2_lessons.proofs.Stepping.{serve}
 use Rattle.a2_reads.proofs.Agreeing.{written_back}
+use Rattle.a2_rules.proofs.Leaving.{Leaves}
 use Rattle.a2_rules.proofs.Meeting.{Whole, IsWhole, enter, home, Reaches}
 use Rattle.a2_rules.proofs.Printing.{printed_whole, to_end_whole, home_whole, home_fits, base_whole, base_fits}
 use Rattle.a2_rules.proofs.Proving.{onto, stands, weaken, whole_with}
@@ -51,6 +53,15 @@ call_service code to s behind Before After Q serves v whole before home_is later
 
     go : Reaches code (enter to s v) (λ u. Behind s v u × After v u) → Reaches code (enter to s v) Q
     go (n, (u, walk, (is, after))) = onto code (enter to s v) u n Q walk (at_last u is after)
+
+-- the same, where the world behind the service is written in another way, of which more is computed
+pub call_as : (code : Code) (to s behind : ℕ) (Before : World → Type 0) (After : World → World → Type 0) (Q : World → Type 0)
+    → Serves code to s Before After → (v : World) → IsWhole v → Before v → home s v ≡ behind
+    → (written : World → World) → ((u : World) → After v u → written u ≡ u)
+    → ((u : World) → After v u → Reaches code (enter behind (s + 2) (written u)) Q) → Reaches code (enter to s v) Q
+call_as code to s behind Before After Q serves v whole before home_is written same later =
+    call_service code to s behind Before After Q serves v whole before home_is
+    (λ u after. subst (λ x. Reaches code (enter behind (s + 2) x) Q) (same u after) (later u after))
 
 -- Window and cursor
 
@@ -96,7 +107,7 @@ window_test w h = λ i. one 1 _ h.r1 i && one _ 40 h.r2 i && less _ _ h.r3 i && 
 window_of_cursor : (w : World) → HasCursor w → HasWindow w
 window_of_cursor w h = record { r1 = h.r1; r2 = h.r2; r3 = h.r3; r4 = h.r4 }
 
-cursor_test : (w : World) → HasCursor w → window_fits w.memory && cursor_fits w.memory ≡ true
+pub cursor_test : (w : World) → HasCursor w → window_fits w.memory && cursor_fits w.memory ≡ true
 cursor_test w h =
     ap₂ (λ a b. a && b) (window_test w (window_of_cursor w h)) (ap₂ (λ a b. a && b) (less _ _ h.r5) (less _ _ h.r6))
   where
@@ -118,7 +129,7 @@ pub record Printed (w u : World) : Type 0 where
   pub keep_a : u.registers.a ≡ w.registers.a
   pub keep_x : u.registers.x ≡ w.registers.x
   pub keep_y : u.registers.y ≡ w.registers.y
-  pub rest : Keeps w.memory (is_in print_ranges) u
+  pub rest : Leaves w.memory (is_in print_ranges) [] u
   pub bytes : IsWhole u
 
 -- a return is left in A
@@ -128,7 +139,7 @@ pub record Returned (w u : World) : Type 0 where
   pub e3 : u.registers.a ≡ 0x8D
   pub keep_x : u.registers.x ≡ w.registers.x
   pub keep_y : u.registers.y ≡ w.registers.y
-  pub rest : Keeps w.memory (is_in print_ranges) u
+  pub rest : Leaves w.memory (is_in print_ranges) [] u
   pub bytes : IsWhole u
 
 -- Behind others
@@ -137,7 +148,7 @@ pub record Stayed (ranges : List (ℕ × ℕ)) (w u : World) : Type 0 where
   pub keep_a : u.registers.a ≡ w.registers.a
   pub keep_x : u.registers.x ≡ w.registers.x
   pub keep_y : u.registers.y ≡ w.registers.y
-  pub rest : Keeps w.memory (is_in ranges) u
+  pub rest : Leaves w.memory (is_in ranges) [] u
   pub bytes : IsWhole u
 
 abbrev pub mask_ranges : List (ℕ × ℕ)
@@ -148,40 +159,40 @@ pub record Masked (byte : ℕ) (w u : World) : Type 0 where
   pub keep_a : u.registers.a ≡ w.registers.a
   pub keep_x : u.registers.x ≡ w.registers.x
   pub keep_y : u.registers.y ≡ w.registers.y
-  pub rest : Keeps w.memory (is_in mask_ranges) u
+  pub rest : Leaves w.memory (is_in mask_ranges) [] u
   pub bytes : IsWhole u
 
 pub record Waited (w u : World) : Type 0 where
   pub e1 : u.registers.a ≡ 0
   pub keep_x : u.registers.x ≡ w.registers.x
   pub keep_y : u.registers.y ≡ w.registers.y
-  pub rest : Keeps w.memory (is_in []) u
+  pub rest : Leaves w.memory (is_in []) [] u
   pub bytes : IsWhole u
 
--- What a service leaves that stores in these ranges at most
+-- What a service leaves that stores in these ranges at most, and takes these keys
 
-record Left (ranges : List (ℕ × ℕ)) (a : ℕ) (n : Memory) (w u : World) : Type 0 where
-  a_is : u.registers.a ≡ a
-  keep_x : u.registers.x ≡ w.registers.x
-  keep_y : u.registers.y ≡ w.registers.y
-  memory : u.memory ≡ n
-  rest : Keeps w.memory (is_in ranges) u
-  bytes : IsWhole u
+pub record Left (ranges : List (ℕ × ℕ)) (taken : List ℕ) (a x : ℕ) (n : Memory) (w u : World) : Type 0 where
+  pub a_is : u.registers.a ≡ a
+  pub x_is : u.registers.x ≡ x
+  pub keep_y : u.registers.y ≡ w.registers.y
+  pub memory : u.memory ≡ n
+  pub rest : Leaves w.memory (is_in ranges) taken u
+  pub bytes : IsWhole u
 
 module _ (code : Code) (at s : ℕ) (room : s < 254) (service : Service) (w : World) (whole : IsWhole w)
     (here : service_at at ≡ Some service) (away : (at == return_address) ≡ false)
     (free : service_cause code.protected service (enter at s w) ≡ None) (ranges : List (ℕ × ℕ))
     (reaches : (b : ℕ) → is_in ranges b ≡ false → reach service b ≡ false)
-    (beside : (b : ℕ) → 0x100 ≤ b → b ≤ 0x1FF → is_in ranges b ≡ false) (n : Memory) (a : ℕ)
-    (is : effect service (enter at s w) ≡ back (with_memory n (with_a a (enter at s w)))) (n_whole : Whole n) (small : a < 256)
-    (devices : n.devices ≡ w.memory.devices) where
+    (beside : (b : ℕ) → 0x100 ≤ b → b ≤ 0x1FF → is_in ranges b ≡ false) (taken : List ℕ) (n : Memory) (a x : ℕ)
+    (is : effect service (enter at s w) ≡ back (with_memory n (with_x x (with_a a (enter at s w))))) (n_whole : Whole n)
+    (small : a < 256) (x_small : x < 256) (keys : w.memory.devices.keys ≡ taken ++ n.devices.keys) where
   -- the cycles behind it
   abbrev there : ℕ
   there = w.cycles + cycles_of (service_row service).takes (enter at s w).registers
 
   after : World
   after = record {
-    registers = record (enter at s w).registers { a = a; s = s + 2; pc = home s w };
+    registers = record (enter at s w).registers { a = a; x = x; s = s + 2; pc = home s w };
     memory = n;
     cycles = there;
   }
@@ -189,7 +200,7 @@ module _ (code : Code) (at s : ℕ) (room : s < 254) (service : Service) (w : Wo
   -- behind a return that pulls as this one does
   pulled : ℕ → ℕ → ℕ → World
   pulled to low high = record {
-    registers = record (enter at s w).registers { a = a; s = to; pc = (low + 256 * high + 1) % 65536 };
+    registers = record (enter at s w).registers { a = a; x = x; s = to; pc = (low + 256 * high + 1) % 65536 };
     memory = n;
     cycles = there;
   }
@@ -198,12 +209,12 @@ module _ (code : Code) (at s : ℕ) (room : s < 254) (service : Service) (w : Wo
       ≡ pulled (((s + 1) % 256 + 1) % 256) (ram_byte n (256 + (s + 1) % 256)) (ram_byte n (256 + ((s + 1) % 256 + 1) % 256))
   unfolding served pulled
   served_there =
-      ap (λ (x : World). let y : World = record x { cycles = there } in y)
-      (is ∙ returned_is (with_memory n (with_a a (enter at s w))))
+      ap (λ (v : World). let y : World = record v { cycles = there } in y)
+      (is ∙ returned_is (with_memory n (with_x x (with_a a (enter at s w)))))
 
   made : (served service (enter at s w)).memory ≡ n
   unfolding pulled
-  made = ap (λ (x : World). x.memory) served_there
+  made = ap (λ (v : World). v.memory) served_there
 
   kept : (b : ℕ) → is_in ranges b ≡ false → ram_byte n b ≡ ram_byte w.memory b
   kept b out = ap (λ q. ram_byte q b) (sym made) ∙ served-kept service (enter at s w) b (reaches b out)
@@ -228,23 +239,27 @@ module _ (code : Code) (at s : ℕ) (room : s < 254) (service : Service) (w : Wo
   unfolding after
   behind = record { pc_is = refl; s_is = refl; d_is = refl }
 
-  left : Left ranges a n w after
+  left : Left ranges taken a x n w after
   unfolding after
   left = record {
     a_is = refl;
-    keep_x = refl;
+    x_is = refl;
     keep_y = refl;
     memory = refl;
-    rest = record { bytes = kept; devices = devices };
-    bytes = record { a = small; x = whole.x; y = whole.y; ram = n_whole };
+    rest = record { bytes = kept; keys = keys };
+    bytes = record { a = small; x = x_small; y = whole.y; ram = n_whole };
   }
 
-  leave : Reaches code (enter at s w) (λ u. Behind s w u × Left ranges a n w u)
+  pub leave : Reaches code (enter at s w) (λ u. Behind s w u × Left ranges taken a x n w u)
   leave = (1, (after, comes, (behind, left)))
 
-in_stack : (ranges : List (ℕ × ℕ)) → list_all (is_beside 0x100 0x1FF) ranges ≡ true → (b : ℕ) → 0x100 ≤ b → b ≤ 0x1FF
+pub in_stack : (ranges : List (ℕ × ℕ)) → list_all (is_beside 0x100 0x1FF) ranges ≡ true → (b : ℕ) → 0x100 ≤ b → b ≤ 0x1FF
     → is_in ranges b ≡ false
 in_stack ranges all b from to = out_of_ranges ranges 0x100 0x1FF b all from to
+
+-- the same devices have the same keys
+same_keys : {d e : Devices} → d ≡ e → e.keys ≡ d.keys
+same_keys same = ap (λ (x : Devices). x.keys) (sym same)
 
 module _ (code : Code) (at s : ℕ) (room : s < 254) (service : Service) (w : World) (whole : IsWhole w)
     (here : service_at at ≡ Some service) (away : (at == return_address) ≡ false)
@@ -255,19 +270,20 @@ module _ (code : Code) (at s : ℕ) (room : s < 254) (service : Service) (w : Wo
       → m.devices ≡ w.memory.devices → Reaches code (enter at s w) (λ u. Behind s w u × Printed w u)
   print m is reaches m_whole m_fits devices =
       weaken code (enter at s w) _ _
-      (leave code at s room service w whole here away free print_ranges reaches (in_stack print_ranges refl)
-      (with_base_address m) w.registers.a is (base_whole m m_whole m_fits) whole.a (base_devices m ∙ devices))
+      (leave code at s room service w whole here away free print_ranges reaches (in_stack print_ranges refl) []
+      (with_base_address m) w.registers.a w.registers.x is (base_whole m m_whole m_fits) whole.a whole.x
+      (same_keys (base_devices m ∙ devices)))
       (λ u h. (h.0, printed u h.1))
     where
       fits_there : CursorFits (with_base_address m)
       fits_there = base_fits m m_whole m_fits
 
-      printed : (u : World) → Left print_ranges w.registers.a (with_base_address m) w u → Printed w u
+      printed : (u : World) → Left print_ranges [] w.registers.a w.registers.x (with_base_address m) w u → Printed w u
       printed u h = record {
         e1 = subst (λ n. ram_byte n 0x25 < 24) (sym h.memory) fits_there.line.row;
         e2 = subst (λ n. ram_byte n 0x20 + ram_byte n 0x24 < 40) (sym h.memory) fits_there.column;
         keep_a = h.a_is;
-        keep_x = h.keep_x;
+        keep_x = h.x_is;
         keep_y = h.keep_y;
         rest = h.rest;
         bytes = h.bytes;
@@ -280,9 +296,9 @@ module _ (code : Code) (at s : ℕ) (room : s < 254) (service : Service) (w : Wo
       → Reaches code (enter at s w) (λ u. Behind s w u × Stayed ranges w u)
   stay ranges reaches all n is n_whole devices =
       weaken code (enter at s w) _ _
-      (leave code at s room service w whole here away free ranges reaches (in_stack ranges all) n w.registers.a is n_whole whole.a
-      devices)
-      (λ u h. (h.0, record { keep_a = h.1.a_is; keep_x = h.1.keep_x; keep_y = h.1.keep_y; rest = h.1.rest; bytes = h.1.bytes }))
+      (leave code at s room service w whole here away free ranges reaches (in_stack ranges all) [] n w.registers.a w.registers.x is
+      n_whole whole.a whole.x (same_keys devices))
+      (λ u h. (h.0, record { keep_a = h.1.a_is; keep_x = h.1.x_is; keep_y = h.1.keep_y; rest = h.1.rest; bytes = h.1.bytes }))
 
   -- one that sets the mask of characters
   mask : (byte : ℕ) → byte < 256 → ((b : ℕ) → is_in mask_ranges b ≡ false → reach service b ≡ false)
@@ -290,16 +306,16 @@ module _ (code : Code) (at s : ℕ) (room : s < 254) (service : Service) (w : Wo
       → Reaches code (enter at s w) (λ u. Behind s w u × Masked byte w u)
   mask byte small reaches is =
       weaken code (enter at s w) _ _
-      (leave code at s room service w whole here away free mask_ranges reaches (in_stack mask_ranges refl)
-      (with_ram w.memory 0x32 byte) w.registers.a is (whole_with w.memory 0x32 byte whole.ram small) whole.a
-      (ram_devices w.memory 0x32 byte))
+      (leave code at s room service w whole here away free mask_ranges reaches (in_stack mask_ranges refl) []
+      (with_ram w.memory 0x32 byte) w.registers.a w.registers.x is (whole_with w.memory 0x32 byte whole.ram small) whole.a whole.x
+      (same_keys (ram_devices w.memory 0x32 byte)))
       (λ u h. (h.0, masked u h.1))
     where
-      masked : (u : World) → Left mask_ranges w.registers.a (with_ram w.memory 0x32 byte) w u → Masked byte w u
+      masked : (u : World) → Left mask_ranges [] w.registers.a w.registers.x (with_ram w.memory 0x32 byte) w u → Masked byte w u
       masked u h = record {
         e1 = ap (λ n. ram_byte n 0x32) h.memory ∙ written_back w.memory 0x32 byte whole.ram.pages;
         keep_a = h.a_is;
-        keep_x = h.keep_x;
+        keep_x = h.x_is;
         keep_y = h.keep_y;
         rest = h.rest;
         bytes = h.bytes;
@@ -330,27 +346,27 @@ digit_small digit small = by (nat_lt digit 10)
     by false = omega (arith, small)
 
 -- a world behind a hook: some cycles later, and with this in A
-abbrev later : (a : ℕ) → World → World
+abbrev pub later : (a : ℕ) → World → World
 later a w = record w { registers = record w.registers { a = a }; cycles = w.cycles + 5 }
 
 module _ (a : ℕ) (w : World) where
-  later_whole : IsWhole w → a < 256 → IsWhole (later a w)
+  pub later_whole : IsWhole w → a < 256 → IsWhole (later a w)
   later_whole whole small = record { a = small; x = whole.x; y = whole.y; ram = whole.ram }
 
   later_cursor : HasHook w → HasCursor (later a w)
   later_cursor h = record { r1 = h.r1; r2 = h.r2; r3 = h.r3; r4 = h.r4; r5 = h.r5; r6 = h.r6 }
 
-  later_behind : (s : ℕ) (u : World) → Behind s (later a w) u → Behind s w u
+  pub later_behind : (s : ℕ) (u : World) → Behind s (later a w) u → Behind s w u
   later_behind s u h = record { pc_is = h.pc_is; s_is = h.s_is; d_is = h.d_is }
 
 printed_later : (w u : World) → Printed (later w.registers.a w) u → Printed w u
 printed_later w u h =
-    let rest : Keeps w.memory (is_in print_ranges) u = record { bytes = h.rest.bytes; devices = h.rest.devices } in
+    let rest : Leaves w.memory (is_in print_ranges) [] u = record { bytes = h.rest.bytes; keys = h.rest.keys } in
     record { e1 = h.e1; e2 = h.e2; keep_a = h.keep_a; keep_x = h.keep_x; keep_y = h.keep_y; rest = rest; bytes = h.bytes }
 
 returned_later : (w u : World) → Printed (later 0x8D w) u → Returned w u
 returned_later w u h =
-    let rest : Keeps w.memory (is_in print_ranges) u = record { bytes = h.rest.bytes; devices = h.rest.devices } in
+    let rest : Leaves w.memory (is_in print_ranges) [] u = record { bytes = h.rest.bytes; keys = h.rest.keys } in
     record { e1 = h.e1; e2 = h.e2; e3 = h.keep_a; keep_x = h.keep_x; keep_y = h.keep_y; rest = rest; bytes = h.bytes }
 
 module _ (code : Code) (s : ℕ) (room : s < 254) where
@@ -443,8 +459,8 @@ module _ (code : Code) (s : ℕ) (room : s < 254) where
     wait_serves w whole before =
         weaken code (enter 0xFCA8 s w) _ _
         (leave code 0xFCA8 s room Wait w whole refl refl (λ i. if away i then Some CodeWrite else None) [] (λ b out. refl)
-        (in_stack [] refl) w.memory 0 refl whole.ram (omega arith) refl)
-        (λ u h. (h.0, record { e1 = h.1.a_is; keep_x = h.1.keep_x; keep_y = h.1.keep_y; rest = h.1.rest; bytes = h.1.bytes }))
+        (in_stack [] refl) [] w.memory 0 w.registers.x refl whole.ram (omega arith) whole.x refl)
+        (λ u h. (h.0, record { e1 = h.1.a_is; keep_x = h.1.x_is; keep_y = h.1.keep_y; rest = h.1.rest; bytes = h.1.bytes }))
 
   module _ (away : list_any (reach Cout1) code.protected ≡ false) where
     pub cout1_serves : Serves code 0xFDF0 s HasCursor Printed

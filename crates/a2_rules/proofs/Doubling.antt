@@ -6,7 +6,6 @@ use Rattle.a2_opcode.specs.declared.Mode.TheVariants.{Accumulator, Implied}
 use Rattle.a2_asm.specs.declared.program.Statement.{Statement}
 use Rattle.a2_machine.proofs.Computing.{computing}
 use Rattle.a2_lessons.specs.Routines.{op}
-use Rattle.a2_lessons.proofs.Keeping.{kept}
 use Rattle.a2_lessons.proofs.Reading.{reading}
 use Rattle.a2_lessons.proofs.Texts.{entry_of, statements_of}
 use Rattle.a2_text.specs.Words.{first_word}
@@ -23,10 +22,10 @@ use Rattle.a2_promise.specs.Written.{meant, spelled}
 use Rattle.a2_promise.specs.Written as written
 use Rattle.a2_rules.specs.Doubling.{doubling, double, DoublingIsProved, DoublingTells}
 use Rattle.a2_rules.proofs.Told.{not_nothing}
-use Rattle.a2_rules.proofs.Kept.{After, code_of, names_of, proved, told_of}
+use Rattle.a2_rules.proofs.Kept.{After, Before, code_of, names_of, proved, told_of}
+use Rattle.a2_rules.proofs.Leaving.{leaves}
 use Rattle.a2_rules.proofs.Meeting.{Meets, home}
 use Rattle.a2_rules.proofs.Proving.{whole_after}
-use Rattle.a2_rules.proofs.Saying.{all_say}
 
 listing : List Statement
 listing =
@@ -68,7 +67,7 @@ doubling_tells = record {
 doubled : (a : ℕ) → a < 128 → (2 * a + 0) % 256 ≡ 2 * a
 doubled a low = omega (arith, low)
 
-meets : Meets (code_of listing) 0x300 0xFD (λ w. all_say double.wanted w w) (After double [])
+meets : Meets (code_of listing) 0x300 0xFD (Before double) (After double [])
 unfolding computing listing
 meets w bytes before = (
   1,
@@ -86,11 +85,11 @@ meets w bytes before = (
         decimal = refl;
       },
       record {
-        says = (doubled w.registers.a before.0, tt);
+        says = (doubled w.registers.a before.says.0, tt);
         a = λ no. absurd (true≢false no);
         x = λ no. refl;
         y = λ no. refl;
-        rest = kept [] w.memory _ _ refl refl;
+        rest = leaves [] w.memory _ _ refl refl;
         bytes = record { a = omega arith; x = bytes.x; y = bytes.y; ram = whole_after [] w.memory _ bytes.ram tt refl };
       },
     ),
@@ -100,4 +99,4 @@ meets w bytes before = (
 pub doubling_is_proved : DoublingIsProved
 doubling_is_proved =
     proved doubling _ listing 0x300 3 double [] read stated (told_of doubling _ _ _ 3 double refl named doubling_tells)
-    refl refl refl refl refl meets
+    refl refl refl refl meets

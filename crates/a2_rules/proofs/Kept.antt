@@ -1,10 +1,12 @@
 -- What a routine meets, its promise says of the bytes that are run: so it is kept.
 use Rattle.std.specs.Prelude.{◌≡◌, ◌<◌, ℕ, suc, ◌+◌, ◌*◌, ◌%◌, ◌&&◌, ◌||◌, Bool, true, false, nat_le, nat_lt, IsTrue, List, [], ◌∷◌, map, Some, None, is_some, refl}
-use Rattle.std.specs.List.{list_all, list_any}
+use Rattle.std.specs.List.{concat, list_all, list_any}
 use Rattle.std.proofs.Common.{sym, ap, ap₂, ◌∙◌, subst, arith, true≢false}
 use Rattle.a2_text.specs.Bytes.{is_among}
 use Rattle.a2_hex.specs.Images.{held}
 use Rattle.a2_bus.specs.Memory.{ram_byte, ram_end}
+use Rattle.a2_bus.specs.Devices.{Devices}
+use Rattle.a2_bus.specs.PowerOn.{start_memory}
 use Rattle.a2_syntax.proofs.OneReading.{one-source}
 use Rattle.a2_asm.specs.Assembled.{Assembled}
 use Rattle.a2_asm.specs.Layout.{names}
@@ -32,26 +34,23 @@ use Rattle.a2_uses.specs.declared.Part.TheVariants.{A as part_a, X as part_x, Y 
 use Rattle.a2_uses.specs.Reads.{pull_address}
 use Rattle.a2_reads.specs.Calls.{GoesBack}
 use Rattle.a2_reads.specs.Parts.{held as part_held}
-use Rattle.a2_trial.specs.Entering.{laid}
 use Rattle.a2_promise.specs.Values.{value_of}
 use Rattle.a2_trial.specs.Judging.{all_hold, holds, no_names}
-use Rattle.a2_trial.specs.Kept.{Keeps, is_own, may_change, may_store, moment}
+use Rattle.a2_trial.specs.Kept.{is_own, may_change, may_store, moment}
 use Rattle.a2_trial.specs.States.{Enters}
-use Rattle.a2_lessons.specs.Routines.{Keeps as KeepsRest}
 use Rattle.a2_lessons.proofs.Texts.{IsAccepted, accepted, entry_of, not_refused, source_of, statements_of}
 use Rattle.a2_promise.specs.Phrases.{Phrase, phrase_of}
 use Rattle.a2_promise.specs.Told.{Terms, IsTold, IsPromise}
 use Rattle.a2_rules.specs.Promised.{lines_of_routines, KeepsPromise, IsProved}
+use Rattle.a2_rules.specs.Typed.{KeepsWithKeys, keys_of, laid_with_keys}
 use Rattle.a2_rules.specs.Worlds.{OnlyBytes}
 use Rattle.a2_rules.proofs.Bytes as run
-use Rattle.a2_rules.proofs.Ranges.{all_pass, is_in, passes_not}
+use Rattle.a2_rules.proofs.Leaving.{Leaves, Waits, none_waits, waits_all}
+use Rattle.a2_rules.proofs.Ranges.{all_pass, both, is_in, passes_not}
 use Rattle.a2_rules.proofs.Meeting.{IsWhole, only_bytes, enter, Back, Meets, Reaches}
 use Rattle.a2_rules.proofs.Saying.{all_say, all_tell, tells, unnamed}
 use Rattle.a2_rules.proofs.Telling.{said_holds, holds_said}
 
-both : (x y : Bool) → (x && y) ≡ true → (x ≡ true) × (y ≡ true)
-both true y h = (refl, h)
-both false y h = absurd (true≢false (sym h))
 
 neither : (x y : Bool) → (x || y) ≡ false → (x ≡ false) × (y ≡ false)
 neither true y h = absurd (true≢false h)
@@ -93,19 +92,31 @@ same_ranges : (ranges : List Range) (a : ℕ)
 same_ranges [] a = refl
 same_ranges (range ∷ more) a = ap (λ v. (nat_le range.first a && nat_le a range.last) || v) (same_ranges more a)
 
+-- the keys of all texts that are taken
+abbrev pub keys_told : Terms → List ℕ
+keys_told terms = concat terms.takes
+
+same_keys : (promise : Promise) (terms : Terms) → IsPromise promise terms → keys_of promise ≡ keys_told terms
+same_keys promise terms says = ap concat says.takes
+
+-- what is known at the entry
+pub record Before (terms : Terms) (w : World) : Type 0 where
+  pub says : all_say terms.wanted w w
+  pub waits : Waits (keys_told terms) w
+
 -- what is known behind the routine
 pub record After (terms : Terms) (changed : List (ℕ × ℕ)) (w v : World) : Type 0 where
   pub says : all_say terms.promised w v
   pub a : terms.a ≡ false → v.registers.a ≡ w.registers.a
   pub x : terms.x ≡ false → v.registers.x ≡ w.registers.x
   pub y : terms.y ≡ false → v.registers.y ≡ w.registers.y
-  pub rest : KeepsRest w.memory (is_in changed) v
+  pub rest : Leaves w.memory (is_in changed) (keys_told terms) v
   pub bytes : IsWhole v
 
 -- A world at the entry
 
 module _ (program : Assembled) (sound : IsSound program) (promise : Promise) (world : World)
-    (enters : Enters (laid (held program.image) promise.address []) world) where
+    (enters : Enters (laid_with_keys (held program.image) promise.address (keys_of promise)) world) where
   entered_there : enter promise.address 0xFD world ≡ world
   entered_there = λ i. record world {
     registers = record world.registers {
@@ -122,10 +133,14 @@ module _ (program : Assembled) (sound : IsSound program) (promise : Promise) (wo
 
   holds_code : list_all (λ n. nat_lt n ram_end) (code_bytes program.statements) ≡ true
       → HoldsCode (guard_of_program program).code (laid_by program) world.memory
-  holds_code low a among = sym (enters.bytes a fixed) ∙ start-holds program [] sound a among
+  holds_code low a among = sym (enters.bytes a fixed) ∙ start-holds program (keys_of promise) sound a among
     where
       fixed : (is_some (held program.image a) && true) ≡ true
       fixed = ap (λ o. is_some o && true) (sound.is_held a (in_code a low among)).1
+
+  keys_wait : world.memory.devices.keys ≡ keys_of promise
+  unfolding start_memory
+  keys_wait = ap (λ (d : Devices). d.keys) (sym enters.devices)
 
 -- THE PROMISE IS KEPT: of what the routine meets
 
@@ -145,7 +160,8 @@ module _ (all : List Statement) (program : Assembled) (sound : IsSound program) 
   one_more : (n : ℕ) → n + 1 ≡ suc n
   one_more n = omega arith
 
-  module _ (w : World) (enters : Enters (laid (held program.image) promise.address []) w) (bytes_w : OnlyBytes w) (n : ℕ) (u v : World)
+  module _ (w : World) (enters : Enters (laid_with_keys (held program.image) promise.address (keys_of promise)) w) (bytes_w : OnlyBytes w)
+      (n : ℕ) (u v : World)
       (walk : walked (code_of all) w n ≡ Some u) (back : Back (code_of all) 0xFD w u v) (after : After terms changed w v) where
     laid_there : HoldsCode (guard_of_program program).code (laid_by program) w.memory
     laid_there = holds_code program sound promise w enters low_program
@@ -207,19 +223,28 @@ module _ (all : List Statement) (program : Assembled) (sound : IsSound program) 
         ap (λ (x : World). ram_byte x.memory a) whole.there
         ∙ after.rest.bytes a (passes_not (may_be_stored terms) changed a stored (not_stored a own may))
 
-    kept : Keeps promise (suc n) w
+    all_taken : (world_at (bytes None) w (suc n)).memory.devices.keys ≡ []
+    all_taken =
+        ap (λ (x : World). x.memory.devices.keys) whole.there
+        ∙ none_waits (keys_told terms) w.memory (is_in changed) v
+        (keys_wait program sound promise w enters ∙ same_keys promise terms says) after.rest
+
+    kept : KeepsWithKeys promise (suc n) w
     kept = record {
-      steps = n;
-      within = omega arith;
-      back = goes_back;
-      ensured = ensured;
-      registers = registers;
-      rest = rest;
+      keeps = record {
+        steps = n;
+        within = omega arith;
+        back = goes_back;
+        ensured = ensured;
+        registers = registers;
+        rest = rest;
+      };
+      taken = all_taken;
     }
 
 -- what a routine that is entered with S = $FD meets
 abbrev MeetsPromise : List Statement → Terms → List (ℕ × ℕ) → Type 0
-MeetsPromise all terms changed = Meets (code_of all) terms.address 0xFD (λ w. all_say terms.wanted w w) (After terms changed)
+MeetsPromise all terms changed = Meets (code_of all) terms.address 0xFD (Before terms) (After terms changed)
 
 -- the names of a text, with their values
 abbrev pub names_of : List ℕ → Names
@@ -235,16 +260,15 @@ told_of text label lines known above terms cut named told =
 -- THE THEOREM: a text that is read, whose statements are these and whose lines tell this, keeps what its routine meets
 pub proved : (text label : List ℕ) (all : List Statement) (entry above : ℕ) (terms : Terms) (changed : List (ℕ × ℕ))
     → entry_of text ≡ Some entry → statements_of text ≡ all → IsTold (lines_of_routines text) (names_of text) above label terms
-    → terms.prints ≡ [] → terms.takes ≡ [] → all_tell terms.wanted ≡ true → all_tell terms.promised ≡ true
+    → terms.prints ≡ [] → all_tell terms.wanted ≡ true → all_tell terms.promised ≡ true
     → all_pass (may_be_stored terms) changed ≡ true → MeetsPromise all terms changed → IsProved text label
-proved text label all entry above terms changed read stated told prints takes wanted promised stored meets = record {
+proved text label all entry above terms changed read stated told prints wanted promised stored meets = record {
   accepted = λ fault refused. not_refused text entry is fault refused;
   kept = λ program program_is. record {
     above = above;
     terms = terms;
     told = subst (λ names. IsTold (lines_of_routines text) names above label terms) (sym (made program program_is).named) told;
     prints = prints;
-    takes = takes;
     kept = kept_of program program_is;
   };
 }
@@ -258,7 +282,7 @@ proved text label all entry above terms changed read stated told prints takes wa
         (subst (λ s. IsProgram s program) (one-source text program_is.source (source_of text) program_is.is_source is.read) program_is.is_program)
 
     kept_of : (program : Assembled) → IsProgramOf text program → (promise : Promise) → IsPromise promise terms → KeepsPromise program promise
-    kept_of program program_is promise says world bytes_w enters required = go (meets world whole required_is)
+    kept_of program program_is promise says world bytes_w enters required = go (meets world whole before)
       where
         whole : IsWhole world
         whole =
@@ -275,11 +299,17 @@ proved text label all entry above terms changed read stated told prints takes wa
             subst (λ l. all_say l world world) says.wanted
             (all_required world world 0 bytes_w bytes_w promise.wanted.items (subst (λ l. all_tell l ≡ true) (sym says.wanted) wanted) required)
 
+        before : Before terms world
+        before = record {
+          says = required_is;
+          waits = waits_all (keys_told terms) world (keys_wait program sound promise world enters ∙ same_keys promise terms says);
+        }
+
         there : enter terms.address 0xFD world ≡ world
         there = ap (λ a. enter a 0xFD world) (sym says.address) ∙ entered_there program sound promise world enters
 
         go : Reaches (code_of all) (enter terms.address 0xFD world) (λ u. (v : World) × Back (code_of all) 0xFD world u v × After terms changed world v)
-            → (limit : ℕ) × Keeps promise limit world
+            → (limit : ℕ) × KeepsWithKeys promise limit world
         go (n, (u, walk, (v, back, after))) = (
           suc n,
           kept all program sound ((made program program_is).stated ∙ stated) low terms promise says changed promised stored world enters bytes_w n u v

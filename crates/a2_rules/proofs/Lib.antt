@@ -1,4 +1,5 @@
 pub mod Bits
+pub mod Leaving
 pub mod Ranges
 pub mod Saying
 pub mod Valuing
@@ -9,6 +10,8 @@ pub mod Reaching
 pub mod Afresh
 pub mod Printing
 pub mod Calling
+pub mod Lines
+pub mod Typing
 pub mod Bytes
 pub mod Kept
 pub mod Told

@@ -261,7 +261,7 @@ character_whole byte m whole fits small =
     moved : Whole (with_cursor_column (cursor_column m + 1) written)
     moved = column_whole written (cursor_column m + 1) written_whole (omega (arith, fits.column))
 
-unmasked_whole : (byte : ℕ) (m : Memory) → Whole m → CursorFits m → byte < 256 → Whole (after_put_unmasked byte m)
+pub unmasked_whole : (byte : ℕ) (m : Memory) → Whole m → CursorFits m → byte < 256 → Whole (after_put_unmasked byte m)
 unfolding after_put_unmasked
 unmasked_whole byte m whole fits small =
     either (byte == 0x8D) _ _ (return_whole m whole fits.line)

@@ -10,7 +10,6 @@ use Rattle.a2_cpu.specs.Registers.{one_if}
 use Rattle.a2_services.specs.World.{World}
 use Rattle.a2_machine.specs.Meaning.{Code}
 use Rattle.a2_machine.proofs.Walks.{walked}
-use Rattle.a2_lessons.specs.Routines.{Keeps}
 use Rattle.a2_lessons.proofs.Branching.{Flag, flag_of, with_flag, onward}
 use Rattle.a2_lessons.proofs.Places.{along}
 use Rattle.a2_lessons.proofs.Keeping.{after_stores}
@@ -203,10 +202,6 @@ product_up x y small = go ((x + 1) % 256) (omega (arith, small))
   where
     go : (k : ℕ) → k ≡ x + 1 → k * y ≡ x * y + y
     go k is = let e : (x + 1) * y ≡ x * y + y = grind arith in ap (λ n. n * y) is ∙ e
-
--- what is kept, by the name of what may change
-pub keeps_as : (memory : Memory) (changed : ℕ → Bool) (v : World) → Keeps memory changed v → Keeps memory changed v
-keeps_as memory changed v keeps = keeps
 
 pub product_zero : (x y : ℕ) → x ≡ 0 → x * y ≡ 0
 product_zero x y is = ap (λ n. n * y) is ∙ (let e : 0 * y ≡ 0 = grind arith in e)

@@ -1,15 +1,16 @@
 -- Addresses from one to another: what lies in several such ranges, and what beside them.
-use Rattle.std.specs.Prelude.{◌≡◌, ◌≢◌, ◌⊎◌, ◌<◌, ◌≤◌, ℕ, zero, suc, ◌+◌, ◌-◌, ◌==◌, nat_le, nat_lt, Bool, true, false, ◌&&◌, ◌||◌, List, [], ◌∷◌, refl}
+use Rattle.std.specs.Prelude.{◌≡◌, ◌≢◌, ◌⊎◌, ◌<◌, ◌≤◌, ℕ, zero, suc, ◌+◌, ◌-◌, ◌==◌, nat_le, nat_lt, Bool, true, false, ◌&&◌, ◌||◌, List, [], ◌∷◌, ◌++◌, refl}
 use Rattle.std.specs.List.{list_all, list_any}
-use Rattle.std.proofs.Common.{sym, ap, ap₂, ◌∙◌, subst, arith, inl, inr, true≢false}
+use Rattle.std.proofs.Common.{sym, ap, ap₂, ◌∙◌, subst, arith, inl, inr, true≢false, append_assoc}
 use Rattle.std.proofs.lemmas.Bool.Decides.{nat_tests}
 use Rattle.a2_text.specs.Bytes.{is_among}
 use Rattle.a2_page.specs.Cells.{numbers_from}
 use Rattle.a2_bus.specs.Memory.{Memory, ram_byte}
 use Rattle.a2_services.specs.World.{World}
-use Rattle.a2_lessons.specs.Routines.{Keeps, entered}
+use Rattle.a2_lessons.specs.Routines.{entered}
+use Rattle.a2_rules.proofs.Leaving.{Leaves}
 
-both : (x y : Bool) → (x && y) ≡ true → (x ≡ true) × (y ≡ true)
+pub both : (x y : Bool) → (x && y) ≡ true → (x ≡ true) × (y ≡ true)
 both true y h = (refl, h)
 both false y h = absurd (true≢false (sym h))
 
@@ -140,21 +141,23 @@ passes_not allowed (range ∷ more) a all out = by (nat_le range.0 a && nat_le a
         absurd (true≢false (sym (each (range.1 + 1 - range.0) range.0 two.0 from (omega (arith, from, to))) ∙ out))
     by false is rest = ap₂ (λ x y. x || y) is rest
 
--- what is kept behind a memory but in some ranges, and before it
-pub keeps_behind : (memory middle : Memory) (ranges inner : List (ℕ × ℕ)) (v : World) → Keeps middle (is_in inner) v
-    → list_all (has_range ranges) inner ≡ true → Keeps memory (is_in ranges) (entered 0 middle) → Keeps memory (is_in ranges) v
-keeps_behind memory middle ranges inner v more all rest = record {
-  bytes = λ a h. more.bytes a (in_none_of ranges inner a all h) ∙ rest.bytes a h;
-  devices = more.devices ∙ rest.devices;
+-- what is left behind a memory but in some ranges, and before it
+pub leaves_behind : (memory middle : Memory) (ranges inner : List (ℕ × ℕ)) (taken more : List ℕ) (v : World)
+    → Leaves middle (is_in inner) more v → list_all (has_range ranges) inner ≡ true
+    → Leaves memory (is_in ranges) taken (entered 0 middle) → Leaves memory (is_in ranges) (taken ++ more) v
+leaves_behind memory middle ranges inner taken more v behind all before = record {
+  bytes = λ a h. behind.bytes a (in_none_of ranges inner a all h) ∙ before.bytes a h;
+  keys = before.keys ∙ ap (λ keys. taken ++ keys) behind.keys ∙ sym (append_assoc taken more v.memory.devices.keys);
 }
 
 -- a byte at an address of a range beside those that may change
-pub kept_beside : (memory : Memory) (ranges : List (ℕ × ℕ)) (v : World) (low high a : ℕ) → Keeps memory (is_in ranges) v
-    → list_all (is_beside low high) ranges ≡ true → low ≤ a → a ≤ high → ram_byte v.memory a ≡ ram_byte memory a
+pub kept_beside : {taken : List ℕ} (memory : Memory) (ranges : List (ℕ × ℕ)) (v : World) (low high a : ℕ)
+    → Leaves memory (is_in ranges) taken v → list_all (is_beside low high) ranges ≡ true → low ≤ a → a ≤ high → ram_byte v.memory a ≡ ram_byte memory a
 kept_beside memory ranges v low high a keeps all from to = keeps.bytes a (out_of_ranges ranges low high a all from to)
 
 -- a byte is kept, or it lies in this range, where each other one that may change lies beside
-pub kept_or_in : (memory : Memory) (ranges : List (ℕ × ℕ)) (v : World) (first last low high a : ℕ) → Keeps memory (is_in ranges) v
+pub kept_or_in : {taken : List ℕ} (memory : Memory) (ranges : List (ℕ × ℕ)) (v : World) (first last low high a : ℕ)
+    → Leaves memory (is_in ranges) taken v
     → list_all (λ range. (nat_le first range.0 && nat_le range.1 last) || is_beside low high range) ranges ≡ true → low ≤ a → a ≤ high
     → ((first ≤ a) × (a ≤ last)) ⊎ (ram_byte v.memory a ≡ ram_byte memory a)
 kept_or_in memory ranges v first last low high a keeps all from to = by (is_in ranges a) refl

@@ -1,4 +1,5 @@
 pub mod Worlds
+pub mod Typed
 pub mod Promised
 pub mod Doubling
 pub mod Readings

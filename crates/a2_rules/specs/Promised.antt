@@ -12,9 +12,9 @@ use Rattle.a2_run.specs.Meaning.{IsProgramOf, IsRefused}
 use Rattle.a2_promise.specs.declared.promises.Promise.{Promise}
 use Rattle.a2_promise.specs.Grammar.{is_name_among}
 use Rattle.a2_promise.specs.Told.{Terms, IsTold, IsPromise, begins_with, text_behind}
-use Rattle.a2_trial.specs.Entering.{laid}
-use Rattle.a2_trial.specs.Kept.{IsRequired, Keeps}
+use Rattle.a2_trial.specs.Kept.{IsRequired}
 use Rattle.a2_trial.specs.States.{Enters}
+use Rattle.a2_rules.specs.Typed.{KeepsWithKeys, keys_of, laid_with_keys}
 use Rattle.a2_rules.specs.Worlds.{OnlyBytes}
 
 -- words that begin a line behind ;: which says something of a run; docs/manual/class.md has these lines
@@ -29,21 +29,20 @@ is_of_run text = begins_with (code "|") (behind_blanks text) || is_name_among ru
 abbrev pub lines_of_routines : List ℕ → List (List ℕ)
 lines_of_routines text = map (λ line. if list_any is_of_run (text_behind (behind_blanks line)) then [] else line) (lines text)
 
--- A program keeps a promise: in each world of bytes in which the routine is entered and that is as the promise requires, whatever else
--- memory and registers hold, it is kept within some number of steps.
+-- A program keeps a promise: in each world of bytes in which the routine is entered, with the keys waiting that it is to take, and that
+-- is as the promise requires, whatever else memory and registers hold, it is kept within some number of steps, and all keys are taken.
 abbrev pub KeepsPromise : Assembled → Promise → Type 0
 KeepsPromise program promise =
-    (world : World) → OnlyBytes world → Enters (laid (held program.image) promise.address []) world → IsRequired promise world
-    → (limit : ℕ) × Keeps promise limit world
+    (world : World) → OnlyBytes world → Enters (laid_with_keys (held program.image) promise.address (keys_of promise)) world
+    → IsRequired promise world → (limit : ℕ) × KeepsWithKeys promise limit world
 
--- A text's lines promise something of the routine with a label, no text that is printed or typed, and the program keeps each promise
--- that says this.
+-- A text's lines promise something of the routine with a label, no text that is printed, and the program keeps each promise that says
+-- this.
 pub record KeepsTold (text label : List ℕ) (program : Assembled) : Type 0 where
   pub above : ℕ
   pub terms : Terms
   pub told : IsTold (lines_of_routines text) program.names above label terms
   pub prints : terms.prints ≡ []
-  pub takes : terms.takes ≡ []
   pub kept : (promise : Promise) → IsPromise promise terms → KeepsPromise program promise
 
 -- a text is not refused, and its program keeps what is promised of the routine with this label
