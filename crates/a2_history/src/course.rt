@@ -151,7 +151,7 @@ impl<A: Allocator> Course<A> {
     }
 
     /// Makes some steps, up to an end at the latest, each of which the observer sees, and types the keys that were typed behind the last;
-    /// or answers why there is none. No keys were typed behind the others, and it goes beyond no position at which a checkpoint may be made.
+    /// or answers why there is none. No keys were typed behind the others, and it goes beyond no position where a checkpoint may be made.
     pub fn leap<O: Observer>(
         &self,
         machine: &mut Machine<A>,

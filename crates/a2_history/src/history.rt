@@ -370,7 +370,7 @@ impl<A: Allocator + Copy> History<A> {
     }
 
     /// The routines that were entered on the way to its position and not left, the outermost first: a JSR enters one, and the first step
-    /// behind which the stack pointer is not below that before the JSR leaves it. It stands where it stood. Refused only for want of memory.
+    /// behind which the stack pointer is not below that before the JSR leaves it. It stays where it was. Refused only for want of memory.
     pub fn entered(&mut self) -> Result<Vec<Entry, A>, AllocError>
         ensures entered { IfOk result (λ entries. entries.items ≡ entered_on self.old.course self.old.position) }
         ensures kept { self.new ≡ self.old }

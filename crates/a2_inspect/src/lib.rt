@@ -4,6 +4,7 @@
 #![tactic(auto)]
 
 mod alerts;
+mod changes;
 mod conditions;
 mod inspector;
 mod order;
