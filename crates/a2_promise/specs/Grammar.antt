@@ -19,14 +19,21 @@ use Rattle.a2_promise.specs.Written.{Written, decimal, literal, byte, byte_in, w
 
 -- How tight it binds
 
--- the tighter, the greater
+-- what is no joint of two binds as tight as can be
+abbrev pub tightest : ℕ
+tightest = 10
+
+-- the tighter, the greater; behind an operation without a sign nothing is tight enough, so it joins nothing
 abbrev pub operation_rank : Operation → ℕ
 operation_rank operation.BitOr = 6
 operation_rank operation.BitXor = 6
 operation_rank operation.BitAnd = 7
 operation_rank operation.Plus = 8
 operation_rank operation.Minus = 8
-operation_rank _ = 9
+operation_rank operation.Times = 9
+operation_rank operation.Over = 9
+operation_rank operation.Modulo = 9
+operation_rank _ = tightest
 
 abbrev pub infix_rank : Infix → ℕ
 infix_rank Iff = 1
@@ -34,10 +41,6 @@ infix_rank Or = 2
 infix_rank And = 3
 infix_rank (Compare relation) = 5
 infix_rank (Apply op) = operation_rank op
-
--- what is no joint of two binds as tight as can be
-abbrev pub tightest : ℕ
-tightest = 10
 
 abbrev pub rank : Written → ℕ
 rank (joined join e f) = infix_rank join
