@@ -130,7 +130,7 @@ texts_before above lines = texts_last [] (take above lines)
 -- What is told
 
 -- what is promised of the routine at an address: what it requires and ensures, which registers and bytes, from one address to another, may
--- be others behind it, the characters that it prints, and those of the keys that it takes
+-- be others behind it, and the characters of each text that it prints, and of each that it takes as keys: no text is not an empty one
 pub record Terms : Type 0 where
   pub address : ℕ
   pub wanted : List Phrase
@@ -139,8 +139,8 @@ pub record Terms : Type 0 where
   pub x : Bool
   pub y : Bool
   pub ranges : List (ℕ × ℕ)
-  pub prints : List ℕ
-  pub takes : List ℕ
+  pub prints : List (List ℕ)
+  pub takes : List (List ℕ)
 
 abbrev pub wanted_in : Line → List Phrase
 wanted_in (requires e) = said e ∷ []
@@ -154,12 +154,12 @@ abbrev pub changes_in : Line → List Change
 changes_in (changes all) = all
 changes_in _ = []
 
-abbrev pub printed_in : Line → List ℕ
-printed_in (prints characters) = characters
+abbrev pub printed_in : Line → List (List ℕ)
+printed_in (prints characters) = characters ∷ []
 printed_in _ = []
 
-abbrev pub taken_in : Line → List ℕ
-taken_in (takes characters) = characters
+abbrev pub taken_in : Line → List (List ℕ)
+taken_in (takes characters) = characters ∷ []
 taken_in _ = []
 
 abbrev pub is_a : Change → Bool
@@ -218,5 +218,5 @@ pub record IsPromise (promise : Promise) (terms : Terms) : Type 0 where
   pub x : promise.changes.x ≡ terms.x
   pub y : promise.changes.y ≡ terms.y
   pub ranges : map (λ range. (range.first, range.last)) promise.changes.ranges.items ≡ terms.ranges
-  pub prints : flat_map (λ text. text.characters.items) promise.texts.prints.items ≡ terms.prints
-  pub takes : flat_map (λ text. text.characters.items) promise.texts.takes.items ≡ terms.takes
+  pub prints : map (λ text. text.characters.items) promise.texts.prints.items ≡ terms.prints
+  pub takes : map (λ text. text.characters.items) promise.texts.takes.items ≡ terms.takes
