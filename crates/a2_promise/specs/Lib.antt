@@ -6,3 +6,4 @@ pub mod Tokens
 pub mod Written
 pub mod Grammar
 pub mod Told
+pub mod Reading
