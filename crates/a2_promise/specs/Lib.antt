@@ -7,3 +7,4 @@ pub mod Written
 pub mod Grammar
 pub mod Told
 pub mod OneReading
+pub mod Reading

@@ -1,15 +1,29 @@
 //! How an expression is written.
 
-ghost use Rattle.std.specs.Prelude.{◌<◌, IfOk};
+ghost use Rattle.std.specs.Prelude.{◌≡◌, ◌+◌, ◌<◌, IsTrue, List, [], ◌∷◌, ◌++◌, Some, codes, None, ℕ, min, pos, IfOk, OnOk};
+ghost use Rattle.a2_promise.specs.declared.parts.Part.TheVariants as part;
+ghost use Rattle.a2_promise.specs.declared.words.Infix.TheVariants as infixes;
+ghost use Rattle.a2_promise.specs.declared.words.Kind.TheVariants as kinds;
+ghost use Rattle.a2_promise.specs.Grammar.{address_of, infix_rank, is_fact, is_number, is_text, may_be_fact, may_be_number};
+ghost use Rattle.a2_promise.specs.Grammar.{number_of, tightest};
+ghost use Rattle.a2_promise.specs.Phrases.{Phrase, number, of, pair};
+ghost use Rattle.a2_promise.specs.declared.expr.Function.TheVariants as function;
+ghost use Rattle.a2_promise.specs.declared.expr.Operation.TheVariants as operation;
+ghost use Rattle.a2_promise.specs.Reading.{IsEither, IsMade, IsPiece, IsPlaced, IsTop, Puts, PutsOf, pushed, Reads, ReadsClosed};
+ghost use Rattle.a2_promise.specs.Reading.{ReadsCounted, ReadsJoined, ReadsKind, ReadsLast, ReadsOne, ReadsPiece, ReadsPlace};
+ghost use Rattle.a2_promise.specs.Reading.{ReadsToken, ReadsTwo, State, Takes, byte_parts, comparing, first, joining, made};
+ghost use Rattle.a2_promise.specs.Reading.{making_token, negating, number_parts, opening_token, state_of};
+ghost use Rattle.a2_promise.specs.Tokens.{Token, sign, tokens, word};
+ghost use Rattle.a2_promise.specs.Written.{Written, are_laid as laid_of, infix_token};
 
 use crate::expr::{Function, Operation};
 use crate::fault::ReadFault;
 use crate::parts::Part;
-use crate::reader::{Reader, TEXT_WANTED};
+use crate::reader::{Reader, Span, TEXT_WANTED};
 use crate::reading::Class;
 use crate::words::{
-    BEHIND_AND, BEHIND_COMPARISON, Infix, Join, Kind, LOOSEST, Opening, Relation, join_of,
-    may_name, opening_of,
+    BEHIND_AND, BEHIND_COMPARISON, Infix, Kind, LOOSEST, Making, Opening, Relation, infix_of,
+    kind_of, may_name, opening_of, rank_of,
 };
 
 /// An expression as it was read.
@@ -18,13 +32,16 @@ pub(crate) struct Piece<'a> {
     kind: Kind,
     /// Where it begins.
     at: &'a [u8],
-    /// Where the last number of a comparison begins, from which one more may go on.
-    last: Option<&'a [u8]>,
+    /// The parts of the last number of a comparison, from which one more may go on.
+    last: Option<Span>,
 }
 
 impl<'a> Piece<'a> {
     // What is of this kind and begins here.
-    fn at(at: &'a [u8], kind: Kind) -> Piece<'a> {
+    fn at(at: &'a [u8], kind: Kind) -> Piece<'a>
+        ensures kind { result.kind ≡ kind }
+        ensures last { result.last ≡ None }
+    {
         Piece {
             kind,
             at,
@@ -32,8 +49,22 @@ impl<'a> Piece<'a> {
         }
     }
 
+    // What compares two numbers, the last of which has these parts.
+    fn compared(at: &'a [u8], last: Span) -> Piece<'a>
+        ensures kind { result.kind ≡ kinds.Fact }
+        ensures last { result.last ≡ Some last }
+    {
+        Piece {
+            kind: Kind::Fact,
+            at,
+            last: Some(last),
+        }
+    }
+
     /// Refuses what says that something holds.
-    pub fn number(self) -> Result<(), ReadFault<'a>> {
+    pub fn number(self) -> Result<(), ReadFault<'a>>
+        ensures { OnOk result (IsTrue (may_be_number self.entry.kind)) }
+    {
         match self.kind {
             Kind::Fact => Err(ReadFault::Says(
                 "a number is wanted here, and this says that something holds",
@@ -44,7 +75,9 @@ impl<'a> Piece<'a> {
     }
 
     /// Refuses a number.
-    pub fn fact(self) -> Result<(), ReadFault<'a>> {
+    pub fn fact(self) -> Result<(), ReadFault<'a>>
+        ensures { OnOk result (IsTrue (may_be_fact self.entry.kind)) }
+    {
         match self.kind {
             Kind::Number => Err(ReadFault::Says(
                 "something that holds or not is wanted here, as A = 3, and this is a number",
@@ -69,7 +102,9 @@ fn deeper<'a>(rest: &'a [u8], depth: u8) -> Result<u8, ReadFault<'a>>
 }
 
 // How two numbers compare.
-fn compare<'a>(reader: &mut Reader<'a, '_>, relation: Relation) -> Result<(), ReadFault<'a>> {
+fn compare<'a>(reader: &mut Reader<'a, '_>, relation: Relation) -> Result<(), ReadFault<'a>>
+    ensures { OnOk result (Puts (comparing relation) (state_of reader.old) (state_of reader.new)) }
+{
     match relation {
         Relation::Equal => reader.part(Part::Pair(Operation::Equal)),
         Relation::Less => reader.part(Part::Pair(Operation::Less)),
@@ -84,27 +119,35 @@ fn compare<'a>(reader: &mut Reader<'a, '_>, relation: Relation) -> Result<(), Re
 }
 
 // What does not hold.
-fn negate<'a>(reader: &mut Reader<'a, '_>) -> Result<(), ReadFault<'a>> {
+fn negate<'a>(reader: &mut Reader<'a, '_>) -> Result<(), ReadFault<'a>>
+    ensures { OnOk result (Puts negating (state_of reader.old) (state_of reader.new)) }
+{
     reader.part(Part::Number(0))?;
     reader.part(Part::Number(1))?;
     reader.part(Part::Choice)
 }
 
 // Both of two that hold.
-fn join_both<'a>(reader: &mut Reader<'a, '_>) -> Result<(), ReadFault<'a>> {
+fn join_both<'a>(reader: &mut Reader<'a, '_>) -> Result<(), ReadFault<'a>>
+    ensures { OnOk result (Puts joining (state_of reader.old) (state_of reader.new)) }
+{
     reader.part(Part::Number(0))?;
     reader.part(Part::Choice)
 }
 
 // The byte at an address that stands next.
-fn byte_here<'a>(reader: &mut Reader<'a, '_>) -> Result<(), ReadFault<'a>> {
+fn byte_here<'a>(reader: &mut Reader<'a, '_>) -> Result<(), ReadFault<'a>>
+    ensures { OnOk result (ReadsToken address_of byte_parts (state_of reader.old) (state_of reader.new)) }
+{
     let address = reader.address()?;
     reader.part(Part::Number(i64::from(address)))?;
     reader.part(Part::Of(Function::Byte))
 }
 
 // A number that stands next.
-fn number_here<'a>(reader: &mut Reader<'a, '_>) -> Result<(), ReadFault<'a>> {
+fn number_here<'a>(reader: &mut Reader<'a, '_>) -> Result<(), ReadFault<'a>>
+    ensures { OnOk result (ReadsToken number_of number_parts (state_of reader.old) (state_of reader.new)) }
+{
     let number = reader.number()?;
     reader.part(Part::Number(i64::from(number)))
 }
@@ -115,35 +158,43 @@ pub(crate) fn expression<'a>(
     reader: &mut Reader<'a, '_>,
     rank: u8,
     depth: u8,
-) -> Result<Piece<'a>, ReadFault<'a>> {
+) -> Result<Piece<'a>, ReadFault<'a>>
+    ensures { IfOk result (λ piece. ReadsPiece (min rank tightest) piece (state_of reader.old) (state_of reader.new)) }
+{
     let less = deeper(reader.rest, depth)?;
     let mut left = beginning(reader, less)?;
-    for _ in 0..reader.rest.len() {
-        match join_of(reader.next()) {
-            Some(join) if join.rank >= rank => left = joined(reader, left, join, less)?,
-            _ => return Ok(left),
+    while let Some(join) = infix_of(reader.next()) {
+        if rank_of(join) < rank {
+            break;
         }
+        left = joined(reader, left, join, less)?;
     }
     Ok(left)
 }
 
 // A number in which nothing binds looser than this rank.
 #[cycle(expression)]
-fn number_in<'a>(reader: &mut Reader<'a, '_>, rank: u8, depth: u8) -> Result<(), ReadFault<'a>> {
+fn number_in<'a>(reader: &mut Reader<'a, '_>, rank: u8, depth: u8) -> Result<(), ReadFault<'a>>
+    ensures { OnOk result (ReadsOne (min rank tightest) is_number (state_of reader.old) (state_of reader.new)) }
+{
     let less = deeper(reader.rest, depth)?;
     expression(reader, rank, less)?.number()
 }
 
 // What holds, in which nothing binds looser than this rank.
 #[cycle(expression)]
-fn fact_in<'a>(reader: &mut Reader<'a, '_>, rank: u8, depth: u8) -> Result<(), ReadFault<'a>> {
+fn fact_in<'a>(reader: &mut Reader<'a, '_>, rank: u8, depth: u8) -> Result<(), ReadFault<'a>>
+    ensures { OnOk result (ReadsOne (min rank tightest) is_fact (state_of reader.old) (state_of reader.new)) }
+{
     let less = deeper(reader.rest, depth)?;
     expression(reader, rank, less)?.fact()
 }
 
 // The number that stands next, alone or in parentheses.
 #[cycle(expression)]
-fn next_number<'a>(reader: &mut Reader<'a, '_>, depth: u8) -> Result<(), ReadFault<'a>> {
+fn next_number<'a>(reader: &mut Reader<'a, '_>, depth: u8) -> Result<(), ReadFault<'a>>
+    ensures { OnOk result (ReadsOne tightest is_number (state_of reader.old) (state_of reader.new)) }
+{
     let less = deeper(reader.rest, depth)?;
     beginning(reader, less)?.number()
 }
@@ -153,13 +204,17 @@ fn next_number<'a>(reader: &mut Reader<'a, '_>, depth: u8) -> Result<(), ReadFau
 fn joined<'a>(
     reader: &mut Reader<'a, '_>,
     left: Piece<'a>,
-    join: Join,
+    join: Infix,
     depth: u8,
-) -> Result<Piece<'a>, ReadFault<'a>> {
+) -> Result<Piece<'a>, ReadFault<'a>>
+    ensures { (before : State) (e : Written) → Reads e before (state_of reader.old) → IsPiece left.entry e (state_of reader.old)
+        → first (tokens reader.old.rest.now) ≡ Some (infix_token join) → infix_rank join < tightest
+        → IfOk result (λ piece. ReadsJoined join e piece before (state_of reader.new)) }
+{
     let less = deeper(reader.rest, depth)?;
     reader.take();
-    let rank = join.rank.saturating_add(1);
-    match join.infix {
+    let rank = rank_of(join).saturating_add(1);
+    match join {
         Infix::Compare(relation) => comparison(reader, left, relation, less),
         Infix::Apply(operation) => {
             left.number()?;
@@ -189,6 +244,18 @@ fn joined<'a>(
     }
 }
 
+// The last number of a comparison; its parts.
+#[cycle(expression)]
+fn last_number<'a>(reader: &mut Reader<'a, '_>, depth: u8) -> Result<Span, ReadFault<'a>>
+    ensures { IfOk result (λ span. ReadsLast span (state_of reader.old) (state_of reader.new)) }
+{
+    let less = deeper(reader.rest, depth)?;
+    let begun = reader.count();
+    number_in(reader, BEHIND_COMPARISON, less)?;
+    let ended = reader.count();
+    Ok(Span { begun, ended })
+}
+
 // A comparison, of a number or of what a comparison before ended with.
 #[cycle(expression)]
 fn comparison<'a>(
@@ -196,32 +263,30 @@ fn comparison<'a>(
     left: Piece<'a>,
     relation: Relation,
     depth: u8,
-) -> Result<Piece<'a>, ReadFault<'a>> {
+) -> Result<Piece<'a>, ReadFault<'a>>
+    ensures { (before middle : State) (e : Written) → Reads e before middle → IsPiece left.entry e middle
+        → Takes (infix_token (infixes.Compare relation)) middle (state_of reader.old)
+        → IfOk result (λ piece. ReadsJoined (infixes.Compare relation) e piece before (state_of reader.new)) }
+{
     let less = deeper(reader.rest, depth)?;
-    let begun = reader.rest;
-    match left.last {
-        Some(last) => {
-            reader.rest = last;
-            number_in(reader, BEHIND_COMPARISON, less)?;
-            reader.rest = begun;
-        }
-        None => left.number()?,
-    }
-    number_in(reader, BEHIND_COMPARISON, less)?;
+    let Some(chained) = left.last else {
+        left.number()?;
+        let last = last_number(reader, less)?;
+        compare(reader, relation)?;
+        return Ok(Piece::compared(left.at, last));
+    };
+    reader.again(chained)?;
+    let last = last_number(reader, less)?;
     compare(reader, relation)?;
-    if left.last.is_some() {
-        join_both(reader)?;
-    }
-    Ok(Piece {
-        kind: Kind::Fact,
-        at: left.at,
-        last: Some(begun),
-    })
+    join_both(reader)?;
+    Ok(Piece::compared(left.at, last))
 }
 
 // What an expression begins with: a number, a byte, or what a word or sign opens.
 #[cycle(expression)]
-fn beginning<'a>(reader: &mut Reader<'a, '_>, depth: u8) -> Result<Piece<'a>, ReadFault<'a>> {
+fn beginning<'a>(reader: &mut Reader<'a, '_>, depth: u8) -> Result<Piece<'a>, ReadFault<'a>>
+    ensures { IfOk result (λ piece. ReadsPiece tightest piece (state_of reader.old) (state_of reader.new)) }
+{
     let less = deeper(reader.rest, depth)?;
     let at = reader.rest;
     let token = reader.next();
@@ -229,15 +294,21 @@ fn beginning<'a>(reader: &mut Reader<'a, '_>, depth: u8) -> Result<Piece<'a>, Re
         reader.take();
         return opened(reader, opening, at, less);
     }
-    if let Some(name) = reader.bound(token.text) {
+    if let Some(name) = reader.bound(token) {
         reader.take();
         reader.part(Part::Bound(name))?;
-    } else if token.class == Class::Decimal {
-        number_here(reader)?;
-    } else {
-        byte_here(reader)?;
+        return Ok(Piece::at(at, Kind::Number));
     }
-    Ok(Piece::at(at, Kind::Number))
+    match token.class {
+        Class::Decimal => {
+            number_here(reader)?;
+            Ok(Piece::at(at, Kind::Number))
+        }
+        _ => {
+            byte_here(reader)?;
+            Ok(Piece::at(at, Kind::Number))
+        }
+    }
 }
 
 // What an expression is that begins so.
@@ -247,169 +318,284 @@ fn opened<'a>(
     opening: Opening,
     at: &'a [u8],
     depth: u8,
-) -> Result<Piece<'a>, ReadFault<'a>> {
+) -> Result<Piece<'a>, ReadFault<'a>>
+    ensures { (before : State) → Takes (opening_token opening) before (state_of reader.old)
+        → IfOk result (λ piece. ReadsPiece tightest piece before (state_of reader.new)) }
+{
     let less = deeper(reader.rest, depth)?;
-    let kind = match opening {
-        Opening::Held(atom, kind) => {
+    match opening {
+        Opening::Held(atom) => {
             reader.part(Part::Held(atom))?;
-            kind
+            Ok(Piece::at(at, kind_of(atom)))
         }
         Opening::Group => {
             let within = expression(reader, LOOSEST, less)?;
             reader.expect(b")", "a ) is wanted here")?;
-            within.kind
+            Ok(Piece::at(at, within.kind))
         }
         Opening::Old => {
             let within = beginning(reader, less)?;
             reader.part(Part::Old)?;
-            within.kind
+            Ok(Piece::at(at, within.kind))
         }
         Opening::At => {
             let address = reader.label(at)?;
             let within = beginning(reader, less)?;
             reader.part(Part::At(address))?;
-            within.kind
+            Ok(Piece::at(at, within.kind))
+        }
+        Opening::Sum => {
+            sum_of(reader, less)?;
+            Ok(Piece::at(at, Kind::Number))
+        }
+        Opening::Make(making) => {
+            make(reader, making, less)?;
+            Ok(Piece::at(at, Kind::Number))
         }
         Opening::Text => {
             text_at(reader, less)?;
-            Kind::Fact
+            Ok(Piece::at(at, Kind::Fact))
         }
         Opening::Not => {
             fact_in(reader, BEHIND_AND, less)?;
             negate(reader)?;
-            Kind::Fact
+            Ok(Piece::at(at, Kind::Fact))
         }
-        Opening::If => conditional(reader, less)?,
+        Opening::If => {
+            let kind = conditional(reader, less)?;
+            Ok(Piece::at(at, kind))
+        }
         Opening::Each => {
-            reader.expect(
-                b"all",
-                "all is wanted here, as in for all i < 8: [#$2000 + i] = 0",
-            )?;
-            counted(reader, Kind::Fact, less)?;
-            Kind::Fact
+            for_all(reader, less)?;
+            Ok(Piece::at(at, Kind::Fact))
         }
-        Opening::Sum => {
-            counted(reader, Kind::Number, less)?;
-            Kind::Number
-        }
-        _ => {
-            make(reader, opening, less)?;
-            Kind::Number
-        }
-    };
-    Ok(Piece::at(at, kind))
+    }
 }
 
-// The number that a word or sign makes of those behind it.
+// The number that a word or sign makes of what stands behind it.
 #[cycle(expression)]
-fn make<'a>(reader: &mut Reader<'a, '_>, opening: Opening, depth: u8) -> Result<(), ReadFault<'a>> {
+fn make<'a>(reader: &mut Reader<'a, '_>, making: Making, depth: u8) -> Result<(), ReadFault<'a>>
+    ensures { (before : State) → Takes (making_token making) before (state_of reader.old)
+        → OnOk result (ReadsKind kinds.Number before (state_of reader.new)) }
+{
     let less = deeper(reader.rest, depth)?;
-    match opening {
-        Opening::Pair(operation) => {
-            reader.expect(b"(", "a ( is wanted here, as in min(A, X)")?;
-            number_in(reader, LOOSEST, less)?;
-            reader.expect(b",", "a comma is wanted here, as in min(A, X)")?;
-            number_in(reader, LOOSEST, less)?;
-            reader.expect(b")", "a ) is wanted here, as in min(A, X)")?;
-            reader.part(Part::Pair(operation))
+    match making {
+        Making::Least => {
+            two_numbers(reader, less)?;
+            reader.part(Part::Pair(Operation::Min))
         }
-        Opening::Abs => {
+        Making::Greatest => {
+            two_numbers(reader, less)?;
+            reader.part(Part::Pair(Operation::Max))
+        }
+        Making::Abs => {
             next_number(reader, less)?;
             reader.part(Part::Of(Function::Abs))
         }
-        Opening::Bit => {
+        Making::Bit => {
             next_number(reader, less)?;
             reader.expect(b"of", "of is wanted here, as in bit 3 of A")?;
             next_number(reader, less)?;
             reader.part(Part::Pair(Operation::Bit))
         }
-        Opening::Signed => {
+        Making::Signed => {
             next_number(reader, less)?;
             reader.part(Part::Of(Function::Signed))
         }
-        Opening::Word => {
-            word_address(reader, less)?;
-            reader.part(Part::Of(Function::Word))
-        }
-        Opening::Byte => {
+        Making::Word => word_at(reader, less),
+        Making::Byte => {
             bracketed(reader, less)?;
             reader.part(Part::Of(Function::Byte))
         }
-        Opening::Minus => {
+        Making::Literal => number_here(reader),
+        Making::Minus => {
             reader.part(Part::Number(0))?;
             next_number(reader, less)?;
             reader.part(Part::Pair(Operation::Minus))
         }
-        _ => number_here(reader),
     }
+}
+
+// Two numbers in parentheses, with a comma between them.
+#[cycle(expression)]
+fn two_numbers<'a>(reader: &mut Reader<'a, '_>, depth: u8) -> Result<(), ReadFault<'a>>
+    ensures { OnOk result (ReadsTwo (state_of reader.old) (state_of reader.new)) }
+{
+    let less = deeper(reader.rest, depth)?;
+    reader.expect(b"(", "a ( is wanted here, as in min(A, X)")?;
+    number_in(reader, LOOSEST, less)?;
+    reader.expect(b",", "a comma is wanted here, as in min(A, X)")?;
+    number_in(reader, LOOSEST, less)?;
+    reader.expect(b")", "a ) is wanted here, as in min(A, X)")
 }
 
 // The address behind a [, up to its ].
 #[cycle(expression)]
-fn bracketed<'a>(reader: &mut Reader<'a, '_>, depth: u8) -> Result<(), ReadFault<'a>> {
+fn bracketed<'a>(reader: &mut Reader<'a, '_>, depth: u8) -> Result<(), ReadFault<'a>>
+    ensures { OnOk result (ReadsClosed (sign (codes "]")) is_number (state_of reader.old) (state_of reader.new)) }
+{
     let less = deeper(reader.rest, depth)?;
     number_in(reader, LOOSEST, less)?;
     reader.expect(b"]", "a ] is wanted here, as in [#$2000 + X]")
 }
 
-// The address behind `word`.
+// The two bytes at the address behind `word`.
 #[cycle(expression)]
-fn word_address<'a>(reader: &mut Reader<'a, '_>, depth: u8) -> Result<(), ReadFault<'a>> {
+fn word_at<'a>(reader: &mut Reader<'a, '_>, depth: u8) -> Result<(), ReadFault<'a>>
+    ensures { (before : State) → Takes (word (codes "word")) before (state_of reader.old)
+        → OnOk result (ReadsKind kinds.Number before (state_of reader.new)) }
+{
     let less = deeper(reader.rest, depth)?;
-    if reader.took(b"[") {
-        return bracketed(reader, less);
-    }
-    let address = reader.address()?;
-    reader.part(Part::Number(i64::from(address)))
-}
-
-// The byte so far behind the place that stands next.
-#[cycle(expression)]
-fn byte_behind<'a>(
-    reader: &mut Reader<'a, '_>,
-    further: usize,
-    depth: u8,
-) -> Result<(), ReadFault<'a>> {
-    let less = deeper(reader.rest, depth)?;
-    let further = further.min(0xFFFF) as i64;
     if reader.took(b"[") {
         bracketed(reader, less)?;
-        reader.part(Part::Number(further))?;
-        reader.part(Part::Pair(Operation::Plus))?;
-    } else {
-        let address = reader.address()?;
-        reader.part(Part::Number(i64::from(address) + further))?;
+        return reader.part(Part::Of(Function::Word));
     }
-    reader.part(Part::Of(Function::Byte))
+    let address = reader.address()?;
+    reader.part(Part::Number(i64::from(address)))?;
+    reader.part(Part::Of(Function::Word))
 }
 
-// Whether the bytes from the place behind `text` on are those of the text behind its =: one after another, and all of them.
+// Where a text stands in memory: from an address on, or from one that was made.
+#[derive(Clone, Copy)]
+enum Place {
+    Fixed(u16),
+    Made(Span),
+}
+
+// The place behind `text`.
 #[cycle(expression)]
-fn text_at<'a>(reader: &mut Reader<'a, '_>, depth: u8) -> Result<(), ReadFault<'a>> {
+fn place_next<'a>(reader: &mut Reader<'a, '_>, depth: u8) -> Result<Place, ReadFault<'a>>
+    ensures { IfOk result (λ place. ReadsPlace place (state_of reader.old) (state_of reader.new)) }
+{
     let less = deeper(reader.rest, depth)?;
-    let place = reader.rest;
-    byte_behind(reader, 0, less)?;
-    reader.expect(b"=", TEXT_WANTED)?;
-    let (text, top) = reader.laid_text()?;
-    let behind = reader.rest;
-    for (further, character) in text.iter().enumerate() {
-        if further > 0 {
-            reader.rest = place;
-            byte_behind(reader, further, less)?;
+    let begun = reader.count();
+    if reader.took(b"[") {
+        bracketed(reader, less)?;
+        let ended = reader.count();
+        return Ok(Place::Made(Span { begun, ended }));
+    }
+    Ok(Place::Fixed(reader.address()?))
+}
+
+// The parts of a place that was made once more, but for the first byte: there they stand.
+fn put_place<'a>(reader: &mut Reader<'a, '_>, span: Span, further: u16) -> Result<(), ReadFault<'a>>
+    ensures { (e : Phrase) → IsMade span e reader.old.parts.items
+        → OnOk result (PutsOf (pushed further (e ∷ [])) e (state_of reader.old) (state_of reader.new)) }
+{
+    if further == 0 {
+        return Ok(());
+    }
+    reader.again(span)
+}
+
+// The address so far behind one that was made.
+fn place_behind<'a>(
+    reader: &mut Reader<'a, '_>,
+    span: Span,
+    further: u16,
+) -> Result<(), ReadFault<'a>>
+    ensures { (e : Phrase) → IsMade span e reader.old.parts.items
+        → OnOk result (PutsOf (pushed further (e ∷ [])) (pair operation.Plus e (number (pos further)))
+        (state_of reader.old) (state_of reader.new)) }
+{
+    put_place(reader, span, further)?;
+    reader.part(Part::Number(i64::from(further)))?;
+    reader.part(Part::Pair(Operation::Plus))
+}
+
+// The byte so far behind a place.
+fn byte_behind<'a>(
+    reader: &mut Reader<'a, '_>,
+    place: Place,
+    further: u16,
+) -> Result<(), ReadFault<'a>>
+    ensures { (phrase : ℕ → Phrase) (top : List Phrase) → IsPlaced place phrase top reader.old.parts.items
+        → OnOk result (PutsOf (pushed further top) (of function.Byte (phrase further)) (state_of reader.old) (state_of reader.new)) }
+{
+    match place {
+        Place::Fixed(address) => {
+            reader.part(Part::Number(i64::from(address) + i64::from(further)))?;
+            reader.part(Part::Of(Function::Byte))
         }
-        reader.part(Part::Number(i64::from(*character) + i64::from(top)))?;
-        reader.part(Part::Pair(Operation::Equal))?;
+        Place::Made(span) => {
+            place_behind(reader, span, further)?;
+            reader.part(Part::Of(Function::Byte))
+        }
+    }
+}
+
+// That the byte so far behind a place is this one.
+fn is_laid<'a>(
+    reader: &mut Reader<'a, '_>,
+    place: Place,
+    further: u16,
+    code: u8,
+) -> Result<(), ReadFault<'a>>
+    ensures { (phrase : ℕ → Phrase) (top : List Phrase) → IsPlaced place phrase top reader.old.parts.items
+        → OnOk result (PutsOf (pushed further top) (pair operation.Equal (of function.Byte (phrase further)) (number (pos code)))
+        (state_of reader.old) (state_of reader.new)) }
+{
+    byte_behind(reader, place, further)?;
+    reader.part(Part::Number(i64::from(code)))?;
+    reader.part(Part::Pair(Operation::Equal))
+}
+
+// That the bytes from a place on are those of a text, one after another.
+fn are_laid<'a>(
+    reader: &mut Reader<'a, '_>,
+    place: Place,
+    text: &[u8],
+    top: u8,
+) -> Result<(), ReadFault<'a>>
+    ensures { (phrase : ℕ → Phrase) (on_top : List Phrase) (quote : ℕ) → IsPlaced place phrase on_top reader.old.parts.items
+        → IsTrue (is_text quote text.now) → IsTop quote top
+        → OnOk result (PutsOf on_top (laid_of quote phrase text.now) (state_of reader.old) (state_of reader.new)) }
+{
+    for (further, character) in text.iter().enumerate() {
+        let Ok(further) = u16::try_from(further) else {
+            return reader.refuse(TEXT_WANTED);
+        };
+        is_laid(reader, place, further, character.wrapping_add(top))?;
         if further > 0 {
             join_both(reader)?;
         }
     }
-    reader.rest = behind;
     Ok(())
+}
+
+// Whether the bytes from the place behind `text` on are those of the text behind its =: one after another, and all of them.
+#[cycle(expression)]
+fn text_at<'a>(reader: &mut Reader<'a, '_>, depth: u8) -> Result<(), ReadFault<'a>>
+    ensures { (before : State) → Takes (word (codes "text")) before (state_of reader.old)
+        → OnOk result (ReadsKind kinds.Fact before (state_of reader.new)) }
+{
+    let less = deeper(reader.rest, depth)?;
+    let place = place_next(reader, less)?;
+    reader.expect(b"=", TEXT_WANTED)?;
+    let (text, top) = reader.laid_text()?;
+    are_laid(reader, place, text, top)
+}
+
+// The kind of one of two: a fact where both are, and else a number, which both have to be.
+fn either<'a>(one: Piece<'a>, other: Piece<'a>) -> Result<Kind, ReadFault<'a>>
+    ensures { IfOk result (λ kind. IsEither one.entry.kind other.entry.kind kind) }
+{
+    match (one.kind, other.kind) {
+        (Kind::Number, _) | (_, Kind::Number) => {
+            one.number()?;
+            other.number()?;
+            Ok(Kind::Number)
+        }
+        _ => Ok(Kind::Fact),
+    }
 }
 
 // What behind `if` is one of two, or where there is no `else`, holds if the condition does; the kind of it.
 #[cycle(expression)]
-fn conditional<'a>(reader: &mut Reader<'a, '_>, depth: u8) -> Result<Kind, ReadFault<'a>> {
+fn conditional<'a>(reader: &mut Reader<'a, '_>, depth: u8) -> Result<Kind, ReadFault<'a>>
+    ensures { (before : State) → Takes (word (codes "if")) before (state_of reader.old)
+        → IfOk result (λ kind. ReadsKind kind before (state_of reader.new)) }
+{
     let less = deeper(reader.rest, depth)?;
     fact_in(reader, LOOSEST, less)?;
     reader.expect(
@@ -425,21 +611,17 @@ fn conditional<'a>(reader: &mut Reader<'a, '_>, depth: u8) -> Result<Kind, ReadF
     }
     let other = expression(reader, LOOSEST, less)?;
     reader.part(Part::Choice)?;
-    if one.kind == Kind::Number || other.kind == Kind::Number {
-        one.number()?;
-        other.number()?;
-        Ok(Kind::Number)
-    } else {
-        Ok(Kind::Fact)
-    }
+    either(one, other)
 }
 
 // How what is counted is written.
 const COUNTED: &str = "here stands what is counted, as in for all i < 8: [#$2000 + i] = 0";
 
-// What is counted behind `for all` or `sum`: a name, <, a number, and behind a : what is looked at for each number below it.
+// What is counted behind `for all` or `sum`: a name, <, a number and a :. The number of the name, which is counted from here on.
 #[cycle(expression)]
-fn counted<'a>(reader: &mut Reader<'a, '_>, kind: Kind, depth: u8) -> Result<(), ReadFault<'a>> {
+fn counted<'a>(reader: &mut Reader<'a, '_>, depth: u8) -> Result<u8, ReadFault<'a>>
+    ensures { IfOk result (λ name. ReadsCounted name (state_of reader.old) (state_of reader.new)) }
+{
     let less = deeper(reader.rest, depth)?;
     let name = reader.next();
     if !may_name(name) {
@@ -449,16 +631,35 @@ fn counted<'a>(reader: &mut Reader<'a, '_>, kind: Kind, depth: u8) -> Result<(),
     reader.expect(b"<", COUNTED)?;
     number_in(reader, BEHIND_COMPARISON, less)?;
     reader.expect(b":", COUNTED)?;
-    let number = reader.bind(name.text)?;
-    if kind == Kind::Fact {
-        fact_in(reader, LOOSEST, less)?;
-    } else {
-        number_in(reader, BEHIND_COMPARISON, less)?;
-    }
-    reader.unbind(number);
-    reader.part(if kind == Kind::Fact {
-        Part::Each(number)
-    } else {
-        Part::Sum(number)
-    })
+    reader.bind(name.text)
+}
+
+// What holds for each number below one.
+#[cycle(expression)]
+fn for_all<'a>(reader: &mut Reader<'a, '_>, depth: u8) -> Result<(), ReadFault<'a>>
+    ensures { (before : State) → Takes (word (codes "for")) before (state_of reader.old)
+        → OnOk result (ReadsKind kinds.Fact before (state_of reader.new)) }
+{
+    let less = deeper(reader.rest, depth)?;
+    reader.expect(
+        b"all",
+        "all is wanted here, as in for all i < 8: [#$2000 + i] = 0",
+    )?;
+    let name = counted(reader, less)?;
+    fact_in(reader, LOOSEST, less)?;
+    reader.unbind(name);
+    reader.part(Part::Each(name))
+}
+
+// The sum of what is for each number below one.
+#[cycle(expression)]
+fn sum_of<'a>(reader: &mut Reader<'a, '_>, depth: u8) -> Result<(), ReadFault<'a>>
+    ensures { (before : State) → Takes (word (codes "sum")) before (state_of reader.old)
+        → OnOk result (ReadsKind kinds.Number before (state_of reader.new)) }
+{
+    let less = deeper(reader.rest, depth)?;
+    let name = counted(reader, less)?;
+    number_in(reader, BEHIND_COMPARISON, less)?;
+    reader.unbind(name);
+    reader.part(Part::Sum(name))
 }

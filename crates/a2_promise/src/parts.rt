@@ -1,5 +1,10 @@
 //! An expression as a list of its parts, each behind those that it is made of.
 
+ghost use Rattle.std.specs.Prelude.{◌≡◌, true, IsTrue, List, [], ◌∷◌, IfOk, IfSome, MatchOption, if◌then◌else◌};
+ghost use Rattle.a2_promise.specs.declared.parts.Part.TheVariants as part;
+ghost use Rattle.a2_promise.specs.Phrases.{Phrase, phrase_of};
+ghost use Rattle.a2_promise.specs.Reading.{made as made_of, made_by, stack_of};
+
 use crate::expr::{Atom, Expr, Function, Operation};
 use std::alloc::{AllocError, Global};
 
@@ -21,18 +26,24 @@ pub(crate) enum Part {
 }
 
 // An expression in memory of its own.
-fn boxed(alloc: Global, expr: Expr) -> Result<Box<Expr>, AllocError> {
+fn boxed(alloc: Global, expr: Expr) -> Result<Box<Expr>, AllocError>
+    ensures { IfOk result (λ box. box.value ≡ expr) }
+{
     Ok(Box::new(alloc, expr)?)
 }
 
 // Puts an expression on top of others.
-fn push(made: &mut Vec<Expr>, expr: Expr) -> Result<bool, AllocError> {
+fn push(made: &mut Vec<Expr>, expr: Expr) -> Result<bool, AllocError>
+    ensures { IfOk result (λ done. (done ≡ true) × (stack_of made.new.items ≡ phrase_of expr ∷ stack_of made.old.items)) }
+{
     made.push(expr)?;
     Ok(true)
 }
 
 // Takes the topmost expression, in memory of its own.
-fn pop(alloc: Global, made: &mut Vec<Expr>) -> Result<Option<Box<Expr>>, AllocError> {
+fn pop(alloc: Global, made: &mut Vec<Expr>) -> Result<Option<Box<Expr>>, AllocError>
+    ensures { IfOk result (λ top. IfSome top (λ box. stack_of made.old.items ≡ phrase_of box.value ∷ stack_of made.new.items)) }
+{
     match made.pop() {
         Some(expr) => Ok(Some(boxed(alloc, expr)?)),
         None => Ok(None),
@@ -45,7 +56,10 @@ fn push_pair(
     made: &mut Vec<Expr>,
     operation: Operation,
     is_turned: bool,
-) -> Result<bool, AllocError> {
+) -> Result<bool, AllocError>
+    ensures { IfOk result (λ done. IsTrue done
+        → stack_of made.new.items ≡ made_by (if is_turned then part.Turned operation else part.Pair operation) (stack_of made.old.items)) }
+{
     let Some(second) = pop(alloc, made)? else {
         return Ok(false);
     };
@@ -65,7 +79,10 @@ fn push_counted(
     made: &mut Vec<Expr>,
     name: u8,
     is_each: bool,
-) -> Result<bool, AllocError> {
+) -> Result<bool, AllocError>
+    ensures { IfOk result (λ done. IsTrue done
+        → stack_of made.new.items ≡ made_by (if is_each then part.Each name else part.Sum name) (stack_of made.old.items)) }
+{
     let Some(body) = pop(alloc, made)? else {
         return Ok(false);
     };
@@ -80,7 +97,9 @@ fn push_counted(
 }
 
 // Makes a choice of the three topmost.
-fn push_choice(alloc: Global, made: &mut Vec<Expr>) -> Result<bool, AllocError> {
+fn push_choice(alloc: Global, made: &mut Vec<Expr>) -> Result<bool, AllocError>
+    ensures { IfOk result (λ done. IsTrue done → stack_of made.new.items ≡ made_by part.Choice (stack_of made.old.items)) }
+{
     let Some(other) = pop(alloc, made)? else {
         return Ok(false);
     };
@@ -94,7 +113,9 @@ fn push_choice(alloc: Global, made: &mut Vec<Expr>) -> Result<bool, AllocError> 
 }
 
 // Makes what a function is of the topmost.
-fn push_of(alloc: Global, made: &mut Vec<Expr>, function: Function) -> Result<bool, AllocError> {
+fn push_of(alloc: Global, made: &mut Vec<Expr>, function: Function) -> Result<bool, AllocError>
+    ensures { IfOk result (λ done. IsTrue done → stack_of made.new.items ≡ made_by (part.Of function) (stack_of made.old.items)) }
+{
     match pop(alloc, made)? {
         Some(of) => push(made, Expr::Of(function, of)),
         None => Ok(false),
@@ -102,7 +123,9 @@ fn push_of(alloc: Global, made: &mut Vec<Expr>, function: Function) -> Result<bo
 }
 
 // Makes what the topmost was.
-fn push_old(alloc: Global, made: &mut Vec<Expr>) -> Result<bool, AllocError> {
+fn push_old(alloc: Global, made: &mut Vec<Expr>) -> Result<bool, AllocError>
+    ensures { IfOk result (λ done. IsTrue done → stack_of made.new.items ≡ made_by part.Old (stack_of made.old.items)) }
+{
     match pop(alloc, made)? {
         Some(within) => push(made, Expr::Old(within)),
         None => Ok(false),
@@ -110,7 +133,9 @@ fn push_old(alloc: Global, made: &mut Vec<Expr>) -> Result<bool, AllocError> {
 }
 
 // Makes what the topmost was at the label at an address.
-fn push_at(alloc: Global, made: &mut Vec<Expr>, address: u16) -> Result<bool, AllocError> {
+fn push_at(alloc: Global, made: &mut Vec<Expr>, address: u16) -> Result<bool, AllocError>
+    ensures { IfOk result (λ done. IsTrue done → stack_of made.new.items ≡ made_by (part.At address) (stack_of made.old.items)) }
+{
     match pop(alloc, made)? {
         Some(within) => push(made, Expr::At(address, within)),
         None => Ok(false),
@@ -118,8 +143,10 @@ fn push_at(alloc: Global, made: &mut Vec<Expr>, address: u16) -> Result<bool, Al
 }
 
 // Makes what a part makes of those on top; false where they are too few.
-fn push_part(alloc: Global, made: &mut Vec<Expr>, part: Part) -> Result<bool, AllocError> {
-    match part {
+fn push_part(alloc: Global, made: &mut Vec<Expr>, it: Part) -> Result<bool, AllocError>
+    ensures { IfOk result (λ done. IsTrue done → stack_of made.new.items ≡ made_by it (stack_of made.old.items)) }
+{
+    match it {
         Part::Number(number) => push(made, Expr::Number(number)),
         Part::Held(atom) => push(made, Expr::Held(atom)),
         Part::Bound(name) => push(made, Expr::Bound(name)),
@@ -135,7 +162,9 @@ fn push_part(alloc: Global, made: &mut Vec<Expr>, part: Part) -> Result<bool, Al
 }
 
 /// The expression of these parts, none where they are not those of one.
-pub(crate) fn expr_of(alloc: Global, parts: &[Part]) -> Result<Option<Expr>, AllocError> {
+pub(crate) fn expr_of(alloc: Global, parts: &[Part]) -> Result<Option<Expr>, AllocError>
+    ensures { IfOk result (λ found. IfSome found (λ expr. (more : List Phrase) × (made_of parts.now [] ≡ phrase_of expr ∷ more))) }
+{
     let mut made = Vec::new(alloc);
     for part in parts {
         if !push_part(alloc, &mut made, *part)? {

@@ -1,15 +1,21 @@
 //! The promises of a source text.
 
-ghost use Rattle.std.specs.Prelude.{ℕ, List, MatchOption};
+ghost use Rattle.std.specs.Prelude.{◌≡◌, ℕ, List, [], ◌∷◌, ◌++◌, IsTrue, IfOk, IfSome, Some, ◌&&◌, MatchOption, OnOk};
+ghost use Rattle.a2_promise.specs.Grammar.{is_fact};
+ghost use Rattle.a2_promise.specs.Reading.{AddsChange, AddsChanges, AddsFact, AddsLine, around_of, says_within, token_of, verb_name};
+ghost use Rattle.a2_promise.specs.Reading.{IsChanges, IsUpTo, LetsChange, ReadsWhole, is_listed, state_of};
+ghost use Rattle.a2_promise.specs.Told as change;
+ghost use Rattle.a2_promise.specs.Told.{may_change};
+ghost use Rattle.a2_promise.specs.Tokens.{tokens, word};
 ghost use Rattle.a2_promise.specs.Said.{Says};
 
-use crate::expr::Expr;
+use crate::expr::{Atom, Expr};
 use crate::fault::{ReadFault, Refusal};
 use crate::parsing::expression;
 use crate::reader::{NO_LABEL, Named, Reader};
-use crate::reading::Class;
+use crate::reading::{Class, Token, token_in};
 use crate::texts::{Texts, push_text};
-use crate::words::LOOSEST;
+use crate::words::{LOOSEST, held_by};
 use a2_asm::Program;
 use a2_text::{behind_blanks, front_len, is_blank};
 use std::alloc::{AllocError, Global};
@@ -129,80 +135,103 @@ fn new_block<'a>(alloc: Global) -> Block<'a> {
 }
 
 // What a piece of a line says that holds, and nothing behind it.
-fn whole_fact<'a>(reader: &mut Reader<'a, '_>) -> Result<(), ReadFault<'a>> {
+fn whole_fact<'a>(reader: &mut Reader<'a, '_>) -> Result<(), ReadFault<'a>>
+    ensures { OnOk result (ReadsWhole is_fact (state_of reader.old) (state_of reader.new)) }
+{
     expression(reader, LOOSEST, MOST_LEVELS)?.fact()?;
     ended(reader)
 }
 
 // Nothing stands behind what was read.
-fn ended<'a>(reader: &Reader<'a, '_>) -> Result<(), ReadFault<'a>> {
-    if reader.next().class == Class::End {
-        Ok(())
-    } else {
-        reader.refuse("this can't stand here: and, or, iff, a comparison or the line's end may")
+fn ended<'a>(reader: &Reader<'a, '_>) -> Result<(), ReadFault<'a>>
+    ensures { OnOk result (tokens reader.now.rest.now ≡ []) }
+{
+    match reader.next().class {
+        Class::End => Ok(()),
+        _ => reader.refuse(
+            "this can't stand here: and, or, iff, a comparison or the line's end may",
+        ),
     }
 }
 
 // Lets bytes change.
-fn push_range(changes: &mut Changes, range: Range) -> Result<(), AllocError> {
+fn push_range(changes: &mut Changes, range: Range) -> Result<(), AllocError>
+    ensures registers { (changes.new.a ≡ changes.old.a) × (changes.new.x ≡ changes.old.x) × (changes.new.y ≡ changes.old.y) }
+    ensures ranges { OnOk result (changes.new.ranges.items ≡ changes.old.ranges.items ++ range ∷ []) }
+{
     Ok(changes.ranges.push(range)?)
 }
 
-// Takes what may change: a register, or bytes from one address to another.
-fn take_change<'a>(
-    reader: &mut Reader<'a, '_>,
+// Lets a register or a flag change, which was taken.
+fn let_change<'a>(
+    reader: &Reader<'a, '_>,
     changes: &mut Changes,
-) -> Result<(), ReadFault<'a>> {
-    if reader.took(b"A") {
-        changes.a = true;
-    } else if reader.took(b"X") {
-        changes.x = true;
-    } else if reader.took(b"Y") {
-        changes.y = true;
-    } else if reader.took(b"S") {
-        return reader.refuse(
-            "S is as it should be where a routine returns: it is not among what changes",
-        );
-    } else if !took_flag(reader) {
-        let first = reader.address()?;
-        let last = if reader.took(b"..") {
-            reader.address()?
-        } else {
-            first
-        };
-        if last < first {
-            return reader.refuse("the last address is below the first");
+    atom: Atom,
+) -> Result<(), ReadFault<'a>>
+    ensures ranges { changes.new.ranges ≡ changes.old.ranges }
+    ensures registers { IsTrue (is_listed atom)
+        → OnOk result (IsTrue (may_change atom) × LetsChange (change.held atom) changes.old changes.new) }
+{
+    match atom {
+        Atom::A => changes.a = true,
+        Atom::X => changes.x = true,
+        Atom::Y => changes.y = true,
+        Atom::S => {
+            return reader.refuse(
+                "S is as it should be where a routine returns: it is not among what changes",
+            );
         }
-        push_range(changes, Range { first, last })?;
+        _ => (),
     }
     Ok(())
 }
 
-// Takes a flag, if one stands next.
-fn took_flag(reader: &mut Reader) -> bool {
-    for flag in [b"C", b"Z", b"N", b"V", b"D", b"I"] {
-        if reader.took(flag) {
-            return true;
-        }
+// Takes the last of several addresses, which .. stands before, or there is one alone.
+fn last_address<'a>(reader: &mut Reader<'a, '_>, first: u16) -> Result<u16, ReadFault<'a>>
+    ensures { IfOk result (λ last. IsUpTo first last (state_of reader.old) (state_of reader.new)) }
+{
+    if reader.took(b"..") {
+        return reader.address();
     }
-    false
+    Ok(first)
 }
 
-// Takes all that may change, with commas between.
-fn take_changes<'a>(
-    reader: &mut Reader<'a, '_>,
-    changes: &mut Changes,
-) -> Result<(), ReadFault<'a>> {
+// Takes what may change: a register, or bytes from one address to another.
+fn take_change<'a>(reader: &mut Reader<'a, '_>, changes: &mut Changes) -> Result<(), ReadFault<'a>>
+    ensures { OnOk result (AddsChange (state_of reader.old) (state_of reader.new) changes.old changes.new) }
+{
+    if let Some(atom) = held_by(reader.next()) {
+        reader.take();
+        return let_change(reader, changes, atom);
+    }
+    let first = reader.address()?;
+    let last = last_address(reader, first)?;
+    if last < first {
+        return reader.refuse("the last address is below the first");
+    }
+    push_range(changes, Range { first, last })?;
+    Ok(())
+}
+
+// Takes all that may change, with commas between, up to the line's end.
+fn more_changes<'a>(reader: &mut Reader<'a, '_>, changes: &mut Changes) -> Result<(), ReadFault<'a>>
+    ensures { OnOk result (AddsChanges (state_of reader.old) changes.old changes.new) }
+{
+    take_change(reader, changes)?;
+    if !reader.took(b",") {
+        return ended(reader);
+    }
+    more_changes(reader, changes)
+}
+
+// Takes all that may change, or the word that says nothing does.
+fn take_changes<'a>(reader: &mut Reader<'a, '_>, changes: &mut Changes) -> Result<(), ReadFault<'a>>
+    ensures { OnOk result (IsChanges (state_of reader.old) changes.old changes.new) }
+{
     if reader.took(b"nothing") {
         return ended(reader);
     }
-    for _ in 0..=reader.rest.len() {
-        take_change(reader, changes)?;
-        if !reader.took(b",") {
-            return ended(reader);
-        }
-    }
-    Ok(())
+    more_changes(reader, changes)
 }
 
 // What a line of a promise begins with.
@@ -219,23 +248,30 @@ enum Verb {
 }
 
 // The verb of this name.
-fn verb_named(word: &[u8]) -> Option<Verb> {
-    let verbs: [(&str, Verb); 8] = [
-        ("requires", Verb::Requires),
-        ("ensures", Verb::Ensures),
-        ("changes", Verb::Changes),
-        ("prints", Verb::Prints),
-        ("takes", Verb::Takes),
-        ("invariant", Verb::Invariant),
-        ("decreases", Verb::Decreases),
-        ("note", Verb::Note),
-    ];
-    for (name, verb) in verbs.iter() {
-        if name.as_bytes() == word {
-            return Some(*verb);
-        }
+fn verb_named(word: &[u8]) -> Option<Verb>
+    ensures { IfSome result (λ verb. verb_name verb ≡ word.now) }
+{
+    match word {
+        b"requires" => Some(Verb::Requires),
+        b"ensures" => Some(Verb::Ensures),
+        b"changes" => Some(Verb::Changes),
+        b"prints" => Some(Verb::Prints),
+        b"takes" => Some(Verb::Takes),
+        b"invariant" => Some(Verb::Invariant),
+        b"decreases" => Some(Verb::Decreases),
+        b"note" => Some(Verb::Note),
+        _ => None,
     }
-    None
+}
+
+// The verb that a token is.
+fn verb_of(token: Token) -> Option<Verb>
+    ensures { IfSome result (λ verb. token_of token.entry.class token.entry.text.now ≡ Some (word (verb_name verb))) }
+{
+    match token.class {
+        Class::Word => verb_named(token.text),
+        _ => None,
+    }
 }
 
 const VERBS: &str =
@@ -243,13 +279,17 @@ const VERBS: &str =
 
 impl<'a> Block<'a> {
     // Takes up a line of this number.
-    fn take(&mut self, reader: &mut Reader<'a, '_>, line: usize) -> Result<(), ReadFault<'a>> {
-        let Some(verb) = verb_named(reader.next().text) else {
+    fn take(&mut self, reader: &mut Reader<'a, '_>, line: usize) -> Result<(), ReadFault<'a>>
+        ensures { reader.old.parts.items ≡ [] → around_of reader.old ≡ []
+            → OnOk result (AddsLine reader.old.program.now.names reader.old.rest.now self.old self.new) }
+    {
+        let (token, rest) = token_in(reader.rest);
+        let Some(verb) = verb_of(token) else {
             return reader.refuse(VERBS);
         };
-        reader.take();
+        reader.rest = rest;
         reader.is_within = is_within(verb);
-        self.is_within = self.is_within && reader.is_within;
+        self.is_within = still_within(self.is_within, verb);
         let text = behind_blanks(reader.rest);
         match verb {
             Verb::Requires => push_fact(reader, &mut self.wanted, line, text),
@@ -264,8 +304,17 @@ impl<'a> Block<'a> {
 }
 
 // Whether a line of a verb says what holds within a routine.
-fn is_within(verb: Verb) -> bool {
+fn is_within(verb: Verb) -> bool
+    ensures { result ≡ says_within verb }
+{
     matches!(verb, Verb::Invariant | Verb::Decreases | Verb::Note)
+}
+
+// Whether no line promises anything behind one of a verb, where those before it promise nothing.
+fn still_within(before: bool, verb: Verb) -> bool
+    ensures { result ≡ (before && says_within verb) }
+{
+    before && is_within(verb)
 }
 
 // Reads a fact as a clause more.
@@ -274,7 +323,9 @@ fn push_fact<'a>(
     clauses: &mut Vec<Clause<'a>>,
     line: usize,
     text: &'a [u8],
-) -> Result<(), ReadFault<'a>> {
+) -> Result<(), ReadFault<'a>>
+    ensures { reader.old.parts.items ≡ [] → OnOk result (AddsFact (state_of reader.old) clauses.old.items clauses.new.items) }
+{
     whole_fact(reader)?;
     let expr = reader.expr()?;
     push_clause(clauses, Clause { line, text, expr })?;
@@ -296,7 +347,9 @@ fn push_measure<'a>(
 }
 
 // One clause more.
-fn push_clause<'a>(clauses: &mut Vec<Clause<'a>>, clause: Clause<'a>) -> Result<(), AllocError> {
+fn push_clause<'a>(clauses: &mut Vec<Clause<'a>>, clause: Clause<'a>) -> Result<(), AllocError>
+    ensures { OnOk result (clauses.new.items ≡ clauses.old.items ++ clause.entry ∷ []) }
+{
     Ok(clauses.push(clause)?)
 }
 

@@ -1,11 +1,22 @@
 //! A line of a promise as it is read, from the left to the right.
 
+ghost use Rattle.std.specs.Prelude.{◌≡◌, ◌<◌, ◌≤◌, ℕ, false, IsTrue, List, [], ◌∷◌};
+ghost use Rattle.std.specs.Prelude.{◌++◌, length, map, reverse, Some, None, IfOk, IfSome, IfNone, OnOk};
+ghost use Rattle.std.specs.List.{slice_range};
+ghost use Rattle.a2_asm.specs.Values.{name_value};
+ghost use Rattle.a2_promise.specs.declared.reading.Class.TheVariants as class;
+ghost use Rattle.a2_promise.specs.Grammar as grammar;
+ghost use Rattle.a2_promise.specs.Grammar.{is_text, number_among, number_of};
+ghost use Rattle.a2_promise.specs.Phrases.{Phrase, phrase_of};
+ghost use Rattle.a2_promise.specs.Reading.{Binds, IsJust, IsTop, IsWritten, Puts, Takes, Unbinds};
+ghost use Rattle.a2_promise.specs.Reading.{around_of, beginning_of, first, made, spelling, state_of, token_of};
+ghost use Rattle.a2_promise.specs.Tokens.{Token as ReadToken, quoted, tokens, word};
+
 use crate::expr::Expr;
 use crate::fault::ReadFault;
 use crate::parts::{Part, expr_of};
 use crate::reading::{Class, Token, address_of, decimal_of, token_in};
 use a2_asm::Program;
-use a2_text::{behind_blanks, front_len};
 use std::alloc::{AllocError, Global};
 
 // The most names that are counted within one another.
@@ -20,6 +31,13 @@ pub(crate) const TEXT_WANTED: &str =
 pub(crate) struct Named<'a> {
     pub address: u16,
     pub at: &'a [u8],
+}
+
+/// Parts that were made: where they begin among all, and where those behind them do.
+#[derive(Clone, Copy)]
+pub(crate) struct Span {
+    pub begun: usize,
+    pub ended: usize,
 }
 
 /// What is left of a line, and what names mean in it.
@@ -39,7 +57,9 @@ pub(crate) struct Reader<'a, 'p> {
 
 impl<'a, 'p> Reader<'a, 'p> {
     /// One of a line.
-    pub fn new(alloc: Global, line: &'a [u8], program: &'p Program<Global>) -> Reader<'a, 'p> {
+    pub fn new(alloc: Global, line: &'a [u8], program: &'p Program<Global>) -> Reader<'a, 'p>
+        ensures { state_of result ≡ beginning_of line.now program.now.names }
+    {
         Reader {
             alloc,
             parts: Vec::new(alloc),
@@ -53,34 +73,45 @@ impl<'a, 'p> Reader<'a, 'p> {
     }
 
     /// What stands next.
-    pub fn next(&self) -> Token<'a> {
+    pub fn next(&self) -> Token<'a>
+        ensures first { token_of result.class result.text.now ≡ first (tokens self.now.rest.now) }
+        ensures written { IsWritten result.class result.text.now }
+    {
         token_in(self.rest).0
     }
 
     /// Takes what stands next.
-    pub fn take(&mut self) -> Token<'a> {
-        let (token, behind) = token_in(self.rest);
-        self.rest = behind;
-        token
+    pub fn take(&mut self)
+        ensures { (token : ReadToken) → first (tokens self.old.rest.now) ≡ Some token
+            → Takes token (state_of self.old) (state_of self.new) }
+    {
+        self.rest = token_in(self.rest).1;
     }
 
     /// Refuses what stands next.
-    pub fn refuse<T>(&self, says: &'static str) -> Result<T, ReadFault<'a>> {
+    pub fn refuse<T>(&self, says: &'static str) -> Result<T, ReadFault<'a>>
+        ensures { OnOk result ⊥ }
+    {
         Err(ReadFault::Says(says, self.rest))
     }
 
     /// Takes this word or sign, if it stands next.
-    pub fn took(&mut self, text: &[u8]) -> bool {
-        if self.next().is(text) {
+    pub fn took(&mut self, text: &[u8]) -> bool
+        ensures took { IsTrue result → Takes (spelling text.now) (state_of self.old) (state_of self.new) }
+        ensures same { result ≡ false → state_of self.new ≡ state_of self.old }
+        ensures none { result ≡ false → first (tokens self.old.rest.now) ≡ Some (spelling text.now) → ⊥ }
+    {
+        let is_next = self.next().is(text);
+        if is_next {
             self.take();
-            true
-        } else {
-            false
         }
+        is_next
     }
 
     /// Takes this word or sign.
-    pub fn expect(&mut self, text: &[u8], says: &'static str) -> Result<(), ReadFault<'a>> {
+    pub fn expect(&mut self, text: &[u8], says: &'static str) -> Result<(), ReadFault<'a>>
+        ensures { OnOk result (Takes (spelling text.now) (state_of self.old) (state_of self.new)) }
+    {
         if self.took(text) {
             Ok(())
         } else {
@@ -88,16 +119,25 @@ impl<'a, 'p> Reader<'a, 'p> {
         }
     }
 
-    /// Takes a number: decimal, `$` and digits, or a name of the source.
-    pub fn number(&mut self) -> Result<u32, ReadFault<'a>> {
-        let token = self.next();
-        let number = match token.class {
+    // The number that a token is: decimal, `$` and digits, or a name of the source.
+    fn number_at(&self, token: Token<'a>) -> Option<u32>
+        ensures { IfSome result (λ number. IsJust (token_of token.entry.class token.entry.text.now)
+            (λ it. number_of self.now.program.now.names it ≡ Some number)) }
+    {
+        match token.class {
             Class::Decimal => decimal_of(token.text),
             Class::Place => address_of(token.text).map(u32::from),
             Class::Word => self.value_of(token.text).map(u32::from),
             _ => None,
-        };
-        match number {
+        }
+    }
+
+    /// Takes a number: decimal, `$` and digits, or a name of the source.
+    pub fn number(&mut self) -> Result<u32, ReadFault<'a>>
+        ensures { IfOk result (λ number. (token : ReadToken) × Takes token (state_of self.old) (state_of self.new)
+            × (number_of self.old.program.now.names token ≡ Some number)) }
+    {
+        match self.number_at(self.next()) {
             Some(number) => {
                 self.take();
                 Ok(number)
@@ -109,22 +149,33 @@ impl<'a, 'p> Reader<'a, 'p> {
     }
 
     // The value of a name of the source.
-    fn value_of(&self, name: &[u8]) -> Option<u16> {
+    fn value_of(&self, name: &[u8]) -> Option<u16>
+        ensures { IfSome result (λ value. name_value self.now.program.now.names name.now ≡ Some value) }
+    {
         match std::str::from_utf8(name) {
             Ok(name) => self.program.name(name),
             Err(_) => None,
         }
     }
 
-    /// Takes an address: `$` and digits, or a name of the source.
-    pub fn address(&mut self) -> Result<u16, ReadFault<'a>> {
-        let token = self.next();
-        let address = match token.class {
+    // The address that a token is: `$` and digits, or a name of the source.
+    fn address_at(&self, token: Token<'a>) -> Option<u16>
+        ensures { IfSome result (λ address. IsJust (token_of token.entry.class token.entry.text.now)
+            (λ it. grammar.address_of self.now.program.now.names it ≡ Some address)) }
+    {
+        match token.class {
             Class::Place => address_of(token.text),
             Class::Word => self.value_of(token.text),
             _ => None,
-        };
-        match address {
+        }
+    }
+
+    /// Takes an address: `$` and digits, or a name of the source.
+    pub fn address(&mut self) -> Result<u16, ReadFault<'a>>
+        ensures { IfOk result (λ address. (token : ReadToken) × Takes token (state_of self.old) (state_of self.new)
+            × (grammar.address_of self.old.program.now.names token ≡ Some address)) }
+    {
+        match self.address_at(self.next()) {
             Some(address) => {
                 self.take();
                 Ok(address)
@@ -135,20 +186,29 @@ impl<'a, 'p> Reader<'a, 'p> {
         }
     }
 
+    // The address of a label that a token names.
+    fn label_at(&self, token: Token<'a>) -> Option<u16>
+        ensures { IfSome result (λ address. (token_of token.entry.class token.entry.text.now ≡ Some (word token.entry.text.now))
+            × (name_value self.now.program.now.names token.entry.text.now ≡ Some address)) }
+    {
+        match token.class {
+            Class::Word => self.value_of(token.text),
+            _ => None,
+        }
+    }
+
     /// Takes the label behind an `at` that begins here; its address.
-    pub fn label(&mut self, at: &'a [u8]) -> Result<u16, ReadFault<'a>> {
+    pub fn label(&mut self, at: &'a [u8]) -> Result<u16, ReadFault<'a>>
+        ensures { IfOk result (λ address. (name : List ℕ) × Takes (word name) (state_of self.old) (state_of self.new)
+            × IsTrue self.old.is_within × (name_value self.old.program.now.names name ≡ Some address)) }
+    {
         if !self.is_within {
             return Err(ReadFault::Says(
                 "at stands only in lines invariant, decreases and note",
                 at,
             ));
         }
-        let token = self.next();
-        let address = match token.class {
-            Class::Word => self.value_of(token.text),
-            _ => None,
-        };
-        match address {
+        match self.label_at(self.next()) {
             Some(address) => {
                 let at = self.rest;
                 push_label(&mut self.labels, Named { address, at })?;
@@ -160,16 +220,28 @@ impl<'a, 'p> Reader<'a, 'p> {
     }
 
     /// Takes a text between quotes as ASC lays it: its characters, and what each has more than its code.
-    pub fn laid_text(&mut self) -> Result<(&'a [u8], u8), ReadFault<'a>> {
-        let Some((text, top, behind)) = laid(behind_blanks(self.rest)) else {
-            return self.refuse(TEXT_WANTED);
-        };
-        self.rest = behind;
-        Ok((text, top))
+    pub fn laid_text(&mut self) -> Result<(&'a [u8], u8), ReadFault<'a>>
+        ensures { IfOk result (λ (text, top). (quote : ℕ) × Takes (quoted quote text.now) (state_of self.old) (state_of self.new)
+            × IsTrue (is_text quote text.now) × IsTop quote top) }
+    {
+        let token = self.next();
+        match token.class {
+            Class::Single => {
+                self.take();
+                Ok((token.text, 0))
+            }
+            Class::Double => {
+                self.take();
+                Ok((token.text, 0x80))
+            }
+            _ => self.refuse(TEXT_WANTED),
+        }
     }
 
     /// Lets a name be counted; its number.
-    pub fn bind(&mut self, name: &'a [u8]) -> Result<u8, ReadFault<'a>> {
+    pub fn bind(&mut self, name: &'a [u8]) -> Result<u8, ReadFault<'a>>
+        ensures { IfOk result (λ number. Binds name.now number (state_of self.old) (state_of self.new)) }
+    {
         let number = self.named;
         if number >= MOST_NAMES {
             return self.refuse("at most four names are counted within one another");
@@ -179,30 +251,64 @@ impl<'a, 'p> Reader<'a, 'p> {
         Ok(number as u8)
     }
 
-    /// Lets the names from this number on be names of the source again.
-    pub fn unbind(&mut self, number: u8) {
+    /// Lets the innermost name, which has this number, be one of the source again.
+    pub fn unbind(&mut self, number: u8)
+        ensures { Unbinds number (state_of self.old) (state_of self.new) }
+    {
         self.named = usize::from(number);
     }
 
-    /// The number of a name that is counted here.
-    pub fn bound(&self, name: &[u8]) -> Option<u8> {
-        let mut found = None;
-        for (number, known) in (0u8..4).zip(&self.names) {
-            if usize::from(number) < self.named && *known == name {
-                found = Some(number);
-            }
+    // The number of a name that is counted here, the innermost of those that are it.
+    fn number_of(&self, name: &[u8]) -> Option<u8>
+        ensures { result ≡ number_among (around_of self.now) name.now }
+    {
+        match innermost(&self.names[..self.named.min(MOST_NAMES)], name) {
+            Some(number) => Some(number as u8),
+            None => None,
         }
-        found
+    }
+
+    /// The number of a name that is counted here, if a token is one.
+    pub fn bound(&self, token: Token<'a>) -> Option<u8>
+        ensures found { IfSome result (λ number. (token_of token.entry.class token.entry.text.now ≡ Some (word token.entry.text.now))
+            × (number_among (around_of self.now) token.entry.text.now ≡ Some number)) }
+        ensures none { IfNone result (token.entry.class ≡ class.Word → number_among (around_of self.now) token.entry.text.now ≡ None) }
+    {
+        match token.class {
+            Class::Word => self.number_of(token.text),
+            _ => None,
+        }
+    }
+
+    /// How many parts there are.
+    pub fn count(&self) -> usize
+        ensures { result ≡ length self.now.parts.items }
+    {
+        self.parts.len()
+    }
+
+    /// Puts parts that were made behind all once more.
+    pub fn again(&mut self, span: Span) -> Result<(), ReadFault<'a>>
+        ensures { span.ended ≤ length self.old.parts.items
+            → OnOk result (Puts (slice_range self.old.parts.items span.begun span.ended) (state_of self.old) (state_of self.new)) }
+    {
+        let copied = copied(self.alloc, self.parts.as_slice(), span)?;
+        push_parts(&mut self.parts, copied.as_slice())?;
+        Ok(())
     }
 
     /// Puts a part behind those of the expression.
-    pub fn part(&mut self, part: Part) -> Result<(), ReadFault<'a>> {
+    pub fn part(&mut self, part: Part) -> Result<(), ReadFault<'a>>
+        ensures { OnOk result (Puts (part ∷ []) (state_of self.old) (state_of self.new)) }
+    {
         push_part(&mut self.parts, part)?;
         Ok(())
     }
 
     /// The expression that was read.
-    pub fn expr(&self) -> Result<Expr, ReadFault<'a>> {
+    pub fn expr(&self) -> Result<Expr, ReadFault<'a>>
+        ensures { IfOk result (λ expr. (more : List Phrase) × (made self.now.parts.items [] ≡ phrase_of expr ∷ more)) }
+    {
         match expr_of(self.alloc, self.parts.as_slice())? {
             Some(expr) => Ok(expr),
             None => self.refuse("this says nothing"),
@@ -214,26 +320,36 @@ impl<'a, 'p> Reader<'a, 'p> {
 pub(crate) const NO_LABEL: &str =
     "behind at stands a label within the routine that has lines invariant, decreases or note itself";
 
-// The characters up to a quote, as the one at the start of a text, and what stands behind that; one at least, from the blank to ~.
-fn up_to(quote: u8, text: &[u8]) -> Option<(&[u8], &[u8])> {
-    let length = front_len(text, |c| c != quote && 0x20 <= c && c <= 0x7E);
-    let (front, rest) = text.split_at(length.min(text.len()));
-    match rest {
-        [c, behind @ ..] if *c == quote && !front.is_empty() => Some((front, behind)),
-        _ => None,
+// The place of a name among others, the last where it is there several times.
+fn innermost(names: &[&[u8]], name: &[u8]) -> Option<usize>
+    ensures number { result ≡ number_among (reverse (map (λ one. one.now) names.now)) name.now }
+    ensures within { IfSome result (λ number. number < length names.now) }
+{
+    let mut number = names.len();
+    while number > 0 {
+        number -= 1;
+        if names[number] == name {
+            return Some(number);
+        }
+    }
+    None
+}
+
+// The parts of a span, in memory of their own.
+fn copied(alloc: Global, parts: &[Part], span: Span) -> Result<Vec<Part>, AllocError>
+    ensures { span.ended ≤ length parts.now → IfOk result (λ copy. copy.items ≡ slice_range parts.now span.begun span.ended) }
+{
+    match parts.get(span.begun..span.ended) {
+        Some(some) => Vec::from_slice(alloc, some),
+        None => Ok(Vec::new(alloc)),
     }
 }
 
-// The characters between the quotes that a text begins with, what each byte has more than its code, and what stands behind.
-fn laid(text: &[u8]) -> Option<(&[u8], u8, &[u8])> {
-    let (quote, top) = match text {
-        [b'"', ..] => (b'"', 0x80),
-        [b'\'', ..] => (b'\'', 0),
-        _ => return None,
-    };
-    let (_, rest) = text.split_first()?;
-    let (front, behind) = up_to(quote, rest)?;
-    Some((front, top, behind))
+// Parts more.
+fn push_parts(parts: &mut Vec<Part>, more: &[Part]) -> Result<(), AllocError>
+    ensures { OnOk result (parts.new.items ≡ parts.old.items ++ more.now) }
+{
+    parts.extend_from_slice(more)
 }
 
 // One label more.
@@ -242,6 +358,8 @@ fn push_label<'a>(labels: &mut Vec<Named<'a>>, label: Named<'a>) -> Result<(), A
 }
 
 // One part more.
-fn push_part(parts: &mut Vec<Part>, part: Part) -> Result<(), AllocError> {
+fn push_part(parts: &mut Vec<Part>, part: Part) -> Result<(), AllocError>
+    ensures { OnOk result (parts.new.items ≡ parts.old.items ++ part ∷ []) }
+{
     Ok(parts.push(part)?)
 }

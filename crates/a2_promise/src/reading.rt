@@ -1,5 +1,15 @@
 //! The words and signs of a line of a promise.
 
+ghost use Rattle.std.specs.Prelude.{◌≡◌, ℕ, List, take, drop, [], ◌∷◌, IfSome, MatchOption};
+ghost use Rattle.a2_text.specs.Bytes as byte;
+ghost use Rattle.a2_text.specs.Bytes.{value_of_digits};
+ghost use Rattle.a2_text.specs.Words.{behind_blanks as behind_blanks_of};
+ghost use Rattle.a2_syntax.specs.Names.{is_name_byte};
+ghost use Rattle.a2_syntax.specs.Numbers.{is_quotable};
+ghost use Rattle.a2_promise.specs.Tokens as tokens;
+ghost use Rattle.a2_promise.specs.Tokens.{sign, quoted, token_from};
+ghost use Rattle.a2_promise.specs.Reading.{IsWritten, is_named, token_of, up_to as up_to_of, with_rest};
+
 use a2_text::{behind_blanks, front_len, number_in};
 
 /// What kind of text stands next in a line.
@@ -12,6 +22,10 @@ pub(crate) enum Class {
     Decimal,
     /// Hexadecimal digits, without the `$` before them.
     Place,
+    /// A text, without the `'` around it.
+    Single,
+    /// A text, without the `"` around it.
+    Double,
     /// One sign, or two that belong together.
     Sign,
 }
@@ -25,63 +39,153 @@ pub(crate) struct Token<'a> {
 
 impl<'a> Token<'a> {
     /// Whether it is this word or sign.
-    pub fn is(self, text: &[u8]) -> bool {
-        (self.class == Class::Word || self.class == Class::Sign) && self.text == text
+    pub fn is(self, text: &[u8]) -> bool
+        ensures { result ≡ is_named self.entry.class self.entry.text.now text.now }
+    {
+        match self.class {
+            Class::Word | Class::Sign => self.text == text,
+            _ => false,
+        }
     }
 }
 
+// Whether a byte is a letter.
+fn is_letter(c: u8) -> bool
+    ensures { result ≡ tokens.is_letter c }
+{
+    matches!(c, b'a'..=b'z' | b'A'..=b'Z')
+}
+
+// Whether a byte is a decimal digit.
+fn is_digit(c: u8) -> bool
+    ensures { result ≡ byte.is_digit c }
+{
+    matches!(c, b'0'..=b'9')
+}
+
+// Whether a byte is a hexadecimal digit.
+fn is_hex_digit(c: u8) -> bool
+    ensures { result ≡ byte.is_hex_digit c }
+{
+    matches!(c, b'0'..=b'9' | b'a'..=b'f' | b'A'..=b'F')
+}
+
 // Whether a byte may stand in a word.
-fn is_word_byte(c: u8) -> bool {
-    c.is_ascii_alphanumeric() || c == b'_'
+fn is_word_byte(c: u8) -> bool
+    ensures { result ≡ is_name_byte c }
+{
+    matches!(c, b'a'..=b'z' | b'A'..=b'Z' | b'0'..=b'9' | b'_')
+}
+
+// Whether a byte may stand between quotes of this kind.
+fn may_stand(quote: u8, c: u8) -> bool
+    ensures { result ≡ is_quotable quote c }
+{
+    matches!(c, 0x20..=0x7E) && c != quote
+}
+
+// Whether two signs are one.
+fn is_double(c: u8, d: u8) -> bool
+    ensures { result ≡ tokens.is_double c d }
+{
+    matches!((c, d), (b'<', b'=' | b'>') | (b'>', b'=') | (b'.', b'.'))
+}
+
+// The characters up to a quote like the one before a text, and what stands behind that; one character at least.
+fn up_to(quote: u8, text: &[u8]) -> Option<(&[u8], &[u8])>
+    ensures { MatchOption result (up_to_of quote text.now ≡ (sign (quote ∷ []), text.now))
+        (λ (front, behind). up_to_of quote text.now ≡ (quoted quote front.now, behind.now)) }
+{
+    let (front, rest) = text.split_at(front_len(text, |c| may_stand(quote, c)));
+    match rest {
+        [c, behind @ ..] if *c == quote && !front.is_empty() => Some((front, behind)),
+        _ => None,
+    }
 }
 
 // How many bytes the sign has that a text begins with.
-fn sign_length(text: &[u8]) -> usize {
+fn sign_length(text: &[u8]) -> usize
+    ensures { (c : ℕ) (rest : List ℕ) → text.now ≡ c ∷ rest
+        → tokens.sign_from c rest ≡ (sign (take result text.now), drop result text.now) }
+{
     match text {
-        [b'<', b'=' | b'>', ..] | [b'>', b'=', ..] | [b'.', b'.', ..] => 2,
+        [c, d, ..] => { if is_double(*c, *d) { 2 } else { 1 } }
         _ => 1,
     }
 }
 
 // So many bytes of a text as one token, and what stands behind them.
-fn cut_off(class: Class, text: &[u8], length: usize) -> (Token<'_>, &[u8]) {
-    let (front, behind) = text.split_at(length.min(text.len()));
+fn cut_off(class: Class, text: &[u8], count: usize) -> (Token<'_>, &[u8])
+    ensures class { result.0.class ≡ class }
+    ensures front { result.0.text.now ≡ take count text.now }
+    ensures behind { result.1.now ≡ drop count text.now }
+{
+    let (front, behind) = text.split_at(count.min(text.len()));
     (Token { class, text: front }, behind)
 }
 
 /// What stands next in a line, and what stands behind it.
-pub(crate) fn token_in(line: &[u8]) -> (Token<'_>, &[u8]) {
+pub(crate) fn token_in(line: &[u8]) -> (Token<'_>, &[u8])
+    ensures found { with_rest (token_of result.0.class result.0.text.now) result.1.now ≡ token_from (behind_blanks_of line.now) }
+    ensures written { IsWritten result.0.class result.0.text.now }
+{
     let here = behind_blanks(line);
     match here {
         [] => cut_off(Class::End, here, 0),
         [b'$', digits @ ..] => cut_off(
             Class::Place,
             digits,
-            front_len(digits, |c| c.is_ascii_hexdigit()),
+            front_len(digits, |c| is_hex_digit(c)),
         ),
-        [b'0'..=b'9', ..] => cut_off(
-            Class::Decimal,
+        [b'\'', rest @ ..] => match up_to(b'\'', rest) {
+            Some((text, behind)) => (
+                Token {
+                    class: Class::Single,
+                    text,
+                },
+                behind,
+            ),
+            None => cut_off(Class::Sign, here, 1),
+        },
+        [b'"', rest @ ..] => match up_to(b'"', rest) {
+            Some((text, behind)) => (
+                Token {
+                    class: Class::Double,
+                    text,
+                },
+                behind,
+            ),
+            None => cut_off(Class::Sign, here, 1),
+        },
+        [c, ..] if is_digit(*c) => cut_off(Class::Decimal, here, front_len(here, |c| is_digit(c))),
+        [c, ..] if is_letter(*c) => cut_off(
+            Class::Word,
             here,
-            front_len(here, |c| c.is_ascii_digit()),
+            front_len(here, |c| is_word_byte(c)),
         ),
-        [b'a'..=b'z' | b'A'..=b'Z', ..] => {
-            cut_off(Class::Word, here, front_len(here, |c| is_word_byte(c)))
-        }
         _ => cut_off(Class::Sign, here, sign_length(here)),
     }
 }
 
 /// The number of decimal digits, none where it is above 4,294,967,295.
-pub(crate) fn decimal_of(digits: &[u8]) -> Option<u32> {
+pub(crate) fn decimal_of(digits: &[u8]) -> Option<u32>
+    ensures { IfSome result (λ number. value_of_digits 10 digits.now ≡ number) }
+{
     let mut number: u32 = 0;
     for digit in digits {
-        let more = u32::from(digit.wrapping_sub(b'0'));
-        number = number.checked_mul(10)?.checked_add(more)?;
+        if !is_digit(*digit) {
+            return None;
+        }
+        number = number
+            .checked_mul(10)?
+            .checked_add(u32::from(*digit - b'0'))?;
     }
     Some(number)
 }
 
 /// The address that one to four hexadecimal digits are.
-pub(crate) fn address_of(digits: &[u8]) -> Option<u16> {
+pub(crate) fn address_of(digits: &[u8]) -> Option<u16>
+    ensures { result ≡ byte.number_in 16 4 digits.now }
+{
     number_in(16, 4, digits)
 }

@@ -1,5 +1,10 @@
 //! Texts that a routine prints, and keys that it takes.
 
+ghost use Rattle.std.specs.Prelude.{◌≡◌, ℕ, List, [], ◌∷◌, ◌++◌, IfSome, OnOk};
+ghost use Rattle.a2_text.specs.Words.{behind_blanks as behind_blanks_of};
+ghost use Rattle.a2_bus.specs.KeyText.{SpellsKeys};
+ghost use Rattle.a2_promise.specs.Reading.{AddsText};
+
 use crate::fault::ReadFault;
 use crate::reader::Reader;
 use a2_bus::Keys;
@@ -29,7 +34,9 @@ const SPELLED: &str =
     "a text in quotes is wanted here and nothing behind it, as in prints \"YES\\r\": \\r is a return, and \\\\ a \\";
 
 // The characters that a text between quotes spells, as keys are spelt.
-fn spelled(written: &[u8]) -> Option<Keys> {
+fn spelled(written: &[u8]) -> Option<Keys>
+    ensures { IfSome result (λ keys. (inner : List ℕ) × (written.now ≡ 34 ∷ (inner ++ 34 ∷ [])) × SpellsKeys inner keys) }
+{
     let [b'"', inner @ .., b'"'] = written else {
         return None;
     };
@@ -53,7 +60,9 @@ pub(crate) fn push_text<'a>(
     reader: &mut Reader<'a, '_>,
     texts: &mut Vec<Text<'a>>,
     line: usize,
-) -> Result<(), ReadFault<'a>> {
+) -> Result<(), ReadFault<'a>>
+    ensures { OnOk result (AddsText (behind_blanks_of reader.old.rest.now) texts.old.items texts.new.items) }
+{
     let written = behind_blanks(reader.rest);
     let Some(keys) = spelled(written) else {
         return reader.refuse(SPELLED);
@@ -75,6 +84,8 @@ pub(crate) fn push_text<'a>(
 }
 
 // One text more.
-fn add_text<'a>(texts: &mut Vec<Text<'a>>, text: Text<'a>) -> Result<(), AllocError> {
+fn add_text<'a>(texts: &mut Vec<Text<'a>>, text: Text<'a>) -> Result<(), AllocError>
+    ensures { OnOk result (texts.new.items ≡ texts.old.items ++ text.entry ∷ []) }
+{
     Ok(texts.push(text)?)
 }

@@ -1,3 +1,8 @@
+use Rattle.std.proofs.Common.{IsTrue, nat_le, min, length}
+use Rattle.a2_promise.specs.Tokens.{tokens}
+use Rattle.a2_promise.specs.Written.{Written}
+use Rattle.a2_promise.specs.Grammar.{rank, tightest}
+use Rattle.a2_promise.specs.Reading.{Reads, IsPiece, state_of}
 use Rattle.a2_promise.proofs.parsing.+expression.Given as goal
 
 abbrev pub decreases-expression : goal.decreases-expression
@@ -15,6 +20,9 @@ decreases-next_number l = l.depth
 abbrev pub decreases-joined : goal.decreases-joined
 decreases-joined l = l.depth
 
+abbrev pub decreases-last_number : goal.decreases-last_number
+decreases-last_number l = l.depth
+
 abbrev pub decreases-comparison : goal.decreases-comparison
 decreases-comparison l = l.depth
 
@@ -27,11 +35,20 @@ decreases-opened l = l.depth
 abbrev pub decreases-make : goal.decreases-make
 decreases-make l = l.depth
 
+abbrev pub decreases-two_numbers : goal.decreases-two_numbers
+decreases-two_numbers l = l.depth
+
 abbrev pub decreases-bracketed : goal.decreases-bracketed
 decreases-bracketed l = l.depth
 
-abbrev pub decreases-word_address : goal.decreases-word_address
-decreases-word_address l = l.depth
+abbrev pub decreases-word_at : goal.decreases-word_at
+decreases-word_at l = l.depth
+
+abbrev pub decreases-place_next : goal.decreases-place_next
+decreases-place_next l = l.depth
+
+abbrev pub decreases-text_at : goal.decreases-text_at
+decreases-text_at l = l.depth
 
 abbrev pub decreases-conditional : goal.decreases-conditional
 decreases-conditional l = l.depth
@@ -39,8 +56,15 @@ decreases-conditional l = l.depth
 abbrev pub decreases-counted : goal.decreases-counted
 decreases-counted l = l.depth
 
-abbrev pub decreases-byte_behind : goal.decreases-byte_behind
-decreases-byte_behind l = l.depth
+abbrev pub decreases-for_all : goal.decreases-for_all
+decreases-for_all l = l.depth
 
-abbrev pub decreases-text_at : goal.decreases-text_at
-decreases-text_at l = l.depth
+abbrev pub decreases-sum_of : goal.decreases-sum_of
+decreases-sum_of l = l.depth
+
+abbrev pub invariant-expression-loop-join : goal.invariant-expression-loop-join
+invariant-expression-loop-join l =
+    (e : Written) × Reads e (state_of l.fn.reader) (state_of l.reader) × IsPiece l.left e (state_of l.reader) × IsTrue (nat_le (min l.rank tightest) (rank e))
+
+abbrev pub decreases-expression-loop-join : goal.decreases-expression-loop-join
+decreases-expression-loop-join l = length (tokens l.reader.rest.now)

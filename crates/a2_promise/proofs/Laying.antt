@@ -1,0 +1,232 @@
+-- What is put for a text that stands in memory, character by character.
+use Rattle.std.specs.Prelude.{◌≡◌, ◌<◌, ◌≤◌, ℕ, zero, suc, ◌+◌, ◌%◌, pos, nat_le, nat_lt, ◌==◌, Bool, true, false, not, ◌&&◌, IsTrue, List, [], ◌∷◌, ◌++◌, length, take, ℤ, Result, Ok, Err, OnOk, refl, if◌then◌else◌}
+use Rattle.std.specs.List.{slice_range, list_all}
+use Rattle.std.proofs.Common.{ap, ap₂, sym, subst, ◌∙◌, get_or, arith, length-append}
+use Rattle.std.proofs.lemmas.List.{append-nil, take_more, take_all, length-take-le}
+use Rattle.std.proofs.lemmas.List.Folds.{list_all_at}
+use Rattle.std.proofs.lemmas.Bool.{leb-true}
+use Rattle.a2_syntax.specs.Numbers.{is_quote, is_quotable}
+use Rattle.a2_promise.specs.declared.expr.Function.TheVariants as function
+use Rattle.a2_promise.specs.declared.expr.Operation.TheVariants as operation
+use Rattle.a2_promise.specs.declared.parts.Part.{Part}
+use Rattle.a2_promise.specs.declared.parts.Part.TheVariants as part
+use Rattle.a2_promise.specs.declared.reader.Span.{Span}
+use Rattle.a2_promise.specs.declared.parsing.Place.{Place}
+use Rattle.a2_promise.specs.declared.parsing.Place.TheVariants.{Fixed, Made}
+use Rattle.a2_promise.specs.Phrases.{Phrase, pair, of, number}
+use Rattle.a2_promise.specs.Written.{both, is_laid, are_laid, are_laid_behind}
+use Rattle.a2_promise.specs.Grammar.{is_text}
+use Rattle.a2_promise.specs.Reading.{State, Puts, PutsOf, IsMade, IsPlaced, IsTop, pushed, made, joining}
+use Rattle.a2_promise.proofs.Making.{made_both}
+use Rattle.a2_promise.proofs.Goings.{puts_both, left_of, right_of, never}
+use Rattle.a2_promise.proofs.Joinings.{slice_kept}
+
+abbrev pub laid_stack : ℕ → (ℕ → Phrase) → List Phrase → List ℕ → List Phrase
+laid_stack quote place top [] = top
+laid_stack quote place top (c ∷ text) = are_laid quote place (c ∷ text) ∷ []
+
+pub record LaidSoFar (quote : ℕ) (place : ℕ → Phrase) (top : List Phrase) (text : List ℕ) (a b : State) : Type 0 where
+  pub parts : List Part
+  pub puts : Puts parts a b
+  pub makes : (phrases : List Phrase) → made parts (top ++ phrases) ≡ laid_stack quote place top text ++ phrases
+
+pub none_laid : (quote : ℕ) (place : ℕ → Phrase) (top : List Phrase) (a : State) → LaidSoFar quote place top [] a a
+unfolding made
+none_laid quote place top a = record {
+  parts = [];
+  puts = record { left = refl; parts = sym (append-nil a.parts); scope = refl };
+  makes = λ phrases. refl;
+}
+
+pub made_kept : (span : Span) (e : Phrase) (parts more all : List Part) → all ≡ parts ++ more → IsMade span e parts → IsMade span e all
+made_kept span e parts more all h p =
+    let same : slice_range all span.begun span.ended ≡ slice_range parts span.begun span.ended =
+    ap (λ parts. slice_range parts span.begun span.ended) h ∙ slice_kept parts more span.begun span.ended p.0 in
+    (omega (arith, p.0, ap length h, length-append parts more), λ phrases. ap (λ parts. made parts phrases) same ∙ p.1 phrases)
+
+pub placed_kept : (place : Place) (phrase : ℕ → Phrase) (top : List Phrase) (parts more all : List Part) → all ≡ parts ++ more
+    → IsPlaced place phrase top parts → IsPlaced place phrase top all
+placed_kept (Fixed a) phrase top parts more all e p = p
+placed_kept (Made span) phrase top parts more all e p = (p.0, p.1, p.2, made_kept span p.0 parts more all e p.3)
+
+-- what a call put, where it did
+pub on_ok : {T E : Type 0} (r : Result T E) (P Q : Type 0) → (P → Q) → OnOk r P → OnOk r Q
+on_ok (Ok x) P Q f h = f h
+on_ok (Err e) P Q f h = tt
+
+pub ok_always : {T E : Type 0} (r : Result T E) (Q : Type 0) → Q → OnOk r Q
+ok_always (Ok x) Q q = q
+ok_always (Err e) Q q = tt
+
+pub nothing_of : (e : Phrase) (a : State) → PutsOf (pushed 0 (e ∷ [])) e a a
+unfolding made
+nothing_of e a = record { parts = []; puts = record { left = refl; parts = sym (append-nil a.parts); scope = refl }; makes = λ phrases. refl }
+
+pub again_of : (span : Span) (e : Phrase) (n : ℕ) (a b : State) → 0 < n → IsMade span e a.parts
+    → Puts (slice_range a.parts span.begun span.ended) a b → PutsOf (pushed n (e ∷ [])) e a b
+again_of span e zero a b l m p = absurd (omega (arith, l))
+again_of span e (suc n) a b l m p = record { parts = slice_range a.parts span.begun span.ended; puts = p; makes = m.1 }
+
+pub put_then : (top : List Phrase) (e f : Phrase) (put : List Part) (a m b : State) → PutsOf top e a m → Puts put m b
+    → ((phrases : List Phrase) → made put (e ∷ phrases) ≡ f ∷ phrases) → PutsOf top f a b
+put_then top e f put a m b p q h = record {
+  parts = p.parts ++ put;
+  puts = puts_both p.parts put a m b p.puts q;
+  makes = λ phrases. made_both p.parts put (top ++ phrases) ∙ ap (λ stack. made put stack) (p.makes phrases) ∙ h phrases;
+}
+
+pub plus_makes : (e : Phrase) (n : ℕ) (phrases : List Phrase)
+    → made (part.Number (pos n) ∷ part.Pair operation.Plus ∷ []) (e ∷ phrases) ≡ pair operation.Plus e (number (pos n)) ∷ phrases
+unfolding made
+plus_makes e n phrases = refl
+
+pub byte_makes : (e : Phrase) (phrases : List Phrase) → made (part.Of function.Byte ∷ []) (e ∷ phrases) ≡ of function.Byte e ∷ phrases
+unfolding made
+byte_makes e phrases = refl
+
+pub equal_makes : (e : Phrase) (n : ℕ) (phrases : List Phrase)
+    → made (part.Number (pos n) ∷ part.Pair operation.Equal ∷ []) (e ∷ phrases) ≡ pair operation.Equal e (number (pos n)) ∷ phrases
+unfolding made
+equal_makes e n phrases = refl
+
+no_top : (n : ℕ) (top : List Phrase) → top ≡ [] → pushed n top ≡ []
+no_top zero top e = e
+no_top (suc n) top e = refl
+
+pub fixed_of : (address : ℕ) (phrase : ℕ → Phrase) (top : List Phrase) (n : ℕ) (z : ℤ) (parts : List Part) (a m b : State)
+    → IsPlaced (Fixed address) phrase top parts → z ≡ pos (address + n) → Puts (part.Number z ∷ []) a m → Puts (part.Of function.Byte ∷ []) m b
+    → PutsOf (pushed n top) (of function.Byte (phrase n)) a b
+unfolding made
+fixed_of address phrase top n z parts a m b p e h k =
+    let none : pushed n top ≡ [] = no_top n top p.1 in
+    record {
+      parts = part.Number z ∷ part.Of function.Byte ∷ [];
+      puts = puts_both (part.Number z ∷ []) (part.Of function.Byte ∷ []) a m b h k;
+      makes = λ phrases.
+          ap (λ top. made (part.Number z ∷ part.Of function.Byte ∷ []) (top ++ phrases)) none
+          ∙ ap (λ z. of function.Byte (number z) ∷ phrases) e ∙ ap (λ e. of function.Byte e ∷ phrases) (sym (p.0 n));
+    }
+
+pub made_of : (span : Span) (phrase : ℕ → Phrase) (top : List Phrase) (n : ℕ) (a m b : State)
+    → (placed : IsPlaced (Made span) phrase top a.parts) → PutsOf (pushed n (placed.0 ∷ [])) (pair operation.Plus placed.0 (number (pos n))) a m
+    → Puts (part.Of function.Byte ∷ []) m b → PutsOf (pushed n top) (of function.Byte (phrase n)) a b
+made_of span phrase top n a m b p h k =
+    let it = put_then (pushed n (p.0 ∷ [])) (pair operation.Plus p.0 (number (pos n))) (of function.Byte (pair operation.Plus p.0 (number (pos n)))) (part.Of function.Byte ∷ [])
+    a m b h k (byte_makes (pair operation.Plus p.0 (number (pos n)))) in
+    let P : List Phrase → Phrase → Type 0 = λ top e. PutsOf (pushed n top) (of function.Byte e) a b in
+    let Q : List Phrase → Type 0 = λ top. P top (phrase n) in
+    let R : Phrase → Type 0 = λ e. P (p.0 ∷ []) e in
+    subst Q (sym p.2) (subst R (sym (p.1 n)) it)
+
+behind_more : (quote : ℕ) (place : ℕ → Phrase) (said : Phrase) (k : ℕ) (text : List ℕ) (c : ℕ)
+    → are_laid_behind quote place said k (text ++ c ∷ []) ≡ both (are_laid_behind quote place said k text) (is_laid quote (place (k + length text)) c)
+behind_more quote place said k [] c =
+    let n : k ≡ k + 0 = omega arith in ap (λ n. both said (is_laid quote (place n) c)) n
+behind_more quote place said k (d ∷ text) c =
+    let n : suc k + length text ≡ k + suc (length text) = omega arith in
+    behind_more quote place (both said (is_laid quote (place k) d)) (suc k) text c
+    ∙ ap (λ n. both (are_laid_behind quote place (both said (is_laid quote (place k) d)) (suc k) text) (is_laid quote (place n) c)) n
+
+laid_more : (quote : ℕ) (place : ℕ → Phrase) (d : ℕ) (text : List ℕ) (c : ℕ)
+    → are_laid quote place (d ∷ (text ++ c ∷ [])) ≡ both (are_laid quote place (d ∷ text)) (is_laid quote (place (suc (length text))) c)
+laid_more quote place d text c =
+    let n : 1 + length text ≡ suc (length text) = omega arith in
+    behind_more quote place (is_laid quote (place 0) d) 1 text c
+    ∙ ap (λ n. both (are_laid quote place (d ∷ text)) (is_laid quote (place n) c)) n
+
+-- the character at a place, as it is laid
+laid_at : (quote top c k n code : ℕ) (place : ℕ → Phrase) → IsTop quote top → n ≡ k → code ≡ c + top
+    → pair operation.Equal (of function.Byte (place n)) (number (pos code)) ≡ is_laid quote (place k) c
+laid_at quote top c k n code place t e f = ap₂ (λ n code. pair operation.Equal (of function.Byte (place n)) (number (pos code))) e (f ∙ sym (t c))
+
+pub first_laid : (quote add c code : ℕ) (place : ℕ → Phrase) (top : List Phrase) (n : ℕ) (a m b : State) → LaidSoFar quote place top [] a m
+    → IsTop quote add → n ≡ 0 → code ≡ c + add
+    → PutsOf (pushed n top) (pair operation.Equal (of function.Byte (place n)) (number (pos code))) m b → LaidSoFar quote place top (c ∷ []) a b
+first_laid quote add c code place top zero a m b s t e f p = record {
+  parts = s.parts ++ p.parts;
+  puts = puts_both s.parts p.parts a m b s.puts p.puts;
+  makes = λ phrases. made_both s.parts p.parts (top ++ phrases) ∙ ap (λ stack. made p.parts stack) (s.makes phrases) ∙ p.makes phrases
+      ∙ ap (λ phrase. phrase ∷ phrases) (laid_at quote add c 0 0 code place t refl f);
+}
+first_laid quote add c code place top (suc n) a m b s t e f p = absurd (omega (arith, e))
+
+both_made : (e f : Phrase) (phrases : List Phrase) → made joining (f ∷ e ∷ phrases) ≡ both e f ∷ phrases
+unfolding made
+both_made e f phrases = refl
+
+pub next_laid : (quote add c code : ℕ) (place : ℕ → Phrase) (top : List Phrase) (d : ℕ) (text : List ℕ) (n : ℕ) (a m o b : State)
+    → LaidSoFar quote place top (d ∷ text) a m → IsTop quote add → n ≡ suc (length text) → code ≡ c + add
+    → PutsOf (pushed n top) (pair operation.Equal (of function.Byte (place n)) (number (pos code))) m o → Puts joining o b
+    → LaidSoFar quote place top (d ∷ (text ++ c ∷ [])) a b
+next_laid quote add c code place top d text zero a m o b s t e f p j = absurd (omega (arith, e))
+next_laid quote add c code place top d text (suc n) a m o b s t e f p j =
+    let is = laid_at quote add c (suc (length text)) (suc n) code place t e f in
+    record {
+      parts = s.parts ++ (p.parts ++ joining);
+      puts = puts_both s.parts (p.parts ++ joining) a m b s.puts (puts_both p.parts joining m o b p.puts j);
+      makes = λ phrases.
+          made_both s.parts (p.parts ++ joining) (top ++ phrases) ∙ ap (λ stack. made (p.parts ++ joining) stack) (s.makes phrases)
+          ∙ made_both p.parts joining (are_laid quote place (d ∷ text) ∷ phrases)
+          ∙ ap (λ stack. made joining stack) (p.makes (are_laid quote place (d ∷ text) ∷ phrases))
+          ∙ both_made (are_laid quote place (d ∷ text)) (pair operation.Equal (of function.Byte (place (suc n))) (number (pos code))) phrases
+          ∙ ap (λ phrase. both (are_laid quote place (d ∷ text)) phrase ∷ phrases) is
+          ∙ ap (λ phrase. phrase ∷ phrases) (sym (laid_more quote place d text c));
+    }
+
+empty : (quote : ℕ) → IsTrue (is_text quote []) → IsTrue false
+empty quote t = right_of (is_quote quote) false (left_of (is_quote quote && false) true t)
+
+pub all_laid : (quote : ℕ) (place : ℕ → Phrase) (top : List Phrase) (text : List ℕ) (a b : State) → LaidSoFar quote place top text a b
+    → IsTrue (is_text quote text) → PutsOf top (are_laid quote place text) a b
+all_laid quote place top [] a b s t = absurd (never (empty quote t))
+all_laid quote place top (c ∷ text) a b s t = record { parts = s.parts; puts = s.puts; makes = s.makes }
+
+at_true : (p : ℕ → Bool) (text : List ℕ) (k : ℕ) (b : Bool) → k < length text → list_all p text ≡ true → p (get_or text k 0) ≡ b → b ≡ true
+at_true p text k true l h e = refl
+at_true p text k false l h e = sym (list_all_at p text k 0 l e) ∙ h
+
+top_small : (b : Bool) (top : ℕ) → (if b then 0 + 128 else 0) ≡ 0 + top → top ≤ 128
+top_small true top e = omega (arith, e)
+top_small false top e = omega (arith, e)
+
+-- a character that is laid is a byte
+pub laid_code : (quote top k code : ℕ) (text : List ℕ) → IsTop quote top → IsTrue (is_text quote text) → k < length text
+    → code ≡ (get_or text k 0 + top) % 256 → code ≡ get_or text k 0 + top
+laid_code quote top k code text t good l e =
+    let c = get_or text k 0 in
+    let all = right_of (is_quote quote && nat_lt 0 (length text)) (list_all (is_quotable quote) text) good in
+    let is = at_true (is_quotable quote) text k (is_quotable quote c) l all refl in
+    let low = leb-true c 126 (right_of (nat_le 32 c) (nat_le c 126) (left_of (nat_le 32 c && nat_le c 126) (not (c == quote)) is)) in
+    let most = top_small (quote == 34) top (t 0) in
+    omega (arith, e, low, most)
+
+pub laid_first : (quote add n k code : ℕ) (place : ℕ → Phrase) (top : List Phrase) (text : List ℕ) (a m b : State)
+    → LaidSoFar quote place top (take k text) a m → IsTop quote add → IsTrue (is_text quote text) → n ≡ k → n ≤ 0 → k < length text
+    → code ≡ (get_or text k 0 + add) % 256 → PutsOf (pushed n top) (pair operation.Equal (of function.Byte (place n)) (number (pos code))) m b
+    → LaidSoFar quote place top (take (k + 1) text) a b
+laid_first quote add n k code place top [] a m b s t g e z l f p = absurd (omega (arith, l))
+laid_first quote add n zero code place top (c ∷ text) a m b s t g e z l f p =
+    first_laid quote add c code place top n a m b s t e (laid_code quote add 0 code (c ∷ text) t g l f) p
+laid_first quote add n (suc k) code place top (c ∷ text) a m b s t g e z l f p = absurd (omega (arith, e, z))
+
+pub laid_next : (quote add n k code : ℕ) (place : ℕ → Phrase) (top : List Phrase) (text : List ℕ) (a m o b : State)
+    → LaidSoFar quote place top (take k text) a m → IsTop quote add → IsTrue (is_text quote text) → n ≡ k → 0 < n → k < length text
+    → code ≡ (get_or text k 0 + add) % 256 → PutsOf (pushed n top) (pair operation.Equal (of function.Byte (place n)) (number (pos code))) m o
+    → Puts joining o b → LaidSoFar quote place top (take (k + 1) text) a b
+laid_next quote add n k code place top [] a m o b s t g e z l f p j = absurd (omega (arith, l))
+laid_next quote add n zero code place top (d ∷ text) a m o b s t g e z l f p j = absurd (omega (arith, e, z))
+laid_next quote add n (suc k) code place top (d ∷ text) a m o b s t g e z l f p j =
+    let within : k < length text = omega (arith, l) in
+    let many = length-take-le k text (omega (arith, within)) in
+    let more : suc k + 1 ≡ suc (k + 1) = omega arith in
+    let same : d ∷ (take k text ++ get_or text k 0 ∷ []) ≡ take (suc k + 1) (d ∷ text) =
+    ap (λ rest. d ∷ rest) (sym (take_more text k 0 within)) ∙ ap (λ n. take n (d ∷ text)) (sym more) in
+    let P : List ℕ → Type 0 = λ text. LaidSoFar quote place top text a b in
+    subst P same (next_laid quote add (get_or text k 0) code place top d (take k text) n a m o b s t (omega (arith, e, many))
+    (laid_code quote add (suc k) code (d ∷ text) t g l f) p j)
+
+pub laid_whole : (quote k : ℕ) (place : ℕ → Phrase) (top : List Phrase) (text : List ℕ) (a b : State) → LaidSoFar quote place top (take k text) a b
+    → length text ≤ k → IsTrue (is_text quote text) → PutsOf top (are_laid quote place text) a b
+laid_whole quote k place top text a b s l t =
+    let P : List ℕ → Type 0 = λ text. LaidSoFar quote place top text a b in
+    all_laid quote place top text a b (subst P (take_all k text l) s) t

@@ -1,0 +1,15 @@
+use Rattle.std.proofs.Common.{◌≡◌, false, not, is_some, Option, Some, None, ap, ◌∙◌, rules}
+use Rattle.std.specs.Option.{IfNone}
+use Rattle.a2_promise.proofs.Names.{may}
+use Rattle.a2_promise.proofs.words.may_name.Goals as goal
+
+none_of : {X : Type 0} (r : Option X) (P : Type 0) → is_some r ≡ false → IfNone r P → P
+none_of (Some x) P e h = cc
+none_of None P e h = h
+
+pub returns-then-is_none : goal.returns-then-is_none
+returns-then-is_none c = λ yes. (
+  search rules,
+  may c.args.token.text.now (none_of c.opening_word.result _ c.if-is_none.ensures c.opening_word.ensures.none)
+      (none_of c.infix_word.result _ (c.is_none-then-is_none.ensures ∙ ap not yes) c.infix_word.ensures.none),
+)

@@ -1,0 +1,459 @@
+-- How a line of a promise is read, for the clauses of private functions. This project's own.
+use Rattle.std.specs.Prelude.{◌≡◌, pos, not, ◌&&◌, ◌||◌, ◌⊎◌, ◌<◌, ◌≤◌, ℕ, zero, suc, ◌+◌, nat_le, min, Bool, true, false, IsTrue, List, [], ◌∷◌, ◌++◌, length, take, map, reverse, codes, Option, Some, None, if◌then◌else◌}
+use Rattle.std.specs.List.{fold, flat_map, list_any, list_all, slice_range}
+use Rattle.std.specs.Str.{bytes_eq}
+use Rattle.a2_text.specs.Signs.{sign as code}
+use Rattle.a2_syntax.specs.Numbers.{is_quotable, code_in}
+use Rattle.a2_promise.specs.declared.reading.Class.{Class}
+use Rattle.a2_promise.specs.declared.reading.Class.TheVariants as class
+use Rattle.a2_asm.specs.Values.{Names}
+use Rattle.a2_promise.specs.declared.expr.Expr.{Expr}
+use Rattle.a2_promise.specs.declared.parsing.Piece.{Piece}
+use Rattle.a2_promise.specs.declared.parts.Part.{Part}
+use Rattle.a2_promise.specs.declared.parts.Part.TheVariants as part
+use Rattle.a2_promise.specs.declared.promises.Clause.{Clause}
+use Rattle.a2_bus.specs.KeyText.{SpellsKeys}
+use Rattle.a2_promise.specs.declared.texts.Text.{Text}
+use Rattle.a2_promise.specs.declared.expr.Atom.{Atom}
+use Rattle.a2_promise.specs.declared.expr.Atom.TheVariants as atom
+use Rattle.a2_promise.specs.declared.promises.Block.{Block}
+use Rattle.a2_promise.specs.declared.promises.Changes.{Changes}
+use Rattle.a2_promise.specs.declared.promises.Verb.{Verb}
+use Rattle.a2_promise.specs.declared.promises.Verb.TheVariants as verb
+use Rattle.a2_promise.specs.declared.reader.Reader.{Reader}
+use Rattle.a2_promise.specs.declared.reader.Span.{Span}
+use Rattle.a2_promise.specs.declared.words.Infix.{Infix}
+use Rattle.a2_promise.specs.declared.parsing.Place.{Place}
+use Rattle.a2_promise.specs.declared.parsing.Place.TheVariants.{Fixed, Made}
+use Rattle.a2_promise.specs.declared.words.Kind.{Kind}
+use Rattle.a2_promise.specs.declared.words.Kind.TheVariants as kinds
+use Rattle.a2_promise.specs.declared.words.Making.{Making}
+use Rattle.a2_promise.specs.declared.words.Making.TheVariants as making
+use Rattle.a2_promise.specs.declared.words.Relation.{Relation}
+use Rattle.a2_promise.specs.declared.words.Relation.TheVariants as relation
+use Rattle.a2_promise.specs.declared.expr.Function.TheVariants as function
+use Rattle.a2_promise.specs.declared.expr.Operation.TheVariants as operation
+use Rattle.a2_promise.specs.declared.words.Opening.{Opening}
+use Rattle.a2_promise.specs.declared.words.Opening.TheVariants as opening
+use Rattle.a2_promise.specs.Tokens.{Token, word, decimal, place, sign, quoted, is_letter, front, behind, quoted_from, tokens}
+use Rattle.a2_promise.specs.Phrases.{Phrase, phrase_of, number, held, bound, old, at, of, pair, choice, each, sum}
+use Rattle.a2_promise.specs.Written.{Written, atom_name, infix_token, spelled, meant, said, enclosed, bracketed, joined}
+use Rattle.a2_promise.specs.Grammar.{Scope, fits, inside, infix_rank, is_comparison, is_number, is_fact, may_be_number, may_be_fact, address_of, may_count, kind, rank as rank_of, takes_else, takes_from, tightest}
+use Rattle.a2_promise.specs.Told.{Change, Line, IsLine, wanted_in, promised_in, changes_in, printed_in, taken_in, is_promising, change_fits, change_spelled, more_spelled, AreChanges, is_a, is_x, is_y, ranges_in}
+
+-- the token of a class and a text, none at the end
+abbrev pub token_of : Class → List ℕ → Option Token
+token_of class.End text = None
+token_of class.Word text = Some (word text)
+token_of class.Decimal text = Some (decimal text)
+token_of class.Place text = Some (place text)
+token_of class.Single text = Some (quoted 39 text)
+token_of class.Double text = Some (quoted 34 text)
+token_of class.Sign text = Some (sign text)
+
+-- and what stands behind it
+abbrev pub with_rest : Option Token → List ℕ → Option (Token × List ℕ)
+with_rest None behind = None
+with_rest (Some token) behind = Some (token, behind)
+
+-- what is written so: a word where it begins with a letter, and else a sign
+abbrev pub spelling : List ℕ → Token
+spelling [] = sign []
+spelling (c ∷ text) = if is_letter c then word (c ∷ text) else sign (c ∷ text)
+
+-- a word or a sign is what is written so
+abbrev pub IsWritten : Class → List ℕ → Type 0
+IsWritten class.Word text = spelling text ≡ word text
+IsWritten class.Sign text = spelling text ≡ sign text
+IsWritten _ text = Unit {0}
+
+-- it is the word or sign that is written so
+abbrev pub is_named : Class → List ℕ → List ℕ → Bool
+is_named class.Word text other = bytes_eq text other
+is_named class.Sign text other = bytes_eq text other
+is_named _ text other = false
+
+-- a text behind a quote up to the next, and what stands behind that; a quote that is not closed is a sign
+abbrev pub up_to : ℕ → List ℕ → Token × List ℕ
+up_to quote text = quoted_from quote (front (is_quotable quote) text) (behind (is_quotable quote) text) text
+
+-- the word or sign that an expression begins with
+abbrev pub making_token : Making → Token
+making_token making.Least = word (codes "min")
+making_token making.Greatest = word (codes "max")
+making_token making.Abs = word (codes "abs")
+making_token making.Bit = word (codes "bit")
+making_token making.Signed = word (codes "signed")
+making_token making.Word = word (codes "word")
+making_token making.Byte = sign (codes "[")
+making_token making.Literal = sign (codes "#")
+making_token making.Minus = sign (codes "-")
+
+abbrev pub opening_token : Opening → Token
+opening_token (opening.Held it) = word (atom_name it)
+opening_token opening.Old = word (codes "old")
+opening_token opening.At = word (codes "at")
+opening_token opening.Text = word (codes "text")
+opening_token opening.Not = word (codes "not")
+opening_token opening.If = word (codes "if")
+opening_token opening.Each = word (codes "for")
+opening_token opening.Sum = word (codes "sum")
+opening_token opening.Group = sign (codes "(")
+opening_token (opening.Make it) = making_token it
+
+-- it is what the processor holds, or makes a number of others
+abbrev pub IsOther : Opening → Type 0
+IsOther (opening.Held it) = Unit {0}
+IsOther (opening.Make it) = Unit {0}
+IsOther _ = ⊥
+
+-- a token is there, of which this holds
+abbrev pub IsJust : Option Token → (Token → Type 0) → Type 0
+IsJust None holds = ⊥
+IsJust (Some token) holds = holds token
+
+-- so much more than its code is laid of a character between these quotes
+abbrev pub IsTop : ℕ → ℕ → Type 0
+IsTop quote top = (c : ℕ) → code_in quote c ≡ c + top
+
+-- where a reader stands in a line: the tokens that are left, the parts that were made, and what names mean
+pub record State : Type 0 where
+  pub left : List Token
+  pub parts : List Part
+  pub scope : Scope
+
+-- the names that are counted where a reader is, four at most, the innermost first
+abbrev pub around_of : Reader → List (List ℕ)
+around_of reader = reverse (take (min reader.named 4) (map (λ name. name.now) reader.names))
+
+abbrev pub scope_of : Reader → Scope
+scope_of reader = record { names = reader.program.now.names; is_within = reader.is_within; around = around_of reader }
+
+abbrev pub state_of : Reader → State
+state_of reader = record { left = tokens reader.rest.now; parts = reader.parts.items; scope = scope_of reader }
+
+-- where a line's text begins, nothing was made, and no name is counted
+abbrev pub beginning_of : List ℕ → Names → State
+beginning_of text names =
+    record { left = tokens text; parts = []; scope = record { names = names; is_within = false; around = [] } }
+
+abbrev pub first : List Token → Option Token
+first [] = None
+first (token ∷ more) = Some token
+
+-- from one state to another a token was taken
+pub record Takes (token : Token) (before after : State) : Type 0 where
+  pub left : before.left ≡ token ∷ after.left
+  pub parts : after.parts ≡ before.parts
+  pub scope : after.scope ≡ before.scope
+
+-- or parts were put behind the others
+pub record Puts (more : List Part) (before after : State) : Type 0 where
+  pub left : after.left ≡ before.left
+  pub parts : after.parts ≡ before.parts ++ more
+  pub scope : after.scope ≡ before.scope
+
+-- or a name is counted from there on, as the one of this number
+pub record Binds (name : List ℕ) (k : ℕ) (before after : State) : Type 0 where
+  pub left : after.left ≡ before.left
+  pub parts : after.parts ≡ before.parts
+  pub scope : after.scope ≡ inside name before.scope
+  pub number : length before.scope.around ≡ k
+  pub room : k < 4
+
+-- or the innermost name, which has this number, is counted no more
+pub record Unbinds (k : ℕ) (before after : State) : Type 0 where
+  pub left : after.left ≡ before.left
+  pub parts : after.parts ≡ before.parts
+  pub scope : (name : List ℕ) (scope : Scope) → before.scope ≡ inside name scope → length scope.around ≡ k → after.scope ≡ scope
+
+-- what a part makes of the phrases before it, the last first; nothing where they are too few
+abbrev pub made_by : Part → List Phrase → List Phrase
+made_by (part.Number n) phrases = number n ∷ phrases
+made_by (part.Held it) phrases = held it ∷ phrases
+made_by (part.Bound k) phrases = bound k ∷ phrases
+made_by part.Old (e ∷ phrases) = old e ∷ phrases
+made_by (part.At a) (e ∷ phrases) = at a e ∷ phrases
+made_by (part.Of f) (e ∷ phrases) = of f e ∷ phrases
+made_by (part.Pair op) (f ∷ e ∷ phrases) = pair op e f ∷ phrases
+made_by (part.Turned op) (f ∷ e ∷ phrases) = pair op f e ∷ phrases
+made_by part.Choice (g ∷ f ∷ e ∷ phrases) = choice e f g ∷ phrases
+made_by (part.Each k) (f ∷ e ∷ phrases) = each k e f ∷ phrases
+made_by (part.Sum k) (f ∷ e ∷ phrases) = sum k e f ∷ phrases
+made_by _ _ = []
+
+unfoldable pub made : List Part → List Phrase → List Phrase
+made parts phrases = fold (λ phrases part. made_by part phrases) phrases parts
+
+-- what expressions say that were made, the last first
+abbrev pub stack_of : List Expr → List Phrase
+stack_of exprs = reverse (map phrase_of exprs)
+
+-- parts make one phrase more, behind whatever was made
+abbrev pub Makes : List Part → Phrase → Type 0
+Makes parts phrase = (phrases : List Phrase) → made parts phrases ≡ phrase ∷ phrases
+
+-- a joint that stands first binds looser than this
+abbrev pub Stops : ℕ → List Token → Type 0
+Stops limit left = (join : Infix) → first left ≡ Some (infix_token join) → infix_rank join < tightest → infix_rank join < limit
+
+-- from one state to another an expression was read, and nothing stands there that would belong to it
+pub record Reads (e : Written) (before after : State) : Type 0 where
+  pub left : before.left ≡ spelled e ++ after.left
+  pub parts : List Part
+  pub puts : after.parts ≡ before.parts ++ parts
+  pub makes : Makes parts (said e)
+  pub scope : after.scope ≡ before.scope
+  pub fits : IsTrue (fits before.scope e)
+  pub stops : Stops (takes_from e) after.left
+  pub no_else : IsTrue (takes_else e) → first after.left ≡ Some (word (codes "else")) → ⊥
+
+-- the parts of the last number of a comparison, from which one more may go on
+abbrev pub IsLast : List Part → Option Span → Written → Type 0
+IsLast parts None e = (meant e).last ≡ None
+IsLast parts (Some span) e =
+    IsTrue (is_comparison e)
+    × ((phrase : Phrase) × ((meant e).last ≡ Some phrase) × (span.ended ≤ length parts) × Makes (slice_range parts span.begun span.ended) phrase)
+
+-- what is said of an expression that was read
+pub record IsPiece (piece : Piece) (e : Written) (after : State) : Type 0 where
+  pub kind : kind e ≡ piece.kind
+  pub last : IsLast after.parts piece.last e
+
+-- from one state to another tokens were taken and parts put
+pub record Goes (taken : List Token) (put : List Part) (before after : State) : Type 0 where
+  pub left : before.left ≡ taken ++ after.left
+  pub parts : after.parts ≡ before.parts ++ put
+  pub scope : after.scope ≡ before.scope
+
+-- an expression was read that binds at least so tight, and no joint stands there that does
+pub record ReadsOne (limit : ℕ) (test : Written → Bool) (before after : State) : Type 0 where
+  pub e : Written
+  pub reads : Reads e before after
+  pub rank : IsTrue (nat_le limit (rank_of e))
+  pub is : IsTrue (test e)
+  pub stops : Stops limit after.left
+
+pub record ReadsPiece (limit : ℕ) (piece : Piece) (before after : State) : Type 0 where
+  pub e : Written
+  pub reads : Reads e before after
+  pub rank : IsTrue (nat_le limit (rank_of e))
+  pub piece_is : IsPiece piece e after
+  pub stops : Stops limit after.left
+
+-- or one of this kind, which begins with no joint
+pub record ReadsKind (as_kind : Kind) (before after : State) : Type 0 where
+  pub e : Written
+  pub reads : Reads e before after
+  pub rank : IsTrue (nat_le tightest (rank_of e))
+  pub kind : kind e ≡ as_kind
+
+-- or one and what closes it
+pub record ReadsClosed (last : Token) (test : Written → Bool) (before after : State) : Type 0 where
+  pub e : Written
+  pub middle : State
+  pub reads : Reads e before middle
+  pub is : IsTrue (test e)
+  pub closes : Takes last middle after
+
+-- or the one to which this joint joins another
+pub record ReadsJoined (join : Infix) (e : Written) (piece : Piece) (before after : State) : Type 0 where
+  pub f : Written
+  pub reads : Reads (joined join e f) before after
+  pub piece_is : IsPiece piece (joined join e f) after
+
+-- or two numbers in parentheses, with a comma between them
+pub record ReadsTwo (before after : State) : Type 0 where
+  pub e : Written
+  pub f : Written
+  pub parts : List Part
+  pub goes : Goes (enclosed (spelled e ++ sign (codes ",") ∷ spelled f)) parts before after
+  pub makes : (phrases : List Phrase) → made parts phrases ≡ said f ∷ said e ∷ phrases
+  pub fit : IsTrue (is_number e && is_number f && fits before.scope e && fits before.scope f)
+
+-- or an address or a number, and these parts put that are made of it
+pub record ReadsToken (value_of : Names → Token → Option ℕ) (parts_of : ℕ → List Part) (before after : State) : Type 0 where
+  pub token : Token
+  pub n : ℕ
+  pub value : value_of before.scope.names token ≡ Some n
+  pub goes : Goes (token ∷ []) (parts_of n) before after
+
+-- or the last number of a comparison, whose parts are these
+pub record ReadsLast (span : Span) (before after : State) : Type 0 where
+  pub f : Written
+  pub reads : Reads f before after
+  pub rank : IsTrue (nat_le 6 (rank_of f))
+  pub is : IsTrue (is_number f)
+  pub stops : Stops 6 after.left
+  pub room : span.ended ≤ length after.parts
+  pub makes : Makes (slice_range after.parts span.begun span.ended) (said f)
+
+-- or what is counted: a name, <, a number and a :
+pub record ReadsCounted (k : ℕ) (before after : State) : Type 0 where
+  pub name : List ℕ
+  pub e : Written
+  pub middle : State
+  pub parts : List Part
+  pub goes : Goes (word name ∷ sign (codes "<") ∷ (spelled e ++ sign (codes ":") ∷ [])) parts before middle
+  pub makes : Makes parts (said e)
+  pub binds : Binds name k middle after
+  pub fit : IsTrue (may_count name && nat_le 6 (rank_of e) && is_number e && fits before.scope e)
+
+-- or the place of a text
+abbrev pub ReadsPlace : Place → State → State → Type 0
+ReadsPlace (Fixed a) before after = (token : Token) × Takes token before after × (address_of before.scope.names token ≡ Some a)
+ReadsPlace (Made span) before after =
+    (e : Written) × (parts : List Part) × Goes (bracketed (spelled e)) parts before after × Makes parts (said e)
+    × IsTrue (is_number e && fits before.scope e)
+    × (span.ended ≤ length after.parts) × (slice_range after.parts span.begun span.ended ≡ parts)
+
+-- the parts that make of what was made what does not hold, both of two, and a comparison
+abbrev pub negating : List Part
+negating = part.Number (pos 0) ∷ part.Number (pos 1) ∷ part.Choice ∷ []
+
+abbrev pub joining : List Part
+joining = part.Number (pos 0) ∷ part.Choice ∷ []
+
+abbrev pub comparing : Relation → List Part
+comparing relation.Equal = part.Pair operation.Equal ∷ []
+comparing relation.Other = part.Pair operation.Equal ∷ negating
+comparing relation.Less = part.Pair operation.Less ∷ []
+comparing relation.AtMost = part.Pair operation.AtMost ∷ []
+comparing relation.More = part.Turned operation.Less ∷ []
+comparing relation.AtLeast = part.Turned operation.AtMost ∷ []
+
+abbrev pub byte_parts : ℕ → List Part
+byte_parts a = part.Number (pos a) ∷ part.Of function.Byte ∷ []
+
+abbrev pub number_parts : ℕ → List Part
+number_parts n = part.Number (pos n) ∷ []
+
+-- the parts of a span make this
+abbrev pub IsMade : Span → Phrase → List Part → Type 0
+IsMade span e parts = (span.ended ≤ length parts) × Makes (slice_range parts span.begun span.ended) e
+
+-- a place that was read says this of each byte behind it, and what of it stands on top for the first one
+abbrev pub IsPlaced : Place → (ℕ → Phrase) → List Phrase → List Part → Type 0
+IsPlaced (Fixed a) phrase top parts = ((k : ℕ) → phrase k ≡ number (pos (a + k))) × (top ≡ [])
+IsPlaced (Made span) phrase top parts =
+    (e : Phrase) × ((k : ℕ) → phrase k ≡ pair operation.Plus e (number (pos k))) × (top ≡ e ∷ []) × IsMade span e parts
+
+abbrev pub pushed : ℕ → List Phrase → List Phrase
+pushed zero top = top
+pushed (suc k) top = []
+
+-- parts were put that make a phrase of what stands on top
+pub record PutsOf (top : List Phrase) (phrase : Phrase) (before after : State) : Type 0 where
+  pub parts : List Part
+  pub puts : Puts parts before after
+  pub makes : (phrases : List Phrase) → made parts (top ++ phrases) ≡ phrase ∷ phrases
+
+-- one of two is of a kind: a fact where both are, and else a number, which both are
+abbrev pub IsEither : Kind → Kind → Kind → Type 0
+IsEither one other it =
+    IsTrue ((may_be_number one && may_be_number other) || (may_be_fact one && may_be_fact other))
+    × ((if may_be_fact one && may_be_fact other then kinds.Fact else kinds.Number) ≡ it)
+
+-- an expression was read that passes a test, and nothing stands behind it
+pub record ReadsWhole (test : Written → Bool) (before after : State) : Type 0 where
+  pub e : Written
+  pub reads : Reads e before after
+  pub is : IsTrue (test e)
+  pub ended : after.left ≡ []
+
+-- what clauses say
+abbrev pub said_by : List Clause → List Phrase
+said_by clauses = map (λ clause. phrase_of clause.expr) clauses
+
+-- all that stood there was read as a clause more: it is how a fact is written that fits there, and the clause says what the fact says
+pub record AddsFact (before : State) (clauses others : List Clause) : Type 0 where
+  pub e : Written
+  pub is_spelled : before.left ≡ spelled e
+  pub fit : IsTrue (is_fact e && fits before.scope e)
+  pub adds : said_by others ≡ said_by clauses ++ said e ∷ []
+
+-- what stood there was read as a text more: in double quotes it spells these characters
+pub record AddsText (written : List ℕ) (texts others : List Text) : Type 0 where
+  pub inner : List ℕ
+  pub characters : List ℕ
+  pub is_quoted : written ≡ code "\"" ∷ (inner ++ code "\"" ∷ [])
+  pub spells : SpellsKeys inner characters
+  pub adds : map (λ text. text.characters.items) others ≡ map (λ text. text.characters.items) texts ++ characters ∷ []
+
+-- it may be named among what changes
+abbrev pub is_listed : Atom → Bool
+is_listed atom.Cycles = false
+is_listed atom.Steps = false
+is_listed _ = true
+
+abbrev pub ranges_of : Changes → List (ℕ × ℕ)
+ranges_of changes = map (λ range. (range.first, range.last)) changes.ranges.items
+
+-- one more may change, or these more may
+pub record LetsChange (change : Change) (before after : Changes) : Type 0 where
+  pub a : after.a ≡ (before.a || is_a change)
+  pub x : after.x ≡ (before.x || is_x change)
+  pub y : after.y ≡ (before.y || is_y change)
+  pub ranges : ranges_of after ≡ ranges_of before ++ ranges_in change
+
+pub record LetAllChange (all : List Change) (before after : Changes) : Type 0 where
+  pub a : after.a ≡ (before.a || list_any is_a all)
+  pub x : after.x ≡ (before.x || list_any is_x all)
+  pub y : after.y ≡ (before.y || list_any is_y all)
+  pub ranges : ranges_of after ≡ ranges_of before ++ flat_map ranges_in all
+
+-- an address stands there behind .., or nothing was taken
+abbrev pub IsUpTo : ℕ → ℕ → State → State → Type 0
+IsUpTo a b before after =
+    ((other : Token) × Goes (sign (codes "..") ∷ other ∷ []) [] before after × (address_of before.scope.names other ≡ Some b))
+    ⊎ ((a ≡ b) × (after ≡ before))
+
+-- what may change was taken, one or all up to the end
+pub record AddsChange (before after : State) (changes others : Changes) : Type 0 where
+  pub change : Change
+  pub goes : Goes (change_spelled change) [] before after
+  pub fit : IsTrue (change_fits before.scope.names change)
+  pub lets : LetsChange change changes others
+
+pub record AddsChanges (before : State) (changes others : Changes) : Type 0 where
+  pub change : Change
+  pub more : List Change
+  pub are_spelled : before.left ≡ change_spelled change ++ more_spelled more
+  pub fit : IsTrue (list_all (change_fits before.scope.names) (change ∷ more))
+  pub let_all : LetAllChange (change ∷ more) changes others
+
+pub record IsChanges (before : State) (changes others : Changes) : Type 0 where
+  pub all : List Change
+  pub are_changes : AreChanges before.scope.names before.left all
+  pub let_all : LetAllChange all changes others
+
+-- a verb as it is written, and whether it says what holds within a routine
+abbrev pub verb_name : Verb → List ℕ
+verb_name verb.Requires = codes "requires"
+verb_name verb.Ensures = codes "ensures"
+verb_name verb.Changes = codes "changes"
+verb_name verb.Prints = codes "prints"
+verb_name verb.Takes = codes "takes"
+verb_name verb.Invariant = codes "invariant"
+verb_name verb.Decreases = codes "decreases"
+verb_name verb.Note = codes "note"
+
+abbrev pub says_within : Verb → Bool
+says_within verb.Invariant = true
+says_within verb.Decreases = true
+says_within verb.Note = true
+says_within _ = false
+
+abbrev pub characters_of : List Text → List (List ℕ)
+characters_of texts = map (λ text. text.characters.items) texts
+
+-- a line's text says this, and a block says it more
+pub record AddsLine (names : Names) (text : List ℕ) (before after : Block) : Type 0 where
+  pub line : Line
+  pub is_line : IsLine names text line
+  pub wanted : said_by after.wanted.items ≡ said_by before.wanted.items ++ wanted_in line
+  pub promised : said_by after.promised.items ≡ said_by before.promised.items ++ promised_in line
+  pub let_all : LetAllChange (changes_in line) before.changes after.changes
+  pub prints : characters_of after.texts.prints.items ≡ characters_of before.texts.prints.items ++ printed_in line
+  pub takes : characters_of after.texts.takes.items ≡ characters_of before.texts.takes.items ++ taken_in line
+  pub is_within : after.is_within ≡ (before.is_within && not (is_promising line))
