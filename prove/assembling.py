@@ -4,6 +4,7 @@ refuses what does not agree."""
 import re
 from dataclasses import dataclass, field
 
+from .opcodes import encoded
 from .refusal import Refusal
 
 IMPLIED = set(
@@ -52,7 +53,7 @@ TERM = re.compile(r"""\s*(\$[0-9A-Fa-f]{1,4}|%[01]{1,16}|\d{1,5}|'[^']'|"[^"]"|[
 
 @dataclass
 class Statement:
-    """A statement in its place. Of an instruction `mnemonic`, `mode` and `value` are there; of data `bytes`."""
+    """A statement in its place, with its bytes; of an instruction `mnemonic`, `mode` and `value` are there."""
 
     line: int
     address: int
@@ -93,6 +94,10 @@ class Program:
 
     def is_code(self, address):
         return any(it.is_instruction and it.address <= address < it.address + it.length for it in self.statements)
+
+    def laid(self):
+        """Its bytes, by their addresses."""
+        return {it.address + k: byte for it in self.statements for k, byte in enumerate(it.bytes)}
 
     def entry(self):
         return next((it.address for it in self.statements if it.is_instruction), None)
@@ -237,6 +242,7 @@ class Assembler:
         for line, it in placed:
             if it.is_instruction:
                 it.value = self.value(line, it.operand, it.address) if it.operand else 0
+                it.bytes = encoded(it)
             else:
                 it.bytes = self.data(line, it)
             if it.address + it.length > RAM_END:

@@ -7,7 +7,7 @@ from .assembling import Assembler
 from .promises import Promise, promises_of, without_run
 from .proofs import Proof, Routine
 from .refusal import Refusal
-from .trying import failure
+from .trying import tried
 from .writing import PROGRAM_MARKS, S, Written, write_crate
 
 PROVED, NOT_PROVED, REFUSED = "PROVED", "NOT PROVED", "REFUSED"
@@ -26,13 +26,12 @@ class Judge:
         self.routines = {it.address: Routine(it) for _, it in self.found if isinstance(it, Promise)}
         self.written = {}
 
-    def judge(self, names, room_of, tries=True):
+    def judge(self, names, room_of):
         """Answers of the routines of these names, or of all, each with why."""
         chosen = [(label, it) for label, it in self.found if not names or label in names]
         promises = [it for _, it in chosen if isinstance(it, Promise)]
         self.look(promises)
-        if tries:
-            self.try_states(promises)
+        self.try_states(promises)
         self.prove([it for it in promises if it.name not in self.answers], room_of)
         return [(label, REFUSED, str(it)) if isinstance(it, Refusal) else (label, *self.answers[label]) for label, it in chosen]
 
@@ -60,7 +59,7 @@ class Judge:
     def try_states(self, promises):
         for promise in promises:
             if promise.name not in self.answers:
-                says = failure(self.program, promise)
+                says, promise.found = tried(self.program, promise)
                 if says:
                     self.answers[promise.name] = (NOT_PROVED, says)
 
@@ -116,6 +115,7 @@ class Judge:
         if answers.is_proved(top, needed.values()):
             return PROVED, ""
         reasons = answers.misread("Program", PROGRAM_MARKS) + answers.misread(top.told.module, top.told.marks)
+        reasons += answers.unmet(top)
         reasons += [reason for it in needed.values() for reason in answers.reasons(it)]
         return NOT_PROVED, "; ".join(reasons[:2]) or f"what the kit said stands in {answers.keep(answers.folder / 'said')}"
 

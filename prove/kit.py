@@ -18,6 +18,7 @@ ERROR = re.compile(
 )
 VALUE = re.compile(r"\(?(old )?(\$[0-9A-F]{2,4}|[AXYNVZC])\)? = \d+")
 VALUES = re.compile(r"goal fails, at (.*?)\. It read", re.DOTALL)
+UNMET = "the prover does not find the state to be as it requires that was found by trying"
 OTHERWISE = "the definitions read this otherwise, so nothing is proved of it"
 
 # Files that are open as long as this process lives.
@@ -132,7 +133,7 @@ class Answers:
 
     def is_proved(self, written, needed):
         """Whether the kit says that a routine is proved, and finds nothing wrong in what its proof stands on."""
-        modules = {"Program", written.told.module, *(it.module for it in needed)}
+        modules = {"Program", written.told.module, written.met.module, *(it.module for it in needed)}
         return function_of(written) in self.proved and not modules & set(self.errors)
 
     def keep(self, file):
@@ -161,6 +162,10 @@ class Answers:
         """What the definitions read otherwise than the script."""
         found = (mark for mark, says in self.marked(module, marks) if not BEHIND_OTHERS.match(says))
         return list(dict.fromkeys(f"{mark}: {OTHERWISE}" for mark in found))
+
+    def unmet(self, written):
+        """That the state which was found is not shown to be as required."""
+        return [UNMET] if any(self.marked(written.met.module, [UNMET])) else []
 
     def reasons(self, written):
         """Why a proof is not one, told of the source."""

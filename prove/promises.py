@@ -68,6 +68,8 @@ class Promise:
     keys: list = field(default_factory=list)
     lines: list = field(default_factory=list)
     within: list = field(default_factory=list)
+    # a state that is as it requires, where one was found
+    found: object = None
 
 
 @dataclass

@@ -1,5 +1,5 @@
 """A promise is tried in some states before it is proved: so a wrong one gets a state in which it fails, and one whose `requires`
-no state meets is not proved."""
+no state meets is not proved. Of a state that does the prover is told."""
 
 import random
 
@@ -15,6 +15,8 @@ STEPS = 20_000
 LONG_RUNS = 3
 MOST_SHOWN = 12
 MOST_OF_ARRAY = 24
+NO_STATE = "no state was found that is as it requires"
+NO_LAID_STATE = f"{NO_STATE} where the bytes of the program are as they are laid"
 
 
 def cells_in(e):
@@ -46,6 +48,40 @@ def inputs_of(program, promise):
     return sorted(a for a in cells if a < 0xC000)
 
 
+class Noted:
+    """A memory that notes where it is read."""
+
+    def __init__(self, memory):
+        self.memory, self.read = memory, set()
+
+    def __getitem__(self, address):
+        self.read.add(address)
+        return self.memory[address]
+
+
+class Found:
+    """A state that is as a routine requires: registers, flags, and the bytes where `requires` looks and the program lays none."""
+
+    def __init__(self, registers, flags, memory, addresses):
+        self.registers, self.flags = registers, flags
+        self.bytes = [(a, memory[a]) for a in sorted(addresses)]
+
+
+def is_required(promise, entry):
+    return all(holds(clause.expr, entry, entry) for clause in promise.wanted)
+
+
+def found_as_laid(laid, promise, entry):
+    """What is found of a state, if it is as required where the bytes of the program are as they are laid."""
+    memory = bytearray(entry.memory)
+    for address, byte in laid.items():
+        memory[address] = byte
+    noted = Noted(memory)
+    if is_required(promise, State(entry.registers, entry.flags, noted)):
+        return Found(entry.registers, entry.flags, memory, noted.read - set(laid))
+    return None
+
+
 class States:
     """Random states, with corner values among them."""
 
@@ -53,7 +89,7 @@ class States:
         self.random = random.Random(1)
         self.cells = inputs_of(program, promise)
         self.wanted = [clause.expr for clause in promise.wanted]
-        self.laid = {it.address + k: byte for it in program.statements for k, byte in enumerate(it.bytes)}
+        self.laid = program.laid()
         self.memory = None
         self.count = 0
 
@@ -139,23 +175,44 @@ def fails_in(machine, promise, entry):
     return says or (f"it leaves keys that were typed: {spelt(machine.keys)}" if machine.keys else None), behind
 
 
-def failure(program, promise):
-    """What fails, and where; None if nothing does in the states that are tried."""
-    machine, states, met, long_runs = Machine(program), States(program, promise), 0, 0
-    may_be_long = any(within.measures for within in promise.within)
+class Runs:
+    """The runs of a routine in states that are as it requires."""
+
+    def __init__(self, program, promise):
+        self.machine, self.promise = Machine(program), promise
+        self.count, self.long_runs = 0, 0
+
+    @property
+    def are_enough(self):
+        return self.count == STATES or self.long_runs == LONG_RUNS
+
+    def failure(self, entry):
+        """What fails in a state, and where."""
+        machine, promise = self.machine, self.promise
+        self.count += 1
+        says, behind = fails_in(machine, promise, entry)
+        if says and machine.is_endless and any(within.measures for within in promise.within):
+            self.long_runs += 1
+            return None
+        if not says or machine.is_beyond:
+            return says
+        cells = sorted(cells_of(promise) | machine.looked_at)[:MOST_SHOWN]
+        return f"{says}; entered with {shown(entry, cells)}; left with {shown(behind, cells)}"
+
+
+def tried(program, promise):
+    """What fails, and where; None if nothing does in the states that are tried, and with it a state that is as required."""
+    runs, states, found = Runs(program, promise), States(program, promise), None
     for _ in range(TRIES):
         entry = states.next()
-        if not all(holds(clause.expr, entry, entry) for clause in promise.wanted):
+        found = found or found_as_laid(states.laid, promise, entry)
+        if not is_required(promise, entry):
             continue
-        met += 1
-        says, behind = fails_in(machine, promise, entry)
-        if says and may_be_long and machine.is_endless:
-            long_runs += 1
-        elif says and machine.is_beyond:
-            return says
-        elif says:
-            cells = sorted(cells_of(promise) | machine.looked_at)[:MOST_SHOWN]
-            return f"{says}; entered with {shown(entry, cells)}; left with {shown(behind, cells)}"
-        if met == STATES or long_runs == LONG_RUNS:
-            return None
-    return None if met else "no state was found that is as it requires"
+        says = None if runs.are_enough else runs.failure(entry)
+        if says:
+            return says, None
+        if runs.are_enough and found:
+            break
+    if found:
+        return None, found
+    return NO_LAID_STATE if runs.count else NO_STATE, None

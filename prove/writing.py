@@ -5,6 +5,7 @@ import shutil
 from dataclasses import dataclass
 from functools import cached_property
 
+from .meeting import Met
 from .saying import Words, is_minus
 from .telling import Told
 from .terms import codes, list_of
@@ -22,7 +23,7 @@ STATEMENT_USES = """use Rattle.std.specs.Prelude.{ℕ, List, [], ◌∷◌, code
 use Rattle.std.specs.List.{concat}
 """
 
-PROGRAM_USES = """use Rattle.std.specs.Prelude.{◌≡◌, ℕ, List, [], ◌∷◌, codes, Some, None, refl}
+PROGRAM_USES = """use Rattle.std.specs.Prelude.{◌≡◌, ℕ, true, List, [], ◌∷◌, codes, replicate, Some, None, refl}
 use Rattle.a2_text.specs.Words.{first_word}
 use Rattle.a2_opcode.specs.declared.Mnemonic.TheVariants.{%s}
 use Rattle.a2_opcode.specs.declared.Mode.TheVariants.{%s}
@@ -33,6 +34,7 @@ use Rattle.a2_lessons.specs.Routines.{op}
 use Rattle.a2_lessons.proofs.Texts.{entry_of, statements_of}
 use Rattle.a2_lessons.proofs.Reading.{reading}
 use Rattle.a2_rules.specs.Promised.{lines_of_routines}
+use Rattle.a2_rules.proofs.Entered.{Laid, are_bytes, laid_of}
 use Rattle.a2_rules.proofs.Kept.{code_of, names_of}
 use Rattle.promised.specs.Statements.{text}
 """
@@ -69,12 +71,16 @@ END_USES = """use Rattle.std.specs.Prelude.{codes}
 use Rattle.a2_rules.specs.Promised.{IsProved}
 use Rattle.a2_rules.proofs.Kept.{proved, told_of}
 use Rattle.promised.specs.Statements.{text}
-use Rattle.promised.proofs.Program.{listing, lines, names, read, stated, cut, named}
+use Rattle.promised.proofs.Program.{listing, lines, names, laid, read, stated, cut, named, lays, small}
 use Rattle.promised.proofs.%s.{terms, tells}
+use Rattle.promised.proofs.%s.{state, met}
 """
 
 # What the marked lines of Program.antt check.
-PROGRAM_MARKS = ("where the source begins", "the statements of the source", "the lines of the source", "the names of the source")
+PROGRAM_MARKS = (
+    *("where the source begins", "the statements of the source", "the lines of the source", "the names of the source"),
+    *("the bytes of the source", "the bytes of the source"),
+)
 
 
 @dataclass
@@ -92,6 +98,10 @@ class Written:
     @cached_property
     def told(self):
         return Told(self.routine.promise)
+
+    @cached_property
+    def met(self):
+        return Met(self.routine.promise, self.told)
 
     @property
     def name(self):
@@ -132,6 +142,11 @@ def computed(k, name, says, unfolded):
     return f"\npub {name} : {says}\nunfolding {unfolded}\n{name} = refl -- @{k}\n"
 
 
+def laid(it):
+    """The bytes of a statement, with their address."""
+    return f"({it.address}, {list_of(it.bytes) if any(it.bytes) else f'replicate {it.length} 0'})"
+
+
 def program_file(program, lines):
     of = [it for it in program.statements if it.is_instruction]
     uses = PROGRAM_USES % (", ".join(sorted({it.mnemonic.capitalize() for it in of})), ", ".join(sorted({it.mode for it in of})))
@@ -142,8 +157,11 @@ def program_file(program, lines):
     text += rows("names", "Names", (f"({codes(name)}, {value})" for name, value in program.names.items()))
     text += computed(0, "read", f"entry_of text ≡ Some {program.entry()}", "reading")
     text += computed(1, "stated", "statements_of text ≡ listing", "reading")
+    text += rows("laid", "Laid", (laid(it) for it in program.statements))
     text += computed(2, "cut", "lines_of_routines text ≡ lines", "first_word")
-    return text + computed(3, "named", "names_of text ≡ names", "reading")
+    text += computed(3, "named", "names_of text ≡ names", "reading")
+    text += computed(4, "lays", "laid_of text ≡ laid", "reading")
+    return text + "\npub small : are_bytes laid ≡ true\nsmall = refl -- @5\n"
 
 
 def record(name, worlds, fields):
@@ -224,8 +242,8 @@ def ending(written):
     meets = f"({written.name}_meets w bytes ({before_of(promise)}))"
     label, above = codes(promise.name), promise.line - 1
     body = (
-        f"proved text {label} listing _ {above} terms {name}_ranges read stated\n"
-        f"(told_of text {label} lines names {above} terms cut named tells) refl refl refl refl\n"
+        f"proved text {label} listing laid _ {above} terms state {name}_ranges read stated\n"
+        f"(told_of text {label} lines names {above} terms cut named tells) refl lays small met refl refl refl\n"
         f"(λ w bytes before. weaken code (enter {promise.address} {S} w) _ _ {meets}\n"
         f"(λ u h. (h.0, h.1, {after}))) -- @@\n"
     )
@@ -235,7 +253,7 @@ def ending(written):
 def proof_file(written, all_written):
     text = "-- Written by a2-prove.\n" + PROOF_USES
     if written.s == S:
-        text += END_USES % written.told.module
+        text += END_USES % (written.told.module, written.met.module)
     for address, s in sorted(written.calls):
         other = all_written[address, s]
         text += f"use Rattle.promised.proofs.{other.module}.{{{other.name}_meets}}\n"
@@ -273,7 +291,7 @@ def write_crate(folder, source, lines, program, all_written):
         shutil.rmtree(folder / part, ignore_errors=True)
         (folder / part).mkdir(parents=True)
     tops = [it for it in all_written.values() if it.s == S]
-    modules = ["Program"] + [it.told.module for it in tops] + [it.module for it in all_written.values()]
+    modules = ["Program"] + [part.module for it in tops for part in (it.told, it.met)] + [it.module for it in all_written.values()]
     files = {
         "specs/Lib.antt": "pub mod Statements\n",
         "specs/Statements.antt": statements_file(source),
@@ -284,7 +302,8 @@ def write_crate(folder, source, lines, program, all_written):
     for it in all_written.values():
         files[f"proofs/{it.module}.antt"] = proof_file(it, all_written)
     for it in tops:
-        files[f"proofs/{it.told.module}.antt"] = it.told.text
+        for part in (it.told, it.met):
+            files[f"proofs/{part.module}.antt"] = part.text
         files[f"proofs/{function_of(it)}/Answers.antt"] = answer_file(it)
     for name, text in files.items():
         path = folder / name

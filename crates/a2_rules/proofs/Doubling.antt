@@ -1,9 +1,10 @@
 -- The example is proved, as a2-prove proves each.
-use Rattle.std.specs.Prelude.{◌≡◌, ◌<◌, ℕ, ◌+◌, ◌*◌, ◌%◌, List, [], ◌∷◌, codes, Some, refl}
+use Rattle.std.specs.Prelude.{◌≡◌, ◌<◌, true, ℕ, ◌+◌, ◌*◌, ◌%◌, List, [], ◌∷◌, codes, Some, refl}
 use Rattle.std.proofs.Common.{arith, true≢false}
 use Rattle.a2_opcode.specs.declared.Mnemonic.TheVariants.{Asl, Rts}
 use Rattle.a2_opcode.specs.declared.Mode.TheVariants.{Accumulator, Implied}
 use Rattle.a2_asm.specs.declared.program.Statement.{Statement}
+use Rattle.a2_cpu.specs.Registers.{registers_at}
 use Rattle.a2_machine.proofs.Computing.{computing}
 use Rattle.a2_lessons.specs.Routines.{op}
 use Rattle.a2_lessons.proofs.Reading.{reading}
@@ -22,6 +23,7 @@ use Rattle.a2_promise.specs.Written.{meant, spelled}
 use Rattle.a2_promise.specs.Written as written
 use Rattle.a2_rules.specs.Doubling.{doubling, double, DoublingIsProved, DoublingTells}
 use Rattle.a2_rules.proofs.Told.{not_nothing}
+use Rattle.a2_rules.proofs.Entered.{Laid, State, are_bytes, is_met, laid_of}
 use Rattle.a2_rules.proofs.Kept.{After, Before, code_of, names_of, proved, told_of}
 use Rattle.a2_rules.proofs.Leaving.{leaves}
 use Rattle.a2_rules.proofs.Meeting.{Meets, home}
@@ -39,6 +41,25 @@ read = refl
 stated : statements_of doubling ≡ listing
 unfolding reading listing
 stated = refl
+
+laid : Laid
+laid = (0x300, 0x0A ∷ []) ∷ (0x301, 0x60 ∷ []) ∷ []
+
+lays : laid_of doubling ≡ laid
+unfolding reading laid
+lays = refl
+
+-- a state that is as it requires
+state : State
+state = record { registers = registers_at 0x300; bytes = [] }
+
+met : is_met double laid state ≡ true
+unfolding laid state
+met = refl
+
+small : are_bytes laid ≡ true
+unfolding laid
+small = refl
 
 named : names_of doubling ≡ ((codes "DOUBLE", 0x300) ∷ [])
 unfolding reading
@@ -98,5 +119,5 @@ meets w bytes before = (
 
 pub doubling_is_proved : DoublingIsProved
 doubling_is_proved =
-    proved doubling _ listing 0x300 3 double [] read stated (told_of doubling _ _ _ 3 double refl named doubling_tells)
-    refl refl refl refl meets
+    proved doubling _ listing laid 0x300 3 double state [] read stated (told_of doubling _ _ _ 3 double refl named doubling_tells)
+    refl lays small met refl refl refl meets

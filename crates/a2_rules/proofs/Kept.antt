@@ -1,6 +1,6 @@
 -- What a routine meets, its promise says of the bytes that are run: so it is kept.
 use Rattle.std.specs.Prelude.{◌≡◌, ◌<◌, ℕ, suc, ◌+◌, ◌*◌, ◌%◌, ◌&&◌, ◌||◌, Bool, true, false, nat_le, nat_lt, IsTrue, List, [], ◌∷◌, map, Some, None, is_some, refl}
-use Rattle.std.specs.List.{concat, list_all, list_any}
+use Rattle.std.specs.List.{list_all, list_any}
 use Rattle.std.proofs.Common.{sym, ap, ap₂, ◌∙◌, subst, arith, true≢false}
 use Rattle.a2_text.specs.Bytes.{is_among}
 use Rattle.a2_hex.specs.Images.{held}
@@ -45,12 +45,12 @@ use Rattle.a2_rules.specs.Promised.{lines_of_routines, KeepsPromise, IsProved}
 use Rattle.a2_rules.specs.Typed.{KeepsWithKeys, keys_of, laid_with_keys}
 use Rattle.a2_rules.specs.Worlds.{OnlyBytes}
 use Rattle.a2_rules.proofs.Bytes as run
+use Rattle.a2_rules.proofs.Entered.{Laid, State, are_bytes, entered, is_met, keys_told, laid_of, same_keys, world_of}
 use Rattle.a2_rules.proofs.Leaving.{Leaves, Waits, none_waits, waits_all}
 use Rattle.a2_rules.proofs.Ranges.{all_pass, both, is_in, passes_not}
 use Rattle.a2_rules.proofs.Meeting.{IsWhole, only_bytes, enter, Back, Meets, Reaches}
 use Rattle.a2_rules.proofs.Saying.{all_say, all_tell, tells, unnamed}
 use Rattle.a2_rules.proofs.Telling.{said_holds, holds_said}
-
 
 neither : (x y : Bool) → (x || y) ≡ false → (x ≡ false) × (y ≡ false)
 neither true y h = absurd (true≢false h)
@@ -91,13 +91,6 @@ same_ranges : (ranges : List Range) (a : ℕ)
     → list_any (λ range. nat_le range.first a && nat_le a range.last) ranges ≡ is_in (map (λ range. (range.first, range.last)) ranges) a
 same_ranges [] a = refl
 same_ranges (range ∷ more) a = ap (λ v. (nat_le range.first a && nat_le a range.last) || v) (same_ranges more a)
-
--- the keys of all texts that are taken
-abbrev pub keys_told : Terms → List ℕ
-keys_told terms = concat terms.takes
-
-same_keys : (promise : Promise) (terms : Terms) → IsPromise promise terms → keys_of promise ≡ keys_told terms
-same_keys promise terms says = ap concat says.takes
 
 -- what is known at the entry
 pub record Before (terms : Terms) (w : World) : Type 0 where
@@ -257,18 +250,26 @@ told_of text label lines known above terms cut named told =
     subst (λ l. IsTold l (names_of text) above label terms) (sym cut)
     (subst (λ names. IsTold lines names above label terms) (sym named) told)
 
--- THE THEOREM: a text that is read, whose statements are these and whose lines tell this, keeps what its routine meets
-pub proved : (text label : List ℕ) (all : List Statement) (entry above : ℕ) (terms : Terms) (changed : List (ℕ × ℕ))
+-- THE THEOREM: a text that is read, whose statements and bytes are these and whose lines tell this, keeps what its routine meets, where
+-- a state is as required
+pub proved : (text label : List ℕ) (all : List Statement) (laid : Laid) (entry above : ℕ) (terms : Terms) (state : State)
+    → (changed : List (ℕ × ℕ))
     → entry_of text ≡ Some entry → statements_of text ≡ all → IsTold (lines_of_routines text) (names_of text) above label terms
-    → terms.prints ≡ [] → all_tell terms.wanted ≡ true → all_tell terms.promised ≡ true
+    → terms.prints ≡ [] → laid_of text ≡ laid → are_bytes laid ≡ true → is_met terms laid state ≡ true
+    → all_tell terms.wanted ≡ true → all_tell terms.promised ≡ true
     → all_pass (may_be_stored terms) changed ≡ true → MeetsPromise all terms changed → IsProved text label
-proved text label all entry above terms changed read stated told prints wanted promised stored meets = record {
+proved text label all laid entry above terms state changed read stated told prints lays small met wanted promised stored meets = record {
   accepted = λ fault refused. not_refused text entry is fault refused;
   kept = λ program program_is. record {
     above = above;
     terms = terms;
     told = subst (λ names. IsTold (lines_of_routines text) names above label terms) (sym (made program program_is).named) told;
     prints = prints;
+    met = λ promise says. (
+      world_of terms laid state,
+      entered text laid terms state lays small met program (made program program_is)
+          (program-sound program_is.source program program_is.is_program) promise says,
+    );
     kept = kept_of program program_is;
   };
 }
@@ -282,8 +283,14 @@ proved text label all entry above terms changed read stated told prints wanted p
         (subst (λ s. IsProgram s program) (one-source text program_is.source (source_of text) program_is.is_source is.read) program_is.is_program)
 
     kept_of : (program : Assembled) → IsProgramOf text program → (promise : Promise) → IsPromise promise terms → KeepsPromise program promise
-    kept_of program program_is promise says world bytes_w enters required = go (meets world whole before)
+    kept_of program program_is promise says world is_entered = go (meets world whole before)
       where
+        bytes_w : OnlyBytes world
+        bytes_w = is_entered.bytes
+
+        enters : Enters (laid_with_keys (held program.image) promise.address (keys_of promise)) world
+        enters = is_entered.enters
+
         whole : IsWhole world
         whole =
             record { a = bytes_w.a; x = bytes_w.x; y = bytes_w.y; ram = record { bytes = bytes_w.ram; pages = enters.pages } }
@@ -297,7 +304,7 @@ proved text label all entry above terms changed read stated told prints wanted p
         required_is : all_say terms.wanted world world
         required_is =
             subst (λ l. all_say l world world) says.wanted
-            (all_required world world 0 bytes_w bytes_w promise.wanted.items (subst (λ l. all_tell l ≡ true) (sym says.wanted) wanted) required)
+            (all_required world world 0 bytes_w bytes_w promise.wanted.items (subst (λ l. all_tell l ≡ true) (sym says.wanted) wanted) is_entered.required)
 
         before : Before terms world
         before = record {

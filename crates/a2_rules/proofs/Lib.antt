@@ -13,6 +13,8 @@ pub mod Calling
 pub mod Lines
 pub mod Typing
 pub mod Bytes
+pub mod Seeing
+pub mod Entered
 pub mod Kept
 pub mod Told
 pub mod Overflow

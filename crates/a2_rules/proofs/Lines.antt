@@ -345,7 +345,6 @@ module _ (m : Memory) (len key : ℕ) (line rest : List ℕ) (plain : IsPlain ke
       stays : (b : ℕ) → 0x200 ≤ b → b < 0x200 + len + 1 → ram_byte behind b ≡ ram_byte longer b
       stays b from less = put_unmasked-kept b (record { from = from; to = omega (arith, less, short) }) byte longer
 
-
 pub line_is_read : (line rest : List ℕ) (m : Memory) (len : ℕ) → list_all is_plain line ≡ true → len + length line < 256 → Whole m
     → CursorFits m → m.devices.keys ≡ line ++ (0x0D ∷ rest) → IsRead line rest m len (line_read (line ++ (0x0D ∷ rest)) (reading m len))
 line_is_read [] rest m len plain short whole fits waits = line_ended rest m len (omega (arith, short)) whole fits waits

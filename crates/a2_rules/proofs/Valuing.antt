@@ -375,7 +375,7 @@ module _ (p q : Phrase) (m n : ℕ) (x y : View) (ox oy : Option ℤ) (hx : Coun
 
 -- Numbers of a moment
 
-memory_byte : (memory : Memory) (a : ℕ) → a < ram_end → slice_get (bytes_of memory) a ≡ Some (ram_byte memory a)
+pub memory_byte : (memory : Memory) (a : ℕ) → a < ram_end → slice_get (bytes_of memory) a ≡ Some (ram_byte memory a)
 unfolding bytes_of
 memory_byte memory a low =
     let here : a < length (map (ram_byte memory) (range_with_len 0 ram_end)) = omega (arith, low, length-map-range_with_len (ram_byte memory) 0 ram_end) in

@@ -29,20 +29,25 @@ is_of_run text = begins_with (code "|") (behind_blanks text) || is_name_among ru
 abbrev pub lines_of_routines : List ℕ → List (List ℕ)
 lines_of_routines text = map (λ line. if list_any is_of_run (text_behind (behind_blanks line)) then [] else line) (lines text)
 
--- A program keeps a promise: in each world of bytes in which the routine is entered, with the keys waiting that it is to take, and that
--- is as the promise requires, whatever else memory and registers hold, it is kept within some number of steps, and all keys are taken.
-abbrev pub KeepsPromise : Assembled → Promise → Type 0
-KeepsPromise program promise =
-    (world : World) → OnlyBytes world → Enters (laid_with_keys (held program.image) promise.address (keys_of promise)) world
-    → IsRequired promise world → (limit : ℕ) × KeepsWithKeys promise limit world
+-- in a world of bytes the routine of a promise is entered, with the keys waiting that it is to take, and the world is as the promise requires
+pub record IsEntered (program : Assembled) (promise : Promise) (world : World) : Type 0 where
+  pub bytes : OnlyBytes world
+  pub enters : Enters (laid_with_keys (held program.image) promise.address (keys_of promise)) world
+  pub required : IsRequired promise world
 
--- A text's lines promise something of the routine with a label, no text that is printed, and the program keeps each promise that says
--- this.
+-- A program keeps a promise: in each such world, whatever else memory and registers hold, it is kept within some number of steps, and all
+-- keys are taken.
+abbrev pub KeepsPromise : Assembled → Promise → Type 0
+KeepsPromise program promise = (world : World) → IsEntered program promise world → (limit : ℕ) × KeepsWithKeys promise limit world
+
+-- A text's lines promise something of the routine with a label, no text that is printed, and of each promise that says this there is a
+-- world of which it speaks, and the program keeps it.
 pub record KeepsTold (text label : List ℕ) (program : Assembled) : Type 0 where
   pub above : ℕ
   pub terms : Terms
   pub told : IsTold (lines_of_routines text) program.names above label terms
   pub prints : terms.prints ≡ []
+  pub met : (promise : Promise) → IsPromise promise terms → (world : World) × IsEntered program promise world
   pub kept : (promise : Promise) → IsPromise promise terms → KeepsPromise program promise
 
 -- a text is not refused, and its program keeps what is promised of the routine with this label

@@ -1,0 +1,25 @@
+"""A state that is as a routine requires, written for the prover: so there is a world of which its promise speaks."""
+
+from .telling import flag
+from .terms import list_of
+
+USES = """use Rattle.std.specs.Prelude.{◌≡◌, true, false, List, [], ◌∷◌, refl}
+use Rattle.a2_rules.proofs.Entered.{State, is_met}
+use Rattle.promised.proofs.Program.{laid}
+use Rattle.promised.proofs.%s.{terms}
+"""
+
+
+class Met:
+    """The module of a promise: its state, and that this is as required."""
+
+    def __init__(self, promise, told):
+        self.module = f"Met_{promise.name}"
+        found = promise.found
+        flags = "; ".join(f"{it.lower()} = {flag(found.flags[it])}" for it in "NVDIZC")
+        registers = "; ".join(f"{it.lower()} = {found.registers[it]}" for it in "AXYS")
+        cells = list_of(f"({a}, {byte})" for a, byte in found.bytes)
+        self.text = f"-- Written by a2-prove: a state that is as {promise.name} requires.\n" + USES % told.module
+        self.text += f"\nabbrev pub state : State\nstate = record {{\n  registers = record {{ {registers}; pc = {promise.address}; "
+        self.text += f"flags = record {{ {flags} }} }};\n  bytes = {cells};\n}}\n"
+        self.text += "\npub met : is_met terms laid state ≡ true\nmet = refl -- @0\n"
