@@ -248,8 +248,3 @@ class Assembler:
             if it.address + it.length > RAM_END:
                 raise Refusal(line.number, "a byte lies at or above $C000: ./a2x check tells more")
         return Program([it for _, it in placed], self.names, self.places)
-
-
-def assemble(texts):
-    """The program of a source's lines."""
-    return Assembler(texts).program()

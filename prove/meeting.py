@@ -1,7 +1,6 @@
 """A state that is as a routine requires, written for the prover: so there is a world of which its promise speaks."""
 
-from .telling import flag
-from .terms import list_of
+from .terms import flag, list_of
 
 USES = """use Rattle.std.specs.Prelude.{◌≡◌, true, false, List, [], ◌∷◌, refl}
 use Rattle.a2_rules.proofs.Entered.{State, is_met}

@@ -2,7 +2,7 @@
 crates/a2_promise/specs/Told.antt, and what all of them say as `Terms`."""
 
 from .saying import phrase
-from .terms import codes, list_of
+from .terms import codes, flag, list_of
 from .written import part_term, written
 
 USES = """use Rattle.std.specs.Prelude.{◌≡◌, ℕ, pos, true, false, List, [], ◌∷◌, codes, refl}
@@ -27,10 +27,6 @@ NOTHING = "(_, refl, refl)"
 SOMETHING = "(_, refl, (refl, refl, not_nothing _ refl))"
 UNDERWAY = "(_, _, refl, refl, refl)"
 SPELT = "record {{ rest = _; inner = {0}; begins = refl; is_quoted = refl; spells = spells_keys {0} {1} refl }}"
-
-
-def flag(is_set):
-    return "true" if is_set else "false"
 
 
 def change(form, *parts):

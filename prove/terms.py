@@ -37,6 +37,11 @@ def modulo(term, n=256):
     return term % n if isinstance(term, int) else f"({term} % {n})"
 
 
+def flag(is_set):
+    """Whether a flag is set."""
+    return "true" if is_set else "false"
+
+
 def list_of(items):
     return "(" + "".join(f"{it} ∷ " for it in items) + "[])"
 
