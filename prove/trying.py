@@ -159,7 +159,7 @@ def judge(promise, entry, behind, stored):
     allowed = set(promise.changes.addresses())
     for address in sorted(stored):
         before, now = entry.memory[address], behind.memory[address]
-        if before != now and address not in allowed and not 0x100 <= address <= 0x1FD:
+        if before != now and address not in allowed and not 0x180 <= address <= 0x1FD:
             return f"${address:02X} does not stand behind changes, and is {now}, before {before}"
     return None
 

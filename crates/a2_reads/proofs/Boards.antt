@@ -19,7 +19,7 @@ same_word bus size at =
     let law = each_board_acts_as_its_memory bus size in
     ap₂ (λ low high. low + 256 * high) (law.same_byte at) (law.same_byte ((at + 1) % 256))
 
-same_place : (bus : BusState) → length bus.bytes ≡ ram_end → (registers : Registers) (mode : Mode) (value : ℕ)
+pub same_place : (bus : BusState) → length bus.bytes ≡ ram_end → (registers : Registers) (mode : Mode) (value : ℕ)
     → place_of board_access bus registers mode value ≡ place_of memory_access (memory_of bus) registers mode value
 same_place bus size registers IndexedIndirect value =
     ap (λ word. address word) (same_word bus size ((value + registers.x) % 256))

@@ -1,12 +1,10 @@
 -- An RTS goes back to the caller, whatever stands on the stack.
-use Rattle.std.specs.Prelude.{◌≡◌, ◌<◌, ◌==◌, ℕ, ◌+◌, ◌*◌, ◌%◌, true, false, nat_lt, if◌then◌else◌, List, [], Some, None, Ok}
+use Rattle.std.specs.Prelude.{◌≡◌, ◌<◌, ◌==◌, ℕ, ◌+◌, ◌*◌, ◌%◌, false, if◌then◌else◌, List, [], Some, None, Ok}
 use Rattle.std.specs.List.{list_any}
 use Rattle.std.proofs.Common.{sym, ap, ap₂, ◌∙◌, subst, arith, below_more}
-use Rattle.std.proofs.lemmas.Bool.Decides.{nat_tests}
 use Rattle.a2_text.specs.Bytes.{is_among}
 use Rattle.a2_opcode.specs.declared.Mnemonic.TheVariants.{Rts}
-use Rattle.a2_bus.specs.Devices.{device_byte, after_access}
-use Rattle.a2_bus.specs.Memory.{Memory, memory_access, ram_byte, ram_end}
+use Rattle.a2_bus.specs.Memory.{memory_access, ram_byte}
 use Rattle.a2_cpu.specs.BusStep.{refusal_of}
 use Rattle.a2_cpu.specs.Effect.{effect_of}
 use Rattle.a2_cpu.specs.Place.{place_of}
@@ -17,6 +15,7 @@ use Rattle.a2_services.specs.World.{World}
 use Rattle.a2_services.specs.Services.{service_at}
 use Rattle.a2_machine.specs.declared.Cause.TheVariants.{CodeWrite}
 use Rattle.a2_machine.specs.Meaning.{Decoded, cause_of_refusal, found_at_pc, next, return_address, stuck, world_at}
+use Rattle.a2_services.proofs.Counting.{returned_devices}
 use Rattle.a2_uses.specs.Reads.{pull_address}
 use Rattle.a2_reads.specs.Reads.{AgreeOn}
 use Rattle.a2_reads.specs.Runs.{known_behind}
@@ -24,24 +23,8 @@ use Rattle.a2_reads.specs.Uses.{Near, parts_behind}
 use Rattle.a2_reads.specs.Calls.{GoesBack, CallPasses, CallsGoBack, CallPromisesHoldEverywhere, caller}
 use Rattle.a2_reads.specs.Promises.{known_bytes, known_parts, selected, with_inputs}
 use Rattle.a2_reads.proofs.Promising.{near, same-selected}
-use Rattle.a2_reads.proofs.Nearing.{second_pull}
+use Rattle.a2_reads.proofs.Ways.{called_from, returned_registers}
 use Rattle.a2_reads.proofs.Running.{runs, cause_at, done_at, not_home, stuck_is, next_is}
-
--- RAM is read without an effect
-byte_of_ram : (m : Memory) (a : ℕ) → a < ram_end → memory_access.byte_at m a ≡ ram_byte m a
-unfolding memory_access
-byte_of_ram m a lt =
-    let low : nat_lt a ram_end ≡ true =
-    grind (arith, nat_tests, lt) in ap (λ b. if b then ram_byte m a else device_byte m.devices a) low
-
-ram_read : (m : Memory) (a : ℕ) → a < ram_end → memory_access.after_read m a ≡ m
-unfolding memory_access
-ram_read m a lt =
-    let low : nat_lt a ram_end ≡ true = grind (arith, nat_tests, lt) in
-    ap (λ b. let r : Memory = if b then m else record m { devices = after_access m.devices a } in r) low
-
-in_page : (s : ℕ) → 0x100 + (s + 1) % 256 < ram_end
-in_page s = omega arith
 
 -- What an RTS does
 
@@ -53,32 +36,18 @@ stores_none d w e =
     (with_pc (next_address d.row w.registers.pc) (with_empty_log w))).memory.log) e
 
 memory_stays : (d : Decoded) (w : World) → d.row.mnemonic ≡ Rts → (performed memory_access d.row d.value w).memory ≡ w.memory
-unfolding performed after_effect returned effect_of
+unfolding performed after_effect effect_of
 memory_stays d w e =
     ap (λ m. (after_effect memory_access (place_of memory_access w.memory w.registers d.row.mode d.value) (effect_of m)
     (with_pc (next_address d.row w.registers.pc) w)).memory) e
-    ∙ ram_read (memory_access.after_read w.memory (0x100 + (w.registers.s + 1) % 256)) (0x100 + ((w.registers.s + 1) % 256 + 1) % 256)
-    (in_page ((w.registers.s + 1) % 256))
-    ∙ ram_read w.memory (0x100 + (w.registers.s + 1) % 256) (in_page w.registers.s)
+    ∙ returned_devices (with_pc (next_address d.row w.registers.pc) w)
 
--- the registers behind it
-abbrev back : World → Registers
-back w = record w.registers { s = (w.registers.s + 2) % 256; pc = caller w }
-
-registers_back : (d : Decoded) (w : World) → d.row.mnemonic ≡ Rts → (performed memory_access d.row d.value w).registers ≡ back w
-unfolding performed after_effect returned effect_of
+registers_back : (d : Decoded) (w : World) → d.row.mnemonic ≡ Rts → (performed memory_access d.row d.value w).registers ≡ called_from w
+unfolding performed after_effect effect_of
 registers_back d w e =
-    let low : memory_access.byte_at w.memory (0x100 + (w.registers.s + 1) % 256) ≡ ram_byte w.memory (0x100 + (w.registers.s + 1) % 256) =
-    byte_of_ram w.memory (0x100 + (w.registers.s + 1) % 256) (in_page w.registers.s) in
-    let high : memory_access.byte_at (memory_access.after_read w.memory (0x100 + (w.registers.s + 1) % 256)) (0x100 + ((w.registers.s + 1) % 256 + 1) % 256)
-    ≡ ram_byte w.memory (0x100 + (w.registers.s + 2) % 256) =
-    ap (λ m. memory_access.byte_at m (0x100 + ((w.registers.s + 1) % 256 + 1) % 256)) (ram_read w.memory (0x100 + (w.registers.s + 1) % 256) (in_page w.registers.s))
-    ∙ byte_of_ram w.memory (0x100 + ((w.registers.s + 1) % 256 + 1) % 256) (in_page ((w.registers.s + 1) % 256))
-    ∙ ap (λ a. ram_byte w.memory a) (sym (second_pull w.registers.s)) in
-    let raised : ((w.registers.s + 1) % 256 + 1) % 256 ≡ (w.registers.s + 2) % 256 = omega arith in
     ap (λ m. (after_effect memory_access (place_of memory_access w.memory w.registers d.row.mode d.value) (effect_of m)
     (with_pc (next_address d.row w.registers.pc) w)).registers) e
-    ∙ (λ i. record w.registers { s = raised i; pc = (low i + 256 * high i + 1) % 65536 })
+    ∙ returned_registers (with_pc (next_address d.row w.registers.pc) w)
 
 pub not_refused : (protected : List ℕ) (d : Decoded) (w : World) → d.row.mnemonic ≡ Rts → cause_at protected (Ok d) w ≡ None
 unfolding refusal_of

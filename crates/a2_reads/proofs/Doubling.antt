@@ -13,20 +13,20 @@ use Rattle.a2_uses.specs.declared.Part.TheVariants.{A as part_a}
 use Rattle.a2_uses.specs.Parts.{needs, sets_parts}
 use Rattle.a2_reads.specs.Parts.{is_part}
 use Rattle.a2_reads.specs.Runs.{RunReads, step_reads, step_stores, known_behind}
-use Rattle.a2_reads.specs.Uses.{RunNeeds, parts_behind}
+use Rattle.a2_reads.specs.Uses.{RunNeeds, step_needs, step_sets, parts_behind}
 use Rattle.a2_reads.specs.Promises.{Passes, IsRequired, known_bytes, known_parts, with_inputs}
 use Rattle.a2_reads.specs.Doubling.{doubling_promise, DoublingHolds}
 
 module _ (memory : Memory) (stack : (ram_byte memory 0x1FE ≡ 0x68) × (ram_byte memory 0x1FF ≡ 0xFF)) (inputs : World) where
   reads : RunReads (doubling_promise memory).code (known_bytes (doubling_promise memory)) (with_inputs (doubling_promise memory) inputs) 3
   unfolding computing world_at known_behind step_reads step_stores reads_of
-  reads zero _ = record { going = refl; no_service = refl; found = λ other _. refl; reads = tt }
-  reads (suc zero) _ = record { going = refl; no_service = refl; found = λ other _. refl; reads = tt }
-  reads (suc (suc zero)) _ = record { going = refl; no_service = refl; found = λ other _. refl; reads = (refl, (refl, tt)) }
+  reads zero _ = record { going = refl; found = λ other _. refl; reads = tt }
+  reads (suc zero) _ = record { going = refl; found = λ other _. refl; reads = tt }
+  reads (suc (suc zero)) _ = record { going = refl; found = λ other _. refl; reads = (refl, (refl, tt)) }
   reads (suc (suc (suc k))) lt = let bad : ⊥ = omega (arith, lt) in absurd bad
 
   looks : RunNeeds (doubling_promise memory).code (known_parts (doubling_promise memory)) (with_inputs (doubling_promise memory) inputs) 3
-  unfolding computing world_at parts_behind needs sets_parts
+  unfolding computing world_at parts_behind step_needs step_sets needs sets_parts
   looks zero _ = (refl, tt)
   looks (suc zero) _ = (refl, tt)
   looks (suc (suc zero)) _ = tt

@@ -1,7 +1,7 @@
 -- A register that no step looks at or sets stays.
-use Rattle.std.specs.Prelude.{◌≡◌, ◌<◌, ℕ, zero, suc, ◌+◌, ◌%◌, ◌||◌, Bool, true, false, not, IsTrue, if◌then◌else◌, Some, None, Result, Ok, Err, refl}
+use Rattle.std.specs.Prelude.{◌≡◌, ◌<◌, ℕ, zero, suc, ◌+◌, ◌%◌, ◌||◌, Bool, true, false, not, IsTrue, if◌then◌else◌, Option, Some, None, Result, Ok, Err, refl}
 use Rattle.std.specs.List.{list_any}
-use Rattle.std.proofs.Common.{sym, ap, ◌∙◌, arith, true≢false}
+use Rattle.std.proofs.Common.{sym, ap, ◌∙◌, subst, arith, true≢false}
 use Rattle.a2_opcode.specs.declared.Row.{Row}
 use Rattle.a2_opcode.specs.declared.Mode.{Mode}
 use Rattle.a2_opcode.specs.declared.Mode.TheVariants.{Accumulator}
@@ -11,21 +11,24 @@ use Rattle.a2_bus.specs.Memory.{memory_access}
 use Rattle.a2_cpu.specs.Registers.{Registers, StatusFlags}
 use Rattle.a2_cpu.specs.Place.{Place, accumulator, address, pointer, place_of}
 use Rattle.a2_cpu.specs.Effect.{Effect, Replacement, sets, takes, replaces, stores, pushes, pulls, branches, jumps, calls, returns, returns_from_interrupt, breaks, effect_of}
-use Rattle.a2_cpu.specs.Instruction.{State, after_effect, called, called_place, gone_to, jumped, jumped_through, next_address, operand_byte, performed, pulled, replaced_registers, returned, returned_from_interrupt, with_pc}
+use Rattle.a2_cpu.specs.Instruction.{after_effect, called, called_place, gone_to, jumped, jumped_through, next_address, operand_byte, performed, pulled, replaced_registers, returned, returned_from_interrupt, with_pc}
 use Rattle.a2_services.specs.World.{World}
-use Rattle.a2_services.specs.Services.{service_at}
+use Rattle.a2_services.specs.declared.Service.{Service}
+use Rattle.a2_services.specs.Services.{fits, service_at}
 use Rattle.a2_machine.specs.declared.Cause.{Cause}
-use Rattle.a2_machine.specs.Meaning.{Code, Decoded, found_at_pc, next, world_at}
+use Rattle.a2_machine.specs.Meaning.{Code, Decoded, found_at_pc, next, stuck, world_at}
 use Rattle.a2_uses.specs.declared.Part.{Part}
 use Rattle.a2_uses.specs.declared.Part.TheVariants.{A as part_a, X as part_x, Y as part_y}
 use Rattle.a2_uses.specs.Parts.{needs, mode_needs, sets_parts}
 use Rattle.a2_reads.specs.Reads.{AgreeOn, Knows}
-use Rattle.a2_reads.specs.Parts.{held, is_part, with_parts}
-use Rattle.a2_reads.specs.Runs.{RunReads, known_behind}
-use Rattle.a2_reads.specs.Uses.{Near, RunNeeds, found_needs, found_sets, parts_behind}
+use Rattle.a2_reads.specs.Parts.{held, is_part}
+use Rattle.a2_reads.specs.Runs.{RunReads, StepReads, known_behind}
+use Rattle.a2_reads.specs.Services.{is_keyless}
+use Rattle.a2_reads.specs.Uses.{Near, RunNeeds, found_needs, found_sets, step_needs, step_sets, parts_behind}
 use Rattle.a2_reads.specs.Stays.{is_register, UnknownRegistersStay}
 use Rattle.a2_reads.proofs.Nearing.{knows-append}
-use Rattle.a2_reads.proofs.Running.{done_at, next_is, runs}
+use Rattle.a2_reads.proofs.Running.{done_at, found_there, keyless_there, needs_at, next_is, next_served, not_home, not_stuck, runs, sets_at, step as one_step, stuck_served}
+use Rattle.a2_reads.proofs.Serving.{keeping}
 
 -- the registers that an effect leaves, by a byte that it may take; flags, S and PC are left out that go with the stack
 changed : Effect → ℕ → Registers → Registers
@@ -155,13 +158,39 @@ is_unknown true bad = absurd (true≢false bad)
 is_unknown false is = refl
 
 step : (found : Result Decoded Cause) (w : World) (known : Part → Bool) (part : Part) → is_register part ≡ true
-    → Knows known (found_needs found) → IsTrue (not (with_parts (found_sets found) known part))
+    → Knows known (found_needs found) → list_any (is_part part) (found_sets found) ≡ false → known part ≡ false
     → held part (done_at found w).registers ≡ held part w.registers
-step (Err cause) w known part is looks unknown = refl
-step (Ok d) w known part is looks unknown =
-    let both : (list_any (is_part part) (sets_parts d.row.mnemonic) ≡ false) × (known part ≡ false) =
-    neither (list_any (is_part part) (sets_parts d.row.mnemonic)) (known part) unknown in
-    instruction d.row d.value w known part is (knows-append known (needs d.row.mnemonic) (mode_needs d.row.mode) looks).1 both.1 both.0
+step (Err cause) w known part is looks unset unknown = refl
+step (Ok d) w known part is looks unset unknown =
+    instruction d.row d.value w known part is (knows-append known (needs d.row.mnemonic) (mode_needs d.row.mode) looks).1 unknown unset
+
+-- the step from the second of two worlds keeps a register that is not known behind it
+by_step : (code : Code) (k : Part → Bool) (known : ℕ → Bool) (s t : World) → Near k (AgreeOn known) s t → StepReads code known s
+    → Knows k (step_needs code s) → (part : Part) → is_register part ≡ true → list_any (is_part part) (step_sets code s) ≡ false → k part ≡ false
+    → held part (next code t).registers ≡ held part t.registers
+by_step code k known s t h reads looks part is unset unknown = go (service_at s.registers.pc) refl
+  where
+    there : (o : Option Service) → service_at s.registers.pc ≡ o → service_at t.registers.pc ≡ o
+    there o at = ap (λ pc. service_at pc) (sym h.registers.pc) ∙ at
+
+    free : stuck code t ≡ None
+    free = (one_step code k known s t h reads looks).0
+
+    go : (o : Option Service) → service_at s.registers.pc ≡ o → held part (next code t).registers ≡ held part t.registers
+    go None at =
+        let found : Result Decoded Cause = found_at_pc code s in
+        let same : found_at_pc code t ≡ found =
+        ap (λ pc. code.instruction_at t.memory pc) (sym h.registers.pc) ∙ found_there code known s reads at t.memory h.memory in
+        ap (λ (v : World). held part v.registers) (next_is code t found (there None at) same)
+        ∙ step found t k part is (subst (λ ps. Knows k ps) (needs_at code s None at) looks)
+        (sym (ap (λ ps. list_any (is_part part) ps) (sets_at code s None at)) ∙ unset) unknown
+    go (Some service) at =
+        let keyless : is_keyless service ≡ true = keyless_there code known s service reads at in
+        let fitting : fits service t.registers t.memory ≡ true =
+        (not_stuck code.protected service t (sym (stuck_served code t service (not_home code t free) (there (Some service) at)) ∙ free)).1 in
+        ap (λ (v : World). held part v.registers) (next_served code t service (there (Some service) at))
+        ∙ (keeping service t keyless fitting h.memory.right_pages).1 part
+        (sym (ap (λ ps. list_any (is_part part) ps) (sets_at code s (Some service) at)) ∙ unset)
 
 pub staying : UnknownRegistersStay
 unfolding parts_behind world_at
@@ -172,13 +201,8 @@ staying code parts bytes s t (suc n) h reads looks part is unknown =
     let needed : RunNeeds code parts s n = λ k lt. (let below : k < suc n = omega (arith, lt) in looks k below) in
     let near : Near (parts_behind code parts s n) (AgreeOn (known_behind code bytes s n)) (world_at code s n) (world_at code t n) =
     (runs code parts bytes s t n h before needed).0 in
-    let found : Result Decoded Cause = found_at_pc code (world_at code s n) in
-    let same : found_at_pc code (world_at code t n) ≡ found =
-    ap (λ pc. code.instruction_at (world_at code t n).memory pc) (sym near.registers.pc) ∙ (reads n last).found (world_at code t n).memory near.memory in
-    let free : service_at (world_at code t n).registers.pc ≡ None =
-    ap (λ pc. service_at pc) (sym near.registers.pc) ∙ (reads n last).no_service in
-    let both : (list_any (is_part part) (found_sets found) ≡ false) × (parts_behind code parts s n part ≡ false) =
-    neither (list_any (is_part part) (found_sets found)) (parts_behind code parts s n part) unknown in
-    ap (λ (v : World). held part v.registers) (next_is code (world_at code t n) found free same)
-    ∙ step found (world_at code t n) (parts_behind code parts s n) part is (looks n last) unknown
+    let both : (list_any (is_part part) (step_sets code (world_at code s n)) ≡ false) × (parts_behind code parts s n part ≡ false) =
+    neither (list_any (is_part part) (step_sets code (world_at code s n))) (parts_behind code parts s n part) unknown in
+    by_step code (parts_behind code parts s n) (known_behind code bytes s n) (world_at code s n) (world_at code t n) near (reads n last) (looks n last)
+    part is both.0 both.1
     ∙ staying code parts bytes s t n h before needed part is (is_unknown (parts_behind code parts s n part) both.1)

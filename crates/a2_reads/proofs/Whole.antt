@@ -5,13 +5,13 @@ use Rattle.std.proofs.Common.{ap}
 use Rattle.a2_cpu.specs.Instruction.{Alike}
 use Rattle.a2_cpu.specs.Registers.{Registers}
 use Rattle.a2_services.specs.World.{World}
-use Rattle.a2_machine.specs.Meaning.{Code, found_at_pc, world_at}
+use Rattle.a2_machine.specs.Meaning.{Code, world_at}
 use Rattle.a2_reads.specs.Reads.{AgreeOn, Knows}
 use Rattle.a2_uses.specs.declared.Part.{Part}
 use Rattle.a2_uses.specs.declared.Part.TheVariants.{A as part_a, X as part_x, Y as part_y, N as part_n, V as part_v, D as part_d, I as part_i, Z as part_z, C as part_c}
 use Rattle.a2_reads.specs.Parts.{held, is_part, MatchAt, with_parts}
 use Rattle.a2_reads.specs.Runs.{InstructionsDependOnReads, StepsDependOnReads, RunsDependOnReads}
-use Rattle.a2_reads.specs.Uses.{Near, found_sets, parts_behind}
+use Rattle.a2_reads.specs.Uses.{Near, step_sets, parts_behind}
 use Rattle.a2_reads.proofs.Agreeing.{among_or}
 use Rattle.a2_reads.proofs.Running.{instruction, step, runs}
 
@@ -36,7 +36,7 @@ with_parts-all more k all p = among_or (list_any (is_part p) more) (k p) (all p)
 behind-all : (code : Code) (k : Part → Bool) (s : World) (n : ℕ) → All k → All (parts_behind code k s n)
 unfolding parts_behind
 behind-all code k s zero all = all
-behind-all code k s (suc n) all = with_parts-all (found_sets (found_at_pc code (world_at code s n))) (parts_behind code k s n) (behind-all code k s n all)
+behind-all code k s (suc n) all = with_parts-all (step_sets code (world_at code s n)) (parts_behind code k s n) (behind-all code k s n all)
 
 near : (known : ℕ → Bool) (s t : World) → Alike (AgreeOn known) s t → Near every (AgreeOn known) s t
 near known s t h = record {

@@ -1,5 +1,5 @@
 -- An instruction, a step and a run depend on nothing but what they read. This project's own.
-use Rattle.std.specs.Prelude.{◌≡◌, ◌<◌, ◌≤◌, ℕ, zero, suc, Bool, List, [], ◌++◌, None, Result, Ok, Err}
+use Rattle.std.specs.Prelude.{◌≡◌, ◌<◌, ◌≤◌, ℕ, zero, suc, Bool, true, List, [], ◌++◌, Some, None, Result, Ok, Err, MatchOption}
 use Rattle.a2_opcode.specs.declared.Row.{Row}
 use Rattle.a2_bus.specs.Memory.{Memory, memory_access, ram_byte}
 use Rattle.a2_cpu.specs.Instruction.{Alike, performed}
@@ -11,6 +11,7 @@ use Rattle.a2_machine.specs.declared.Cause.TheVariants.{Returned}
 use Rattle.a2_machine.specs.Meaning.{Code, Decoded, IsEnd, found_at_pc, return_address, stuck, next, world_at}
 use Rattle.a2_uses.specs.Reads.{reads_of}
 use Rattle.a2_reads.specs.Reads.{Knows, with_bytes, AgreeOn}
+use Rattle.a2_reads.specs.Services.{is_keyless, service_reads, service_stores}
 
 -- Two states alike at known bytes, of which an instruction reads no other: behind it they are alike at those that it stored
 -- at too, and in both it stores at the same addresses.
@@ -22,7 +23,7 @@ InstructionsDependOnReads =
     (performed memory_access row value s) (performed memory_access row value t)
     × (stores_of memory_access row value s ≡ stores_of memory_access row value t)
 
--- the addresses that what is found at PC reads, and those that it stores at
+-- the addresses that an instruction that is found at PC reads, and those that it stores at
 abbrev pub found_reads : Result Decoded Cause → World → List ℕ
 found_reads (Ok decoded) world = reads_of memory_access decoded.row decoded.value world
 found_reads (Err cause) world = []
@@ -31,19 +32,28 @@ abbrev pub found_stores : Result Decoded Cause → World → List ℕ
 found_stores (Ok decoded) world = stores_of memory_access decoded.row decoded.value world
 found_stores (Err cause) world = []
 
+-- those that the next step does, which is a service or an instruction
 unfoldable pub step_reads : Code → World → List ℕ
-step_reads code world = found_reads (found_at_pc code world) world
+step_reads code world =
+    elim (service_at world.registers.pc) [
+      | Some service ↦ service_reads service world
+      | None ↦ found_reads (found_at_pc code world) world
+    ]
 
 unfoldable pub step_stores : Code → World → List ℕ
-step_stores code world = found_stores (found_at_pc code world) world
+step_stores code world =
+    elim (service_at world.registers.pc) [
+      | Some service ↦ service_stores service world
+      | None ↦ found_stores (found_at_pc code world) world
+    ]
 
--- A step is made, of an instruction and no service, that reads known bytes alone. Every memory that agrees at these has the
--- same instruction there: of a program's statements that is so by itself.
+-- A step is made that reads known bytes alone: a service that needs no key, or an instruction that every memory has there that agrees at
+-- these; of a program's statements that is so by itself.
 pub record StepReads (code : Code) (known : ℕ → Bool) (world : World) : Type 0 where
   pub going : stuck code world ≡ None
-  pub no_service : service_at world.registers.pc ≡ None
-  pub found : (other : Memory) → AgreeOn known world.memory other
-      → code.instruction_at other world.registers.pc ≡ found_at_pc code world
+  pub found : MatchOption (service_at world.registers.pc)
+      ((other : Memory) → AgreeOn known world.memory other → code.instruction_at other world.registers.pc ≡ found_at_pc code world)
+      (λ service. is_keyless service ≡ true)
   pub reads : Knows known (step_reads code world)
 
 -- the same of a step: the other world is not stuck either

@@ -83,9 +83,9 @@ module _ (w v : World) (steps : ℕ) (bw : OnlyBytes w) (bv : OnlyBytes v) where
 
 -- Bytes that may change
 
--- an address that `changes` names, or one of the stack below the return address
+-- an address that `changes` names, or one of the routine's own of the stack, where S is $FD
 abbrev pub may_be_stored : Terms → ℕ → Bool
-may_be_stored terms a = is_in terms.ranges a || is_own a
+may_be_stored terms a = is_in terms.ranges a || is_own 0xFD a
 
 same_ranges : (ranges : List Range) (a : ℕ)
     → list_any (λ range. nat_le range.first a && nat_le a range.last) ranges ≡ is_in (map (λ range. (range.first, range.last)) ranges) a
@@ -205,16 +205,16 @@ module _ (all : List Statement) (program : Assembled) (sound : IsSound program) 
     registers part_z h = absurd (true≢false h)
     registers part_c h = absurd (true≢false h)
 
-    not_stored : (a : ℕ) → is_own a ≡ false → may_store promise.changes a ≡ false → may_be_stored terms a ≡ false
+    not_stored : (a : ℕ) → is_own 0xFD a ≡ false → may_store promise.changes a ≡ false → may_be_stored terms a ≡ false
     not_stored a own may =
         ap₂ (λ x y. x || y)
         (sym (same_ranges promise.changes.ranges.items a ∙ ap (λ l. is_in l a) says.ranges) ∙ may) own
 
-    rest : (a : ℕ) → a < ram_end → is_own a ≡ false → may_store promise.changes a ≡ false
+    rest : (a : ℕ) → a < ram_end → is_own w.registers.s a ≡ false → may_store promise.changes a ≡ false
         → ram_byte (world_at (bytes None) w (suc n)).memory a ≡ ram_byte w.memory a
     rest a here own may =
         ap (λ (x : World). ram_byte x.memory a) whole.there
-        ∙ after.rest.bytes a (passes_not (may_be_stored terms) changed a stored (not_stored a own may))
+        ∙ after.rest.bytes a (passes_not (may_be_stored terms) changed a stored (not_stored a (ap (λ s. is_own s a) enters.registers.s ∙ own) may))
 
     all_taken : (world_at (bytes None) w (suc n)).memory.devices.keys ≡ []
     all_taken =

@@ -1,6 +1,6 @@
 -- A state that is tried: what promises see of a board, and a promise that is kept behind the routine's own RTS.
-use Rattle.std.specs.Prelude.{◌≡◌, ◌⊎◌, ◌<◌, ◌≤◌, ℕ, suc, ◌+◌, ◌-◌, ◌||◌, Bool, true, false, IsTrue, List, [], length, Some, None, slice_get, slice_index, refl}
-use Rattle.std.proofs.Common.{sym, ap, ap₂, ◌∙◌, subst, arith, inl, inr, true≢false}
+use Rattle.std.specs.Prelude.{◌≡◌, ◌⊎◌, ◌<◌, ◌≤◌, ℕ, suc, ◌+◌, ◌-◌, ◌||◌, Bool, true, false, IsTrue, List, [], length, Some, None, slice_get, slice_index, if◌then◌else◌, refl}
+use Rattle.std.proofs.Common.{sym, ap, ◌∙◌, subst, arith, inl, inr, true≢false}
 use Rattle.std.proofs.lemmas.Bool.{cases_lt}
 use Rattle.std.proofs.lemmas.List.{get_or_past}
 use Rattle.std.proofs.lemmas.List.FromFn.{fill_by_all}
@@ -28,7 +28,9 @@ use Rattle.a2_uses.specs.declared.Part.TheVariants.{A as part_a, X as part_x, Y 
 use Rattle.a2_reads.specs.Calls.{GoesBack}
 use Rattle.a2_reads.specs.Parts.{held}
 use Rattle.a2_reads.specs.Reads.{AgreeOn}
-use Rattle.a2_reads.specs.Runs.{known_behind}
+use Rattle.a2_cpu.specs.Stores.{IsNotIn}
+use Rattle.a2_reads.specs.Runs.{known_behind, stores_in}
+use Rattle.a2_reads.specs.Turned.{in_stack}
 use Rattle.a2_reads.specs.Uses.{Near, parts_behind}
 use Rattle.a2_reads.proofs.Calling.{calls}
 use Rattle.a2_reads.proofs.Running.{runs}
@@ -58,8 +60,11 @@ stepped registers bus size opcode there new_registers new_bus cycles before told
     instruction_step None registers bus size low refl new_registers new_bus (answer.Next cycles) told left_registers left_bus in
     made.world before
 
-not_allowed : (changes : Changes) (a : ℕ) → is_own a ≡ false → may_store changes a ≡ false → is_allowed changes a ≡ false
-not_allowed changes a own may = ap₂ (λ one other. one || other) may own
+not_allowed : (changes : Changes) (a : ℕ) → in_stack a ≡ false → may_store changes a ≡ false → is_allowed changes a ≡ false
+not_allowed changes a off may = ap (λ v. if v then is_own 0xFD a else may_store changes a) off ∙ may
+
+not_own : (changes : Changes) (a : ℕ) → in_stack a ≡ true → is_own 0xFD a ≡ false → is_allowed changes a ≡ false
+not_own changes a stacked own = ap (λ v. if v then is_own 0xFD a else may_store changes a) stacked ∙ own
 
 module _ (known marks : List Bool) (parts last : Parts) (promise : Promise) (first : Registers) (first_bus : BusState)
     (registers : Registers) (bus : BusState) (cycles n : ℕ)
@@ -74,12 +79,15 @@ module _ (known marks : List Bool) (parts last : Parts) (promise : Promise) (fir
   parts_same : knows_part last ≡ parts_behind code (knows_part parts) (world_of first first_bus 0) n
   parts_same = λ i part. home.walk.parts part i
 
-  unmarked : (a : ℕ) → is_own a ≡ false → may_store promise.changes a ≡ false → is_set marks a ≡ false
-  unmarked a own may = go (is_set marks a) refl
+  unmarked : (a : ℕ) → is_allowed promise.changes a ≡ false → is_set marks a ≡ false
+  unmarked a not_allowed = go (is_set marks a) refl
     where
       go : (set : Bool) → is_set marks a ≡ set → is_set marks a ≡ false
-      go true is = absurd (true≢false (sym (home.walk.allowed a is).0 ∙ not_allowed promise.changes a own may))
+      go true is = absurd (true≢false (sym (home.walk.allowed a is).0 ∙ not_allowed))
       go false is = is
+
+  unstored : (a : ℕ) → is_allowed promise.changes a ≡ false → IsNotIn a (stores_in code (world_of first first_bus 0) n)
+  unstored a out = not_stored code (world_of first first_bus 0) n a (sym (home.walk.stored a) ∙ unmarked a out)
 
   module _ (behind : Registers) (behind_bus : BusState) (total : ℕ)
       (made : world_of behind behind_bus total ≡ next code (world_of registers bus cycles)) where
@@ -119,6 +127,9 @@ module _ (known marks : List Bool) (parts last : Parts) (promise : Promise) (fir
       within = omega (arith, within);
       comes = home.comes;
       implied = home.implied;
+      off_stack = home.walk.off_stack;
+      home_off_stack = home.home_off_stack;
+      own = λ a stacked own. unstored a (not_own promise.changes a stacked (ap (λ s. is_own s a) (sym home.s) ∙ own));
       looks =
           subst (λ (bytes : ℕ → Bool). LookAtKnown promise.promised.items (known_by (is_set known) (knows_part parts))
           (known_by bytes (parts_behind code (knows_part parts) (world_of first first_bus 0) n)) entry behind_moment) known_same
@@ -128,7 +139,7 @@ module _ (known marks : List Bool) (parts last : Parts) (promise : Promise) (fir
           (known_by (known_now known marks) (knows_part last)) entry m) end_seen looks));
       ensured = sym (ap (λ m. all_hold promise.promised.items entry m) end_seen) ∙ hold;
       registers = λ part may. stayed part (same part may);
-      rest = λ a low own may. inl (not_stored code (world_of first first_bus 0) n a (sym (home.walk.stored a) ∙ unmarked a own may));
+      rest = λ a low off may. inl (unstored a (not_allowed promise.changes a off may));
     }
 
     -- behind the RTS each byte is as before that is not marked as stored at

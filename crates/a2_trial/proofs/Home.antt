@@ -12,17 +12,18 @@ use Rattle.a2_cpu.specs.Registers.{Registers}
 use Rattle.a2_cpu.specs.Stores.{IsNotIn}
 use Rattle.a2_services.specs.World.{World, world_of}
 use Rattle.a2_services.specs.Services.{service_at}
-use Rattle.a2_machine.specs.Meaning.{Code, Decoded, found_at_pc, next, stuck, world_at}
+use Rattle.a2_machine.specs.Meaning.{Code, Decoded, next, stuck, world_at}
 use Rattle.a2_machine.proofs.Outcomes.{no_return, no_service}
 use Rattle.a2_promise.specs.declared.promises.Changes.{Changes}
 use Rattle.a2_uses.specs.declared.Part.{Part}
 use Rattle.a2_uses.specs.Reads.{pull_address}
 use Rattle.a2_reads.specs.Calls.{ComesToRts}
-use Rattle.a2_reads.specs.Fetches.{fetch_reads}
+use Rattle.a2_reads.specs.Fetches.{addresses_from, fetch_reads}
 use Rattle.a2_reads.specs.Parts.{is_part}
 use Rattle.a2_reads.specs.Reads.{AgreeOn, Knows}
 use Rattle.a2_reads.specs.Runs.{StepReads, known_behind, step_stores, stores_in}
-use Rattle.a2_reads.specs.Uses.{found_needs, found_sets, parts_behind}
+use Rattle.a2_reads.specs.Turned.{StepIsOffStack, in_stack}
+use Rattle.a2_reads.specs.Uses.{step_needs, step_sets, parts_behind}
 use Rattle.a2_reads.proofs.Calling.{not_refused}
 use Rattle.a2_reads.proofs.Fetching.{fetches}
 use Rattle.a2_reads.proofs.Running.{stuck_is}
@@ -83,6 +84,7 @@ none known stored parts changes registers bus clear = record {
   world = refl;
   reads = λ k lt. (let bad : ⊥ = omega (arith, lt) in absurd bad);
   needs = λ k lt. (let bad : ⊥ = omega (arith, lt) in absurd bad);
+  off_stack = λ k lt. (let bad : ⊥ = omega (arith, lt) in absurd bad);
   stored = clear;
   parts = λ part. refl;
   allowed = λ a is. absurd (true≢false (sym is ∙ clear a));
@@ -108,10 +110,10 @@ module _ (known stored new_stored : List Bool) (first_parts parts new_parts : Pa
         (subst (λ (k : ℕ → Bool). StepReads code k (world_of registers bus cycles)) known_same (step.reads cycles))
 
     needs_last : Knows (parts_behind code (knows_part first_parts) (world_of first first_bus 0) n)
-        (found_needs (found_at_pc code (world_at code (world_of first first_bus 0) n)))
+        (step_needs code (world_at code (world_of first first_bus 0) n))
     needs_last =
-        subst (λ (w : World). Knows (parts_behind code (knows_part first_parts) (world_of first first_bus 0) n) (found_needs (found_at_pc code w))) so_far.world
-        (subst (λ (k : Part → Bool). Knows k (found_needs (found_at_pc code (world_of registers bus cycles)))) parts_same (step.needs cycles))
+        subst (λ (w : World). Knows (parts_behind code (knows_part first_parts) (world_of first first_bus 0) n) (step_needs code w)) so_far.world
+        (subst (λ (k : Part → Bool). Knows k (step_needs code (world_of registers bus cycles))) parts_same (step.needs cycles))
 
     reads_each : (k : ℕ) → (k < n) ⊎ (k ≡ n)
         → StepReads code (known_behind code (is_set known) (world_of first first_bus 0) k) (world_at code (world_of first first_bus 0) k)
@@ -121,11 +123,17 @@ module _ (known stored new_stored : List Bool) (first_parts parts new_parts : Pa
 
     needs_each : (k : ℕ) → (k < n) ⊎ (k ≡ n)
         → Knows (parts_behind code (knows_part first_parts) (world_of first first_bus 0) k)
-        (found_needs (found_at_pc code (world_at code (world_of first first_bus 0) k)))
+        (step_needs code (world_at code (world_of first first_bus 0) k))
     needs_each k (inl low) = so_far.needs k low
     needs_each k (inr e) =
         subst (λ j. Knows (parts_behind code (knows_part first_parts) (world_of first first_bus 0) j)
-        (found_needs (found_at_pc code (world_at code (world_of first first_bus 0) j)))) (sym e) needs_last
+        (step_needs code (world_at code (world_of first first_bus 0) j))) (sym e) needs_last
+
+    off_each : (k : ℕ) → (k < n) ⊎ (k ≡ n) → StepIsOffStack (world_at code (world_of first first_bus 0) k)
+    off_each k (inl low) = so_far.off_stack k low
+    off_each k (inr e) =
+        subst (λ j. StepIsOffStack (world_at code (world_of first first_bus 0) j)) (sym e)
+        (subst (λ (w : World). StepIsOffStack w) so_far.world (step.off_stack cycles))
 
     may : (a : ℕ) (among : Bool) → is_among (step_stores code (world_of registers bus cycles)) a ≡ among
         → (among || is_set stored a) ≡ true → MayStore changes a
@@ -138,14 +146,15 @@ module _ (known stored new_stored : List Bool) (first_parts parts new_parts : Pa
       world = step.world cycles ∙ ap (λ w. next code w) so_far.world;
       reads = λ k lt. reads_each k (below_or_last k n lt);
       needs = λ k lt. needs_each k (below_or_last k n lt);
+      off_stack = λ k lt. off_each k (below_or_last k n lt);
       stored = λ a.
           (step.stores cycles).marks a
           ∙ ap (λ v. is_among (step_stores code (world_of registers bus cycles)) a || v) (so_far.stored a)
           ∙ ap (λ (w : World). is_among (step_stores code w) a || known_behind code (λ b. false) (world_of first first_bus 0) n a) so_far.world;
       parts = λ part.
           step.parts cycles part
-          ∙ ap (λ v. list_any (is_part part) (found_sets (found_at_pc code (world_of registers bus cycles))) || v) (so_far.parts part)
-          ∙ ap (λ (w : World). list_any (is_part part) (found_sets (found_at_pc code w)) || parts_behind code (knows_part first_parts) (world_of first first_bus 0) n part)
+          ∙ ap (λ v. list_any (is_part part) (step_sets code (world_of registers bus cycles)) || v) (so_far.parts part)
+          ∙ ap (λ (w : World). list_any (is_part part) (step_sets code w) || parts_behind code (knows_part first_parts) (world_of first first_bus 0) n part)
           so_far.world;
       allowed = λ a is.
           may a (is_among (step_stores code (world_of registers bus cycles)) a) refl (sym ((step.stores cycles).marks a) ∙ is);
@@ -201,4 +210,10 @@ module _ (known stored new_stored : List Bool) (first_parts parts new_parts : Pa
 
     pub home : IsHome known stored first_parts parts changes first first_bus registers bus cycles n
     unfolding comes
-    home = record { walk = so_far; comes = comes; implied = (is_row instr registers bus size stands).mode_is ∙ own.mode }
+    home = record {
+      walk = so_far;
+      comes = comes;
+      implied = (is_row instr registers bus size stands).mode_is ∙ own.mode;
+      s = first_s;
+      home_off_stack = subst (λ (w : World). list_any in_stack (addresses_from w.registers.pc 3) ≡ false) so_far.world own.off_stack;
+    }

@@ -1,10 +1,12 @@
 pub mod States
 pub mod Moments
+pub mod Turned
 pub mod Everywhere
 pub mod Marks
 pub mod But
 pub mod Standing
 pub mod Walking
+pub mod Called
 pub mod Home
 pub mod Returning
 pub mod Looking
@@ -14,3 +16,6 @@ pub mod Putting
 pub mod Trying
 pub mod Filling
 pub mod Laying
+pub mod Cursors
+pub mod Ranges
+pub mod Settling

@@ -1,13 +1,22 @@
 -- Marks, and registers and flags that are known.
-use Rattle.std.specs.Prelude.{◌≡◌, ◌≢◌, ◌<◌, ℕ, zero, suc, ◌==◌, ◌||◌, Bool, true, false, IsTrue, List, [], ◌∷◌, length, slice_set, refl}
+use Rattle.std.specs.Prelude.{◌≡◌, ◌≢◌, ◌⊎◌, ◌<◌, ◌≤◌, ℕ, zero, suc, ◌+◌, ◌-◌, ◌%◌, ◌==◌, ◌||◌, ◌&&◌, nat_le, nat_lt, Bool, true, false, IsTrue, List, [], ◌∷◌, ◌++◌, length, map, slice_set, refl}
+use Rattle.std.specs.List.{flat_map}
 use Rattle.std.proofs.Common.{sym, ap, ◌∙◌, subst, arith, true≢false}
 use Rattle.std.proofs.lemmas.Bool.Decides.{nat_tests}
+use Rattle.std.proofs.Math.Bool.{or-false}
+use Rattle.std.proofs.lemmas.List.{append-nil, map-id}
+use Rattle.std.proofs.lemmas.List.Concat.{flat_map_single}
+use Rattle.std.proofs.lemmas.List.Folds.{list_any-append}
+use Rattle.std.proofs.lemmas.Grind.{flat_map-append}
 use Rattle.a2_text.specs.Bytes.{is_among}
+use Rattle.a2_page.specs.Cells.{numbers_from}
 use Rattle.a2_uses.specs.declared.Part.{Part}
 use Rattle.a2_uses.specs.declared.Part.TheVariants.{A as part_a, X as part_x, Y as part_y, N as part_n, V as part_v, D as part_d, I as part_i, Z as part_z, C as part_c}
 use Rattle.a2_reads.specs.Parts.{is_part}
+use Rattle.a2_reads.specs.Turned.{in_stack}
 use Rattle.a2_trial.specs.declared.parts.Parts.{Parts}
 use Rattle.a2_promise.specs.declared.promises.Changes.{Changes}
+use Rattle.a2_trial.specs.Kept.{is_own}
 use Rattle.a2_trial.specs.Walking.{AreMarked, MayStore, is_allowed, is_set, knows_part, with_part}
 
 -- Parts
@@ -49,6 +58,30 @@ learned part p parts before known e =
 
 -- Marks
 
+-- with S = $FD the routine's own bytes of the stack lie from $180 to $1FD
+pub own_is : (a : ℕ) → (nat_le 0x180 a && nat_le a 0x1FD) ≡ is_own 0xFD a
+own_is a = go (in_stack a) refl
+  where
+    low : in_stack a ≡ true → 0x100 ≤ a
+    low is = grind (arith, nat_tests, is)
+
+    high : in_stack a ≡ true → a ≤ 0x1FF
+    high is = grind (arith, nat_tests, is)
+
+    place : 0x100 ≤ a → a ≤ 0x1FF → (a < 0x180) ⊎ (((0x180 ≤ a) × (a ≤ 0x1FD)) ⊎ (0x1FD < a))
+    place low high = grind (arith, low, high)
+
+    by_place : in_stack a ≡ true → (a < 0x180) ⊎ (((0x180 ≤ a) × (a ≤ 0x1FD)) ⊎ (0x1FD < a))
+        → (nat_le 0x180 a && nat_le a 0x1FD) ≡ nat_lt ((0xFD + 0x200 - a) % 256) 126
+    by_place is h = grind (arith, nat_tests, is, h)
+
+    elsewhere : in_stack a ≡ false → (nat_le 0x180 a && nat_le a 0x1FD) ≡ false
+    elsewhere is = grind (arith, nat_tests, is)
+
+    go : (stacked : Bool) → in_stack a ≡ stacked → (nat_le 0x180 a && nat_le a 0x1FD) ≡ is_own 0xFD a
+    go true is = by_place is (place (low is) (high is)) ∙ ap (λ v. v && nat_lt ((0xFD + 0x200 - a) % 256) 126) (sym is)
+    go false is = elsewhere is ∙ ap (λ v. v && nat_lt ((0xFD + 0x200 - a) % 256) 126) (sym is)
+
 pub marked : (xs : List Bool) (i a : ℕ) → i < length xs → is_set (slice_set xs i true) a ≡ ((i == a) || is_set xs a)
 marked [] i a lt = let bad : ⊥ = omega (arith, lt) in absurd bad
 marked (x ∷ xs) zero zero lt = let e : (0 == 0) ≡ true = grind (arith, nat_tests) in ap (λ b. b || x) (sym e)
@@ -69,13 +102,9 @@ same_number m n is = go (m == n) refl is
 pub one_marked : (old new : List Bool) (changes : Changes) (a : ℕ) → ((b : ℕ) → is_set new b ≡ ((a == b) || is_set old b))
     → is_allowed changes a ≡ true → a ≢ 0x1FE → a ≢ 0x1FF → AreMarked old new changes (a ∷ [])
 one_marked old new changes a marks allowed first second = record {
-  marks = λ b. marks b ∙ ap (λ v. v || is_set old b) (or_none (a == b));
+  marks = λ b. marks b ∙ ap (λ v. v || is_set old b) (sym (or-false (a == b)));
   allowed = λ b among. subst (λ n. MayStore changes n) (sym (same_number a b among)) (allowed, first, second);
 }
-  where
-    or_none : (v : Bool) → v ≡ (v || false)
-    or_none true = refl
-    or_none false = refl
 
 pub none_marked : (old : List Bool) (changes : Changes) → AreMarked old old changes []
 none_marked old changes = record {
@@ -83,18 +112,47 @@ none_marked old changes = record {
   allowed = λ a bad. absurd (true≢false (sym bad));
 }
 
--- the second, and then the first
-pub two_marked : (old between new : List Bool) (changes : Changes) (a b : ℕ) → AreMarked old between changes (b ∷ [])
-    → AreMarked between new changes (a ∷ []) → AreMarked old new changes (a ∷ b ∷ [])
-two_marked old between new changes a b second first = record {
-  marks = λ n. first.marks n ∙ ap (λ v. ((a == n) || false) || v) (second.marks n) ∙ join (a == n) (b == n) (is_set old n);
-  allowed = λ n among. either n (a == n) refl among;
+-- some, and then more
+pub both_marked : (old between new : List Bool) (changes : Changes) (xs ys : List ℕ) → AreMarked old between changes xs
+    → AreMarked between new changes ys → AreMarked old new changes (xs ++ ys)
+both_marked old between new changes xs ys first second = record {
+  marks = λ a.
+      second.marks a ∙ ap (λ v. is_among ys a || v) (first.marks a) ∙ regroup (is_among ys a) (is_among xs a) (is_set old a)
+      ∙ ap (λ v. v || is_set old a) (sym (list_any-append (λ m. m == a) xs ys));
+  allowed = λ a among. either a (is_among xs a) refl (sym (list_any-append (λ m. m == a) xs ys) ∙ among);
 }
   where
-    join : (x y z : Bool) → ((x || false) || ((y || false) || z)) ≡ ((x || (y || false)) || z)
-    join true y z = refl
-    join false y z = refl
+    either : (a : ℕ) (here : Bool) → is_among xs a ≡ here → (here || is_among ys a) ≡ true → MayStore changes a
+    either a true is _ = first.allowed a is
+    either a false _ among = second.allowed a among
 
-    either : (n : ℕ) (here : Bool) → (a == n) ≡ here → (here || is_among (b ∷ []) n) ≡ true → MayStore changes n
-    either n true e _ = first.allowed n (ap (λ v. v || false) e)
-    either n false e among = second.allowed n among
+-- Marks for each number
+
+numbers_more : (first count : ℕ) → numbers_from first count ++ (first + count) ∷ [] ≡ numbers_from first (suc count)
+numbers_more first zero = let e : first + 0 ≡ first = omega arith in ap (λ n. n ∷ []) e
+numbers_more first (suc count) =
+    let e : first + suc count ≡ suc first + count = omega arith in
+    ap (λ n. first ∷ numbers_from (suc first) count ++ n ∷ []) e ∙ ap (λ ns. first ∷ ns) (numbers_more (suc first) count)
+
+-- those of one number more
+pub more_marked : (old between new : List Bool) (changes : Changes) (f : ℕ → List ℕ) (first count : ℕ)
+    → AreMarked old between changes (flat_map f (numbers_from first count)) → AreMarked between new changes (f (first + count))
+    → AreMarked old new changes (flat_map f (numbers_from first (count + 1)))
+more_marked old between new changes f first count some one =
+    let next : suc count ≡ count + 1 = omega arith in
+    subst (AreMarked old new changes)
+    (ap (λ ns. flat_map f (numbers_from first count) ++ ns) (sym (append-nil (f (first + count))))
+    ∙ sym (flat_map-append f (numbers_from first count) ((first + count) ∷ []))
+    ∙ ap (flat_map f) (numbers_more first count ∙ ap (numbers_from first) next))
+    (both_marked old between new changes (flat_map f (numbers_from first count)) (f (first + count)) some one)
+
+-- a list of each number alone
+pub each_alone : (first count : ℕ) → flat_map (λ a. a ∷ []) (numbers_from first count) ≡ numbers_from first count
+each_alone first count = flat_map_single (λ a. a) (numbers_from first count) ∙ map-id (numbers_from first count)
+
+-- numbers behind another
+pub numbers_behind : (start first count : ℕ) → numbers_from (start + first) count ≡ map (λ n. start + n) (numbers_from first count)
+numbers_behind start first zero = refl
+numbers_behind start first (suc count) =
+    let next : suc (start + first) ≡ start + suc first = omega arith in
+    ap (λ ns. (start + first) ∷ ns) (ap (λ n. numbers_from n count) next ∙ numbers_behind start (suc first) count)

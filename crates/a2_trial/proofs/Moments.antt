@@ -1,9 +1,10 @@
 -- What a promise says is the same of two worlds that are alike at what it looks at.
-use Rattle.std.specs.Prelude.{◌≡◌, ◌⊎◌, ◌<◌, ◌≤◌, ℕ, ◌-◌, pos, ◌&&◌, Bool, IsTrue, List, [], ◌∷◌, map, length, Some, None, slice_get, refl}
+use Rattle.std.specs.Prelude.{◌≡◌, ◌⊎◌, ◌<◌, ◌≤◌, ℕ, ◌-◌, pos, ◌&&◌, Bool, true, false, not, IsTrue, List, [], ◌∷◌, map, length, Some, None, slice_get, refl}
 use Rattle.std.specs.List.{range_with_len}
-use Rattle.std.proofs.Common.{sym, ap, ap₂, ◌∙◌, arith, inl, inr}
+use Rattle.std.proofs.Common.{sym, ap, ap₂, ◌∙◌, arith, inl, inr, true≢false}
 use Rattle.std.proofs.lemmas.List.FromFn.{length-map-range_with_len, get_or-map-range_with_len}
-use Rattle.std.proofs.lemmas.Option.{slice_get_past, slice_get-get_or}
+use Rattle.std.proofs.lemmas.Bool.{cases_lt}
+use Rattle.std.proofs.lemmas.Option.{none-some, same_Some, slice_get_past, slice_get-get_or}
 use Rattle.a2_bus.specs.Memory.{Memory, ram_byte, ram_end}
 use Rattle.a2_services.specs.World.{World}
 use Rattle.a2_promise.specs.declared.expr.Atom.{Atom}
@@ -14,6 +15,7 @@ use Rattle.a2_promise.specs.Values.{Moment, digit, held as held_atom}
 use Rattle.a2_uses.specs.declared.Part.{Part}
 use Rattle.a2_uses.specs.declared.Part.TheVariants.{A as part_a, X as part_x, Y as part_y, N as part_n, V as part_v, D as part_d, I as part_i, Z as part_z, C as part_c}
 use Rattle.a2_reads.specs.Parts.{held}
+use Rattle.a2_reads.specs.Turned.{in_stack}
 use Rattle.a2_trial.specs.Judging.{all_hold, holds, no_names}
 use Rattle.a2_trial.specs.Kept.{LookAtKnown, bytes_of, knows_atom, known_by, moment}
 
@@ -44,18 +46,30 @@ same_byte : (m n : Memory) (a : ℕ) → (a < ram_end → ram_byte m a ≡ ram_b
 unfolding bytes_of
 same_byte m n a same = same_made (ram_byte m) (ram_byte n) ram_end a same
 
--- two worlds are alike at known bytes and parts, and have the same S and as many cycles behind their starts
+-- what stands at an address of RAM
+pub byte_told : (m : Memory) (a byte : ℕ) → slice_get (bytes_of m) a ≡ Some byte → ram_byte m a ≡ byte
+unfolding bytes_of
+byte_told m a byte is = go (cases_lt a ram_end)
+  where
+    go : (a < ram_end) ⊎ (ram_end ≤ a) → ram_byte m a ≡ byte
+    go (inl low) = same_Some (ram_byte m a) byte (sym (made (ram_byte m) ram_end a low) ∙ is)
+    go (inr high) = absurd (none-some byte (sym (past (ram_byte m) ram_end a high) ∙ is))
+
+-- two worlds are alike at known bytes that are none of the stack's page, and at parts, and have as many cycles behind their starts
 pub record AreAlike (known : ℕ → Bool) (looked : Part → Bool) (one first other second : World) : Type 0 where
-  pub s : first.registers.s ≡ second.registers.s
   pub parts : (part : Part) → IsTrue (looked part) → held part first.registers ≡ held part second.registers
-  pub bytes : (a : ℕ) → a < ram_end → IsTrue (known a) → ram_byte first.memory a ≡ ram_byte second.memory a
+  pub bytes : (a : ℕ) → a < ram_end → in_stack a ≡ false → IsTrue (known a) → ram_byte first.memory a ≡ ram_byte second.memory a
   pub cycles : first.cycles - one.cycles ≡ second.cycles - other.cycles
+
+seen : (stacked known : Bool) → IsTrue (not stacked && known) → (stacked ≡ false) × IsTrue known
+seen true known bad = absurd (true≢false (sym bad))
+seen false known is = (refl, is)
 
 pub agree : (bytes : ℕ → Bool) (parts : Part → Bool) (one first other second : World) (steps : ℕ)
     → AreAlike bytes parts one first other second
     → AgreeAt (known_by bytes parts) (moment one first steps) (moment other second steps)
 agree bytes parts one first other second steps h = record {
-  bytes = λ a known. same_byte first.memory second.memory a (λ low. h.bytes a low known);
+  bytes = λ a known. same_byte first.memory second.memory a (λ low. h.bytes a low (seen (in_stack a) (bytes a) known).0 (seen (in_stack a) (bytes a) known).1);
   atoms = atoms;
 }
   where
@@ -63,7 +77,7 @@ agree bytes parts one first other second steps h = record {
     atoms atom.A known = ap (λ n. pos n) (h.parts part_a known)
     atoms atom.X known = ap (λ n. pos n) (h.parts part_x known)
     atoms atom.Y known = ap (λ n. pos n) (h.parts part_y known)
-    atoms atom.S known = ap (λ n. pos n) h.s
+    atoms atom.S bad = absurd (true≢false (sym bad))
     atoms atom.Carry known = ap digit (h.parts part_c known)
     atoms atom.Zero known = ap digit (h.parts part_z known)
     atoms atom.Negative known = ap digit (h.parts part_n known)

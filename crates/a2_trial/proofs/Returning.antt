@@ -1,6 +1,7 @@
 -- The example's promise is kept: the run is looked at before its first step.
-use Rattle.std.specs.Prelude.{◌≡◌, ◌⊎◌, ◌<◌, ℕ, ◌-◌, Bool, true, false, IsTrue, List, [], None, Some, Ok, refl}
+use Rattle.std.specs.Prelude.{◌≡◌, ◌⊎◌, ◌<◌, ◌==◌, ℕ, ◌-◌, Bool, true, false, IsTrue, List, [], None, Some, Ok, refl}
 use Rattle.std.proofs.Common.{sym, ◌∙◌, ap, subst, arith, inl, inr}
+use Rattle.std.proofs.lemmas.Bool.Decides.{nat_tests}
 use Rattle.a2_opcode.specs.declared.Mnemonic.TheVariants.{Rts}
 use Rattle.a2_opcode.specs.declared.Mode.TheVariants.{Implied}
 use Rattle.a2_opcode.specs.Encoding.{Fetched, fetched, instruction, no_byte, undocumented, bytes_from, value_of}
@@ -14,6 +15,7 @@ use Rattle.a2_promise.specs.declared.promises.Promise.{Promise}
 use Rattle.a2_promise.specs.Looks.{Known}
 use Rattle.a2_promise.specs.Values.{Moment}
 use Rattle.a2_uses.specs.declared.Part.{Part}
+use Rattle.a2_reads.specs.Turned.{in_stack}
 use Rattle.a2_reads.specs.Calls.{ComesToRts}
 use Rattle.a2_reads.specs.Parts.{held}
 use Rattle.a2_reads.specs.Runs.{known_behind, stores_in}
@@ -73,6 +75,9 @@ module _ (memory : Memory) (promise : Promise) (is : ram_byte memory 0x300 ≡ 0
     within = omega arith;
     comes = comes;
     implied = refl;
+    off_stack = λ k lt. (let bad : ⊥ = omega (arith, lt) in absurd bad);
+    home_off_stack = refl;
+    own = λ a stacked own. tt;
     looks = looked promise.promised.items (known_by (known_bytes (returning memory)) (known_parts (returning memory)))
         (known_by (known_behind code (known_bytes (returning memory)) (state_of (returning memory) number) 0)
         (parts_behind code (known_parts (returning memory)) (state_of (returning memory) number) 0))
@@ -81,7 +86,7 @@ module _ (memory : Memory) (promise : Promise) (is : ram_byte memory 0x300 ≡ 0
     ensured = held_all promise.promised.items (moment (state_of (returning memory) number) (state_of (returning memory) number) 0)
         (moment (state_of (returning memory) number) (world_at code (state_of (returning memory) number) 1) 1) promised;
     registers = λ part may. either part (known_parts (returning memory) part) refl;
-    rest = λ a low own may. inl tt;
+    rest = λ a low off may. inl tt;
   }
     where
       either : (part : Part) (known : Bool) → known_parts (returning memory) part ≡ known
@@ -103,5 +108,10 @@ module _ (memory : Memory) (promise : Promise) (is : ram_byte memory 0x300 ≡ 0
 pub keeps_all : AnRtsKeepsAll
 keeps_all memory promise pages is wanted promised = record {
   pages = pages;
+  s = omega arith;
+  off_stack = λ a is. off a is;
   every = λ number below. tried memory promise is wanted promised number;
 }
+  where
+    off : (a : ℕ) → (a == 0x300) ≡ true → in_stack a ≡ false
+    off a is = grind (arith, nat_tests, is)

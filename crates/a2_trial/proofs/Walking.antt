@@ -1,6 +1,6 @@
 -- A step of a routine on its way, and many.
-use Rattle.std.specs.Prelude.{◌≡◌, ◌<◌, ℕ, ◌+◌, ◌-◌, ◌&&◌, Bool, true, false, List, [], ◌∷◌, ◌++◌, length, Option, Some, None, Ok, slice_get, refl}
-use Rattle.std.specs.List.{list_all}
+use Rattle.std.specs.Prelude.{◌≡◌, ◌<◌, ℕ, ◌+◌, ◌-◌, ◌&&◌, Bool, true, false, List, [], ◌∷◌, ◌++◌, length, Option, Some, None, Ok, MatchOption, slice_get, refl}
+use Rattle.std.specs.List.{list_all, list_any}
 use Rattle.std.proofs.Common.{sym, ap, ◌∙◌, subst, arith, true≢false}
 use Rattle.a2_text.specs.Bytes.{is_among}
 use Rattle.a2_opcode.specs.declared.Instr.{Instr}
@@ -20,6 +20,7 @@ use Rattle.a2_cpu.specs.StepStores.{none_if, stores_at}
 use Rattle.a2_cpu.specs.GuardedBusStep.{guarded_bus_step}
 use Rattle.a2_cpu.specs.View.{guarded_answer_of, left_by, state_of}
 use Rattle.a2_cpu.specs.declared.GuardedStep.TheVariants as answer
+use Rattle.a2_services.specs.Services.{service_at}
 use Rattle.a2_services.specs.World.{World, world_of}
 use Rattle.a2_machine.specs.declared.Cause.{Cause}
 use Rattle.a2_machine.specs.Meaning.{Decoded, cause_of_refusal, found_at_pc}
@@ -34,9 +35,11 @@ use Rattle.a2_reads.specs.Parts.{with_parts}
 use Rattle.a2_reads.specs.Reads.{Knows}
 use Rattle.a2_reads.specs.Runs.{found_reads, found_stores, step_reads, step_stores}
 use Rattle.a2_reads.specs.Uses.{found_needs, found_sets}
-use Rattle.a2_reads.proofs.Boards.{boards}
+use Rattle.a2_reads.specs.Services.{is_keyless}
+use Rattle.a2_reads.specs.Turned.{FoundOffStack, IsOffStack, StepIsOffStack, in_stack, moves_s, operand_uses}
+use Rattle.a2_reads.proofs.Boards.{boards, same_place}
 use Rattle.a2_reads.proofs.Fetching.{steps_by_bytes}
-use Rattle.a2_reads.proofs.Running.{stuck_is}
+use Rattle.a2_reads.proofs.Running.{needs_at, reads_at, sets_at, stores_at as stored_by, stuck_is}
 use Rattle.a2_trial.specs.Kept.{code}
 use Rattle.a2_trial.specs.Walking.{IsStep, AreMarked, StandsAt, known_now, knows_part}
 use Rattle.a2_promise.specs.declared.promises.Changes.{Changes}
@@ -136,6 +139,9 @@ module _ (instr : Instr) (registers : Registers) (bus : BusState) (size : length
       && list_all (known_now known stored)
       (effect_reads (effect_of instr.mnemonic) (place_of board_access bus registers instr.mode instr.value) registers.s)) ≡ true)
       (used : (list_all (knows_part parts) (needs instr.mnemonic) && list_all (knows_part parts) (mode_needs instr.mode)) ≡ true)
+      (code_off : list_any in_stack (addresses_from registers.pc 3) ≡ false)
+      (off : (moves_s instr.mnemonic ≡ false) × (list_any in_stack (pointer_reads instr.mode instr.value registers) ≡ false)
+      × (list_any in_stack (operand_uses (effect_of instr.mnemonic) (place_of board_access bus registers instr.mode instr.value)) ≡ false))
       (targets : List ℕ) (written : targets ≡ stores_at board_access (fetched (slice_get bus.bytes) registers.pc) (state_of registers bus))
       (marked : AreMarked stored new_stored changes targets)
       (told : answer.Next cycles ≡ guarded_answer_of (guarded_bus_step (is_among []) board_access (state_of registers bus)))
@@ -161,8 +167,12 @@ module _ (instr : Instr) (registers : Registers) (bus : BusState) (size : length
     made : IsStepMade None registers bus new_registers new_bus cycles
     made = instruction_step None registers bus size low refl new_registers new_bus (answer.Next cycles) told left_registers left_bus
 
+    -- no service stands in RAM
+    away : (before : ℕ) → service_at (world_of registers bus before).registers.pc ≡ None
+    away before = no_service registers.pc low
+
     read : (before : ℕ) → Knows (known_now known stored) (step_reads code (world_of registers bus before))
-    unfolding step_reads reads_of
+    unfolding reads_of
     read before =
         let w : World = world_of registers bus before in
         let on_board : Knows (known_now known stored) (reads_of board_access stands.row instr.value (state_of registers bus)) =
@@ -175,7 +185,8 @@ module _ (instr : Instr) (registers : Registers) (bus : BusState) (size : length
         (sym is_row.mnemonic_is) operand)) in
         let on_memory : Knows (known_now known stored) (reads_of memory_access stands.row instr.value w) =
         subst (λ ns. Knows (known_now known stored) ns) (boards stands.row instr.value (state_of registers bus) size) on_board in
-        subst (λ f. Knows (known_now known stored) (found_reads f w)) (sym (found before)) on_memory
+        subst (λ ns. Knows (known_now known stored) ns) (sym (reads_at code w None (away before)))
+        (subst (λ f. Knows (known_now known stored) (found_reads f w)) (sym (found before)) on_memory)
 
     refusal_none : refusal_of stands.row.mnemonic registers.flags ≡ None
     refusal_none =
@@ -184,27 +195,55 @@ module _ (instr : Instr) (registers : Registers) (bus : BusState) (size : length
         (sym (stuck_is code w (Ok (record { row = stands.row; value = instr.value })) (no_return registers.pc low) (no_service registers.pc low) (found 0)) ∙ made.going 0)
 
     stored_at : (before : ℕ) → targets ≡ step_stores code (world_of registers bus before)
-    unfolding step_stores stores_at
+    unfolding stores_at
     stored_at before =
         written
         ∙ ap (λ f. stores_at board_access f (state_of registers bus)) stands.fetch
         ∙ ap (λ why. none_if why (stores_of board_access stands.row instr.value (state_of registers bus))) refusal_none
         ∙ stores-world stands.row instr.value registers bus before size
         ∙ sym (ap (λ f. found_stores f (world_of registers bus before)) (found before))
+        ∙ sym (stored_by code (world_of registers bus before) None (away before))
+
+    -- the stack is used by S alone
+    off_stack : (before : ℕ) → IsOffStack decoded (world_of registers bus before)
+    unfolding decoded
+    off_stack before =
+        let w : World = world_of registers bus before in
+        let there : place_of memory_access w.memory registers stands.row.mode instr.value ≡ place_of board_access bus registers stands.row.mode instr.value =
+        sym (same_place bus size registers stands.row.mode instr.value) in
+        record {
+          mnemonic = ap (λ m. moves_s m) is_row.mnemonic_is ∙ off.0;
+          pointer = ap (λ m. list_any in_stack (pointer_reads m instr.value registers)) is_row.mode_is ∙ off.1;
+          operand =
+              ap (λ place. list_any in_stack (operand_uses (effect_of stands.row.mnemonic) place)) there
+              ∙ (λ i. list_any in_stack (operand_uses (effect_of (is_row.mnemonic_is i)) (place_of board_access bus registers (is_row.mode_is i) instr.value)))
+              ∙ off.2;
+        }
+
+    step_off_stack : (before : ℕ) → StepIsOffStack (world_of registers bus before)
+    unfolding decoded
+    step_off_stack before =
+        let w : World = world_of registers bus before in
+        subst (λ o. MatchOption o ((list_any in_stack (addresses_from registers.pc 3) ≡ false) × FoundOffStack (found_at_pc code w) w)
+        (λ service. is_keyless service ≡ true)) (sym (away before))
+        (code_off, subst (λ f. FoundOffStack f w) (sym (found before)) (off_stack before))
 
     pub is_step : IsStep known stored new_stored parts new_parts changes registers bus new_registers new_bus cycles
     is_step = record {
+      off_stack = step_off_stack;
       reads = λ before. steps_by_bytes None (known_now known stored) (world_of registers bus before) (made.going before) (no_service registers.pc low)
           (fetched_known (known_now known stored) before fetches) (read before);
       needs = λ before.
-          subst (λ f. Knows (knows_part parts) (found_needs f)) (sym (found before))
+          subst (λ ps. Knows (knows_part parts) ps) (sym (needs_at code (world_of registers bus before) None (away before)))
+          (subst (λ f. Knows (knows_part parts) (found_needs f)) (sym (found before))
           (subst (λ m. Knows (knows_part parts) (needs m ++ mode_needs stands.row.mode)) (sym is_row.mnemonic_is)
           (subst (λ m. Knows (knows_part parts) (needs instr.mnemonic ++ mode_needs m)) (sym is_row.mode_is)
-          (knows_both (knows_part parts) (needs instr.mnemonic) (mode_needs instr.mode) mnemonic mode)));
+          (knows_both (knows_part parts) (needs instr.mnemonic) (mode_needs instr.mode) mnemonic mode))));
       world = made.world;
       stores = λ before. subst (λ ns. AreMarked stored new_stored changes ns) (stored_at before) marked;
       parts = λ before part.
           learned part
           ∙ ap (λ m. with_parts (sets_parts m) (knows_part parts) part) (sym is_row.mnemonic_is)
-          ∙ sym (ap (λ f. with_parts (found_sets f) (knows_part parts) part) (found before));
+          ∙ sym (ap (λ f. with_parts (found_sets f) (knows_part parts) part) (found before))
+          ∙ sym (ap (λ ps. with_parts ps (knows_part parts) part) (sets_at code (world_of registers bus before) None (away before)));
     }

@@ -1,5 +1,5 @@
 -- A promise that is tried in a state. This project's own.
-use Rattle.std.specs.Prelude.{◌≡◌, ◌⊎◌, ◌<◌, ◌≤◌, ℕ, Bool, true, false, IsTrue, nat_lt, List, length, map}
+use Rattle.std.specs.Prelude.{◌≡◌, ◌⊎◌, ◌<◌, ◌≤◌, ℕ, Bool, true, false, IsTrue, not, ◌&&◌, nat_lt, List, length, map}
 use Rattle.a2_bus.specs.BusState.{BusState}
 use Rattle.a2_bus.specs.Memory.{ram_end}
 use Rattle.a2_cpu.specs.Registers.{Registers, registers_at}
@@ -10,6 +10,7 @@ use Rattle.a2_promise.specs.declared.promises.Promise.{Promise}
 use Rattle.a2_uses.specs.declared.Part.{Part}
 use Rattle.a2_reads.specs.Counting.{state_at}
 use Rattle.a2_reads.specs.Parts.{held}
+use Rattle.a2_reads.specs.Turned.{in_stack}
 use Rattle.a2_trial.specs.declared.certain.Case.{Case}
 use Rattle.a2_trial.specs.declared.inputs.Input.{Input}
 use Rattle.a2_trial.specs.declared.inputs.Input.TheVariants.{Byte}
@@ -57,6 +58,11 @@ pub record IsStateTried (known : List Bool) (parts : Parts) (promise : Promise) 
 abbrev pub is_input_in_ram : Input → Bool
 is_input_in_ram (Byte a) = nat_lt a ram_end
 is_input_in_ram _ = true
+
+-- and it may be varied: it is none of the stack's page
+abbrev pub may_vary : Input → Bool
+may_vary (Byte a) = nat_lt a ram_end && not (in_stack a)
+may_vary _ = true
 
 -- so many addresses of RAM are marked where a test passes
 pub record AreLaid (test : ℕ → Bool) (known : List Bool) (count : ℕ) : Type 0 where

@@ -4,6 +4,7 @@ pub mod States
 pub mod Kept
 pub mod Everywhere
 pub mod Walking
+pub mod Screen
 pub mod But
 pub mod Returning
 pub mod Looking
@@ -11,3 +12,4 @@ pub mod Certifying
 pub mod Entering
 pub mod Certain
 pub mod Failing
+pub mod Settling

@@ -58,6 +58,10 @@ pub record Trial : Type 0 where
   pub inputs : List Input
   pub fixed : ℕ → Bool
 
+-- the same with another S at the entry
+abbrev pub with_s : ℕ → Trial → Trial
+with_s s trial = record trial { base = record trial.base { registers = record trial.base.registers { s = s } } }
+
 -- the state of a number
 abbrev pub state_of : Trial → ℕ → World
 state_of trial number = with_values trial.inputs (state_at (map values_of trial.inputs) number) trial.base

@@ -1,7 +1,9 @@
 -- What is known where a routine is on its way, and a step of it, for the contracts of the crate's own functions.
-use Rattle.std.specs.Prelude.{◌≡◌, ◌≢◌, ◌≤◌, ℕ, ◌+◌, ◌-◌, ◌||◌, Bool, true, false, IsTrue, List, ◌∷◌, length, Some, None, slice_get}
+use Rattle.std.specs.Prelude.{◌≡◌, ◌≢◌, ◌≤◌, ℕ, ◌+◌, ◌-◌, ◌||◌, if◌then◌else◌, Bool, true, false, IsTrue, nat_lt, List, ◌∷◌, length, Some, None, slice_get}
+use Rattle.std.specs.List.{list_any}
 use Rattle.a2_text.specs.Bytes.{is_among}
-use Rattle.a2_opcode.specs.declared.Mode.TheVariants.{Implied}
+use Rattle.a2_opcode.specs.declared.Mode.{Mode}
+use Rattle.a2_opcode.specs.declared.Mode.TheVariants.{Implied, Accumulator, Immediate, ZeroPage, ZeroPageX, ZeroPageY}
 use Rattle.a2_opcode.specs.declared.Mnemonic.TheVariants.{Rts}
 use Rattle.a2_opcode.specs.Table.{length_of}
 use Rattle.a2_opcode.specs.Encoding.{fetched, instruction}
@@ -11,7 +13,7 @@ use Rattle.a2_bus.specs.BusState.{BusState}
 use Rattle.a2_bus.specs.Memory.{ram_end}
 use Rattle.a2_cpu.specs.Registers.{Registers}
 use Rattle.a2_services.specs.World.{world_of}
-use Rattle.a2_machine.specs.Meaning.{found_at_pc, next, world_at}
+use Rattle.a2_machine.specs.Meaning.{next, world_at}
 use Rattle.a2_promise.specs.declared.promises.Changes.{Changes}
 use Rattle.a2_uses.specs.declared.Part.{Part}
 use Rattle.a2_uses.specs.declared.Part.TheVariants.{A as part_a, X as part_x, Y as part_y, N as part_n, V as part_v, D as part_d, I as part_i, Z as part_z, C as part_c}
@@ -20,7 +22,8 @@ use Rattle.a2_reads.specs.Fetches.{addresses_from}
 use Rattle.a2_reads.specs.Parts.{with_parts}
 use Rattle.a2_reads.specs.Reads.{Knows, with_bytes}
 use Rattle.a2_reads.specs.Runs.{RunReads, StepReads, known_behind, step_stores}
-use Rattle.a2_reads.specs.Uses.{RunNeeds, found_needs, found_sets, parts_behind}
+use Rattle.a2_reads.specs.Turned.{RunIsOffStack, StepIsOffStack, in_stack}
+use Rattle.a2_reads.specs.Uses.{RunNeeds, step_needs, step_sets, parts_behind}
 use Rattle.a2_trial.specs.declared.parts.Parts.{Parts}
 use Rattle.a2_trial.specs.Kept.{code, is_own, may_store}
 
@@ -65,13 +68,23 @@ pub record StandsAt (instr : Instr) (at : ℕ) (bytes : List ℕ) : Type 0 where
   pub is_row : Rattle.a2_opcode.specs.Table.row instr.mnemonic instr.mode ≡ Some row
   pub fetch : fetched (slice_get bytes) at ≡ instruction row instr.value
 
--- a byte may be stored at: `changes` names it, or it is the routine's own
+-- a byte may be stored at: it is the routine's own, or `changes` names it and it is none of the stack's page
 abbrev pub is_allowed : Changes → ℕ → Bool
-is_allowed changes a = may_store changes a || is_own a
+is_allowed changes a = if in_stack a then is_own 0xFD a else may_store changes a
 
 -- a byte may be stored at, and is none of the caller's return address
 abbrev pub MayStore : Changes → ℕ → Type 0
 MayStore changes a = (is_allowed changes a ≡ true) × (a ≢ 0x1FE) × (a ≢ 0x1FF)
+
+-- an operand that is none in memory, or lies in page 0, as its mode tells alone
+abbrev pub is_beside : Mode → ℕ → Bool
+is_beside Implied value = true
+is_beside Accumulator value = true
+is_beside Immediate value = true
+is_beside ZeroPage value = nat_lt value 256
+is_beside ZeroPageX value = true
+is_beside ZeroPageY value = true
+is_beside _ value = false
 
 -- addresses are marked, each of which may be stored at
 pub record AreMarked (old new : List Bool) (changes : Changes) (addresses : List ℕ) : Type 0 where
@@ -84,16 +97,19 @@ pub record IsOwnRts (known marks : List Bool) (instr : Instr) (registers : Regis
   pub mode : instr.mode ≡ Implied
   pub s : registers.s ≡ 0xFD
   pub fetch : Knows (known_now known marks) (registers.pc ∷ addresses_from (registers.pc + 1) (length_of instr.mode - 1))
+  pub off_stack : list_any in_stack (addresses_from registers.pc 3) ≡ false
 
--- A step is made from registers and a board, which looks at nothing unknown; and what is known is what is so behind it.
+-- A step is made from registers and a board, which looks at nothing unknown, and at the stack by S alone; and what is known is what is so
+-- behind it.
 pub record IsStep (known old_marks new_marks : List Bool) (old_parts new_parts : Parts) (changes : Changes)
     (registers : Registers) (bus : BusState) (new_registers : Registers) (new_bus : BusState) (cycles : ℕ) : Type 0 where
+  pub off_stack : (before : ℕ) → StepIsOffStack (world_of registers bus before)
   pub reads : (before : ℕ) → StepReads code (known_now known old_marks) (world_of registers bus before)
-  pub needs : (before : ℕ) → Knows (knows_part old_parts) (found_needs (found_at_pc code (world_of registers bus before)))
+  pub needs : (before : ℕ) → Knows (knows_part old_parts) (step_needs code (world_of registers bus before))
   pub world : (before : ℕ) → world_of new_registers new_bus (before + cycles) ≡ next code (world_of registers bus before)
   pub stores : (before : ℕ) → AreMarked old_marks new_marks changes (step_stores code (world_of registers bus before))
   pub parts : (before : ℕ) (part : Part)
-      → knows_part new_parts part ≡ with_parts (found_sets (found_at_pc code (world_of registers bus before))) (knows_part old_parts) part
+      → knows_part new_parts part ≡ with_parts (step_sets code (world_of registers bus before)) (knows_part old_parts) part
 
 -- So many steps are made, in so many cycles.
 pub record IsWalk (known marks : List Bool) (first_parts last_parts : Parts) (changes : Changes)
@@ -101,6 +117,7 @@ pub record IsWalk (known marks : List Bool) (first_parts last_parts : Parts) (ch
   pub world : world_of registers bus cycles ≡ world_at code (world_of first first_bus 0) steps
   pub reads : RunReads code (is_set known) (world_of first first_bus 0) steps
   pub needs : RunNeeds code (knows_part first_parts) (world_of first first_bus 0) steps
+  pub off_stack : RunIsOffStack (world_of first first_bus 0) steps
   pub stored : (a : ℕ) → is_set marks a ≡ known_behind code (λ b. false) (world_of first first_bus 0) steps a
   pub parts : (part : Part) → knows_part last_parts part ≡ parts_behind code (knows_part first_parts) (world_of first first_bus 0) steps part
   pub allowed : (a : ℕ) → IsTrue (is_set marks a) → MayStore changes a
@@ -111,3 +128,5 @@ pub record IsHome (known marks : List Bool) (first_parts last_parts : Parts) (ch
   pub walk : IsWalk known marks first_parts last_parts changes first first_bus registers bus cycles steps
   pub comes : ComesToRts code (knows_part first_parts) (is_set known) (world_of first first_bus 0) steps
   pub implied : comes.rts.row.mode ≡ Implied
+  pub s : first.s ≡ 0xFD
+  pub home_off_stack : list_any in_stack (addresses_from (world_at code (world_of first first_bus 0) steps).registers.pc 3) ≡ false

@@ -1,6 +1,6 @@
 //! Whether a promise is kept in every state of its inputs, and so in every world.
 
-ghost use Rattle.std.specs.Prelude.{◌≡◌, ◌⊎◌, ◌||◌, ◌<◌, ℕ, Bool, false, [], length, map, is_some, IsTrue, IfOk, IfSome};
+ghost use Rattle.std.specs.Prelude.{◌≡◌, ◌⊎◌, ◌||◌, ◌&&◌, not, ◌<◌, ℕ, Bool, false, [], length, map, is_some, IsTrue, IfOk, IfSome};
 ghost use Rattle.std.specs.List.{list_all, list_any};
 ghost use Rattle.a2_hex.specs.Images.{held};
 ghost use Rattle.a2_bus.specs.Memory.{Memory, ram_end};
@@ -12,6 +12,7 @@ ghost use Rattle.a2_services.specs.World.{world_of};
 ghost use Rattle.a2_machine.specs.Meaning.{next};
 ghost use Rattle.a2_promise.specs.Values.{moment_of};
 ghost use Rattle.a2_uses.specs.declared.Part.{Part as DeclaredPart};
+ghost use Rattle.a2_reads.specs.Turned.{in_stack};
 ghost use Rattle.a2_reads.specs.Counting.{states_of, state_at};
 ghost use Rattle.a2_bus.specs.View.{memory_of};
 ghost use Rattle.a2_trial.specs.But.{IsBut};
@@ -19,15 +20,16 @@ ghost use Rattle.a2_trial.specs.Kept.{bytes_of, code, IsKept};
 ghost use Rattle.a2_trial.specs.States.{has_byte, has_part, holds_part, is_byte, values_of, with_value, with_values};
 ghost use Rattle.a2_trial.specs.Entering.{IsKeptEverywhere};
 ghost use Rattle.a2_trial.specs.Walking.{is_set, knows_part, no_parts};
-ghost use Rattle.a2_trial.specs.Certifying.{AreLaid, AreRegistersKept, IsEntered, is_input_in_ram, IsReady, IsStateTried, start_of};
+ghost use Rattle.a2_trial.specs.Certifying.{AreLaid, AreRegistersKept, IsEntered, may_vary, IsReady, IsStateTried, start_of};
 
 use crate::inputs::Input;
 use crate::judge::all_hold;
 use crate::looks::{Sure, look_at_known};
 use crate::parts::Parts;
 use crate::promises_hold_everywhere;
+use crate::settled::settle;
 use crate::stored::{Stored, put_back};
-use crate::walk::{Walk, walk_home};
+use crate::walk::{Walk, is_in_stack, walk_home};
 use a2_bus::locations::KBD;
 use a2_bus::{AddressSpace, Bus};
 use a2_cpu::live::Live;
@@ -134,7 +136,7 @@ pub struct Case<'a> {
     pub promise: &'a Promise<'a>,
     /// The steps that are enough, with the RTS.
     pub most: u32,
-    /// RAM as the program is laid, and the inputs that are given each of their values.
+    /// RAM as the program and settled bytes are laid, and the inputs that are given each of their values.
     pub base: &'a AddressSpace<Global>,
     pub inputs: &'a [Input],
 }
@@ -282,7 +284,7 @@ fn is_kept(case: &Case, before: &AddressSpace<Global>, walk: &mut Walk, stored: 
 /// the promise requires: neither the routine nor the promise looks at what is not known, the routine comes to the RTS of its own
 /// within the steps that are enough, and stores only at what `changes` names or in the stack below its return address, what is
 /// promised holds behind the RTS, and a register that `changes` does not name is not set, or was known and is the same. False says
-/// nothing: also where a service is called, or a byte is stored at that is put back. Behind it each byte of RAM is as before that is
+/// nothing: also where a service needs a key, or a byte is stored at that is put back. Behind it each byte of RAM is as before that is
 /// not marked as stored at.
 pub fn is_tried(
     case: &Case,
@@ -378,41 +380,41 @@ fn is_at(input: Input, address: u16) -> bool
     }
 }
 
-// Whether one of these is.
-fn is_named(inputs: &[Input], address: u16) -> bool
+/// Whether one of these is.
+pub(crate) fn is_named(inputs: &[Input], address: u16) -> bool
     ensures { result ≡ list_any (is_byte address) inputs.now }
 {
     inputs.iter().any(|input| is_at(*input, address))
 }
 
-// Whether an input is a register, a flag or a byte of RAM.
-fn is_in_ram(input: Input) -> bool
-    ensures { result ≡ is_input_in_ram input }
+// Whether an input may be varied: it is a register, a flag, or a byte of RAM that is none of the stack's page.
+fn is_free(input: Input) -> bool
+    ensures { result ≡ may_vary input }
 {
     match input {
-        Input::Byte(address) => address < RAM_END,
+        Input::Byte(address) => address < RAM_END && !is_in_stack(address),
         _ => true,
     }
 }
 
-// Whether all of these are.
-fn are_in_ram(inputs: &[Input]) -> bool
-    ensures { result ≡ list_all is_input_in_ram inputs.now }
+// Whether all of these may.
+fn are_free(inputs: &[Input]) -> bool
+    ensures { result ≡ list_all may_vary inputs.now }
 {
-    inputs.iter().all(|input| is_in_ram(*input))
+    inputs.iter().all(|input| is_free(*input))
 }
 
-// Whether the byte at an address is an input, or one of the program.
+// Whether the byte at an address is known at the entry: it is an input or one of the program, and none of the stack's page.
 fn is_known_at(image: &Image<Global>, inputs: &[Input], address: u16) -> bool
-    ensures { result ≡ (list_any (is_byte address) inputs.now || is_some (held image.now address)) }
+    ensures { result ≡ ((list_any (is_byte address) inputs.now || is_some (held image.now address)) && not (in_stack address)) }
 {
-    is_named(inputs, address) || image.get(address).is_some()
+    (is_named(inputs, address) || image.get(address).is_some()) && !is_in_stack(address)
 }
 
 // The addresses of RAM at which it is, marked.
 fn known_at(alloc: Global, image: &Image<Global>, inputs: &[Input]) -> Result<Vec<bool>, AllocError>
     ensures { IfOk result (λ known. AreLaid
-        (λ a. list_any (is_byte a) inputs.now || is_some (held image.now a)) known.items ram_end) }
+        (λ a. (list_any (is_byte a) inputs.now || is_some (held image.now a)) && not (in_stack a)) known.items ram_end) }
 {
     let mut known = Vec::new(alloc);
     for address in 0..RAM_END {
@@ -445,9 +447,11 @@ fn parts_at(inputs: &[Input]) -> Parts
 }
 
 /// Whether a promise of a program is kept within so many steps in every state of these inputs that is as it requires, where neither the
-/// routine nor the promise looks at any other byte, register or flag but those of the program and D, which is clear. Then it is
-/// kept in every world in which the routine is entered so. False says nothing: also where a routine calls a service, stores at what
-/// the promise does not let change and puts it back, or looks at what it never uses. Refused only for want of memory.
+/// routine nor the promise looks at any other byte, register or flag but those of the program and D, which is clear, nor at the stack but
+/// by S. Then it is kept in every world in which the routine is entered so, wherever S points. An input that is a byte has that value
+/// alone which an equation says that is required, `$20 = 0` or `word $36 = #$FDF0`. False says nothing: also where a service needs a key, a
+/// window scrolls whose cells are not known, a byte is stored at that the promise does not let change and put back, more than 126 bytes of
+/// the stack are used, or something is looked at that is never used. Refused only for want of memory.
 pub fn holds_in_every_state(
     alloc: Global,
     image: &Image<Global>,
@@ -459,10 +463,7 @@ pub fn holds_in_every_state(
         → IsKeptEverywhere (held image.now) promise.now inputs.now most) }
 {
     promises_hold_everywhere();
-    let Some(states) = count_states(inputs) else {
-        return Ok(false);
-    };
-    if !are_in_ram(inputs) {
+    if !are_free(inputs) {
         return Ok(false);
     }
     // For the prover, which learns from it that a program lies in RAM.
@@ -471,12 +472,17 @@ pub fn holds_in_every_state(
     base.load(image);
     let known = known_at(alloc, image, inputs)?;
     let parts = parts_at(inputs);
+    let unsettled = settle(alloc, inputs, promise.wanted.as_slice(), inputs, &mut base)?;
+    let free = unsettled.as_slice();
+    let Some(states) = count_states(free) else {
+        return Ok(false);
+    };
     let case = Case {
         base: &base,
         known: known.as_slice(),
         parts,
         promise,
-        inputs,
+        inputs: free,
         most,
     };
     let mut before = AddressSpace::new(alloc)?;

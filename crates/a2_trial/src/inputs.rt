@@ -3,9 +3,10 @@
 ghost use Rattle.std.specs.Prelude.{◌≡◌, ◌≤◌, false, MatchOption};
 ghost use Rattle.a2_uses.specs.declared.Part.{Part as DeclaredPart};
 ghost use Rattle.a2_reads.specs.Parts.{is_part};
-ghost use Rattle.a2_trial.specs.Kept.{may_store};
+ghost use Rattle.a2_trial.specs.Kept.{is_own, may_store};
 ghost use Rattle.a2_trial.specs.States.{holds_part, values_of};
 
+use crate::settled::settled_value;
 use a2_promise::{Atom, Changes, Expr, Function, Operation, Promise};
 use a2_uses::Part;
 use std::alloc::{AllocError, Global};
@@ -90,10 +91,25 @@ pub(crate) struct Inputs {
     pub all: Vec<Input>,
     /// How many it names.
     pub named: usize,
-    /// How many it names or its routine looks at: all values of these are tried, or some.
+    /// How many it names or its routine looks at.
     pub varied: usize,
+    /// The byte of each that what it requires settles.
+    pub settled: Vec<Option<u8>>,
     /// The bytes of the numbers that it names, which are tried among the first.
     pub corners: Vec<u8>,
+}
+
+impl Inputs {
+    /// Those that are varied and not settled, so that all values of them are tried, or some.
+    pub fn free(&self, alloc: Global) -> Result<Vec<Input>, AllocError> {
+        let mut free = Vec::new(alloc);
+        for (input, settled) in self.all.iter().zip(&self.settled).take(self.varied) {
+            if settled.is_none() {
+                free.push(*input)?;
+            }
+        }
+        Ok(free)
+    }
 }
 
 /// Adds an input, unless it is among them.
@@ -129,6 +145,15 @@ pub(crate) fn may_change(changes: &Changes, address: u16) -> bool
         .ranges
         .iter()
         .any(|range| range.first <= address && address <= range.last)
+}
+
+/// Whether a byte is the routine's own, which is entered with S = $FD: one of the 126 of the stack from there down, below the return
+/// address.
+#[tactic(auto, using(crate::proofs::Marks::own_is))]
+pub(crate) fn is_own_stack(address: u16) -> bool
+    ensures { result ≡ is_own 0xFD address }
+{
+    0x0180 <= address && address <= 0x01FD
 }
 
 // Whether an input is behind the routine what it was at its entry.
@@ -253,30 +278,47 @@ pub(crate) fn inputs_of(alloc: Global, promise: &Promise) -> Result<Inputs, Allo
         search_in(&mut named, &clause.expr, search)?;
     }
     let count = named.inputs.len();
-    with_rest(named.inputs, count, named.corners)
+    with_rest(alloc, promise, named.inputs, count, named.corners)
 }
 
 // Inputs that are varied, of which a promise names so many, with the registers and flags behind them that are not.
-fn with_rest(varied: Vec<Input>, named: usize, corners: Vec<u8>) -> Result<Inputs, AllocError> {
+fn with_rest(
+    alloc: Global,
+    promise: &Promise,
+    varied: Vec<Input>,
+    named: usize,
+    corners: Vec<u8>,
+) -> Result<Inputs, AllocError> {
     let mut all = varied;
     let varied = all.len();
     for register in REGISTERS {
         add(&mut all, register)?;
     }
+    let mut settled = Vec::new(alloc);
+    let wanted = promise.wanted.as_slice();
+    for input in &all {
+        settled.push(settled_value(all.as_slice(), wanted, *input))?;
+    }
     Ok(Inputs {
         all,
         named,
         varied,
+        settled,
         corners,
     })
 }
 
 /// The same inputs, and those varied too that a routine looks at.
-pub(crate) fn with_looked(inputs: Inputs, looked: &[Input]) -> Result<Inputs, AllocError> {
+pub(crate) fn with_looked(
+    alloc: Global,
+    promise: &Promise,
+    inputs: Inputs,
+    looked: &[Input],
+) -> Result<Inputs, AllocError> {
     let mut varied = inputs.all;
     varied.truncate(inputs.varied);
     for input in looked {
         add(&mut varied, *input)?;
     }
-    with_rest(varied, inputs.named, inputs.corners)
+    with_rest(alloc, promise, varied, inputs.named, inputs.corners)
 }

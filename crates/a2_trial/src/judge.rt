@@ -5,7 +5,7 @@ ghost use Rattle.a2_promise.specs.Values.{moment_of};
 ghost use Rattle.a2_trial.specs.Judging as judging;
 
 use crate::ground::{Door, Exit, Ground};
-use crate::inputs::{Input, may_change};
+use crate::inputs::{Input, is_own_stack, may_change};
 use crate::printing::bytes_of;
 use a2_bus::Bus;
 use a2_cpu::Regs;
@@ -47,9 +47,6 @@ pub enum Broken {
     /// A byte that does not.
     Byte(u16, u8, u8),
 }
-
-// The topmost byte of the stack that is the routine's own.
-const STACK_TOP: u16 = 0x01FD;
 
 /// No name stands for a number outside of what counts it.
 pub(crate) const NO_NAMES: Bounds = [0; 4];
@@ -130,12 +127,11 @@ fn broken_register(changes: &Changes, before: &Regs, behind: &Regs) -> Option<Br
     None
 }
 
-// A byte that is other than before, and may not be; the stack below the entry's S is the routine's own.
+// A byte that is other than before, and may not be.
 fn broken_byte(changes: &Changes, ground: &Ground) -> Option<Broken> {
     for address in ground.stored.as_slice() {
         let address = *address;
-        let is_own = 0x0100 <= address && address <= STACK_TOP;
-        if is_own || may_change(changes, address) {
+        if is_own_stack(address) || may_change(changes, address) {
             continue;
         }
         if let (Some(before), Some(now)) = (ground.before.peek(address), ground.now.peek(address))

@@ -9,7 +9,7 @@ ghost use Rattle.a2_trial.specs.Looking.{known_of};
 
 use crate::judge::{NO_NAMES, holds};
 use crate::parts::Parts;
-use crate::walk::is_known;
+use crate::walk::{is_in_stack, is_known};
 use a2_promise::{Atom, Bounds, Clause, Expr, Function, Sight, value};
 use a2_uses::Part;
 use std::alloc::Global;
@@ -23,7 +23,7 @@ pub(crate) struct Sure<'a> {
     pub parts: Parts,
 }
 
-// Whether what an atom is is known; S, cycles and steps always are.
+// Whether what an atom is is known; cycles and steps always are, and S never: a routine may be entered with any.
 fn is_atom(sure: &Sure, atom: Atom) -> bool
     ensures { result ≡ is_atom_known (knows_part sure.now.parts) atom }
 {
@@ -37,8 +37,16 @@ fn is_atom(sure: &Sure, atom: Atom) -> bool
         Atom::Overflow => sure.parts.has(Part::V),
         Atom::Decimal => sure.parts.has(Part::D),
         Atom::Interrupt => sure.parts.has(Part::I),
-        Atom::S | Atom::Cycles | Atom::Steps => true,
+        Atom::S => false,
+        Atom::Cycles | Atom::Steps => true,
     }
+}
+
+// Whether what an address holds is known; of the stack's page none is, since it lies elsewhere there with another S.
+fn is_seen(sure: &Sure, address: u16) -> bool
+    ensures { result ≡ (known_of sure.now).bytes address }
+{
+    !is_in_stack(address) && is_known(sure.known, sure.stored, address)
 }
 
 // Whether what a function of this number looks at is known.
@@ -50,11 +58,8 @@ fn is_made(sure: &Sure, function: Function, number: Option<i64>) -> bool
     };
     let address = number as u16;
     match function {
-        Function::Byte => is_known(sure.known, sure.stored, address),
-        Function::Word => {
-            is_known(sure.known, sure.stored, address)
-                && is_known(sure.known, sure.stored, address.wrapping_add(1))
-        }
+        Function::Byte => is_seen(sure, address),
+        Function::Word => is_seen(sure, address) && is_seen(sure, address.wrapping_add(1)),
         Function::Signed | Function::Abs => true,
     }
 }

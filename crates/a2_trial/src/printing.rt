@@ -1,25 +1,18 @@
 //! What the Monitor's services print.
 
-ghost use Rattle.std.specs.Prelude.{◌≡◌, ◌<◌, ◌+◌, ◌%◌, ◌++◌, map, OnOk, IfOk};
+ghost use Rattle.std.specs.Prelude.{◌≡◌, ◌+◌, ◌%◌, ◌++◌, map, OnOk, IfOk};
 ghost use Rattle.std.specs.List.{flat_map};
 ghost use Rattle.a2_bus.specs.View.{memory_of};
 ghost use Rattle.a2_cpu.specs.View.{registers_of};
-ghost use Rattle.a2_services.specs.Put.{prompt_character};
-ghost use Rattle.a2_services.specs.Services as services;
 ghost use Rattle.a2_trial.specs.Printing as said;
 
+use crate::screen::{BACKSPACE, LINE_FEED, RETURN, byte_at, digit_byte};
+use a2_bus::AddressSpace;
 use a2_bus::locations::PROMPT;
-use a2_bus::{AddressSpace, Bus};
 use a2_cpu::Regs;
 use a2_promise::Text;
 use a2_services::Service;
 use std::alloc::{AllocError, Global};
-
-const RETURN: u8 = 0x8D;
-
-const LINE_FEED: u8 = 0x8A;
-
-const BACKSPACE: u8 = 0x88;
 
 const CANCEL: u8 = 0x98;
 
@@ -33,18 +26,6 @@ fn push_shown(printed: &mut Vec<u8>, byte: u8) -> Result<(), AllocError>
         printed.push(byte)?;
     }
     Ok(())
-}
-
-// The character of a hexadecimal digit, bit 7 set.
-fn digit_byte(digit: u8) -> u8
-    requires { digit < 16 }
-    ensures { result ≡ services.digit_byte digit }
-{
-    if digit < 10 {
-        0xB0 + digit
-    } else {
-        0xB7 + digit
-    }
 }
 
 // The byte that a key is echoed as.
@@ -110,13 +91,6 @@ fn push_line(printed: &mut Vec<u8>, prompt: u8, keys: &[u8], length: u8) -> Resu
     push_line(printed, prompt, rest, length_behind(byte, length))
 }
 
-// The prompt of GETLN.
-fn prompt_of(space: &AddressSpace<Global>) -> u8
-    ensures { result ≡ prompt_character (memory_of space.now) }
-{
-    space.peek(PROMPT).unwrap_or(0)
-}
-
 // The keys that wait.
 #[tactic(auto, unfolding(a2_bus::specs::View::memory_of))]
 fn keys_of(space: &AddressSpace<Global>) -> &[u8]
@@ -151,7 +125,7 @@ pub fn push_printed(
             push_shown(printed, digit_byte(regs.a % 16))
         }
         Service::Prhex => push_shown(printed, digit_byte(regs.a % 16)),
-        Service::Getln => push_getln(printed, prompt_of(space), keys_of(space)),
+        Service::Getln => push_getln(printed, byte_at(space, PROMPT), keys_of(space)),
         _ => Ok(()),
     }
 }

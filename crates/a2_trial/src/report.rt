@@ -3,6 +3,7 @@
 use crate::ground::{Door, Passage, Traced};
 use crate::inputs::Input;
 use crate::judge::{Broken, Unmet};
+use crate::settled::settled_value;
 use crate::trial::{Failure, LEAST_TRIED, Verdict};
 use a2_asm::Program;
 use a2_cpu::Regs;
@@ -59,17 +60,33 @@ fn put_input<W: Output>(input: Input, output: &mut W) -> Result<(), WriteFault> 
     }
 }
 
+// Whether an input of these has one value, since what is required settles it.
+fn is_settled(promise: &Promise, inputs: &[Input], input: Input) -> bool {
+    settled_value(inputs, promise.wanted.as_slice(), input).is_some()
+}
+
 // How many inputs are told.
 const MOST_TOLD: usize = 8;
 
-// Writes inputs, and how many more there are than are told.
-fn put_inputs<W: Output>(inputs: &[Input], output: &mut W) -> Result<(), WriteFault> {
-    for (index, input) in inputs.iter().take(MOST_TOLD).enumerate() {
-        let before: &[u8] = if index == 0 { b" of " } else { b", " };
-        put_all(&[before], output)?;
-        put_input(*input, output)?;
+// Writes inputs but those that are settled, and how many more there are than are told.
+fn put_inputs<W: Output>(
+    promise: &Promise,
+    inputs: &[Input],
+    output: &mut W,
+) -> Result<(), WriteFault> {
+    let mut count: usize = 0;
+    for input in inputs {
+        if is_settled(promise, inputs, *input) {
+            continue;
+        }
+        if count < MOST_TOLD {
+            let before: &[u8] = if count == 0 { b" of " } else { b", " };
+            put_all(&[before], output)?;
+            put_input(*input, output)?;
+        }
+        count = count.saturating_add(1);
     }
-    let more = inputs.len().saturating_sub(MOST_TOLD);
+    let more = count.saturating_sub(MOST_TOLD);
     if more > 0 {
         put_all(
             &[b" and ", decimal(more as u64).as_slice(), b" more"],
@@ -115,6 +132,7 @@ fn put_count<W: Output>(kept: u64, is_all: bool, output: &mut W) -> Result<(), W
 
 // Writes in how many states a promise held, of which inputs, and of how many.
 fn put_held<W: Output>(
+    promise: &Promise,
     inputs: &[Input],
     kept: u64,
     tried: u64,
@@ -125,11 +143,16 @@ fn put_held<W: Output>(
         return put_held_anywhere(output);
     }
     put_count(kept, tried == total, output)?;
-    put_inputs(inputs, output)?;
+    put_inputs(promise, inputs, output)?;
     if kept != tried {
         put_all(&[b" that it requires, of "], output)?;
         put_grouped(tried, output)?;
         put_all(&[b" tried"], output)?;
+    } else if inputs
+        .iter()
+        .all(|input| is_settled(promise, inputs, *input))
+    {
+        put_all(&[b" that it requires"], output)?;
     }
     if tried != total {
         put_all(&[b"; there are "], output)?;
@@ -526,7 +549,7 @@ pub fn put_verdict<W: Output>(
             if *is_everywhere {
                 put_holds(*kept, *tried, output)?;
             } else {
-                put_held(inputs.as_slice(), *kept, *tried, *total, output)?;
+                put_held(promise, inputs.as_slice(), *kept, *tried, *total, output)?;
             }
             put_passage(program, *passage, output)
         }

@@ -3,6 +3,7 @@
 ghost use Rattle.std.specs.Prelude.{IfOk, IsTrue};
 ghost use Rattle.a2_hex.specs.Images.{held};
 ghost use Rattle.a2_trial.specs.Certain.{IsCertain, most_steps};
+ghost use Rattle.a2_trial.specs.Entering.{IsKeptEverywhere};
 ghost use Rattle.a2_trial.specs.Judging.{HasNoText};
 
 use crate::certain::{count_states, holds_in_every_state};
@@ -53,7 +54,7 @@ pub struct Failure {
 #[derive(Drop)]
 pub enum Verdict {
     /// It held in so many states that it admits, of so many tried, of so many that there are of these inputs: those that it names, and
-    /// those that its routine looks at. Whether it holds in every world at the routine's entry is known too, or not.
+    /// those that its routine looks at; a byte that what it requires settles has one value. Whether it holds in every world at the routine's entry is known too, or not.
     Held {
         inputs: Vec<Input>,
         kept: u64,
@@ -201,12 +202,14 @@ fn any_value(corners: &[u8], number: u64, index: usize) -> u8 {
 }
 
 // Makes values those of the state of a number: in their order where all are tried, and else like any others. Those that are not varied
-// always are.
+// always are, and those that are settled always the same.
 fn put_values(values: &mut Vec<u8>, inputs: &Inputs, corners: &[u8], number: u64, is_all: bool) {
     let mut rest = number;
-    for (index, input) in inputs.all.iter().enumerate() {
+    for (index, (input, settled)) in inputs.all.iter().zip(&inputs.settled).enumerate() {
         let among = input.values().max(1);
-        let value = if is_all && index < inputs.varied {
+        let value = if let Some(byte) = settled {
+            *byte
+        } else if is_all && index < inputs.varied {
             let digit = rest % among;
             rest /= among;
             (digit % 256) as u8
@@ -365,9 +368,9 @@ fn try_inputs(
     trials: Trials,
 ) -> Result<Round, AllocError> {
     let mut values = first_values(alloc, &inputs)?;
-    let varied = &inputs.all[..inputs.varied.min(inputs.all.len())];
+    let free = inputs.free(alloc)?;
     // 2^64 - 1 stands for more.
-    let total = count_states(varied).unwrap_or(u64::MAX);
+    let total = count_states(free.as_slice()).unwrap_or(u64::MAX);
     let is_all = total <= trials.all;
     let states = if is_all { total } else { trials.some };
     let looked = ground.looked.len();
@@ -424,7 +427,9 @@ fn try_states(
             trials,
         )? {
             Round::Done(verdict) => return Ok(verdict),
-            Round::Looked(before) => inputs = with_looked(before, ground.looked.as_slice())?,
+            Round::Looked(before) => {
+                inputs = with_looked(alloc, promise, before, ground.looked.as_slice())?;
+            }
         }
     }
     Ok(Verdict::NoState(0))
@@ -435,6 +440,23 @@ fn has_no_text(texts: &Texts) -> bool
     ensures { IsTrue result → HasNoText texts.now }
 {
     texts.prints.is_empty() && texts.takes.is_empty()
+}
+
+// Whether a promise that held in all states of these inputs holds everywhere; of one that says what is printed or which keys are taken,
+// that is not said.
+fn is_certain(
+    alloc: Global,
+    program: &Program<Global>,
+    promise: &Promise,
+    inputs: &[Input],
+) -> Result<bool, AllocError>
+    ensures { IfOk result (λ certain. IsTrue certain
+        → HasNoText promise.now.texts × IsKeptEverywhere (held program.now.image) promise.now inputs.now most_steps) }
+{
+    if !has_no_text(&promise.texts) {
+        return Ok(false);
+    }
+    holds_in_every_state(alloc, program.image(), promise, inputs, MOST_STEPS)
 }
 
 // What is found of a promise, and whether it holds everywhere, if it held in all states.
@@ -455,10 +477,8 @@ fn certified(
             passage,
             ..
         } => {
-            let image = program.image();
             let is_everywhere = tried == total
-                && has_no_text(&promise.texts)
-                && holds_in_every_state(alloc, image, promise, inputs.as_slice(), MOST_STEPS)?;
+                && is_certain(alloc, program, promise, inputs.as_slice())?;
             Ok(Verdict::Held {
                 inputs,
                 kept,
@@ -475,8 +495,8 @@ fn certified(
 /// Tries a promise of a program, one of those that are found in its source: its routine is entered in states of what the promise names
 /// and of what the routine looks at before it sets it, which is noted as it runs; bytes that the program lays are as it lays them,
 /// unless the promise names them. Where it held in all states, and neither the routine nor the promise looks at anything else, it
-/// holds in every world in which the routine is entered as the promise requires, within 1,000,000 steps; of a promise that says what
-/// is printed or which keys are taken, that is not said. Refused only for want of memory.
+/// holds in every world in which the routine is entered as the promise requires, wherever S points, within 1,000,000 steps; of a promise
+/// that says what is printed or which keys are taken, that is not said. Refused only for want of memory.
 pub fn try_promise(
     alloc: Global,
     program: &Program<Global>,

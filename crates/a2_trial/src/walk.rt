@@ -1,29 +1,35 @@
 //! A routine on its way to the RTS of its own, where it looks at nothing that is not known.
 
 ghost use Rattle.std.specs.Prelude.{◌≡◌, ◌<◌, ◌-◌, ◌+◌, ◌&&◌, ℕ, false, true, [], ◌∷◌, IsTrue, IfSome};
-ghost use Rattle.std.specs.List.{list_all};
+ghost use Rattle.std.specs.List.{list_all, list_any};
 ghost use Rattle.a2_opcode.specs.Table.{length_of};
 ghost use Rattle.a2_reads.specs.Reads.{Knows};
 ghost use Rattle.a2_reads.specs.Fetches.{addresses_from};
 ghost use Rattle.a2_bus.specs.BusState.{board_access};
 ghost use Rattle.a2_cpu.specs.Effect.{effect_of};
-ghost use Rattle.a2_cpu.specs.Place.{place_of};
+ghost use Rattle.a2_cpu.specs.Place.{Place, place_of};
 ghost use Rattle.a2_cpu.specs.View.{registers_of};
 ghost use Rattle.a2_uses.specs.Parts.{needs as parts_needed, mode_needs as parts_of_mode};
 ghost use Rattle.a2_uses.specs.Reads.{effect_reads, pointer_reads};
+ghost use Rattle.a2_reads.specs.Turned.{in_stack, moves_s, operand_uses};
 ghost use Rattle.a2_trial.specs.Walking as walking;
-ghost use Rattle.a2_trial.specs.Walking.{known_now, knows_part, is_allowed, AreMarked, IsHome, IsOwnRts, IsStep, StandsAt};
+ghost use Rattle.a2_trial.specs.Walking.{known_now, knows_part, is_allowed, is_beside, AreMarked, IsHome, IsOwnRts, IsStep, StandsAt};
 
 use crate::ground::ENTRY_S;
-use crate::inputs::may_change;
+use crate::inputs::{is_own_stack, may_change};
 use crate::parts::Parts;
+use crate::places::{mark_each, mark_places};
+use crate::services::{given_by, is_all_known, is_keyless, taken_by};
 use crate::stored::Stored;
 use a2_bus::locations::LAST_RETURN;
 use a2_bus::{AddressSpace, Bus};
+use a2_cpu::live::Live;
 use a2_cpu::run::guarded_step;
 use a2_cpu::{GuardedStep, NoProtection, Regs, writes};
 use a2_opcode::{Instr, Mnemonic, Mode, decode};
 use a2_promise::Changes;
+use a2_services::live::call;
+use a2_services::{Served, service_at};
 use a2_uses::{mode_needs, needs, reads, sets};
 use std::alloc::Global;
 
@@ -44,15 +50,15 @@ pub(crate) fn is_known(known: &[bool], stored: &[bool], address: u16) -> bool
     is_set(stored, address) || is_set(known, address)
 }
 
-// Whether it is where a routine stands that stored so.
-fn is_known_now(known: &[bool], stored: &Stored, address: u16) -> bool
+/// Whether it is where a routine stands that stored so.
+pub(crate) fn is_known_now(known: &[bool], stored: &Stored, address: u16) -> bool
     ensures { result ≡ known_now known.now stored.now address }
 {
     is_known(known, stored.marks(), address)
 }
 
-// Whether what all of these hold is.
-fn are_known(known: &[bool], stored: &Stored, addresses: &[u16]) -> bool
+/// Whether what all of these hold is.
+pub(crate) fn are_known(known: &[bool], stored: &Stored, addresses: &[u16]) -> bool
     ensures { result ≡ list_all (known_now known.now stored.now) addresses.now }
 {
     addresses
@@ -80,33 +86,33 @@ fn instr_at(pc: u16, space: &AddressSpace<Global>) -> Option<Instr>
     decode(&[first, second, third], pc)
 }
 
-// Whether the routine may store at an address: `changes` names it, or it is of the stack below the return address.
+/// Whether an address is one of the stack's page.
+pub(crate) fn is_in_stack(address: u16) -> bool
+    ensures { result ≡ in_stack address }
+{
+    0x0100 <= address && address <= 0x01FF
+}
+
+// Whether the routine may store at an address: it is one of its own of the stack, or `changes` names it and it is none of the stack's
+// page.
 fn is_allowed_at(changes: &Changes, address: u16) -> bool
     ensures { result ≡ is_allowed changes.now address }
 {
-    may_change(changes, address) || 0x0100 <= address && address <= 0x01FD
+    if is_in_stack(address) {
+        is_own_stack(address)
+    } else {
+        may_change(changes, address)
+    }
 }
 
-// Marks an address at which the routine stores; false where it may not, or the address is not in RAM or holds the return address.
-fn mark(stored: &mut Stored, changes: &Changes, address: u16) -> bool
+/// Marks an address at which the routine stores; false where it may not, or the address is not in RAM or holds the return address.
+pub(crate) fn mark(stored: &mut Stored, changes: &Changes, address: u16) -> bool
     ensures { IsTrue result → AreMarked stored.old stored.new changes.now (address ∷ []) }
 {
     if !is_allowed_at(changes, address) || address == LAST_RETURN || address == LAST_RETURN + 1 {
         return false;
     }
     stored.mark(address)
-}
-
-// Marks all of these, two at most.
-fn mark_all(stored: &mut Stored, changes: &Changes, addresses: &[u16]) -> bool
-    ensures { IsTrue result → AreMarked stored.old stored.new changes.now addresses.now }
-{
-    match addresses {
-        [] => true,
-        [address] => mark(stored, changes, *address),
-        [first, second] => mark(stored, changes, *second) && mark(stored, changes, *first),
-        _ => false,
-    }
 }
 
 // Whether what an instruction reads beside its own bytes is known.
@@ -137,8 +143,72 @@ fn are_parts_known(parts: &Parts, instr: Instr) -> bool
     parts.have(needs(instr.mnemonic)) && parts.have(mode_needs(instr.mode))
 }
 
-// Makes a step, of this instruction, and answers its cycles; none where it is not made, looks at what is not known, or stores where it
-// may not.
+// Whether none of the three bytes from an address on, which an instruction there has at most, is one of the stack's page.
+fn is_code_off_stack(pc: u16) -> bool
+    ensures { IsTrue result → list_any in_stack (addresses_from pc 3) ≡ false }
+{
+    !is_in_stack(pc) && !is_in_stack(pc.wrapping_add(1)) && !is_in_stack(pc.wrapping_add(2))
+}
+
+// A mnemonic that reads where this one reads or stores by its operand, and pulls nothing.
+#[tactic(auto, unfolding(a2_cpu::specs::Effect::effect_of))]
+fn as_read(mnemonic: Mnemonic) -> Mnemonic
+    ensures { (place : Place) (s : ℕ) → effect_reads (effect_of result) place s ≡ operand_uses (effect_of mnemonic) place }
+{
+    match mnemonic {
+        Mnemonic::Sta | Mnemonic::Stx | Mnemonic::Sty => Mnemonic::Lda,
+        Mnemonic::Pla | Mnemonic::Plp | Mnemonic::Rts | Mnemonic::Rti => Mnemonic::Nop,
+        other => other,
+    }
+}
+
+// Whether an operand is none in memory, or lies in page 0, as its mode tells alone: most are so.
+fn is_beside_stack(instr: Instr) -> bool
+    ensures { result ≡ is_beside instr.mode instr.value }
+{
+    match instr.mode {
+        Mode::Implied | Mode::Accumulator | Mode::Immediate => true,
+        Mode::ZeroPage => instr.value < 256,
+        Mode::ZeroPageX | Mode::ZeroPageY => true,
+        _ => false,
+    }
+}
+
+// Whether an instruction uses the stack's page by S alone: it is no TSX and no TXS, and its operand lies elsewhere.
+fn is_off_stack(instr: Instr, regs: &Regs, space: &AddressSpace<Global>) -> bool
+    ensures { IsTrue result → (moves_s instr.mnemonic ≡ false)
+        × (list_any in_stack (pointer_reads instr.mode instr.value (registers_of regs.now)) ≡ false)
+        × (list_any in_stack (operand_uses (effect_of instr.mnemonic)
+        (place_of board_access space.now (registers_of regs.now) instr.mode instr.value)) ≡ false) }
+{
+    if matches!(instr.mnemonic, Mnemonic::Tsx | Mnemonic::Txs) {
+        return false;
+    }
+    if is_beside_stack(instr) {
+        return true;
+    }
+    // As in `are_reads_known`.
+    if matches!(instr.mode, Mode::IndirectIndexed) && instr.value > 255 {
+        return false;
+    }
+    let read = Instr {
+        mnemonic: as_read(instr.mnemonic),
+        mode: instr.mode,
+        value: instr.value,
+    };
+    let used = reads(read, regs, space);
+    !is_any_in_stack(used.pointer.as_slice()) && !is_any_in_stack(used.operand.as_slice())
+}
+
+// Whether one of these addresses is one of the stack's page.
+fn is_any_in_stack(addresses: &[u16]) -> bool
+    ensures { result ≡ list_any in_stack addresses.now }
+{
+    addresses.iter().any(|address| is_in_stack(*address))
+}
+
+// Makes a step, of this instruction, and answers its cycles; none where it is not made, looks at what is not known or at the stack
+// otherwise than by S, or stores where it may not.
 fn make_step(
     regs: &mut Regs,
     space: &mut AddressSpace<Global>,
@@ -155,6 +225,12 @@ fn make_step(
     if !is_fetch_known(known, stored, regs.pc, instr.mode) {
         return None;
     }
+    if !is_code_off_stack(regs.pc) {
+        return None;
+    }
+    if !is_off_stack(instr, regs, space) {
+        return None;
+    }
     if !are_reads_known(known, stored, instr, regs, space) {
         return None;
     }
@@ -162,7 +238,7 @@ fn make_step(
         return None;
     }
     let targets = writes(regs, space);
-    if !mark_all(stored, changes, targets.as_slice()) {
+    if !mark_each(stored, changes, targets.as_slice()) {
         return None;
     }
     let GuardedStep::Next(cycles) = guarded_step(regs, space, &NoProtection) else {
@@ -170,6 +246,58 @@ fn make_step(
     };
     parts.learn(sets(instr.mnemonic));
     Some(cycles)
+}
+
+// Calls the service at PC, and answers its cycles; none where there is none or it is not called, it needs a key, looks at what is not
+// known, or stores where it may not.
+fn serve(
+    regs: &mut Regs,
+    space: &mut AddressSpace<Global>,
+    known: &[bool],
+    stored: &mut Stored,
+    parts: &mut Parts,
+    changes: &Changes,
+) -> Option<u32>
+    ensures { IfSome result (λ cycles. IsStep known.now stored.old stored.new parts.old parts.new changes.now
+        (registers_of regs.old) space.old (registers_of regs.new) space.new cycles) }
+{
+    let service = service_at(regs.pc)?;
+    if !is_keyless(service) || !parts.have(taken_by(service)) {
+        return None;
+    }
+    if !is_all_known(service, known, stored, regs, space) {
+        return None;
+    }
+    if !mark_places(service, stored, changes, regs, space) {
+        return None;
+    }
+    let mut live = Live::of(regs);
+    let Served::Next(cycles) = call(service, &mut live, space) else {
+        return None;
+    };
+    *regs = live.regs();
+    parts.learn(given_by(service));
+    Some(cycles)
+}
+
+// Makes the next step, which is of this instruction, or where there is none a call of a service, and answers its cycles.
+fn go_on(
+    regs: &mut Regs,
+    space: &mut AddressSpace<Global>,
+    instr: Option<Instr>,
+    known: &[bool],
+    stored: &mut Stored,
+    parts: &mut Parts,
+    changes: &Changes,
+) -> Option<u32>
+    requires { IfSome instr (λ instr. StandsAt instr regs.old.pc space.old.bytes) }
+    ensures { IfSome result (λ cycles. IsStep known.now stored.old stored.new parts.old parts.new changes.now
+        (registers_of regs.old) space.old (registers_of regs.new) space.new cycles) }
+{
+    match instr {
+        Some(instr) => make_step(regs, space, instr, known, stored, parts, changes),
+        None => serve(regs, space, known, stored, parts, changes),
+    }
 }
 
 // Whether the instruction at PC is the RTS of the routine's own, before which S is as it was entered, and its bytes are known.
@@ -180,7 +308,9 @@ fn is_home(known: &[bool], stored: &Stored, instr: Instr, regs: &Regs) -> bool
         return false;
     }
     match (instr.mnemonic, instr.mode) {
-        (Mnemonic::Rts, Mode::Implied) => is_fetch_known(known, stored, regs.pc, instr.mode),
+        (Mnemonic::Rts, Mode::Implied) => {
+            is_code_off_stack(regs.pc) && is_fetch_known(known, stored, regs.pc, instr.mode)
+        }
         _ => false,
     }
 }
@@ -211,11 +341,13 @@ pub fn walk_home(
         (registers_of walk.old.regs) walk.old.space (registers_of walk.new.regs) walk.new.space walk.new.cycles steps) }
 {
     for steps in 0..most {
-        let instr = instr_at(walk.regs.pc, &walk.space)?;
-        if is_home(known, stored, instr, &walk.regs) {
+        let instr = instr_at(walk.regs.pc, &walk.space);
+        if let Some(instr) = instr
+            && is_home(known, stored, instr, &walk.regs)
+        {
             return Some(steps);
         }
-        let cycles = make_step(
+        let cycles = go_on(
             &mut walk.regs,
             &mut walk.space,
             instr,

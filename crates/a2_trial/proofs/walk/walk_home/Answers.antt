@@ -18,22 +18,22 @@ loop-steps-preserved c =
     let first = c.args.walk.now in
     let last = c.loop-steps.walk in
     let At : ℕ → ℕ → Type 0 = λ cycles steps.
-    IsWalk c.args.known.now c.make_step.new.stored first.parts c.make_step.new.parts c.args.changes.now (registers_of first.regs) first.space
-    (registers_of c.make_step.new.regs) c.make_step.new.space cycles steps in
+    IsWalk c.args.known.now c.go_on.new.stored first.parts c.go_on.new.parts c.args.changes.now (registers_of first.regs) first.space
+    (registers_of c.go_on.new.regs) c.go_on.new.space cycles steps in
     let next : suc c.loop-steps.steps ≡ c.loop-steps.steps + 1 = omega arith in
     subst (λ cycles. At cycles (c.loop-steps.steps + 1)) (sym c.in_ok-walk.ensures.1)
     (subst (At (last.cycles + c.in_ok-cycles.cycles)) next
-    (one_more c.args.known.now c.loop-steps.stored c.make_step.new.stored first.parts last.parts c.make_step.new.parts c.args.changes.now
-    (registers_of first.regs) first.space (registers_of last.regs) last.space (registers_of c.make_step.new.regs) c.make_step.new.space
+    (one_more c.args.known.now c.loop-steps.stored c.go_on.new.stored first.parts last.parts c.go_on.new.parts c.args.changes.now
+    (registers_of first.regs) first.space (registers_of last.regs) last.space (registers_of c.go_on.new.regs) c.go_on.new.space
     last.cycles c.in_ok-cycles.cycles c.loop-steps.steps c.loop-steps.invariant c.in_ok-cycles.ensures))
 
-pub returns-then-is_home : goal.returns-then-is_home
-returns-then-is_home c =
+pub returns-in-loop-steps : goal.returns-in-loop-steps
+returns-in-loop-steps c =
     let first = c.args.walk.now in
     let last = c.loop-steps.walk in (
       c.loop-steps-test.true,
       home c.args.known.now c.loop-steps.stored c.loop-steps.stored first.parts last.parts last.parts c.args.changes.now
           (registers_of first.regs) first.space (registers_of last.regs) last.space (registers_of last.regs) last.space
           last.cycles 0 c.loop-steps.steps c.loop-steps.invariant
-          c.in_ok-instr.instr c.in_ok-instr.ensures.size c.in_ok-instr.ensures (c.is_home.ensures c.if-is_home.true) c.requires.s,
+          c.in-Some.instr c.in-Some.ensures.size c.in-Some.ensures (c.is_home.ensures c.if-is_home.true) c.requires.s,
     )

@@ -1,8 +1,0 @@
-use Rattle.std.proofs.Common.{◌∙◌, ap, arith}
-use Rattle.std.specs.Prelude.{unwrap_or}
-use Rattle.a2_services.proofs.Access.{looked_at}
-use Rattle.a2_trial.proofs.printing.prompt_of.Goals as goal
-
-pub returns : goal.returns
-returns c =
-    c.unwrap_or.ensures ∙ ap (λ o. unwrap_or o 0) c.peek.ensures.value ∙ looked_at c.args.space.now 0x33 c.peek.ensures.size (omega arith)

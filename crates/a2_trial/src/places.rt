@@ -1,0 +1,263 @@
+//! Where a service stores, marked.
+//!
+//! Each function here marks what it says, and answers false where the routine may not store at one of the addresses, or it is not in RAM
+//! or holds the return address.
+
+ghost use Rattle.std.specs.Prelude.{◌<◌, ◌≤◌, ◌+◌, ℕ, [], ◌∷◌, ◌++◌, IfSome, IsTrue};
+ghost use Rattle.a2_page.specs.Cells.{numbers_from};
+ghost use Rattle.a2_bus.specs.Memory.{Memory};
+ghost use Rattle.a2_bus.specs.View.{memory_of};
+ghost use Rattle.a2_cpu.specs.View.{registers_of};
+ghost use Rattle.a2_services.specs.Put.{after_put, window_of};
+ghost use Rattle.a2_services.specs.World.{world_of};
+ghost use Rattle.a2_reads.specs.Services.{base_bytes, block_cell, blocks_across, blocks_down, cells_below, cells_to_end, changed_by, output_bytes, put_changes, service_stores, window_cells};
+ghost use Rattle.a2_trial.specs.Screen.{IsCursor, IsOnScreen, window_by};
+ghost use Rattle.a2_trial.specs.Walking.{AreMarked};
+
+use crate::screen::{
+    Cursor, behind, byte_at, cursor_in, digit_byte, is_on_screen, is_shown, masked, scrolls,
+};
+use crate::stored::Stored;
+use crate::walk::mark;
+use a2_bus::AddressSpace;
+use a2_bus::locations::{BASH, BASL, CH, COLOR, CV, H2, INVFLG, V2};
+use a2_cpu::Regs;
+use a2_page::{Page, address};
+use a2_promise::Changes;
+use a2_services::Service;
+use std::alloc::Global;
+
+// The whole screen.
+const WHOLE_SCREEN: Cursor = Cursor {
+    left: 0,
+    width: 40,
+    top: 0,
+    bottom: 24,
+    row: 0,
+    column: 0,
+};
+
+/// Marks each of these.
+pub(crate) fn mark_each(stored: &mut Stored, changes: &Changes, addresses: &[u16]) -> bool
+    ensures { IsTrue result → AreMarked stored.old stored.new changes.now addresses.now }
+{
+    let [first, rest @ ..] = addresses else {
+        return true;
+    };
+    mark(stored, changes, *first) && mark_each(stored, changes, rest)
+}
+
+// So many cells of a row, from an address on.
+fn mark_cells(stored: &mut Stored, changes: &Changes, first: u16, count: u8) -> bool
+    requires { first + count < 0x10000 }
+    ensures { IsTrue result → AreMarked stored.old stored.new changes.now (numbers_from first count) }
+{
+    for step in 0..count {
+        if !mark(stored, changes, first + u16::from(step)) {
+            return false;
+        }
+    }
+    true
+}
+
+// The cells of a window, row by row.
+fn mark_window(stored: &mut Stored, changes: &Changes, window: &Cursor) -> bool
+    requires left { window.now.left < 40 }
+    requires right { window.now.left + window.now.width ≤ 40 }
+    requires bottom { window.now.bottom ≤ 24 }
+    ensures { IsTrue result → AreMarked stored.old stored.new changes.now (window_cells (window_by window.now)) }
+{
+    for step in 0..window.bottom.saturating_sub(window.top) {
+        let first = address(Page::One, window.top + step, window.left);
+        if !mark_cells(stored, changes, first, window.width) {
+            return false;
+        }
+    }
+    true
+}
+
+// The cell of a block; false too where that is not on the screen.
+fn mark_block(stored: &mut Stored, changes: &Changes, row: u8, column: u8) -> bool
+    ensures { IsTrue result → AreMarked stored.old stored.new changes.now (block_cell row column ∷ []) }
+{
+    row < 48 && column < 40 && mark(stored, changes, address(Page::One, row / 2, column))
+}
+
+// Those of HLINE's blocks.
+fn mark_blocks_across(
+    stored: &mut Stored,
+    changes: &Changes,
+    regs: &Regs,
+    space: &AddressSpace<Global>,
+) -> bool
+    ensures { IsTrue result → AreMarked stored.old stored.new changes.now (blocks_across (registers_of regs.now) (memory_of space.now)) }
+{
+    let last = byte_at(space, H2);
+    if regs.a >= 48 || regs.y >= 40 || last >= 40 {
+        return false;
+    }
+    let first = address(Page::One, regs.a / 2, regs.y);
+    mark_cells(stored, changes, first, last.saturating_sub(regs.y) + 1)
+}
+
+// Those of VLINE's.
+fn mark_blocks_down(
+    stored: &mut Stored,
+    changes: &Changes,
+    regs: &Regs,
+    space: &AddressSpace<Global>,
+) -> bool
+    ensures { IsTrue result → AreMarked stored.old stored.new changes.now (blocks_down (registers_of regs.now) (memory_of space.now)) }
+{
+    let last = byte_at(space, V2);
+    if regs.a >= 48 || last >= 48 {
+        return false;
+    }
+    for step in 0..last.saturating_sub(regs.a) + 1 {
+        if !mark_block(stored, changes, regs.a + step, regs.y) {
+            return false;
+        }
+    }
+    true
+}
+
+// The cells that a byte changes, once it is masked.
+fn mark_put(stored: &mut Stored, changes: &Changes, byte: u8, cursor: &Cursor) -> bool
+    requires { IsOnScreen cursor.now }
+    ensures { IsTrue result → (memory : Memory) → IsCursor cursor.now memory
+        → AreMarked stored.old stored.new changes.now (changed_by byte memory) }
+{
+    let cell = address(Page::One, cursor.row, cursor.left + cursor.column);
+    if is_shown(byte) && !mark(stored, changes, cell) {
+        return false;
+    }
+    !scrolls(byte, cursor) || mark_window(stored, changes, cursor)
+}
+
+// The cells from the cursor to the window's right edge.
+fn mark_to_end(stored: &mut Stored, changes: &Changes, cursor: &Cursor) -> bool
+    requires { IsOnScreen cursor.now }
+    ensures { IsTrue result → (memory : Memory) → IsCursor cursor.now memory
+        → AreMarked stored.old stored.new changes.now (cells_to_end memory) }
+{
+    let first = address(Page::One, cursor.row, cursor.left + cursor.column);
+    let count = cursor.width.saturating_sub(cursor.column);
+    mark_cells(stored, changes, first, count)
+}
+
+// The window and the cursor, if they lie on the screen.
+fn cursor_on_screen(space: &AddressSpace<Global>) -> Option<Cursor>
+    ensures { IfSome result (λ cursor. IsCursor cursor (memory_of space.now) × IsOnScreen cursor) }
+{
+    let cursor = cursor_in(space);
+    if is_on_screen(&cursor) {
+        Some(cursor)
+    } else {
+        None
+    }
+}
+
+// What CLREOP changes.
+fn mark_clreop(stored: &mut Stored, changes: &Changes, space: &AddressSpace<Global>) -> bool
+    ensures { IsTrue result → let memory = memory_of space.now in
+        AreMarked stored.old stored.new changes.now (base_bytes ++ cells_to_end memory ++ cells_below memory) }
+{
+    let Some(cursor) = cursor_on_screen(space) else {
+        return false;
+    };
+    let below = Cursor {
+        top: cursor.row + 1,
+        ..cursor
+    };
+    mark_each(stored, changes, &[BASL, BASH])
+        && mark_to_end(stored, changes, &cursor)
+        && mark_window(stored, changes, &below)
+}
+
+// What HOME does; false where the window does not lie on the screen.
+fn mark_home(stored: &mut Stored, changes: &Changes, space: &AddressSpace<Global>) -> bool
+    ensures { IsTrue result
+        → AreMarked stored.old stored.new changes.now (output_bytes ++ window_cells (window_of (memory_of space.now))) }
+{
+    let window = Cursor {
+        row: 0,
+        column: 0,
+        ..cursor_in(space)
+    };
+    if !is_on_screen(&window) {
+        return false;
+    }
+    mark_each(stored, changes, &[CH, CV, BASL, BASH]) && mark_window(stored, changes, &window)
+}
+
+// What COUT1 does of a byte.
+fn mark_output(
+    stored: &mut Stored,
+    changes: &Changes,
+    byte: u8,
+    space: &AddressSpace<Global>,
+) -> bool
+    ensures { IsTrue result → AreMarked stored.old stored.new changes.now (output_bytes ++ put_changes byte (memory_of space.now)) }
+{
+    let Some(cursor) = cursor_on_screen(space) else {
+        return false;
+    };
+    let byte = masked(byte, byte_at(space, INVFLG));
+    mark_each(stored, changes, &[CH, CV, BASL, BASH]) && mark_put(stored, changes, byte, &cursor)
+}
+
+// What it does of one byte and then of another.
+fn mark_both(
+    stored: &mut Stored,
+    changes: &Changes,
+    first: u8,
+    second: u8,
+    space: &AddressSpace<Global>,
+) -> bool
+    ensures { IsTrue result → let memory = memory_of space.now in AreMarked stored.old stored.new changes.now
+        (output_bytes ++ put_changes first memory ++ put_changes second (after_put first memory)) }
+{
+    let Some(cursor) = cursor_on_screen(space) else {
+        return false;
+    };
+    let mask = byte_at(space, INVFLG);
+    let behind_first = behind(masked(first, mask), cursor);
+    let next = masked(second, mask);
+    mark_output(stored, changes, first, space) && mark_put(stored, changes, next, &behind_first)
+}
+
+/// Marks the addresses at which a service stores.
+#[tactic(auto, unfolding(a2_reads::specs::Services::service_stores))]
+pub(crate) fn mark_places(
+    service: Service,
+    stored: &mut Stored,
+    changes: &Changes,
+    regs: &Regs,
+    space: &AddressSpace<Global>,
+) -> bool
+    ensures { IsTrue result → (before : ℕ)
+        → AreMarked stored.old stored.new changes.now (service_stores service (world_of (registers_of regs.now) space.now before)) }
+{
+    let low = digit_byte(regs.a % 16);
+    match service {
+        Service::Cout1 => mark_output(stored, changes, regs.a, space),
+        Service::Home => mark_home(stored, changes, space),
+        Service::Prbyte => mark_both(stored, changes, digit_byte(regs.a / 16), low, space),
+        Service::Prhex => mark_output(stored, changes, low, space),
+        Service::Setinv | Service::Setnorm => mark(stored, changes, INVFLG),
+        Service::Vtab => mark_each(stored, changes, &[BASL, BASH]),
+        Service::Clreol => match cursor_on_screen(space) {
+            Some(cursor) => mark_to_end(stored, changes, &cursor),
+            None => false,
+        },
+        Service::Clreop => mark_clreop(stored, changes, space),
+        Service::Setcol => mark(stored, changes, COLOR),
+        Service::Plot => mark_block(stored, changes, regs.a, regs.y),
+        Service::Hline => mark_blocks_across(stored, changes, regs, space),
+        Service::Vline => mark_blocks_down(stored, changes, regs, space),
+        Service::Clrscr => {
+            mark_each(stored, changes, &[COLOR, V2]) && mark_window(stored, changes, &WHOLE_SCREEN)
+        }
+        _ => true,
+    }
+}
