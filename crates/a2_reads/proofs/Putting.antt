@@ -8,16 +8,15 @@ use Rattle.a2_page.specs.Grid.{Window, blank, with_byte}
 use Rattle.a2_page.specs.Window.{IsWindow}
 use Rattle.a2_bus.specs.Locations as at
 use Rattle.a2_bus.specs.Memory.{Memory, with_ram}
-use Rattle.a2_bus.proofs.Frame.{ram_byte-with_ram, ram_byte-page1}
+use Rattle.a2_bus.proofs.Frame.{ram_byte-page1}
 use Rattle.a2_bus.proofs.Viewing.{cell_written}
-use Rattle.a2_cpu.specs.Arithmetic.{by_digits}
 use Rattle.a2_services.specs.Bytes.{carriage_return, line_feed, backspace}
 use Rattle.a2_services.specs.Fits.{CursorFits}
-use Rattle.a2_services.specs.Put.{window_of, cursor_column, cursor_row, screen_column, with_cursor_column, with_page1, after_line_feed, after_return, after_backspace, after_character, after_put_unmasked, after_put}
+use Rattle.a2_services.specs.Put.{window_of, cursor_column, cursor_row, screen_column, with_cursor_column, with_page1, after_line_feed, after_return, after_backspace, after_character, after_put_unmasked, after_put, masked_by}
 use Rattle.a2_services.specs.declared.Service.TheVariants.{Cout1, Prbyte, Prhex, Vtab}
 use Rattle.a2_services.specs.Services.{window_fits, cursor_fits, digit_byte, back, output, effect}
 use Rattle.a2_services.specs.World.{World}
-use Rattle.a2_services.proofs.Fitting.{window_kept, window_kept-page, put_fits}
+use Rattle.a2_services.proofs.Fitting.{row_at_column, window_kept, window_kept-page, put_fits}
 use Rattle.a2_services.proofs.Returning.{fits_tells}
 use Rattle.a2_uses.specs.declared.Part.{Part}
 use Rattle.a2_uses.specs.declared.Part.TheVariants.{A as part_a}
@@ -62,7 +61,7 @@ stored_if known moves stores m n yes_m no_m yes_n no_n false false e k holds fai
 
 pub same_masked : (byte : ℕ) (known : ℕ → Bool) (m n : Memory) → AgreeOn known m n → IsTrue (known at.invflg) → masked byte m ≡ masked byte n
 same_masked byte known m n h k =
-    ap (λ mask. if nat_le blank byte then by_digits 8 ◌&&◌ byte mask else byte) (h.bytes at.invflg (omega arith) k)
+    ap (λ mask. masked_by byte mask) (h.bytes at.invflg (omega arith) k)
 
 same_scrolled : (m n : Memory) → window_of m ≡ window_of n → cursor_row m ≡ cursor_row n → scrolled_cells m ≡ scrolled_cells n
 same_scrolled m n window row = λ i. let w : Window = window i in if nat_lt (row i + 1) w.bottom then [] else window_cells w
@@ -92,10 +91,6 @@ module _ (known : ℕ → Bool) (m n : Memory) (h : AgreeOn known m n) (k : Know
   same_put_changes =
       ap (λ b. changed_by b m) (same_masked byte known m n h mask) ∙ same_changed (masked byte n) m n (same_cursor known m n h k)
 
--- CH set
-row_kept : (m : Memory) (column : ℕ) → cursor_row (with_cursor_column column m) ≡ cursor_row m
-row_kept m column = ram_byte-with_ram m at.ch column at.cv (λ e. omega (arith, e))
-
 -- a character in its cell, and the cursor behind it
 abbrev shown_in : ℕ → Memory → Memory
 shown_in byte m = with_page1 (with_byte m.page1 (cursor_row m) (screen_column m) byte) m
@@ -107,7 +102,7 @@ window_on : (byte : ℕ) (m : Memory) → window_of (moved_on byte m) ≡ window
 window_on byte m = window_kept (shown_in byte m) at.ch (cursor_column m + 1) (omega arith) ∙ window_kept-page m _
 
 row_on : (byte : ℕ) (m : Memory) → cursor_row (moved_on byte m) ≡ cursor_row m
-row_on byte m = row_kept (shown_in byte m) (cursor_column m + 1) ∙ ram_byte-page1 m _ at.cv (inl (omega arith))
+row_on byte m = row_at_column (shown_in byte m) (cursor_column m + 1) ∙ ram_byte-page1 m _ at.cv (inl (omega arith))
 
 -- a character is stored in the same cell of both
 showing : (byte : ℕ) (known : ℕ → Bool) (m n : Memory) → AgreeOn known m n → SameCursor m n → CursorFits m
@@ -162,7 +157,7 @@ returning known m n h k is shown =
     let now : ℕ → Bool = with_bytes (at.ch ∷ []) known in
     let fed : Knows now cells → Stored now (at.ch ∷ at.cv ∷ cells) start_m start_n (after_line_feed start_m) (after_line_feed start_n) =
     subst (λ xs. Knows now xs → Stored now (at.ch ∷ at.cv ∷ xs) start_m start_n (after_line_feed start_m) (after_line_feed start_n))
-    (same_scrolled start_m m window (row_kept m 0))
+    (same_scrolled start_m m window (row_at_column m 0))
     (line_feeding now start_m start_n started.agree (knows_more known (at.ch ∷ []) cursor_bytes k) (subst IsWindow (sym window) is)) in
     let all : Knows (is_among (at.ch ∷ at.cv ∷ cells)) (at.ch ∷ at.cv ∷ cells) = among_self (at.ch ∷ at.cv ∷ cells) in
     stored_same known (at.ch ∷ at.ch ∷ at.cv ∷ cells) (at.ch ∷ at.cv ∷ cells) m n _ _ (among_self (at.ch ∷ at.ch ∷ at.cv ∷ cells)).1 (all.0, all)

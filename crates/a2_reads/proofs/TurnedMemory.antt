@@ -5,9 +5,8 @@ use Rattle.std.proofs.lemmas.Bool.Decides.{nat_tests}
 use Rattle.a2_page.specs.declared.Page.{Page}
 use Rattle.a2_page.specs.declared.Page.TheVariants.{One, Two}
 use Rattle.a2_page.specs.Cells.{Cell, cell_at}
-use Rattle.a2_page.specs.Grid.{Grid, byte_in, with_byte}
+use Rattle.a2_page.specs.Grid.{byte_in, with_byte}
 use Rattle.a2_page.proofs.CellAt.{nothing_before}
-use Rattle.a2_bus.specs.Devices.{Devices}
 use Rattle.a2_bus.specs.Memory.{Memory, grid, with_grid, ram_byte, with_ram}
 use Rattle.a2_bus.proofs.Agreement.{written}
 use Rattle.a2_uses.specs.Reads.{pull_address}
@@ -101,13 +100,3 @@ turned_store turn m a v =
 pub store_beside : (turn : ℕ) (m : Memory) (a v : ℕ) → in_stack a ≡ false
     → with_ram (turned_memory turn m) a v ≡ turned_memory turn (with_ram m a v)
 store_beside turn m a v out = turned_store turn m a v ∙ ap (λ b. turned_memory turn (with_ram m b v)) (not_in_stack turn a out)
-
--- What else a memory has
-
-pub turned_page1 : (turn : ℕ) (m : Memory) (cells : Grid)
-    → turned_memory turn (record m { page1 = cells }) ≡ record (turned_memory turn m) { page1 = cells }
-turned_page1 turn m cells = refl
-
-pub turned_devices : (turn : ℕ) (m : Memory) (devices : Devices)
-    → turned_memory turn (record m { devices = devices }) ≡ record (turned_memory turn m) { devices = devices }
-turned_devices turn m devices = refl

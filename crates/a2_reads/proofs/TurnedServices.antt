@@ -7,7 +7,6 @@ use Rattle.a2_page.specs.Grid.{Window, blank, byte_in, cleared, scrolled, with_b
 use Rattle.a2_page.specs.Text.{block, blocks_of, plotted}
 use Rattle.a2_bus.specs.Locations as at
 use Rattle.a2_bus.specs.Memory.{Memory, ram_byte, with_ram}
-use Rattle.a2_cpu.specs.Arithmetic.{by_digits}
 use Rattle.a2_cpu.specs.Registers.{Registers}
 use Rattle.a2_services.specs.declared.Service.{Service}
 use Rattle.a2_services.specs.declared.Service.TheVariants.{Cout, Cout1, Crout, Home, Prbyte, Prhex, Setinv, Setnorm, Vtab, Clreol, Clreop, Rdkey, Keyin, Getln, Wait, Setcol, Plot, Hline, Vline, Scrn, Clrscr}
@@ -18,7 +17,7 @@ use Rattle.a2_services.specs.declared.rows.Takes.TheVariants as span
 use Rattle.a2_services.specs.Rows.{service_row}
 use Rattle.a2_services.specs.Blocks.{black, half_of, painted, painted_across, painted_down, span_of}
 use Rattle.a2_services.specs.Bytes.{backspace, carriage_return, line_feed}
-use Rattle.a2_services.specs.Put.{window_of, cursor_column, cursor_row, screen_column, with_page1, with_cursor_column, with_cursor_row, after_line_feed, after_return, after_backspace, after_character, after_put_unmasked, after_put, with_base_address}
+use Rattle.a2_services.specs.Put.{window_of, cursor_column, cursor_row, screen_column, with_page1, with_cursor_column, with_cursor_row, after_line_feed, after_return, after_backspace, after_character, after_put_unmasked, after_put, masked_by, with_base_address}
 use Rattle.a2_services.specs.Services.{back, block_fits, cleared_below, cleared_to_end, cycles_of, digit_byte, effect, fits, lies_right, output, served, through, with_a, with_memory}
 use Rattle.a2_services.specs.World.{World}
 use Rattle.a2_services.proofs.Counting.{returned_devices}
@@ -125,8 +124,7 @@ module _ (turn : ℕ) where
   put_turned : (byte : ℕ) (m : Memory) → after_put byte (turned_memory turn m) ≡ turned_memory turn (after_put byte m)
   unfolding after_put
   put_turned byte m =
-      ap (λ mask. after_put_unmasked (if nat_le blank byte then by_digits 8 ◌&&◌ byte mask else byte) (turned_memory turn m))
-      (same_beside turn m at.invflg refl)
+      ap (λ mask. after_put_unmasked (masked_by byte mask) (turned_memory turn m)) (same_beside turn m at.invflg refl)
       ∙ put_unmasked_turned _ m
 
   base_turned : (m : Memory) → with_base_address (turned_memory turn m) ≡ turned_memory turn (with_base_address m)

@@ -7,7 +7,6 @@ use Rattle.a2_page.specs.Cells.{address_of, numbers_from}
 use Rattle.a2_page.specs.Grid.{Window, blank}
 use Rattle.a2_bus.specs.Locations as at
 use Rattle.a2_bus.specs.Memory.{Memory, ram_byte}
-use Rattle.a2_cpu.specs.Arithmetic.{by_digits}
 use Rattle.a2_cpu.specs.Registers.{Registers}
 use Rattle.a2_services.specs.Blocks.{span_of}
 use Rattle.a2_services.specs.Bytes.{carriage_return, line_feed, backspace}
@@ -16,7 +15,7 @@ use Rattle.a2_services.specs.declared.Service.TheVariants.{Cout, Cout1, Crout, H
 use Rattle.a2_services.specs.declared.rows.Needs.{Needs}
 use Rattle.a2_services.specs.declared.rows.Needs.TheVariants as need
 use Rattle.a2_services.specs.Rows.{service_row}
-use Rattle.a2_services.specs.Put.{window_of, cursor_column, cursor_row, screen_column, inverse_mask, after_put}
+use Rattle.a2_services.specs.Put.{window_of, cursor_column, cursor_row, screen_column, inverse_mask, masked_by, after_put}
 use Rattle.a2_services.specs.Services.{digit_byte}
 use Rattle.a2_services.specs.World.{World}
 use Rattle.a2_uses.specs.Reads.{pull_address}
@@ -86,7 +85,7 @@ blocks_down registers memory = map (λ row. block_cell row registers.y) (span_of
 
 -- the byte under the mask, if it is a blank or more
 abbrev pub masked : ℕ → Memory → ℕ
-masked byte memory = if nat_le blank byte then by_digits 8 ◌&&◌ byte (inverse_mask memory) else byte
+masked byte memory = masked_by byte (inverse_mask memory)
 
 -- a line feed moves the cells of the window, where the cursor can't go down
 abbrev pub scrolled_cells : Memory → List ℕ

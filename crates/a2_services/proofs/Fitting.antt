@@ -5,12 +5,11 @@ use Rattle.std.proofs.lemmas.Bool.Decides.{nat_tests}
 use Rattle.a2_page.specs.Cells.{cell_at}
 use Rattle.a2_page.specs.Grid.{Grid, Window, with_byte, blank}
 use Rattle.a2_page.specs.Window.{IsWindow}
-use Rattle.a2_cpu.specs.Arithmetic.{by_digits}
 use Rattle.a2_bus.specs.Devices.{Devices}
 use Rattle.a2_bus.specs.Memory.{Memory, ram_byte, with_ram}
 use Rattle.a2_bus.proofs.Frame.{ram_byte-with_ram, ram_byte-page1}
 use Rattle.a2_bus.proofs.Viewing.{plain_written}
-use Rattle.a2_services.specs.Put.{window_of, cursor_row, cursor_column, with_cursor_row, with_cursor_column, screen_column, with_page1, after_line_feed, after_return, after_backspace, after_character, after_put_unmasked, after_put, inverse_mask}
+use Rattle.a2_services.specs.Put.{window_of, cursor_row, cursor_column, with_cursor_row, with_cursor_column, screen_column, with_page1, after_line_feed, after_return, after_backspace, after_character, after_put_unmasked, after_put, inverse_mask, masked_by}
 use Rattle.a2_services.specs.Fits.{CursorFits, LineFits}
 
 column_free : cell_at 0x24 ≡ None
@@ -56,7 +55,7 @@ fits_from m n h e row column = record {
 
 -- the cursor's column set
 
-row_at_column : (m : Memory) (c : ℕ) → cursor_row (with_cursor_column c m) ≡ cursor_row m
+pub row_at_column : (m : Memory) (c : ℕ) → cursor_row (with_cursor_column c m) ≡ cursor_row m
 row_at_column m c = ram_byte-with_ram m 0x24 c 0x25 (λ e. differ 0x24 0x25 (omega arith) (sym e))
 
 pub column_line : (m : Memory) (c : ℕ) → LineFits m → LineFits (with_cursor_column c m)
@@ -160,7 +159,7 @@ put_unmasked_fits byte m h =
 
 pub put_fits : (byte : ℕ) (m : Memory) → CursorFits m → CursorFits (after_put byte m)
 unfolding after_put
-put_fits byte m h = put_unmasked_fits (if nat_le blank byte then by_digits 8 ◌&&◌ byte (inverse_mask m) else byte) m h
+put_fits byte m h = put_unmasked_fits (masked_by byte (inverse_mask m)) m h
 
 -- the cursor at the window's top left, whatever stood there
 pub home_line : (m : Memory) (page : Grid) → IsWindow (window_of m)

@@ -3,13 +3,12 @@ use Rattle.std.specs.Prelude.{◌≡◌, ◌≢◌, ℕ, zero, suc, ◌+◌, ◌
 use Rattle.std.proofs.Common.{sym, ap, ◌∙◌, arith, true≢false}
 use Rattle.std.proofs.lemmas.Bool.Decides.{nat_tests}
 use Rattle.a2_page.specs.Cells.{Cell, cell_at}
-use Rattle.a2_cpu.specs.Arithmetic.{by_digits}
 use Rattle.a2_bus.specs.BusState.{BusState}
 use Rattle.a2_bus.specs.View.{memory_of}
 use Rattle.a2_bus.specs.Devices.{Devices, key_taken}
 use Rattle.a2_bus.specs.Memory.{Memory, with_ram}
 use Rattle.a2_bus.proofs.Agreement.{written, devices-with_grid}
-use Rattle.a2_services.specs.Put.{after_line_feed, after_return, after_backspace, after_character, after_put_unmasked, after_put, prompt_character, inverse_mask, with_cursor_row, with_cursor_column, window_of, cursor_row, cursor_column, screen_column, with_page1}
+use Rattle.a2_services.specs.Put.{after_line_feed, after_return, after_backspace, after_character, after_put_unmasked, after_put, prompt_character, inverse_mask, masked_by, with_cursor_row, with_cursor_column, window_of, cursor_row, cursor_column, screen_column, with_page1}
 use Rattle.a2_page.specs.Grid.{with_byte, blank}
 use Rattle.a2_services.specs.Services.{Reading, byte_of_key, after_byte, after_cancel, after_prompt, line_read, with_key_taken, cleared_to_end, lacks_keys, effect, back, with_a, with_memory}
 use Rattle.a2_services.specs.World.{World}
@@ -78,7 +77,7 @@ put_unmasked_devices byte m = (put_unmasked_holds byte m).is
 
 pub put_devices : (byte : ℕ) (m : Memory) → (after_put byte m).devices ≡ m.devices
 unfolding after_put
-put_devices byte m = put_unmasked_devices (if nat_le blank byte then by_digits 8 ◌&&◌ byte (inverse_mask m) else byte) m
+put_devices byte m = put_unmasked_devices (masked_by byte (inverse_mask m)) m
 
 prompt_devices : (m : Memory) → (after_prompt m).devices ≡ m.devices
 prompt_devices m = put_devices (prompt_character m) (after_put 0x8D m) ∙ put_devices 0x8D m

@@ -3,12 +3,11 @@ use Rattle.std.specs.Prelude.{◌≡◌, ◌≢◌, ◌⊎◌, ℕ, zero, suc, �
 use Rattle.std.proofs.Common.{◌∙◌, arith, inl, inr}
 use Rattle.std.proofs.lemmas.Bool.Decides.{nat_tests}
 use Rattle.a2_page.specs.Grid.{Grid, scrolled, with_byte, blank}
-use Rattle.a2_cpu.specs.Arithmetic.{by_digits}
 use Rattle.a2_bus.specs.Memory.{Memory, ram_byte, with_ram, memory_access}
 use Rattle.a2_bus.proofs.Frame.{ram_byte-with_ram, ram_byte-page1, changed_by_writes}
 use Rattle.a2_cpu.specs.Instruction.{returned, after_pull}
 use Rattle.a2_services.specs.World.{World}
-use Rattle.a2_services.specs.Put.{window_of, cursor_column, cursor_row, with_cursor_column, with_cursor_row, screen_column, prompt_character, inverse_mask, with_page1, after_line_feed, after_return, after_backspace, after_character, after_put, after_put_unmasked, with_base_address}
+use Rattle.a2_services.specs.Put.{window_of, cursor_column, cursor_row, with_cursor_column, with_cursor_row, screen_column, prompt_character, inverse_mask, masked_by, with_page1, after_line_feed, after_return, after_backspace, after_character, after_put, after_put_unmasked, with_base_address}
 use Rattle.a2_services.specs.Services.{output_reach, cleared_to_end, Reading, byte_of_key, after_byte, after_cancel, after_prompt, line_read, with_key_taken, back, output}
 use Rattle.a2_services.proofs.Kept.{off_base-kept, off_page-cleared}
 
@@ -90,7 +89,7 @@ module _ (b : ℕ) (outside : IsOutside b) where
 
   pub put-kept : (byte : ℕ) (m : Memory) → ram_byte (after_put byte m) b ≡ ram_byte m b
   unfolding after_put
-  put-kept byte m = put_unmasked-kept (if nat_le blank byte then by_digits 8 ◌&&◌ byte (inverse_mask m) else byte) m
+  put-kept byte m = put_unmasked-kept (masked_by byte (inverse_mask m)) m
 
   pub base-kept : (m : Memory) → ram_byte (with_base_address m) b ≡ ram_byte m b
   base-kept m = off_base-kept b (record { low = outside.base_low; high = outside.base_high }) m

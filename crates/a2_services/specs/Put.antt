@@ -82,10 +82,13 @@ after_put_unmasked byte memory =
     else if nat_le 0x80 byte && nat_lt byte blank then memory
     else after_character byte memory
 
--- a byte is put, under the mask if it is a blank or more; what the mask makes of it decides what is done
+-- a byte as it is put: under a mask, if it is a blank or more
+abbrev pub masked_by : ℕ → ℕ → ℕ
+masked_by byte mask = if nat_le blank byte then by_digits 8 ◌&&◌ byte mask else byte
+
+-- a byte is put so, under the mask; what that makes of it decides what is done
 unfoldable pub after_put : ℕ → Memory → Memory
-after_put byte memory =
-    after_put_unmasked (if nat_le blank byte then by_digits 8 ◌&&◌ byte (inverse_mask memory) else byte) memory
+after_put byte memory = after_put_unmasked (masked_by byte (inverse_mask memory)) memory
 
 -- BASL and BASH hold the address of the window's left edge in the cursor's row
 unfoldable pub with_base_address : Memory → Memory

@@ -9,11 +9,12 @@ ghost use Rattle.a2_cpu.specs.Live.{live_registers};
 ghost use Rattle.a2_services.specs.declared.Service.TheVariants.{Cout1, Home, Prbyte, Prhex, Keyin, Wait, Getln};
 ghost use Rattle.a2_services.specs.World.{world_of};
 ghost use Rattle.a2_services.specs.Put.{window_of, with_base_address};
-ghost use Rattle.a2_services.specs.Services.{fits as fits_of, lacks_keys as lacks_keys_of, cycles_of as cycles_by, digit_byte as digit_byte_of, wait_cycles as wait_cycles_of, with_memory};
+ghost use Rattle.a2_services.specs.Services.{fits as fits_of, lacks_keys as lacks_keys_of, cycles_of as cycles_by, wait_cycles as wait_cycles_of, with_memory};
 ghost use Rattle.a2_services.specs.Fits.{CursorFits, LineFits};
 ghost use Rattle.a2_services.specs.Called.{IsCalled, IsServed, IsLeft, IsUnreached};
 
 use crate::blocks::{clrscr, hline, plot, scrn, setcol, vline};
+use crate::bytes::digit_byte;
 use crate::editing::{clreol, clreop, setinv, setnorm, vtab};
 use crate::ends::{end_output, return_from};
 use crate::hooks::{cout, crout, rdkey};
@@ -211,18 +212,6 @@ fn prhex<A: Allocator>(live: &mut Live, space: &mut AddressSpace<A>)
 {
     put(space, digit_byte(live.a % 16));
     end_output(live, space);
-}
-
-// The character of a hexadecimal digit, bit 7 set.
-fn digit_byte(digit: u8) -> u8
-    requires { digit < 16 }
-    ensures { result ≡ digit_byte_of digit }
-{
-    if digit < 10 {
-        0xB0 + digit
-    } else {
-        0xB7 + digit
-    }
 }
 
 fn keyin<A: Allocator>(live: &mut Live, space: &mut AddressSpace<A>)

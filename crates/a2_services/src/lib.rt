@@ -1,6 +1,7 @@
 //! The Monitor's services: each call of one as a single step on the registers and the board.
 //!
-//! [`call`] calls a service. Who makes many steps in a row and keeps the registers apart meanwhile has [`live::call`].
+//! [`call`] calls a service. Who makes many steps in a row and keeps the registers apart meanwhile has [`live::call`]. Who
+//! follows a service without calling it has what it looks at and puts: [`load`], [`window`], [`masked`] and [`bytes`].
 //!
 //! The names, addresses and purposes are those of the Apple II Reference Manual (1979), chapter 3, "The System
 //! Monitor", chapter 2, "Conversation with Apples", on standard output, the text window, standard input and GETLN, and
@@ -13,7 +14,7 @@
 #![tactic(auto)]
 
 mod blocks;
-mod bytes;
+pub mod bytes;
 mod calls;
 mod editing;
 mod ends;
@@ -29,7 +30,9 @@ mod screen;
 mod stores;
 
 pub use on_board::call;
+pub use put::masked;
 pub use rows::service_at;
+pub use screen::{Edges, load, window};
 pub use stores::reach;
 
 /// A service of the Monitor. A hook takes 5 cycles, WAIT as many as A says, each other 6 (this project's profile).

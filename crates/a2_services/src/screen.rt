@@ -14,18 +14,20 @@ use a2_bus::{AddressSpace, Bus};
 use a2_page::{BLANK, Page, address};
 use std::alloc::Allocator;
 
-/// The window's edges: its first column, how many columns it has, its first row, and the row below its last.
+/// The window's edges: its first column, how many columns it has, its first row, and the row below its last. Each is from 0 to 255: the
+/// window need not lie on the screen.
 #[derive(Clone, Copy)]
-pub(crate) struct Edges {
+pub struct Edges {
     pub left: u8,
     pub width: u8,
     pub top: u8,
     pub bottom: u8,
 }
 
-/// The byte at an address of RAM.
+/// The byte at an address of RAM, from 0 to $BFFF, as the services look at it: nothing changes, and no device sees an access. Apple II
+/// Reference Manual (1979), chapter 4, the memory map.
 #[inline(always)]
-pub(crate) fn load<A: Allocator>(space: &AddressSpace<A>, address: u16) -> u8
+pub fn load<A: Allocator>(space: &AddressSpace<A>, address: u16) -> u8
     requires { address < ram_end }
     ensures byte { result ≡ ram_byte (memory_of space.now) address }
     ensures size { length space.now.bytes ≡ ram_end }
@@ -61,9 +63,10 @@ pub(crate) fn set_cell<A: Allocator>(space: &mut AddressSpace<A>, row: u8, colum
     store(space, address(Page::One, row, column), byte);
 }
 
-/// The window's edges, as its four locations say them.
+/// The window's edges, as its four locations, $20 to $23, say them. Nothing changes. Apple II Reference Manual (1979), chapter 2, on the
+/// text window.
 #[inline(always)]
-pub(crate) fn window<A: Allocator>(space: &AddressSpace<A>) -> Edges
+pub fn window<A: Allocator>(space: &AddressSpace<A>) -> Edges
     ensures edges { window_at result ≡ window_of (memory_of space.now) }
     ensures size { length space.now.bytes ≡ ram_end }
 {

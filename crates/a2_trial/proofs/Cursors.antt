@@ -9,7 +9,7 @@ use Rattle.a2_bus.specs.Memory.{Memory}
 use Rattle.a2_bus.proofs.Frame.{ram_byte-with_ram, ram_byte-page1}
 use Rattle.a2_bus.proofs.Viewing.{plain_written}
 use Rattle.a2_services.specs.Bytes.{carriage_return, line_feed, backspace}
-use Rattle.a2_services.specs.Put.{window_of, cursor_row, cursor_column, screen_column, with_cursor_row, with_cursor_column, with_page1, after_line_feed, after_return, after_backspace, after_character, after_put, after_put_unmasked, inverse_mask}
+use Rattle.a2_services.specs.Put.{window_of, cursor_row, cursor_column, screen_column, with_cursor_row, with_cursor_column, with_page1, after_line_feed, after_return, after_backspace, after_character, after_put, after_put_unmasked, inverse_mask, masked_by}
 use Rattle.a2_services.proofs.Fitting.{window_kept, window_kept-page}
 use Rattle.a2_services.proofs.Reaching.{outside_of, put-kept}
 use Rattle.a2_reads.specs.Services.{masked}
@@ -210,6 +210,10 @@ module _ (byte : ℕ) (m : Memory) (no_return : byte ≢ carriage_return) (no_fe
 pub put_masked : (byte : ℕ) (m : Memory) → after_put byte m ≡ after_put_unmasked (masked byte m) m
 unfolding after_put
 put_masked byte m = refl
+
+-- that is the byte under this mask
+pub under_mask : (byte mask : ℕ) (m : Memory) → inverse_mask m ≡ mask → masked_by byte mask ≡ masked byte m
+under_mask byte mask m is = ap (λ k. masked_by byte k) (sym is)
 
 -- the mask stays
 pub mask_kept : (byte : ℕ) (m : Memory) → inverse_mask (after_put byte m) ≡ inverse_mask m

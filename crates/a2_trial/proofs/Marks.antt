@@ -106,12 +106,6 @@ one_marked old new changes a marks allowed first second = record {
   allowed = λ b among. subst (λ n. MayStore changes n) (sym (same_number a b among)) (allowed, first, second);
 }
 
-pub none_marked : (old : List Bool) (changes : Changes) → AreMarked old old changes []
-none_marked old changes = record {
-  marks = λ a. refl;
-  allowed = λ a bad. absurd (true≢false (sym bad));
-}
-
 -- some, and then more
 pub both_marked : (old between new : List Bool) (changes : Changes) (xs ys : List ℕ) → AreMarked old between changes xs
     → AreMarked between new changes ys → AreMarked old new changes (xs ++ ys)

@@ -14,9 +14,7 @@ ghost use Rattle.a2_reads.specs.Services.{base_bytes, block_cell, blocks_across,
 ghost use Rattle.a2_trial.specs.Screen.{IsCursor, IsOnScreen, window_by};
 ghost use Rattle.a2_trial.specs.Walking.{AreMarked};
 
-use crate::screen::{
-    Cursor, behind, byte_at, cursor_in, digit_byte, is_on_screen, is_shown, masked, scrolls,
-};
+use crate::screen::{Cursor, behind, cursor_in, is_on_screen, is_shown, scrolls};
 use crate::stored::Stored;
 use crate::walk::mark;
 use a2_bus::AddressSpace;
@@ -24,7 +22,8 @@ use a2_bus::locations::{BASH, BASL, CH, COLOR, CV, H2, INVFLG, V2};
 use a2_cpu::Regs;
 use a2_page::{Page, address};
 use a2_promise::Changes;
-use a2_services::Service;
+use a2_services::bytes::digit_byte;
+use a2_services::{Service, load, masked};
 use std::alloc::Global;
 
 // The whole screen.
@@ -92,7 +91,7 @@ fn mark_blocks_across(
 ) -> bool
     ensures { IsTrue result → AreMarked stored.old stored.new changes.now (blocks_across (registers_of regs.now) (memory_of space.now)) }
 {
-    let last = byte_at(space, H2);
+    let last = load(space, H2);
     if regs.a >= 48 || regs.y >= 40 || last >= 40 {
         return false;
     }
@@ -109,7 +108,7 @@ fn mark_blocks_down(
 ) -> bool
     ensures { IsTrue result → AreMarked stored.old stored.new changes.now (blocks_down (registers_of regs.now) (memory_of space.now)) }
 {
-    let last = byte_at(space, V2);
+    let last = load(space, V2);
     if regs.a >= 48 || last >= 48 {
         return false;
     }
@@ -202,7 +201,7 @@ fn mark_output(
     let Some(cursor) = cursor_on_screen(space) else {
         return false;
     };
-    let byte = masked(byte, byte_at(space, INVFLG));
+    let byte = masked(byte, load(space, INVFLG));
     mark_each(stored, changes, &[CH, CV, BASL, BASH]) && mark_put(stored, changes, byte, &cursor)
 }
 
@@ -220,7 +219,7 @@ fn mark_both(
     let Some(cursor) = cursor_on_screen(space) else {
         return false;
     };
-    let mask = byte_at(space, INVFLG);
+    let mask = load(space, INVFLG);
     let behind_first = behind(masked(first, mask), cursor);
     let next = masked(second, mask);
     mark_output(stored, changes, first, space) && mark_put(stored, changes, next, &behind_first)

@@ -6,17 +6,13 @@ ghost use Rattle.a2_bus.specs.View.{memory_of};
 ghost use Rattle.a2_cpu.specs.View.{registers_of};
 ghost use Rattle.a2_trial.specs.Printing as said;
 
-use crate::screen::{BACKSPACE, LINE_FEED, RETURN, byte_at, digit_byte};
 use a2_bus::AddressSpace;
 use a2_bus::locations::PROMPT;
 use a2_cpu::Regs;
 use a2_promise::Text;
-use a2_services::Service;
+use a2_services::bytes::{BACKSLASH, BACKSPACE, CANCEL, LINE_FEED, RETURN, digit_byte};
+use a2_services::{Service, load};
 use std::alloc::{AllocError, Global};
-
-const CANCEL: u8 = 0x98;
-
-const BACKSLASH: u8 = 0xDC;
 
 // Adds a byte that is put, if that is a character.
 fn push_shown(printed: &mut Vec<u8>, byte: u8) -> Result<(), AllocError>
@@ -125,7 +121,7 @@ pub fn push_printed(
             push_shown(printed, digit_byte(regs.a % 16))
         }
         Service::Prhex => push_shown(printed, digit_byte(regs.a % 16)),
-        Service::Getln => push_getln(printed, byte_at(space, PROMPT), keys_of(space)),
+        Service::Getln => push_getln(printed, load(space, PROMPT), keys_of(space)),
         _ => Ok(()),
     }
 }

@@ -3,24 +3,18 @@
 
 ghost use Rattle.std.specs.Prelude.{◌≡◌, ◌<◌, ◌+◌, ℕ, ◌&&◌, if◌then◌else◌, ◌∷◌, ◌++◌, [], nat_le, nat_lt, IsTrue};
 ghost use Rattle.a2_page.specs.Grid.{blank};
-ghost use Rattle.a2_bus.specs.Memory.{Memory, ram_byte, ram_end};
+ghost use Rattle.a2_bus.specs.Memory.{Memory};
 ghost use Rattle.a2_bus.specs.View.{memory_of};
-ghost use Rattle.a2_cpu.specs.Arithmetic.{by_digits};
-ghost use Rattle.a2_services.specs.Put.{inverse_mask, after_backspace, after_character, after_line_feed, after_put_unmasked, after_return};
-ghost use Rattle.a2_services.specs.Services.{digit_byte as digit_byte_of};
-ghost use Rattle.a2_reads.specs.Services.{changed_by, cursor_cell, masked as masked_of, moved_by, scrolled_cells, window_cells};
+ghost use Rattle.a2_services.specs.Put.{after_backspace, after_character, after_line_feed, after_put_unmasked, after_return};
+ghost use Rattle.a2_reads.specs.Services.{changed_by, cursor_cell, moved_by, scrolled_cells, window_cells};
 ghost use Rattle.a2_trial.specs.Screen.{IsCursor, IsOnScreen, window_by};
 
-use a2_bus::locations::{CH, CV, WNDBTM, WNDLFT, WNDTOP, WNDWDTH};
-use a2_bus::{AddressSpace, Bus};
+use a2_bus::AddressSpace;
+use a2_bus::locations::{CH, CV};
 use a2_page::BLANK;
+use a2_services::bytes::{BACKSPACE, LINE_FEED, RETURN};
+use a2_services::{load, window};
 use std::alloc::Global;
-
-pub(crate) const RETURN: u8 = 0x8D;
-
-pub(crate) const LINE_FEED: u8 = 0x8A;
-
-pub(crate) const BACKSPACE: u8 = 0x88;
 
 /// The window, by its first column, its number of columns, its first row and the row behind its last, and the cursor, by its row on the
 /// screen and its column in the window.
@@ -34,37 +28,18 @@ pub(crate) struct Cursor {
     pub column: u8,
 }
 
-/// The byte at an address of RAM.
-pub(crate) fn byte_at(space: &AddressSpace<Global>, address: u16) -> u8
-    requires { address < ram_end }
-    ensures { result ≡ ram_byte (memory_of space.now) address }
-{
-    space.peek(address).unwrap_or(0)
-}
-
-/// The character of a hexadecimal digit, bit 7 set.
-pub(crate) fn digit_byte(digit: u8) -> u8
-    requires { digit < 16 }
-    ensures { result ≡ digit_byte_of digit }
-{
-    if digit < 10 {
-        0xB0 + digit
-    } else {
-        0xB7 + digit
-    }
-}
-
 /// The window and the cursor that page 0 says.
 pub(crate) fn cursor_in(space: &AddressSpace<Global>) -> Cursor
     ensures { IsCursor result (memory_of space.now) }
 {
+    let edges = window(space);
     Cursor {
-        left: byte_at(space, WNDLFT),
-        width: byte_at(space, WNDWDTH),
-        top: byte_at(space, WNDTOP),
-        bottom: byte_at(space, WNDBTM),
-        row: byte_at(space, CV),
-        column: byte_at(space, CH),
+        left: edges.left,
+        width: edges.width,
+        top: edges.top,
+        bottom: edges.bottom,
+        row: load(space, CV),
+        column: load(space, CH),
     }
 }
 
@@ -79,24 +54,6 @@ pub(crate) fn is_on_screen(cursor: &Cursor) -> bool
         && cursor.bottom <= 24
         && cursor.row < 24
         && left + u16::from(cursor.column) < 40
-}
-
-// Two bytes, digit by digit.
-fn both(byte: u8, mask: u8) -> u8
-    ensures { result ≡ by_digits 8 ◌&&◌ byte mask }
-{
-    byte & mask
-}
-
-/// A byte as it is put, under the mask if it is a blank or more.
-pub(crate) fn masked(byte: u8, mask: u8) -> u8
-    ensures { (memory : Memory) → inverse_mask memory ≡ mask → result ≡ masked_of byte memory }
-{
-    if byte >= BLANK {
-        both(byte, mask)
-    } else {
-        byte
-    }
 }
 
 // Whether a byte is a control character.

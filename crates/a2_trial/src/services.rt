@@ -11,23 +11,21 @@ ghost use Rattle.a2_services.specs.Blocks.{span_of};
 ghost use Rattle.a2_services.specs.Put.{after_put};
 ghost use Rattle.a2_services.specs.Rows.{service_row};
 ghost use Rattle.a2_services.specs.World.{world_of};
-ghost use Rattle.a2_uses.specs.Reads.{pull_address as pulled_at};
 ghost use Rattle.a2_reads.specs.Reads.{Knows};
 ghost use Rattle.a2_reads.specs.Services.{block_cell, bytes_used, fit_bytes, is_keyless as is_keyless_by, moved_by, put_moves, service_needs, service_reads, service_sets, way_bytes, window_cells};
 ghost use Rattle.a2_trial.specs.Screen.{IsCursor, IsOnScreen, window_by};
 ghost use Rattle.a2_trial.specs.Walking.{known_now};
 
-use crate::screen::{
-    Cursor, behind, byte_at, cursor_in, digit_byte, is_on_screen, masked, scrolls,
-};
+use crate::screen::{Cursor, behind, cursor_in, is_on_screen, scrolls};
 use crate::stored::Stored;
 use crate::walk::{are_known, is_known_now};
 use a2_bus::AddressSpace;
 use a2_bus::locations::{CH, COLOR, CSW, CV, H2, INVFLG, KSW, V2, WNDBTM, WNDLFT, WNDTOP, WNDWDTH};
 use a2_cpu::Regs;
 use a2_page::{Page, address};
-use a2_services::Service;
-use a2_uses::Part;
+use a2_services::bytes::digit_byte;
+use a2_services::{Service, load, masked};
+use a2_uses::{Part, pull_address};
 use std::alloc::Global;
 
 /// The registers that a service looks at.
@@ -59,13 +57,6 @@ pub(crate) fn is_keyless(service: Service) -> bool
     ensures { result ≡ is_keyless_by service }
 {
     !matches!(service, Service::Keyin | Service::Getln)
-}
-
-// An address of the stack, so many above S.
-fn pull_address(s: u8, count: u8) -> u16
-    ensures { result ≡ pulled_at s count }
-{
-    0x0100 + u16::from(s.wrapping_add(count))
 }
 
 // The two bytes that say where a service goes on.
@@ -176,7 +167,7 @@ fn is_put_known(known: &[bool], stored: &Stored, byte: u8, space: &AddressSpace<
     ensures { IsTrue result → Knows (known_now known.now stored.now) (at.invflg ∷ put_moves byte (memory_of space.now)) }
 {
     let cursor = cursor_in(space);
-    let byte = masked(byte, byte_at(space, INVFLG));
+    let byte = masked(byte, load(space, INVFLG));
     is_on_screen(&cursor)
         && is_known_now(known, stored, INVFLG)
         && are_moved_known(known, stored, byte, &cursor)
@@ -197,7 +188,7 @@ fn are_both_known(
     if !is_on_screen(&cursor) {
         return false;
     }
-    let mask = byte_at(space, INVFLG);
+    let mask = load(space, INVFLG);
     let put = masked(first, mask);
     if !is_known_now(known, stored, INVFLG) {
         return false;
@@ -230,11 +221,11 @@ fn is_used_known(
         }
         Service::Hline => {
             is_known_now(known, stored, COLOR)
-                && are_known_across(known, stored, regs.a, regs.y, byte_at(space, H2))
+                && are_known_across(known, stored, regs.a, regs.y, load(space, H2))
         }
         Service::Vline => {
             is_known_now(known, stored, COLOR)
-                && are_known_down(known, stored, regs.a, byte_at(space, V2), regs.y)
+                && are_known_down(known, stored, regs.a, load(space, V2), regs.y)
         }
         _ => true,
     }

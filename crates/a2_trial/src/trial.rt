@@ -54,7 +54,8 @@ pub struct Failure {
 #[derive(Drop)]
 pub enum Verdict {
     /// It held in so many states that it admits, of so many tried, of so many that there are of these inputs: those that it names, and
-    /// those that its routine looks at; a byte that what it requires settles has one value. Whether it holds in every world at the routine's entry is known too, or not.
+    /// those that its routine looks at; a byte that what it requires settles has one value. Whether it holds in every world at the
+    /// routine's entry is known too, or not.
     Held {
         inputs: Vec<Input>,
         kept: u64,

@@ -105,8 +105,10 @@ fn jump_at<B: Bus>(mode: Mode, value: u16, regs: &Regs, bus: &B) -> Few
     }
 }
 
-// The address of the stack that a first, second or third pull reads.
-fn pull_address(s: u8, count: u8) -> u16
+/// The address of the byte that a pull reads, the first, second or third by `count`, where S is `s` before the first of them: so many
+/// above S, from $0100 to $01FF, for behind $FF comes $00. PLA and PLP pull once, RTS twice, RTI three times. MCS6500 Programming
+/// Manual, chapter 8.
+pub fn pull_address(s: u8, count: u8) -> u16
     ensures { result ≡ pulled_at s count }
 {
     256 + u16::from(s.wrapping_add(count))

@@ -6,7 +6,7 @@
 mod bytes;
 mod parts;
 
-pub use bytes::{BytesRead, reads};
+pub use bytes::{BytesRead, pull_address, reads};
 pub use parts::{mode_needs, needs, sets};
 
 /// A register or a flag. S and PC are none of these: each instruction looks at PC, and the stack is looked at by S.

@@ -15,7 +15,7 @@ returns c = λ is.
     let regs = c.args.regs.now in
     let count = c.saturating_sub.result + 1 in
     let all : count ≡ ram_byte (memory_of c.args.space.now) at.h2 - regs.y + 1 =
-    omega (arith, c.saturating_sub.ensures, c.byte_at-last.ensures) in
+    omega (arith, c.saturating_sub.ensures, c.load-last.ensures.byte) in
     subst (AreMarked c.args.stored.now c.mark_cells.new.stored c.args.changes.now)
     (ap (λ first. numbers_from first count) c.address-first.ensures ∙ numbers_behind (row_start One (regs.a / 2)) regs.y count
     ∙ ap (λ n. map (λ column. block_cell regs.a column) (numbers_from regs.y n)) all)

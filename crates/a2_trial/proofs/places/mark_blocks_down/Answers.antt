@@ -21,7 +21,7 @@ returns c = λ _.
     let regs = c.args.regs.now in
     let cell : ℕ → ℕ = λ row. block_cell row regs.y in
     let all : c.loop-step.step ≡ ram_byte (memory_of c.args.space.now) at.v2 - regs.a + 1 =
-    omega (arith, c.loop-step-test.false, c.loop-step.auto.step-end, c.saturating_sub-step-end.ensures, c.byte_at-last.ensures) in
+    omega (arith, c.loop-step-test.false, c.loop-step.auto.step-end, c.saturating_sub-step-end.ensures, c.load-last.ensures.byte) in
     subst (AreMarked c.args.stored.now c.loop-step.stored c.args.changes.now)
     (flat_map_single cell (numbers_from regs.a c.loop-step.step) ∙ ap (λ count. map cell (numbers_from regs.a count)) all)
     c.loop-step.invariant

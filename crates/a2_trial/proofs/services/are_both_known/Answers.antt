@@ -7,7 +7,7 @@ use Rattle.a2_reads.specs.Reads.{Knows}
 use Rattle.a2_reads.specs.Services.{masked, moved_by, put_moves}
 use Rattle.a2_trial.specs.Screen.{IsCursor}
 use Rattle.a2_trial.specs.Walking.{known_now}
-use Rattle.a2_trial.proofs.Cursors.{mask_kept, put_masked}
+use Rattle.a2_trial.proofs.Cursors.{mask_kept, put_masked, under_mask}
 use Rattle.a2_trial.proofs.Walking.{knows_both}
 use Rattle.a2_trial.proofs.services.are_both_known.Goals as goal
 
@@ -16,9 +16,11 @@ returns c = λ is.
     let known : ℕ → Bool = known_now c.args.known.now c.args.stored.now in
     let m : Memory = memory_of c.args.space.now in
     let n : Memory = after_put c.args.first m in
-    let mask : inverse_mask m ≡ c.byte_at-mask.result = sym c.byte_at-mask.ensures in
-    let first : c.masked-put.result ≡ masked c.args.first m = c.masked-put.ensures m mask in
-    let second : c.masked-next.result ≡ masked c.args.second n = c.masked-next.ensures n (mask_kept c.args.first m ∙ mask) in
+    let mask : inverse_mask m ≡ c.load-mask.result = sym c.load-mask.ensures.byte in
+    let first : c.masked-put.result ≡ masked c.args.first m =
+    c.masked-put.ensures ∙ under_mask c.args.first c.load-mask.result m mask in
+    let second : c.masked-next.result ≡ masked c.args.second n =
+    c.masked-next.ensures ∙ under_mask c.args.second c.load-mask.result n (mask_kept c.args.first m ∙ mask) in
     let put : after_put_unmasked c.masked-put.result m ≡ n =
     ap (λ b. after_put_unmasked b m) first ∙ sym (put_masked c.args.first m) in
     let behind : IsCursor c.behind.result n =
