@@ -12,10 +12,10 @@ use crate::GuardedStep;
 use crate::live::{Live, digit};
 use crate::modes::{
     Absolute, AbsoluteX, AbsoluteY, AtAddress, Bytes, IndexedIndirect, IndirectIndexed, Site,
-    ZeroPage, ZeroPageX, ZeroPageY, branch_target, is_elsewhere,
+    ZeroPage, ZeroPageX, ZeroPageY, is_elsewhere,
 };
 use a2_bus::Bus;
-use a2_opcode::{Mnemonic, Mode, row_of};
+use a2_opcode::{Mnemonic, Mode, branch_target, row_of};
 
 /// Where an operand is.
 #[derive(Clone, Copy)]

@@ -28,15 +28,16 @@ impl Mode {
     }
 }
 
-// The target of a branch.
-fn branch_target(address: u16, offset: u8) -> u16
+/// Where a branch at `address` ($0000 to $FFFF) goes if it is taken: `offset`, the byte behind its opcode, is the distance from the
+/// following instruction, -128 to 127, modulo 65,536. MCS6500 Programming Manual, chapter 4.
+#[inline(always)]
+pub fn branch_target(address: u16, offset: u8) -> u16
     ensures { result ≡ branch_target_of address offset }
 {
-    let biased = u16::from(offset.wrapping_add(128));
+    let distance = i16::from(offset.cast_signed());
     address
         .wrapping_add(2)
-        .wrapping_add(biased)
-        .wrapping_sub(128)
+        .wrapping_add(distance.cast_unsigned())
 }
 
 // The byte of a branch, if its target is near enough.
