@@ -286,7 +286,8 @@ def reasons(said):
             goals.append(at[1])
         elif at := REFUSED.match(line):
             name, rest = at.groups()
-            cited = re.findall(r"stands on `Rattle\.\w+\.proofs\.(\S+)\.[^.`]+`", rest)
+            # (the proof of a circle of calls has a path of its own)
+            cited = re.findall(r"stands on `Rattle\.\w+\.proofs\.(\S+?)(?:\.(?:Answers|Invariants|Proof))?\.[^.`]+`", rest)
             places = [name.partition("::")[2], *[it.replace(".", "::") for it in cited]]
             why = ", ".join(goals) or next((errors[it] for it in places if it in errors), None)
             if why:

@@ -95,7 +95,7 @@ fn copy_of<A: Allocator + Copy>(
 {
     let mut copy = match spare {
         Some(spare) => spare,
-        None => Machine::new(alloc).ok()?,
+        None => Machine::for_copies(alloc).ok()?,
     };
     copy.restore(machine);
     Some(copy)

@@ -112,7 +112,7 @@ impl<A: Allocator + Copy> Course<A> {
         requires { machine.now.state.steps ≡ 0 }
         ensures { IfOk result (λ c. c ≡ record { origin = machine.now.state; log = [] }) }
     {
-        let mut origin = Machine::new(alloc)?;
+        let mut origin = Machine::for_copies(alloc)?;
         origin.copy_from(machine);
         Ok(Course {
             origin,

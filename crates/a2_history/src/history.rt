@@ -63,7 +63,7 @@ impl<A: Allocator + Copy> History<A> {
         ensures { IfOk result (λ h. h ≡ record { course = record { origin = machine.state; log = [] }; position = 0 }) }
     {
         let course = Course::new(alloc, &machine)?;
-        let mut scout = Machine::new(alloc)?;
+        let mut scout = Machine::for_copies(alloc)?;
         scout.copy_from(&machine);
         Ok(History {
             alloc,

@@ -400,7 +400,7 @@ impl<'a, A: Allocator + Copy> Inspector<'a, A> {
         let program = program_of(alloc, source)?;
         let lines = cut(alloc, source)?;
         let machine = started(alloc, &program, keys, free)?;
-        let before = Machine::new(alloc)?;
+        let before = Machine::for_copies(alloc)?;
         let marks = Marks::new(alloc)?;
         let history = History::new(alloc, machine, kept)?;
         Ok(Inspector {

@@ -1,6 +1,6 @@
 //! The machine: a board with a processor, its guard, and its counts.
 
-ghost use Rattle.std.specs.Prelude.{◌≡◌, ◌≢◌, ◌+◌, ◌-◌, ◌^◌, ◌<◌, ◌≤◌, ◌↔◌, ℕ, [], true, None, Some, Ok, IfOk, IfNone, IfSome, OnOk, OnErr, OnSome, IsOk, length, slice_range};
+ghost use Rattle.std.specs.Prelude.{◌≡◌, ◌≢◌, ◌+◌, ◌-◌, ◌*◌, ◌^◌, ◌<◌, ◌≤◌, ◌↔◌, ℕ, [], true, false, None, Some, Ok, IfOk, IfNone, IfSome, OnOk, OnErr, OnSome, IsOk, length, slice_range};
 ghost use Rattle.a2_stream.specs.Stream.{SendsOrBreaks};
 ghost use Rattle.a2_page.specs.Kept.{is_row_marked, with_row_marked, after_switch};
 ghost use Rattle.a2_page.specs.Picture.{page_grid, picture, attribute_rows};
@@ -13,15 +13,16 @@ ghost use Rattle.a2_cpu.specs.View.{registers_of};
 ghost use Rattle.a2_hex.specs.Images.{held};
 ghost use Rattle.a2_machine.specs.Looks.{shown_at, seen_after};
 ghost use Rattle.a2_machine.specs.Meaning.{stuck};
+ghost use Rattle.a2_machine.specs.Outcome.{most_cost};
 ghost use Rattle.a2_machine.specs.ProgramGuard.{guard_of_program};
 ghost use Rattle.a2_machine.specs.Start.{start_world};
 ghost use Rattle.a2_machine.specs.Start.{called_at};
-ghost use Rattle.a2_machine.specs.State.{world_of_state, code_of, cause_of, most_steps, steps_left, IsStep, IsMachineRun, IsRunTo, after_print};
+ghost use Rattle.a2_machine.specs.State.{world_of_state, code_of, cause_of, most_steps, steps_left, raised_by, IsStep, IsMachineRun, IsRunTo, after_print};
 ghost use Rattle.a2_machine.specs.declared.Stop.TheVariants.{Cause as StopCause, Breakpoint};
 
 use crate::step::{Outcome, cause_at};
-use crate::steps::{make_one_step, make_steps};
-use crate::watch::Watch;
+use crate::steps::{StepsMade, make_one_step, make_steps, make_steps_alone};
+use crate::watch::{Watch, zeros};
 use crate::{Cause, Stop};
 use a2_asm::Program;
 use a2_bus::locations::{LAST_RETURN, RETURN_ADDRESS};
@@ -66,6 +67,10 @@ fn cause_in(stop: Stop) -> Cause
 pub struct Machine<A: Allocator = Global> {
     board: Board<A>,
     watch: Watch<A>,
+    // Room for what a long run notes, a byte for each address, or none.
+    notes: Vec<u8, A>,
+    // The guard that was taken away last: what a free run is likely to keep to.
+    likely: Option<Watch<A>>,
     regs: Regs,
     cycles: u64,
     steps: u64,
@@ -89,9 +94,12 @@ impl<A: Allocator> Model for Machine<A> {
 }
 
 impl<A: Allocator + Copy> Machine<A> {
-    /// The machine as it is switched on, in memory of `alloc`: nothing loaded, no keys, PC $0300, no guard, no steps and
-    /// no cycles, and every row marked. This project's profile. Refused only for want of memory.
-    pub fn new(alloc: A) -> Result<Machine<A>, AllocError>
+    // The machine as it is switched on, with room for notes and for a guard that was taken away, or with neither.
+    fn with_notes(
+        alloc: A,
+        notes: Vec<u8, A>,
+        likely: Option<Watch<A>>,
+    ) -> Result<Machine<A>, AllocError>
         ensures world { IfOk result (λ m. world_of_state m.state ≡ start_world (λ _. None) 768 []) }
         ensures steps { IfOk result (λ m. m.state.steps ≡ 0) }
         ensures guard { IfOk result (λ m. m.state.guard ≡ None) }
@@ -103,11 +111,40 @@ impl<A: Allocator + Copy> Machine<A> {
         Ok(Machine {
             board,
             watch,
+            notes,
+            likely,
             regs: Regs::start(FIRST_ENTRY),
             cycles: 0,
             steps: 0,
             made: 0,
         })
+    }
+
+    /// The machine as it is switched on, in memory of `alloc`: nothing loaded, no keys, PC $0300, no guard, no steps and
+    /// no cycles, and every row marked. This project's profile. Refused only for want of memory.
+    pub fn new(alloc: A) -> Result<Machine<A>, AllocError>
+        ensures world { IfOk result (λ m. world_of_state m.state ≡ start_world (λ _. None) 768 []) }
+        ensures steps { IfOk result (λ m. m.state.steps ≡ 0) }
+        ensures guard { IfOk result (λ m. m.state.guard ≡ None) }
+        ensures made { IfOk result (λ m. m.made ≡ 0) }
+        ensures marked { IfOk result (λ m. (row : ℕ) → row < 24 → is_row_marked m.state.picture row ≡ true) }
+    {
+        let notes = zeros(alloc)?;
+        let likely = Watch::new(alloc)?;
+        Machine::with_notes(alloc, notes, Some(likely))
+    }
+
+    /// The machine as [`Machine::new`] makes it, in 128 KB less: without the room in which a [`Machine::run`] with a limit of 8,192 steps
+    /// and more notes what makes it fast, and that for a guard which was taken away. It makes the same steps. For copies of a machine that
+    /// runs. This project's profile. Refused only for want of memory.
+    pub fn for_copies(alloc: A) -> Result<Machine<A>, AllocError>
+        ensures world { IfOk result (λ m. world_of_state m.state ≡ start_world (λ _. None) 768 []) }
+        ensures steps { IfOk result (λ m. m.state.steps ≡ 0) }
+        ensures guard { IfOk result (λ m. m.state.guard ≡ None) }
+        ensures made { IfOk result (λ m. m.made ≡ 0) }
+        ensures marked { IfOk result (λ m. (row : ℕ) → row < 24 → is_row_marked m.state.picture row ≡ true) }
+    {
+        Machine::with_notes(alloc, Vec::new(alloc), None)
     }
 
     /// The machine as it is switched on, in memory of `alloc`, with `image` laid over its RAM, PC at `entry` ($0000 to $FFFF) and
@@ -160,10 +197,16 @@ impl<A: Allocator> Machine<A> {
         self.watch.set(program);
     }
 
-    /// Takes the guard away, if there is one: an instruction may begin anywhere, and code may be stored to.
+    /// Takes the guard away, if there is one: an instruction may begin anywhere, and code may be stored to. A [`Machine::run`] is then as
+    /// fast as a guarded one, as long as it keeps to what was guarded. This project's profile.
     pub fn free(&mut self)
         ensures { self.new ≡ (let s = self.old.state in record self.old { state = record s { guard = None } }) }
     {
+        if self.watch.guards() {
+            if let Some(likely) = &mut self.likely {
+                likely.copy_from(&self.watch);
+            }
+        }
         self.watch.free();
     }
 
@@ -329,6 +372,30 @@ impl<A: Allocator> Machine<A> {
         self.regs = Regs { p, ..regs };
     }
 
+    // How many steps a call with this limit may make.
+    fn most_within(&self, limit: u64) -> u64
+        ensures { result ≡ steps_left limit self.now.state }
+    {
+        let left = MOST_STEPS - self.steps;
+        if limit < left { limit } else { left }
+    }
+
+    // Counts steps that were made.
+    fn count(&mut self, done: StepsMade)
+        requires steps { self.old.state.steps + done.made ≤ most_steps }
+        requires cycles { done.cycles ≤ most_cost * done.made }
+        ensures counted { self.new ≡ (let s = self.old.state in record {
+          state = record s { cycles = s.cycles + done.cycles; steps = s.steps + done.made };
+          made = raised_by self.old.made done.made;
+        }) }
+        ensures few { self.old.made < 2 ^ 64 }
+    {
+        keeps_count(self.made);
+        self.cycles += done.cycles;
+        self.steps += done.made;
+        self.made = self.made.saturating_add(done.made);
+    }
+
     // Makes at most so many steps, fewer only where the machine is stuck or a step came to a breakpoint: that then.
     fn make<B: Breakpoints, O: Observer>(
         &mut self,
@@ -340,9 +407,7 @@ impl<A: Allocator> Machine<A> {
         ensures seen { observer.new ≡ seen_after O.seen (shown_at (code_of self.old.state) (world_of_state self.old.state))
             observer.old (self.new.state.steps - self.old.state.steps) }
     {
-        keeps_count(self.made);
-        let left = MOST_STEPS - self.steps;
-        let most = if limit < left { limit } else { left };
+        let most = self.most_within(limit);
         let done = make_steps(
             &mut self.regs,
             self.board.space_mut(),
@@ -351,9 +416,24 @@ impl<A: Allocator> Machine<A> {
             breakpoints,
             observer,
         );
-        self.cycles += done.cycles;
-        self.steps += done.made;
-        self.made = self.made.saturating_add(done.made);
+        self.count(done);
+        done.stop
+    }
+
+    // The same with no breakpoints and no observer.
+    fn make_alone(&mut self, limit: u64) -> Option<Stop>
+        ensures { Rattle.a2_machine.specs.State.IsMaking (λ address. false) limit self.old self.new result }
+    {
+        let most = self.most_within(limit);
+        let done = make_steps_alone(
+            &mut self.regs,
+            self.board.space_mut(),
+            &self.watch,
+            &self.likely,
+            self.notes.as_mut_slice(),
+            most,
+        );
+        self.count(done);
         done.stop
     }
 
@@ -396,7 +476,13 @@ impl<A: Allocator> Machine<A> {
     pub fn run(&mut self, limit: u32) -> Cause
         ensures { IsMachineRun limit self.old self.new result }
     {
-        cause_in(self.run_to(limit, &NoBreakpoints))
+        if let Some(stop) = self.make_alone(u64::from(limit)) {
+            return cause_in(stop);
+        }
+        match self.stop() {
+            Some(cause) => cause,
+            None => Cause::Limit,
+        }
     }
 
     /// Makes steps as [`Machine::run`] does, each of which `observer` sees as it is made, the calls of services too, and

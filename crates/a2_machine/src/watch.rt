@@ -1,6 +1,6 @@
 //! The guard as a machine keeps it: a byte of marks for each address.
 
-ghost use Rattle.std.specs.Prelude.{◌≡◌, ℕ, ◌+◌, ◌<◌, ◌≤◌, ◌==◌, ◌&&◌, ◌||◌, nat_le, nat_lt, Bool, List, length, slice_index, if◌then◌else◌, true, IfOk, Some, None};
+ghost use Rattle.std.specs.Prelude.{◌≡◌, ℕ, ◌+◌, ◌<◌, ◌≤◌, ◌==◌, ◌&&◌, ◌||◌, nat_le, nat_lt, Bool, List, length, slice_index, if◌then◌else◌, true, is_some, IfOk, Some, None};
 ghost use Rattle.a2_asm.specs.Programs.{begins_at, is_code};
 ghost use Rattle.a2_machine.specs.ProgramGuard.{guard_of_program};
 ghost use Rattle.std.specs.List.{list_any};
@@ -23,7 +23,7 @@ use std::marker::Model;
 const WHOLE_END: usize = RAM_END as usize - 2;
 
 /// How many addresses there are.
-const ADDRESSES: usize = 0x1_0000;
+pub const ADDRESSES: usize = 0x1_0000;
 
 // The bits of a mark.
 
@@ -225,11 +225,11 @@ fn free_all<A: Allocator>(marks: &mut Vec<u8, A>)
     start_marks(marks.as_mut_slice(), true);
 }
 
-// So many zeros.
-fn zeros<A: Allocator>(alloc: A, size: usize) -> Result<Vec<u8, A>, AllocError>
-    ensures { IfOk result (λ v. length v.items ≡ size) }
+/// A 0 for each address.
+pub fn zeros<A: Allocator>(alloc: A) -> Result<Vec<u8, A>, AllocError>
+    ensures { IfOk result (λ v. length v.items ≡ 65536) }
 {
-    vec![in alloc; 0; size]
+    vec![in alloc; 0; ADDRESSES]
 }
 
 impl<A: Allocator> Watch<A> {
@@ -237,7 +237,7 @@ impl<A: Allocator> Watch<A> {
     pub fn new(alloc: A) -> Result<Watch<A>, AllocError>
         ensures { IfOk result (λ watch. watch ≡ None) }
     {
-        let mut marks = zeros(alloc, ADDRESSES)?;
+        let mut marks = zeros(alloc)?;
         free_all(&mut marks);
         Ok(Watch {
             marks,
@@ -272,6 +272,13 @@ impl<A: Allocator> Watch<A> {
             .copy_from_slice(other.marks.as_slice());
         self.blocked = other.blocked;
         self.on = other.on;
+    }
+
+    /// Whether there is a guard.
+    pub fn guards(&self) -> bool
+        ensures { result ≡ is_some self.now }
+    {
+        self.on
     }
 
     /// Whether an instruction may begin at an address.

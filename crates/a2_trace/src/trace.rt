@@ -167,7 +167,7 @@ fn left_out<A: Allocator + Copy>(
     // For the prover alone: a law of every program, by which the guarded bytes run as its statements.
     program.is_sound();
     let mut machine = started(alloc, program, keys, free)?;
-    let mut was = Machine::new(alloc)?;
+    let mut was = Machine::for_copies(alloc)?;
     Ok(count_chosen(&mut machine, &mut was, limit, choice).saturating_sub(u64::from(last)))
 }
 
@@ -191,7 +191,7 @@ pub fn trace_source<A: Allocator + Copy, W: Output>(
     let program = program_of(alloc, source)?;
     let skip = left_out(alloc, &program, keys, limit, free, choice)?;
     let mut machine = started(alloc, &program, keys, free)?;
-    let mut was = Machine::new(alloc)?;
+    let mut was = Machine::for_copies(alloc)?;
     let cause = trace_run(&mut machine, &mut was, limit, choice, skip, writer)?;
     Ok(cause)
 }

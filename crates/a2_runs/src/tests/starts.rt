@@ -108,7 +108,7 @@ fn runs<A: Allocator>(machine: &mut Machine<A>, program: &Program) -> bool {
     machine.guard(program);
     types_q(machine)
         && machine.step().is_none()
-        && machine.run(100) == Cause::Returned
+        && machine.run(10_000) == Cause::Returned
         && machine.peek(0x400) == Some(0xB0)
         && machine.peek(0x401) == Some(0xD1)
 }

@@ -1,4 +1,5 @@
-use Rattle.std.proofs.Common.{ℕ, List, map, ap, ◌∙◌}
+use Rattle.std.proofs.Common.{ℕ, List, map, ap, ◌∙◌, refl}
+use Rattle.std.proofs.lemmas.Result.{err_from_is_err_and}
 use Rattle.std.specs.Borrow.{Bor}
 use Rattle.a2_run.proofs.DebugScripting.{each_line, refused_script, script_broke}
 use Rattle.a2_run.proofs.debugging.debug_script.Goals as goal
@@ -17,3 +18,8 @@ returns-in_err-answer_all-clause-meaning g c =
     (g.W.Output.taker c.args.writer.now) (g.W.Output.taker c.answer_all.new.writer) c.from_residual-in_err-answer_all.result
     c.in_ok-program.ensures.made c.in-Ok.ensures.fits (ap (map (λ (x : Bor (List ℕ)). x.now)) c.as_slice.ensures.value ∙ c.in-Ok.ensures.found) c.in_ok-debugger.ensures
     c.from_residual-in_err-answer_all.ensures.0 c.from_residual-in_err-answer_all.ensures.1 c.in_err-answer_all.ensures
+
+pub returns-in_err-answer_all-clause-no_reader : goal.returns-in_err-answer_all-clause-no_reader
+returns-in_err-answer_all-clause-no_reader g c =
+    let fault = err_from_is_err_and c.from_residual-in_err-answer_all.result c.from_residual-in_err-answer_all.ensures.1 in
+    rw (fault.1, fault.2) refl

@@ -13,5 +13,5 @@ invariant_of-result g c =
       sym (ap (λ (k : Course). k.origin.guard) c.in_ok-course.ensures),
       omega (arith, c.requires),
       ap (λ (d : Device). d.state.guard) c.copy_from.ensures ∙ sym (ap (λ (k : Course). k.origin.guard) c.in_ok-course.ensures),
-      subst (λ (xs : List Device). AreOn course xs) (sym c.new-3.ensures) (All-nil (λ (d : Device). IsOn course d.state)),
+      subst (λ (xs : List Device). AreOn course xs) (sym c.new-2.ensures) (All-nil (λ (d : Device). IsOn course d.state)),
     )
