@@ -6,9 +6,9 @@ the faults of a crate are tried in rounds: the first fault of a function stands 
 function beside it, with a copy of its proof. A fault is refused where its own function, or copy, has a failed goal. A round checks
 these alone: each other function of the crate, which `rt ci` proves beside that, has a hole for its proof there, which stands for
 its contract; so nothing is said of a function that no fault edits. A trait's methods, which no copy can stand beside, have a round
-for each further fault. An edit of a constant, or of what no function has, names by a line `refused: PATH` the function that is not
-proved with it; nothing stands beside one of a definition that may rest on it. What is not refused so is tried alone, as rt does,
-and is refused where that check is.
+for each further fault; and what a check says nothing of, as of a caller whose callee is edited beside it, is tried in further ones. An
+edit of a constant, or of what no function has, names by a line `refused: PATH` the function that is not proved with it; nothing stands
+beside one of a definition that may rest on it. What is not refused so is tried alone, as rt does, and is refused where that check is.
 """
 import contextlib
 import hashlib
@@ -254,6 +254,7 @@ def rounds_of(faults):
     places = lambda fault: {it.circle or it for it in fault.functions}
     rounds = []
     for fault in sorted(faults, key=lambda it: it.can_be_copied):
+        fault.number = 0
         shared = [it for it in rounds if all(are_apart(fault, other) and are_apart(other, fault) for other in it)]
         free = next((it for it in shared if not any(places(fault) & places(other) for other in it)), None)
         if fault.can_be_copied and shared:
@@ -349,7 +350,7 @@ class Trial:
     def __init__(self, toolchain, crate, tell, anew):
         self.toolchain, self.crate, self.tell = toolchain, crate, tell
         self.kept = tempfile.mkdtemp(prefix="faults-kept-")
-        self.failures, self.alone, self.refused = [], [], []
+        self.failures, self.unsaid, self.alone, self.refused = [], [], [], []
         self.earlier = Refused(crate, toolchain.version, anew)
         self.functions = toolchain.functions(crate)
         paths = sorted(Path(crate.folder, "faults").glob("*.edit"))
@@ -371,15 +372,25 @@ class Trial:
                     self.alone.append((it, "it changes what stands in no function"))
             if self.refused:
                 self.tell(f"{self.crate.name}: {len(self.refused)} of {len(self.faults)} were refused by an earlier run of the same")
-            rounds = rounds_of([it for it in self.faults if it.functions and not it.bad and it not in self.refused])
-            for number, now in enumerate(rounds):
-                # (one check by itself is done sooner where it keeps nothing)
-                self.round(f"round {number + 1} of {len(rounds)}", now, self.kept if len(rounds) > 1 else None)
+            self.rounds([it for it in self.faults if it.functions and not it.bad and it not in self.refused])
             for it, why in self.alone:
                 self.try_alone(it, why)
             self.earlier.keep(self.refused)
         finally:
             shutil.rmtree(self.kept, ignore_errors=True)
+
+    def rounds(self, faults):
+        """Tries these faults in rounds. Of a caller whose callee is edited beside it a check may say nothing: what a round says nothing of
+        is tried in further ones, as long as these tell of some, and else alone."""
+        rounds = rounds_of(faults)
+        for number, now in enumerate(rounds):
+            # (one check by itself is done sooner where it keeps nothing)
+            self.round(f"round {number + 1} of {len(rounds)}", now, self.kept if len(rounds) > 1 else None)
+        left, self.unsaid = self.unsaid, []
+        if 0 < len(left) < len(faults):
+            self.rounds([it for it, _ in left])
+        else:
+            self.alone += left
 
     def round(self, title, faults, kept):
         """Tries these faults in one check."""
@@ -407,7 +418,7 @@ class Trial:
                 self.refused.append(it)
             else:
                 line = next((text for text in said.split("\n") if text.startswith(tuple(f"fn {name}: " for name in mine))), "")
-                self.alone.append((it, line[:160] or f"the check says nothing of {mine[0]}"))
+                self.unsaid.append((it, line[:160] or f"the check says nothing of {mine[0]}"))
 
     def try_alone(self, fault, why):
         """Tries a fault as rt does."""
