@@ -1,6 +1,7 @@
 //! What the program does, over any files and streams.
 
-ghost use Rattle.std.specs.Prelude.{◌≡◌, ◌≢◌, ◌⊎◌, ◌<◌, ◌≤◌, [], Result, Ok, Err, IfErr, IsErr, IsOk, MatchResult, length, map, string_bytes};
+ghost use Rattle.std.specs.Prelude.{◌≡◌, ◌≢◌, ◌⊎◌, ◌<◌, ◌≤◌, [], Result, Ok, Err, IfErr, IsErr, IsOk, MatchResult, length, map};
+ghost use Rattle.std.specs.Prelude.{string_bytes};
 ghost use Rattle.a2_machine.specs.declared.Cause.{Cause as Stop};
 ghost use Rattle.a2_run.specs.declared.fault.RunFault.{RunFault as Fault};
 ghost use Rattle.a2_run.specs.declared.fault.RunFault.TheVariants.{Read};
@@ -10,7 +11,8 @@ ghost use Rattle.a2_host.specs.Complaints.{TellsLine};
 ghost use Rattle.a2_host.specs.Shelves.{Opens};
 ghost use Rattle.a2.specs.declared.words.Order.{Order as Asked};
 ghost use Rattle.a2.specs.declared.words.WordsFault.{WordsFault as Refusal};
-ghost use Rattle.a2.specs.Program.{AnswersFile, AnswersLines, AssemblesInput, DebugsFiles, Does, Refuses, RunsInput, RunsSource, Tells};
+ghost use Rattle.a2.specs.Program.{AnswersFile, AnswersLines, AssemblesInput, DebugsFiles, Does, Refuses, RunsInput, RunsSource};
+ghost use Rattle.a2.specs.Program.{Tells};
 ghost use Rattle.a2.specs.Telling.{IsToldBy, TellsFault};
 ghost use Rattle.a2.specs.Words.{Asks, NamesFile, done_status, plain, status_of_words, text_of_words};
 
@@ -217,7 +219,8 @@ pub fn obey<S: Shelf, R: Input, W: Output, E: Output>(
     ensures plain { length words.now ≤ 1 → (answer : Result Stop Fault) × (result ≡ status_of answer)
         × TellsFault answer (E.taker complaints.old) (E.taker complaints.new)
         × RunsInput [] default_steps plain (R.giver input.old) (R.giver input.new) (W.taker output.old) (W.taker output.new) answer }
-    // Whatever the words: at most 5; by 1, 2 or 5 nothing went out, by 0 or 3 no write failed, and by 4 one did, or nothing went out.
+    // Whatever the words: at most 5; by 1, 2 or 5 nothing went out, by 0 or 3 no write failed, and by 4 one did, or nothing went
+    // out.
     ensures output { Tells result (W.taker output.old) (W.taker output.new) }
     // By 0 and 3 nothing is told, and by another status a line is, of a text that goes with the status.
     ensures silent { result ≡ 0 ⊎ result ≡ 3 → complaints.new ≡ complaints.old }

@@ -1,10 +1,13 @@
 //! The words of the command line.
 
-ghost use Rattle.std.specs.Prelude.{◌≡◌, ◌≢◌, ◌⊎◌, ◌<◌, ◌≤◌, ◌∷◌, ◌++◌, ◌↔◌, [], None, Some, Ok, IfErr, IfOk, IsTrue, codes, true, length, map, option_map, string_bytes};
+ghost use Rattle.std.specs.Prelude.{◌≡◌, ◌≢◌, ◌⊎◌, ◌<◌, ◌≤◌, ◌∷◌, ◌++◌, ◌↔◌, [], None, Some, Ok, IfErr, IfOk, IsTrue, codes};
+ghost use Rattle.std.specs.Prelude.{true, length, map, option_map, string_bytes};
 ghost use Rattle.clap.specs.Words.{fault_of, first_of, found_of, one_of, rows_of, subcommand_of, subcommand_rows_of};
 ghost use Rattle.a2.specs.declared.words.WordsFault.TheVariants.{Words, Memory};
-ghost use Rattle.a2.specs.Grammar.{HasRule, IsApp, IsCommand, flag as flag_rule, grammar, needed as needed_rule, run_rules, valued as valued_rule};
-ghost use Rattle.a2.specs.Words.{AreLooseKeys, Asks, HasLooseKeys, IsFlag, IsOrderOf, IsRefusalOf, IsRunOrder, RefusesRun, SaysKeys, SaysLimit, plain_run, text_of_words};
+ghost use Rattle.a2.specs.Grammar.{HasRule, IsApp, IsCommand, flag as flag_rule, grammar, needed as needed_rule, run_rules};
+ghost use Rattle.a2.specs.Grammar.{valued as valued_rule};
+ghost use Rattle.a2.specs.Words.{AreLooseKeys, Asks, HasLooseKeys, IsFlag, IsOrderOf, IsRefusalOf, IsRunOrder, RefusesRun};
+ghost use Rattle.a2.specs.Words.{SaysKeys, SaysLimit, plain_run, text_of_words};
 
 use a2_bus::Keys;
 use a2_host::HostWordsFault;
@@ -162,7 +165,8 @@ fn command<'a>(alloc: Global) -> Result<Command<'a>, AllocError>
 fn matches_of<'a>(alloc: Global, words: &'a [String]) -> Result<ArgMatches<'a>, WordsFault>
     ensures clean { IfOk result (λ found. fault_of grammar (map string_bytes words.entry.now) ≡ []) }
     ensures found { IfOk result (λ found. subcommand_rows_of found ≡ subcommand_of grammar (map string_bytes words.entry.now)) }
-    ensures refused { IfErr result (λ fault. (fault ≡ Memory) ⊎ ((fault ≡ Words) × (fault_of grammar (map string_bytes words.entry.now) ≢ []))) }
+    ensures refused { IfErr result (λ fault. (fault ≡ Memory) ⊎
+        ((fault ≡ Words) × (fault_of grammar (map string_bytes words.entry.now) ≢ []))) }
 {
     match command(alloc)?.try_get_matches_from(words) {
         Ok(found) => Ok(found),

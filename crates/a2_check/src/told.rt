@@ -70,7 +70,6 @@ impl<'a> Telling<'a> {
 }
 
 /// What is told of a refusal, in characters that print.
-#[derive(Drop)]
 pub(crate) struct Told<A: Allocator> {
     /// Where the place begins, counted from 0.
     pub at: usize,
@@ -78,6 +77,18 @@ pub(crate) struct Told<A: Allocator> {
     pub width: usize,
     pub what: Vec<u8, A>,
     pub mend: Vec<u8, A>,
+}
+
+// Not derived, for the prover alone: it follows this as one call, and a derived one field by field.
+impl<A: Allocator> Drop for Told<A> {
+    fn drop(self) {
+        let Told {
+            at: _,
+            width: _,
+            what: _,
+            mend: _,
+        } = self;
+    }
 }
 
 /// A character that prints, in place of a byte: `?` for one that does not, and a blank for a tab.

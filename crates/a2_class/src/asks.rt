@@ -177,7 +177,8 @@ fn has_bytes<A: Allocator>(ending: &Ending<A>, place: &str, bytes: &[u8]) -> boo
 // Whether what a line asks of the program and the counts holds of a run's end.
 fn is_met_by<A: Allocator>(line: Line, rest: &[Asked], ending: &Ending<A>) -> bool
     requires { map (λ x. x.now) ending.now.rows.now ≡ asked.rows_of (memory_of ending.now.machine.now.state.bus) }
-    ensures { (result ≡ true) ↔ Meets line.entry rest.now ending.now.program.now (end_at ending.now.machine.now.state ending.now.cause) }
+    ensures { (result ≡ true) ↔ Meets line.entry rest.now ending.now.program.now
+        (end_at ending.now.machine.now.state ending.now.cause) }
 {
     match line {
         Line::Screen => rows_fit(rest, ending.rows),
@@ -197,7 +198,8 @@ fn is_met_by<A: Allocator>(line: Line, rest: &[Asked], ending: &Ending<A>) -> bo
 // Whether what the first of these lines asks holds of a run's end.
 fn is_met<A: Allocator>(lines: &[Asked], ending: &Ending<A>) -> bool
     requires { map (λ x. x.now) ending.now.rows.now ≡ asked.rows_of (memory_of ending.now.machine.now.state.bus) }
-    ensures { (result ≡ true) ↔ MeetsFirst lines.now ending.now.program.now (end_at ending.now.machine.now.state ending.now.cause) }
+    ensures { (result ≡ true) ↔ MeetsFirst lines.now ending.now.program.now
+        (end_at ending.now.machine.now.state ending.now.cause) }
 {
     match lines {
         [asked, rest @ ..] => is_met_by(asked.line, rest, ending),
@@ -208,7 +210,8 @@ fn is_met<A: Allocator>(lines: &[Asked], ending: &Ending<A>) -> bool
 /// The index of the first of these lines that asks what does not hold.
 pub(crate) fn first_missed<A: Allocator>(lines: &[Asked], ending: &Ending<A>) -> Option<usize>
     requires { map (λ x. x.now) ending.now.rows.now ≡ asked.rows_of (memory_of ending.now.machine.now.state.bus) }
-    ensures { MatchOption result (MeetsAll lines.now ending.now.program.now (end_at ending.now.machine.now.state ending.now.cause))
+    ensures { MatchOption result (MeetsAll lines.now ending.now.program.now
+        (end_at ending.now.machine.now.state ending.now.cause))
         (λ n. IsFirstMissed lines.now ending.now.program.now (end_at ending.now.machine.now.state ending.now.cause) n) }
 {
     for index in 0..lines.len() {

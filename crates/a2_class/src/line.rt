@@ -364,7 +364,8 @@ pub(crate) fn line_of<'a>(text: &'a [u8]) -> Line<'a> {
     }
 }
 
-/// Whether a text begins as a line of a WANT does that says something, by its word or by `|`: what stands behind may still be in no form.
+/// Whether a text begins as a line of a WANT does that says something, by its word or by `|`: what stands behind may still be in
+/// no form.
 pub fn is_asking(text: &[u8]) -> bool {
     match behind_blanks(text) {
         [b'|', ..] => true,

@@ -1,6 +1,7 @@
 //! Laws of what lines and calls mean. The functions do nothing: their contracts are the laws.
 
-ghost use Rattle.a2_debug.specs.Laws.{OneSession, EachLineHasAnswer, KeysStayPast, NeverBoth, OneAnswer, OneLineRefusal, EachCallHasAnswer, OneCallAnswer, EachListHasAnswers, OneListOfAnswers};
+ghost use Rattle.a2_debug.specs.Laws.{OneSession, EachLineHasAnswer, KeysStayPast, NeverBoth, OneAnswer, OneLineRefusal};
+ghost use Rattle.a2_debug.specs.Laws.{EachCallHasAnswer, OneCallAnswer, EachListHasAnswers, OneListOfAnswers};
 
 /// Where no key was typed later than now, as it is at the start and stays, each line is answered or refused. No line is
 /// both, and none has two answers or two refusals: debuggers that look alike answer it by one text, or refuse it for one

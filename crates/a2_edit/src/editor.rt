@@ -29,13 +29,25 @@ pub enum Act {
 
 /// A line that is edited, what was typed before an older one was shown, the lines before, how many of them ago the shown one was
 /// given, 0 where it is typed now, and where in a key's bytes the terminal is. Contracts see all of these.
-#[derive(Drop)]
 pub struct Editor {
     line: Line,
     draft: Bytes,
     history: History,
     age: usize,
     sequence: Sequence,
+}
+
+// Not derived, for the prover alone: it follows this as one call, and a derived one field by field.
+impl Drop for Editor {
+    fn drop(self) {
+        let Editor {
+            line: _,
+            draft: _,
+            history: _,
+            age: _,
+            sequence: _,
+        } = self;
+    }
 }
 
 impl Model for Editor {

@@ -1,6 +1,7 @@
 //! A run: where it starts, and the keys that were typed on the way.
 
-ghost use Rattle.std.specs.Prelude.{◌≡◌, ◌+◌, ◌-◌, ◌<◌, ◌≤◌, ◌∷◌, [], None, Some, length, if◌then◌else◌, IfSome, IfNone, IfOk, IfErr, OnOk, OnErr};
+ghost use Rattle.std.specs.Prelude.{◌≡◌, ◌+◌, ◌-◌, ◌<◌, ◌≤◌, ◌∷◌, [], None, Some, length, if◌then◌else◌, IfSome, IfNone, IfOk};
+ghost use Rattle.std.specs.Prelude.{IfErr, OnOk, OnErr};
 ghost use Rattle.a2_machine.specs.Meaning.{stuck};
 ghost use Rattle.a2_machine.specs.Looks.{shown_at, seen_after};
 ghost use Rattle.a2_machine.specs.State.{world_of_state, code_of};
@@ -19,10 +20,16 @@ use std::alloc::{AllocError, Allocator, Global};
 use std::marker::Model;
 
 /// A run: a machine at its start, and the keys that were typed on the way.
-#[derive(Drop)]
 pub struct Course<A: Allocator = Global> {
     origin: Machine<A>,
     log: Vec<Typed, A>,
+}
+
+// Not derived, for the prover alone: it follows this as one call, and a derived one field by field.
+impl<A: Allocator> Drop for Course<A> {
+    fn drop(self) {
+        let Course { origin: _, log: _ } = self;
+    }
 }
 
 impl<A: Allocator> Model for Course<A> {
@@ -150,8 +157,10 @@ impl<A: Allocator> Course<A> {
         cause
     }
 
-    /// Makes some steps, up to an end at the latest, each of which the observer sees, and types the keys that were typed behind the last;
-    /// or answers why there is none. No keys were typed behind the others, and it goes beyond no position where a checkpoint may be made.
+    /// Makes some steps, up to an end at the latest, each of which the observer sees, and types the keys that were typed behind
+    /// the last;
+    /// or answers why there is none. No keys were typed behind the others, and it goes beyond no position where a checkpoint may
+    /// be made.
     pub fn leap<O: Observer>(
         &self,
         machine: &mut Machine<A>,
@@ -224,7 +233,8 @@ impl<A: Allocator> Course<A> {
         found
     }
 
-    /// Types keys at a machine, behind those that wait, and notes them at its position; those that were typed later are forgotten. Refused,
+    /// Types keys at a machine, behind those that wait, and notes them at its position; those that were typed later are
+    /// forgotten. Refused,
     /// with nothing changed, where more than 4,096 would wait, and for want of memory.
     pub fn type_keys(&mut self, machine: &mut Machine<A>, keys: Keys) -> Result<(), TypingFault>
         requires { IsOn self.old machine.old.state }

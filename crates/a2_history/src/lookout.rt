@@ -6,7 +6,8 @@ ghost use Rattle.a2_live.specs.Shown.{Shown};
 use crate::Nothing;
 use a2_live::{Look, Observer};
 
-/// What is looked out for in the steps of a burst, which is not ended for it: where no step alarms, nothing new is seen behind one.
+/// What is looked out for in the steps of a burst, which is not ended for it: where no step alarms, nothing new is seen behind
+/// one.
 pub trait Lookout {
     /// Whether a step, as an observer is shown it, is one that alarms.
     ghost alarms: { Self → Shown → Bool };

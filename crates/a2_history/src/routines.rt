@@ -18,7 +18,8 @@ pub struct Way<A: Allocator> {
     pub outside: Option<u64>,
 }
 
-/// Goes along a run from its start to an end that was reached: the routines that are entered there, and the newest position before it
+/// Goes along a run from its start to an end that was reached: the routines that are entered there, and the newest position
+/// before it
 /// at which no more than `most` were. Refused only for want of memory.
 pub fn way_to<A: Allocator + Copy>(
     alloc: A,

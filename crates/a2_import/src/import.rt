@@ -35,11 +35,17 @@ pub struct Note {
 }
 
 /// What an old text became.
-#[derive(Drop)]
 pub struct Imported<A: Allocator = Global> {
     pub text: Vec<u8, A>,
     /// In the order of the lines, at most one for each.
     pub notes: Vec<Note, A>,
+}
+
+// Not derived, for the prover alone: it follows this as one call, and a derived one field by field.
+impl<A: Allocator> Drop for Imported<A> {
+    fn drop(self) {
+        let Imported { text: _, notes: _ } = self;
+    }
 }
 
 // What was brought over so far.

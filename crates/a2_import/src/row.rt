@@ -16,13 +16,23 @@ const OPERAND: usize = 25;
 const BYTES: usize = 8;
 
 /// The lines of a source so far.
-#[derive(Drop)]
 pub(crate) struct Draft<A: Allocator> {
     text: Vec<u8, A>,
     // The line of the listing that each of them is of.
     origins: Vec<usize, A>,
     // The addresses below $0100 that are named.
     named: Vec<u8, A>,
+}
+
+// Not derived, for the prover alone: it follows this as one call, and a derived one field by field.
+impl<A: Allocator> Drop for Draft<A> {
+    fn drop(self) {
+        let Draft {
+            text: _,
+            origins: _,
+            named: _,
+        } = self;
+    }
 }
 
 // The instruction that these bytes are, and no more of them.

@@ -20,10 +20,19 @@ use std::marker::Model;
 const ADDRESSES: usize = 0x1_0000;
 
 /// For each address, whether there is a breakpoint, and whether a step there may change a watched byte.
-#[derive(Drop)]
 pub struct Marks<A: Allocator = Global> {
     stops: Vec<bool, A>,
     stores: Vec<bool, A>,
+}
+
+// Not derived, for the prover alone: it follows this as one call, and a derived one field by field.
+impl<A: Allocator> Drop for Marks<A> {
+    fn drop(self) {
+        let Marks {
+            stops: _,
+            stores: _,
+        } = self;
+    }
 }
 
 impl<A: Allocator> Model for Marks<A> {

@@ -72,9 +72,9 @@ type Breaks = ArrayVec<Break, MOST_BREAKS>;
 
 type Watches = ArrayVec<Span, MOST_WATCHES>;
 
-/// A source's run, gone along in both directions by the lines of a debugger, breakpoints, bytes that are watched, and the line that
+/// A source's run, gone along in both directions by the lines of a debugger, breakpoints, bytes that are watched, and the line
+/// that
 /// an empty one repeats.
-#[derive(Drop)]
 pub struct Inspector<'a, A: Allocator = Global> {
     alloc: A,
     program: Program<A>,
@@ -93,6 +93,26 @@ pub struct Inspector<'a, A: Allocator = Global> {
     most: u32,
     // What a stop tells of.
     detail: Detail,
+}
+
+// Not derived, for the prover alone: it follows this as one call, and a derived one field by field.
+impl<'a, A: Allocator> Drop for Inspector<'a, A> {
+    fn drop(self) {
+        let Inspector {
+            alloc: _,
+            program: _,
+            lines: _,
+            history: _,
+            before: _,
+            marks: _,
+            free: _,
+            breaks: _,
+            watches: _,
+            last: _,
+            most: _,
+            detail: _,
+        } = self;
+    }
 }
 
 impl<'a, A: Allocator> Model for Inspector<'a, A> {
@@ -199,7 +219,8 @@ fn alarm_of<'a, A: Allocator>(
 fn go<A: Allocator + Copy>(history: &mut History<A>, most: u32, alarm: Alarm<A>) -> Outcome
     requires here { world_of_state alarm.stops.before.now.state ≡ here history.old }
     requires warns { WarnsOfStops alarm.alerts alarm.stops.breaks.now alarm.stops.watches.now history.old }
-    ensures { GoesOn (is_stop alarm.entry.stops.breaks.now alarm.entry.stops.watches.now (here history.old)) most history.old history.new }
+    ensures { GoesOn (is_stop alarm.entry.stops.breaks.now alarm.entry.stops.watches.now
+        (here history.old)) most history.old history.new }
 {
     go_on(history, most, &alarm.stops, &alarm)
 }
@@ -394,7 +415,8 @@ impl<'a, A: Allocator + Copy> Inspector<'a, A> {
         most: u32,
         kept: usize,
     ) -> Result<Inspector<'a, A>, RunFault>
-        ensures begun { IfOk result (λ i. (program : Assembled) × IsProgramOf source.now program × IsBegun free keys.now most program i) }
+        ensures begun { IfOk result (λ i. (program : Assembled) × IsProgramOf source.now program
+            × IsBegun free keys.now most program i) }
         ensures refused { IfErr result (λ fault. RefusesText source.now fault) }
     {
         let program = program_of(alloc, source)?;

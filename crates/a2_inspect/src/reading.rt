@@ -2,7 +2,8 @@
 
 ghost use Rattle.std.specs.Prelude.{◌≡◌, ◌≢◌, None, Some, MatchOption, IfOk, IfErr, IfSome, IfNone, []};
 ghost use Rattle.a2_text.specs.Words.{words};
-ghost use Rattle.a2_inspect.specs.Sayings.{Says, SaysNone, count_in as count_of, place_in as place_of_words, span_in as span_of_words, SpellsBehind, SpellsNoneBehind};
+ghost use Rattle.a2_inspect.specs.Sayings.{Says, SaysNone, count_in as count_of, place_in as place_of_words};
+ghost use Rattle.a2_inspect.specs.Sayings.{span_in as span_of_words, SpellsBehind, SpellsNoneBehind};
 
 use crate::conditions::{break_in, register_of};
 use crate::order::{Order, Refusal, Show};

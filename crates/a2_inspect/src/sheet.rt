@@ -221,7 +221,8 @@ fn put_source_line<W: Output>(
     put(b"\n", writer)
 }
 
-// Writes the lines of the source around the place where the run stands, at most so many before it and behind it; none where no line
+// Writes the lines of the source around the place where the run stands, at most so many before it and behind it; none where no
+// line
 // stands there.
 fn put_lines<A: Allocator, W: Output>(
     stand: &Stand<A>,

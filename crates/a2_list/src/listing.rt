@@ -177,7 +177,8 @@ fn put_more<A: Allocator, W: Output>(
     rows: u16,
     writer: &mut W,
 ) -> Result<(), WriteFault>
-    ensures { SendsOrBreaks (W.taker writer.old) (W.taker writer.new) result (listing.more_rows (held image.now) address count rows) }
+    ensures { SendsOrBreaks (W.taker writer.old) (W.taker writer.new) result
+        (listing.more_rows (held image.now) address count rows) }
 {
     let mut at = address;
     let mut left = count;
@@ -369,7 +370,8 @@ fn list_uses<A: Allocator + Copy, W: Output>(
 ) -> Result<(), RunFault>
     requires texts { map (λ x. x.now) texts.now ≡ lines source.now }
     requires program { IsProgramOf source.now program.now }
-    ensures meaning { Answers (OfSource (IsRefused source.now)) (λ _. IsListing (record { cycles = cycles; uses = true }) source.now)
+    ensures meaning { Answers (OfSource (IsRefused source.now))
+        (λ _. IsListing (record { cycles = cycles; uses = true }) source.now)
         (W.taker writer.old) (W.taker writer.new) result }
     ensures no_reader { is_read_fault result ≡ false }
 {
@@ -398,7 +400,8 @@ pub(crate) fn list_lines<A: Allocator + Copy, W: Output>(
     writer: &mut W,
 ) -> Result<(), RunFault>
     requires { map (λ x. x.now) texts.now ≡ lines source.now }
-    ensures meaning { Answers (OfSource (IsRefused source.now)) (λ _. IsListing shown source.now) (W.taker writer.old) (W.taker writer.new) result }
+    ensures meaning { Answers (OfSource (IsRefused source.now)) (λ _. IsListing shown source.now) (W.taker writer.old)
+        (W.taker writer.new) result }
     ensures no_reader { is_read_fault result ≡ false }
 {
     let program = program_of(alloc, source)?;
@@ -419,7 +422,8 @@ pub fn list_source<A: Allocator + Copy, W: Output>(
     shown: Shown,
     writer: &mut W,
 ) -> Result<(), RunFault>
-    ensures meaning { Answers (OfSource (IsRefused source.now)) (λ _. IsListing shown source.now) (W.taker writer.old) (W.taker writer.new) result }
+    ensures meaning { Answers (OfSource (IsRefused source.now)) (λ _. IsListing shown source.now) (W.taker writer.old)
+        (W.taker writer.new) result }
     ensures no_reader { is_read_fault result ≡ false }
 {
     let texts = cut(alloc, source)?;

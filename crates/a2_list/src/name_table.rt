@@ -112,7 +112,8 @@ fn put_uses_and_end<A: Allocator, W: Output>(
     lines: &[Line<A>],
     writer: &mut W,
 ) -> Result<(), WriteFault>
-    ensures { SendsOrBreaks (W.taker writer.old) (W.taker writer.new) result (table.numbers (uses name.now 1 lines.now) ++ codes "\n") }
+    ensures { SendsOrBreaks (W.taker writer.old) (W.taker writer.new) result
+        (table.numbers (uses name.now 1 lines.now) ++ codes "\n") }
 {
     put_uses(name, lines, writer)?;
     put(b"\n", writer)
@@ -145,7 +146,8 @@ fn put_columns<W: Output>(
     line: usize,
     writer: &mut W,
 ) -> Result<(), WriteFault>
-    ensures { SendsOrBreaks (W.taker writer.old) (W.taker writer.new) result (table.use_columns width name.now value (decimal_of line)) }
+    ensures { SendsOrBreaks (W.taker writer.old) (W.taker writer.new) result
+        (table.use_columns width name.now value (decimal_of line)) }
 {
     let digits = decimal(line as u64);
     let line = digits.as_slice();
@@ -164,7 +166,8 @@ fn put_use_row<A: Allocator, W: Output>(
     name: &str,
     writer: &mut W,
 ) -> Result<(), WriteFault>
-    ensures { SendsOrBreaks (W.taker writer.old) (W.taker writer.new) result (table.use_row width program.now.names lines.now name.now) }
+    ensures { SendsOrBreaks (W.taker writer.old) (W.taker writer.new) result
+        (table.use_row width program.now.names lines.now name.now) }
 {
     let value = program.name(name).unwrap_or(0);
     put_columns(width, name, value, definition(name, lines), writer)?;

@@ -36,7 +36,8 @@ fn line_of<'a>(texts: &[&'a [u8]], fault: RunFault) -> Option<&'a [u8]>
 
 // Tells a fault, and behind it the line that it is of.
 fn tell<E: Output>(fault: RunFault, line: Option<&[u8]>, complaints: &mut E)
-    ensures { Tells (E.taker complaints.old) (E.taker complaints.new) (told.fault_shown fault (option_map (λ x. x.now) line.entry)) }
+    ensures { Tells (E.taker complaints.old) (E.taker complaints.new)
+        (told.fault_shown fault (option_map (λ x. x.now) line.entry)) }
 {
     let text = fault.text();
     let text = text.as_str().as_bytes();
@@ -47,9 +48,12 @@ fn tell<E: Output>(fault: RunFault, line: Option<&[u8]>, complaints: &mut E)
     };
 }
 
-/// Writes to `output` the listing of `source`, as [`list_source`](crate::list_source) does, with what is `shown`. Why there is none is
-/// told to `complaints`: the text of the fault and LF, and behind a refusal of a line that line, as it was written, and LF. Where a
-/// write there fails, a front of this went out. Refused where the source is, where a write to `output` fails, and for want of memory.
+/// Writes to `output` the listing of `source`, as [`list_source`](crate::list_source) does, with what is `shown`. Why there is
+/// none is
+/// told to `complaints`: the text of the fault and LF, and behind a refusal of a line that line, as it was written, and LF. Where
+/// a
+/// write there fails, a front of this went out. Refused where the source is, where a write to `output` fails, and for want of
+/// memory.
 /// This project's profile.
 pub fn list_told<A: Allocator + Copy, W: Output, E: Output>(
     alloc: A,
@@ -58,7 +62,8 @@ pub fn list_told<A: Allocator + Copy, W: Output, E: Output>(
     output: &mut W,
     complaints: &mut E,
 ) -> Result<(), RunFault>
-    ensures meaning { Answers (OfSource (IsRefused source.now)) (λ _. IsListing shown source.now) (W.taker output.old) (W.taker output.new) result }
+    ensures meaning { Answers (OfSource (IsRefused source.now)) (λ _. IsListing shown source.now) (W.taker output.old)
+        (W.taker output.new) result }
     ensures no_reader { is_read_fault result ≡ false }
     ensures told { IsTold source.now (E.taker complaints.old) (E.taker complaints.new) result }
 {

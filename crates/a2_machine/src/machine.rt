@@ -1,6 +1,7 @@
 //! The machine: a board with a processor, its guard, and its counts.
 
-ghost use Rattle.std.specs.Prelude.{◌≡◌, ◌≢◌, ◌+◌, ◌-◌, ◌*◌, ◌^◌, ◌<◌, ◌≤◌, ◌↔◌, ℕ, [], true, false, None, Some, Ok, IfOk, IfNone, IfSome, OnOk, OnErr, OnSome, IsOk, length, slice_range};
+ghost use Rattle.std.specs.Prelude.{◌≡◌, ◌≢◌, ◌+◌, ◌-◌, ◌*◌, ◌^◌, ◌<◌, ◌≤◌, ◌↔◌, ℕ, [], true, false, None, Some, Ok, IfOk};
+ghost use Rattle.std.specs.Prelude.{IfNone, IfSome, OnOk, OnErr, OnSome, IsOk, length, slice_range};
 ghost use Rattle.a2_stream.specs.Stream.{SendsOrBreaks};
 ghost use Rattle.a2_page.specs.Kept.{is_row_marked, with_row_marked, after_switch};
 ghost use Rattle.a2_page.specs.Picture.{page_grid, picture, attribute_rows};
@@ -17,12 +18,13 @@ ghost use Rattle.a2_machine.specs.Outcome.{most_cost};
 ghost use Rattle.a2_machine.specs.ProgramGuard.{guard_of_program};
 ghost use Rattle.a2_machine.specs.Start.{start_world};
 ghost use Rattle.a2_machine.specs.Start.{called_at};
-ghost use Rattle.a2_machine.specs.State.{world_of_state, code_of, cause_of, most_steps, steps_left, raised_by, IsStep, IsMachineRun, IsRunTo, after_print};
+ghost use Rattle.a2_machine.specs.State.{world_of_state, code_of, cause_of, most_steps, steps_left, raised_by, IsStep};
+ghost use Rattle.a2_machine.specs.State.{IsMachineRun, IsRunTo, after_print};
 ghost use Rattle.a2_machine.specs.declared.Stop.TheVariants.{Cause as StopCause, Breakpoint};
 
 use crate::step::{Outcome, cause_at};
 use crate::steps::{StepsMade, make_one_step, make_steps, make_steps_alone};
-use crate::watch::{Watch, zeros};
+use crate::watch::{NOTES, Watch, zeros};
 use crate::{Cause, Stop};
 use a2_asm::Program;
 use a2_bus::locations::{LAST_RETURN, RETURN_ADDRESS};
@@ -63,11 +65,10 @@ fn cause_in(stop: Stop) -> Cause
 /// A modelled Apple II: the NMOS 6502 with 48K of RAM, keyboard, display switches and the Monitor's services. Apple II
 /// Reference Manual (1979); guard, counts and limits are this project's profile. Contracts see its registers, its board,
 /// the cycles and steps since its start, its guard, and how many steps it ever made.
-#[derive(Drop)]
 pub struct Machine<A: Allocator = Global> {
     board: Board<A>,
     watch: Watch<A>,
-    // Room for what a long run notes, a byte for each address, or none.
+    // Room for what a long run notes, or none.
     notes: Vec<u8, A>,
     // The guard that was taken away last: what a free run is likely to keep to.
     likely: Option<Watch<A>>,
@@ -75,6 +76,22 @@ pub struct Machine<A: Allocator = Global> {
     cycles: u64,
     steps: u64,
     made: u64,
+}
+
+// Not derived, for the prover alone: it follows this as one call, and a derived one field by field.
+impl<A: Allocator> Drop for Machine<A> {
+    fn drop(self) {
+        let Machine {
+            board: _,
+            watch: _,
+            notes: _,
+            likely: _,
+            regs: _,
+            cycles: _,
+            steps: _,
+            made: _,
+        } = self;
+    }
 }
 
 impl<A: Allocator> Model for Machine<A> {
@@ -129,13 +146,15 @@ impl<A: Allocator + Copy> Machine<A> {
         ensures made { IfOk result (λ m. m.made ≡ 0) }
         ensures marked { IfOk result (λ m. (row : ℕ) → row < 24 → is_row_marked m.state.picture row ≡ true) }
     {
-        let notes = zeros(alloc)?;
+        let notes = zeros(alloc, NOTES)?;
         let likely = Watch::new(alloc)?;
         Machine::with_notes(alloc, notes, Some(likely))
     }
 
-    /// The machine as [`Machine::new`] makes it, in 128 KB less: without the room in which a [`Machine::run`] with a limit of 8,192 steps
-    /// and more notes what makes it fast, and that for a guard which was taken away. It makes the same steps. For copies of a machine that
+    /// The machine as [`Machine::new`] makes it, in 192 KB less: without the room in which a [`Machine::run`] with a limit of
+    /// 8,192 steps
+    /// and more notes what makes it fast, and that for a guard which was taken away. It makes the same steps. For copies of a
+    /// machine that
     /// runs. This project's profile. Refused only for want of memory.
     pub fn for_copies(alloc: A) -> Result<Machine<A>, AllocError>
         ensures world { IfOk result (λ m. world_of_state m.state ≡ start_world (λ _. None) 768 []) }
@@ -148,7 +167,8 @@ impl<A: Allocator + Copy> Machine<A> {
     }
 
     /// The machine as it is switched on, in memory of `alloc`, with `image` laid over its RAM, PC at `entry` ($0000 to $FFFF) and
-    /// `keys` waiting: no guard, no steps and no cycles, and every row marked. This project's profile. Refused only for want of memory.
+    /// `keys` waiting: no guard, no steps and no cycles, and every row marked. This project's profile. Refused only for want of
+    /// memory.
     pub fn booted<C: Allocator>(
         alloc: A,
         image: &Image<C>,
@@ -197,7 +217,8 @@ impl<A: Allocator> Machine<A> {
         self.watch.set(program);
     }
 
-    /// Takes the guard away, if there is one: an instruction may begin anywhere, and code may be stored to. A [`Machine::run`] is then as
+    /// Takes the guard away, if there is one: an instruction may begin anywhere, and code may be stored to. A [`Machine::run`] is
+    /// then as
     /// fast as a guarded one, as long as it keeps to what was guarded. This project's profile.
     pub fn free(&mut self)
         ensures { self.new ≡ (let s = self.old.state in record self.old { state = record s { guard = None } }) }

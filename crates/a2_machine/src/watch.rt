@@ -1,6 +1,7 @@
 //! The guard as a machine keeps it: a byte of marks for each address.
 
-ghost use Rattle.std.specs.Prelude.{◌≡◌, ℕ, ◌+◌, ◌<◌, ◌≤◌, ◌==◌, ◌&&◌, ◌||◌, nat_le, nat_lt, Bool, List, length, slice_index, if◌then◌else◌, true, is_some, IfOk, Some, None};
+ghost use Rattle.std.specs.Prelude.{◌≡◌, ℕ, ◌+◌, ◌<◌, ◌≤◌, ◌==◌, ◌&&◌, ◌||◌, nat_le, nat_lt, Bool, List, length, slice_index};
+ghost use Rattle.std.specs.Prelude.{if◌then◌else◌, true, is_some, IfOk, Some, None};
 ghost use Rattle.a2_asm.specs.Programs.{begins_at, is_code};
 ghost use Rattle.a2_machine.specs.ProgramGuard.{guard_of_program};
 ghost use Rattle.std.specs.List.{list_any};
@@ -24,6 +25,9 @@ const WHOLE_END: usize = RAM_END as usize - 2;
 
 /// How many addresses there are.
 pub const ADDRESSES: usize = 0x1_0000;
+
+/// The bytes of what a long run notes: of each address a mark and a kind.
+pub const NOTES: usize = 2 * ADDRESSES;
 
 // The bits of a mark.
 
@@ -82,7 +86,8 @@ fn has_begin(mark: u8) -> bool
 
 // The services that may store at an address are blocked too.
 fn block(blocked: &mut Blocked, address: u16)
-    ensures { (service : Service) → is_blocked blocked.new service ≡ (is_blocked blocked.old service || reach_of service address) }
+    ensures { (service : Service) → is_blocked blocked.new service
+        ≡ (is_blocked blocked.old service || reach_of service address) }
 {
     for service in Service::ALL {
         blocked.by[service as usize] |= reach(service, address);
@@ -176,7 +181,8 @@ fn mark_instruction(marks: &mut [u8], blocked: &mut Blocked, address: u16, bytes
     requires blocks { BlocksBy blocked.old (addresses_below ram_end (lies marks.old)) }
     ensures started { AreStarted marks.new }
     ensures begins { (a : ℕ) → a < ram_end → begins marks.new a ≡ (begins marks.old a || address == a) }
-    ensures lies { (a : ℕ) → a < ram_end → lies marks.new a ≡ (lies marks.old a || (nat_le address a && nat_lt a (address + bytes))) }
+    ensures lies { (a : ℕ) → a < ram_end → lies marks.new a
+        ≡ (lies marks.old a || (nat_le address a && nat_lt a (address + bytes))) }
     ensures blocks { BlocksBy blocked.new (addresses_below ram_end (lies marks.new)) }
 {
     if address < RAM_END {
@@ -225,11 +231,11 @@ fn free_all<A: Allocator>(marks: &mut Vec<u8, A>)
     start_marks(marks.as_mut_slice(), true);
 }
 
-/// A 0 for each address.
-pub fn zeros<A: Allocator>(alloc: A) -> Result<Vec<u8, A>, AllocError>
-    ensures { IfOk result (λ v. length v.items ≡ 65536) }
+/// So many zeros.
+pub fn zeros<A: Allocator>(alloc: A, count: usize) -> Result<Vec<u8, A>, AllocError>
+    ensures { IfOk result (λ v. length v.items ≡ count) }
 {
-    vec![in alloc; 0; ADDRESSES]
+    vec![in alloc; 0; count]
 }
 
 impl<A: Allocator> Watch<A> {
@@ -237,7 +243,7 @@ impl<A: Allocator> Watch<A> {
     pub fn new(alloc: A) -> Result<Watch<A>, AllocError>
         ensures { IfOk result (λ watch. watch ≡ None) }
     {
-        let mut marks = zeros(alloc)?;
+        let mut marks = zeros(alloc, ADDRESSES)?;
         free_all(&mut marks);
         Ok(Watch {
             marks,

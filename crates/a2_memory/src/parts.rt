@@ -70,7 +70,8 @@ pub fn write_parts<A: Allocator, W: Output>(
     parts: &[Part],
     writer: &mut W,
 ) -> Result<(), WriteFault>
-    ensures { SendsOrBreaks (W.taker writer.old) (W.taker writer.new) result (shown_parts (memory_of machine.state.bus) parts.now) }
+    ensures { SendsOrBreaks (W.taker writer.old) (W.taker writer.new) result
+        (shown_parts (memory_of machine.state.bus) parts.now) }
 {
     let mut session = Session::new(machine);
     for part in parts {

@@ -18,7 +18,8 @@ pub(crate) const SOURCE: u8 = 3;
 /// The columns that 16 bytes of memory take, behind their address.
 const WIDE: u8 = 54;
 
-/// Where the panes stand: the size that they take of the terminal, and the row above the stack, above memory and above the answer.
+/// Where the panes stand: the size that they take of the terminal, and the row above the stack, above memory and above the
+/// answer.
 #[derive(Drop)]
 pub(crate) struct Layout {
     rows: u8,
@@ -47,7 +48,8 @@ fn within(size: usize, least: u8, most: u8) -> u8
 }
 
 impl Layout {
-    /// That of a terminal of so many rows and columns. Of the rows beyond the least, half go to the source, and a quarter to memory.
+    /// That of a terminal of so many rows and columns. Of the rows beyond the least, half go to the source, and a quarter to
+    /// memory.
     pub(crate) fn of(rows: usize, columns: usize) -> Layout {
         let rows = within(rows, LEAST_ROWS, MOST_ROWS);
         let more = rows - LEAST_ROWS;

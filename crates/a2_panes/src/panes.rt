@@ -25,7 +25,8 @@ const LEAVE: &[u8] = b"\x1B[0m\x1B[?1049l\r\x1B[K";
 const TOO_SMALL: &[u8] =
     b"panes want a terminal of 80 columns of 24 rows or more, begun by a2x-debug\n";
 
-/// Where panes are drawn: the columns in which lines are edited, the terminal's rows and columns, and its colours. Of more than 64 rows or
+/// Where panes are drawn: the columns in which lines are edited, the terminal's rows and columns, and its colours. Of more than
+/// 64 rows or
 /// 255 columns the first are taken.
 #[derive(Clone, Copy)]
 pub struct Wall<'a> {
@@ -36,7 +37,6 @@ pub struct Wall<'a> {
 }
 
 /// A run and its panes, where there is a wall for them. The line `panes`, in either case, puts them up, or takes them down.
-#[derive(Drop)]
 pub struct Panes<'a, 'b> {
     alloc: Global,
     inspector: Inspector<'a>,
@@ -46,6 +46,20 @@ pub struct Panes<'a, 'b> {
     frame: Option<Frame>,
     // Where the memory that is shown begins.
     aim: u16,
+}
+
+// Not derived, for the prover alone: it follows this as one call, and a derived one field by field.
+impl<'a, 'b> Drop for Panes<'a, 'b> {
+    fn drop(self) {
+        let Panes {
+            alloc: _,
+            inspector: _,
+            wall: _,
+            is_up: _,
+            frame: _,
+            aim: _,
+        } = self;
+    }
 }
 
 // Whether a line asks for panes.

@@ -87,7 +87,8 @@ fn next_due(log: &[Typed], made: u64, end: u64) -> u64
     until
 }
 
-// Goes on with a run made again: types the keys that were typed where it stands, and makes steps up to the next place where some were, or
+// Goes on with a run made again: types the keys that were typed where it stands, and makes steps up to the next place where some
+// were, or
 // to `end`.
 fn run_on<A: Allocator>(machine: &mut Machine<A>, log: &[Typed], end: u64)
     requires { machine.old.state.steps < end }
@@ -105,7 +106,8 @@ fn run_on<A: Allocator>(machine: &mut Machine<A>, log: &[Typed], end: u64)
 /// Brings a run made again to a position that it came to.
 pub(crate) fn bring<A: Allocator>(machine: &mut Machine<A>, log: &[Typed], position: u64)
     ensures { (program : Assembled) (last : ℕ) → IsAgain program log.now last machine.old.state → position ≤ last
-        → machine.old.state.steps ≤ position → IsAgain program log.now last machine.new.state × (machine.new.state.steps ≡ position) }
+        → machine.old.state.steps ≤ position → IsAgain program log.now last machine.new.state
+        × (machine.new.state.steps ≡ position) }
 {
     for _ in machine.steps()..position {
         if machine.steps() >= position {
@@ -115,7 +117,8 @@ pub(crate) fn bring<A: Allocator>(machine: &mut Machine<A>, log: &[Typed], posit
     }
 }
 
-/// Goes on with a run made again, in pieces of at most so many steps, up to one behind which `goal` cycles were made, or to `end`: where
+/// Goes on with a run made again, in pieces of at most so many steps, up to one behind which `goal` cycles were made, or to
+/// `end`: where
 /// that piece began.
 pub(crate) fn seek<A: Allocator>(
     machine: &mut Machine<A>,

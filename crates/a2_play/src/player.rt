@@ -29,10 +29,16 @@ const WAIT: u16 = 0xFCA8;
 const PIECE: u64 = 4_096;
 
 /// A machine, and the keys that were typed at it. Contracts see both.
-#[derive(Drop)]
 pub struct Player<A: Allocator = Global> {
     machine: Machine<A>,
     log: Vec<Typed, A>,
+}
+
+// Not derived, for the prover alone: it follows this as one call, and a derived one field by field.
+impl<A: Allocator> Drop for Player<A> {
+    fn drop(self) {
+        let Player { machine: _, log: _ } = self;
+    }
 }
 
 // Where WAIT is called.
@@ -164,7 +170,8 @@ impl<A: Allocator> Player<A> {
         (left.saturating_sub(1) / MOST_CYCLES).min(MOST_STEPS) as u32 + 1
     }
 
-    /// Makes steps until so many cycles were made since the start, or a cause holds: that then. At most 100,000 stretches are made,
+    /// Makes steps until so many cycles were made since the start, or a cause holds: that then. At most 100,000 stretches are
+    /// made,
     /// each of 1,000,001 steps at most and up to a call of WAIT.
     pub fn run_to(&mut self, cycles: u64) -> Option<Cause>
         ensures log { self.new.log ≡ self.old.log }
@@ -183,7 +190,8 @@ impl<A: Allocator> Player<A> {
         None
     }
 
-    /// Goes back to the first position, in steps, that is at most so many cycles behind where it stands; keys that were typed there or
+    /// Goes back to the first position, in steps, that is at most so many cycles behind where it stands; keys that were typed
+    /// there or
     /// later are forgotten. `program` is the one that is played. The run is made again for it, from its start.
     pub fn go_back(&mut self, program: &Program<A>, cycles: u64)
         requires { IsPlayed program.now self.old }
@@ -232,7 +240,8 @@ impl<A: Allocator> Player<A> {
         }
     }
 
-    /// Types the keys of a log, each when so many steps were made since the start as it says, and makes steps until `end` of them were
+    /// Types the keys of a log, each when so many steps were made since the start as it says, and makes steps until `end` of them
+    /// were
     /// made: whether all of that could be. What could be done before stays done. Refused only for want of memory.
     pub fn replay(&mut self, log: &[Typed], end: u64) -> Result<bool, AllocError>
         ensures log { IfOk result (λ is_whole. is_whole ≡ true → self.new.log ≡ self.old.log ++ log.now) }

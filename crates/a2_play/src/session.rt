@@ -56,7 +56,6 @@ struct Mark {
 
 /// A session with a source's program. Contracts see the program, and the machine with the keys that were typed at it: it always
 /// stands where the program's meaning comes to under these keys, each behind the steps where it was typed.
-#[derive(Drop)]
 pub struct Session<'a> {
     source: &'a [u8],
     program: &'a Program,
@@ -82,6 +81,34 @@ pub struct Session<'a> {
     face: Option<Face>,
     /// The steps whose counts are drawn.
     counted: Option<u64>,
+}
+
+// Not derived, for the prover alone: it follows this as one call, and a derived one field by field.
+impl<'a> Drop for Session<'a> {
+    fn drop(self) {
+        let Session {
+            source: _,
+            program: _,
+            player: _,
+            state: _,
+            pace: _,
+            colours: _,
+            room: _,
+            goal: _,
+            reckoned: _,
+            drawn: _,
+            mark: _,
+            speed: _,
+            is_ordered: _,
+            saves: _,
+            leave: _,
+            rings: _,
+            notice: _,
+            shot: _,
+            face: _,
+            counted: _,
+        } = self;
+    }
 }
 
 impl<'a> Model for Session<'a> {
@@ -406,9 +433,12 @@ fn take_turn<R: Input, W: Output, C: Clock>(
     Ok(())
 }
 
-/// Plays until the session leaves the terminal: reads what was typed, does what it says, makes the cycles that are due by `clock`, and
-/// draws what changed, at most thirty times a second, beginning with all of it. A read of `input` is to give what was typed, or nothing
-/// within the tenth of a second, or at `Pace::Max` at once. Refused where a read or write fails, and for want of memory: the session
+/// Plays until the session leaves the terminal: reads what was typed, does what it says, makes the cycles that are due by
+/// `clock`, and
+/// draws what changed, at most thirty times a second, beginning with all of it. A read of `input` is to give what was typed, or
+/// nothing
+/// within the tenth of a second, or at `Pace::Max` at once. Refused where a read or write fails, and for want of memory: the
+/// session
 /// ends there.
 pub fn play<R: Input, W: Output, C: Clock>(
     alloc: Global,

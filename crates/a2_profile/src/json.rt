@@ -101,7 +101,8 @@ fn put_instruction<A: Allocator, W: Output>(
     statement: &Statement,
     writer: &mut W,
 ) -> Result<(), WriteFault>
-    ensures { SendsOrBreaks (W.taker writer.old) (W.taker writer.new) result (json.statement_fields profile.now (Some statement.now)) }
+    ensures { SendsOrBreaks (W.taker writer.old) (W.taker writer.new) result
+        (json.statement_fields profile.now (Some statement.now)) }
 {
     let count = profile.at(statement.addr);
     put_count(b",", statement.addr, count, b"", writer)?;
@@ -172,7 +173,8 @@ fn put_object<A: Allocator, W: Output>(
     text: &[u8],
     writer: &mut W,
 ) -> Result<(), WriteFault>
-    ensures { SendsOrBreaks (W.taker writer.old) (W.taker writer.new) result (json.line_object profile.now statement number text.now) }
+    ensures { SendsOrBreaks (W.taker writer.old) (W.taker writer.new) result
+        (json.line_object profile.now statement number text.now) }
 {
     put_head(number, writer)?;
     put_fields(profile, statement, text, writer)
@@ -224,7 +226,8 @@ fn put_outside<A: Allocator, W: Output>(
     address: u16,
     writer: &mut W,
 ) -> Result<(), WriteFault>
-    ensures { SendsOrBreaks (W.taker writer.old) (W.taker writer.new) result (front.now ++ json.outside_object profile.now address) }
+    ensures { SendsOrBreaks (W.taker writer.old) (W.taker writer.new) result
+        (front.now ++ json.outside_object profile.now address) }
 {
     put(front, writer)?;
     put_count(b"{", address, profile.at(address), b"}", writer)
@@ -336,7 +339,8 @@ fn put_outside_array<A: Allocator, B: Allocator, W: Output>(
     profile: &Profile<A>,
     writer: &mut W,
 ) -> Result<(), WriteFault>
-    ensures { SendsOrBreaks (W.taker writer.old) (W.taker writer.new) result (json.outside_array program.now.statements profile.now) }
+    ensures { SendsOrBreaks (W.taker writer.old) (W.taker writer.new) result
+        (json.outside_array program.now.statements profile.now) }
 {
     put(b"],\n\"outside\":[\n", writer)?;
     put_outsides(program, profile, writer)

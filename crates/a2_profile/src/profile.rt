@@ -82,7 +82,8 @@ fn join_counts(counts: &mut [Count], others: &[Count])
     requires cycles { cycles_in counts.old + cycles_in others.now < 2 ^ 64 }
     requires taken { NoneTakenMore counts.old }
     requires others_taken { NoneTakenMore others.now }
-    ensures joined { (address : ℕ) → count_at counts.new address ≡ joined (count_at counts.old address) (count_at others.now address) }
+    ensures joined { (address : ℕ) → count_at counts.new address
+        ≡ joined (count_at counts.old address) (count_at others.now address) }
     ensures steps { steps_in counts.new ≡ steps_in counts.old + steps_in others.now }
     ensures cycles { cycles_in counts.new ≡ cycles_in counts.old + cycles_in others.now }
 {
@@ -130,8 +131,10 @@ impl<A: Allocator> Profile<A> {
     /// Counts the steps of `other` too. Refused exactly where the steps or the cycles of both would pass 2^64 - 1, and then
     /// nothing changes.
     pub fn join<B: Allocator>(&mut self, other: &Profile<B>) -> Result<(), ProfileFull>
-        ensures room { IsOk result ↔ ((steps_in self.old + steps_in other.now < 2 ^ 64) × (cycles_in self.old + cycles_in other.now < 2 ^ 64)) }
-        ensures joined { OnOk result ((address : ℕ) → count_at self.new address ≡ joined (count_at self.old address) (count_at other.now address)) }
+        ensures room { IsOk result ↔ ((steps_in self.old + steps_in other.now < 2 ^ 64)
+            × (cycles_in self.old + cycles_in other.now < 2 ^ 64)) }
+        ensures joined { OnOk result ((address : ℕ) → count_at self.new address
+            ≡ joined (count_at self.old address) (count_at other.now address)) }
         ensures steps { OnOk result (steps_in self.new ≡ steps_in self.old + steps_in other.now) }
         ensures cycles { OnOk result (cycles_in self.new ≡ cycles_in self.old + cycles_in other.now) }
         ensures kept { OnErr result (self.new ≡ self.old) }

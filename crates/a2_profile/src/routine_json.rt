@@ -164,7 +164,8 @@ fn put_routines_array<A: Allocator, B: Allocator, W: Output>(
     profile: &RoutineProfile<A>,
     writer: &mut W,
 ) -> Result<(), WriteFault>
-    ensures { SendsOrBreaks (W.taker writer.old) (W.taker writer.new) result (json.routines_array (entries names.now) profile.now) }
+    ensures { SendsOrBreaks (W.taker writer.old) (W.taker writer.new) result
+        (json.routines_array (entries names.now) profile.now) }
 {
     put(b",\n\"routines\":[\n", writer)?;
     put_routines_end(names, profile, writer)

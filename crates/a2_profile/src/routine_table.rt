@@ -67,7 +67,8 @@ fn put_totals<W: Output>(
 ) -> Result<(), WriteFault>
     requires own { totals.cycles ≤ all }
     requires within { totals.all_cycles ≤ all }
-    ensures { SendsOrBreaks (W.taker writer.old) (W.taker writer.new) result (table.totals_row all times.now totals label.now name.now) }
+    ensures { SendsOrBreaks (W.taker writer.old) (W.taker writer.new) result
+        (table.totals_row all times.now totals label.now name.now) }
 {
     let steps = decimal(totals.steps);
     let cycles = decimal(totals.cycles);
@@ -135,7 +136,8 @@ fn put_routine<A: Allocator, B: Allocator, W: Output>(
     address: u16,
     writer: &mut W,
 ) -> Result<(), WriteFault>
-    ensures { SendsOrBreaks (W.taker writer.old) (W.taker writer.new) result (table.routine_row (entries names.now) profile.now address) }
+    ensures { SendsOrBreaks (W.taker writer.old) (W.taker writer.new) result
+        (table.routine_row (entries names.now) profile.now address) }
 {
     let totals = profile.at(address);
     if totals.times == 0 {
@@ -158,7 +160,8 @@ fn put_routines<A: Allocator, B: Allocator, W: Output>(
     profile: &RoutineProfile<A>,
     writer: &mut W,
 ) -> Result<(), WriteFault>
-    ensures { SendsOrBreaks (W.taker writer.old) (W.taker writer.new) result (table.routine_rows (entries names.now) profile.now) }
+    ensures { SendsOrBreaks (W.taker writer.old) (W.taker writer.new) result
+        (table.routine_rows (entries names.now) profile.now) }
 {
     for address in 0..ADDRESSES {
         put_routine(names, profile, address as u16, writer)?;

@@ -120,7 +120,8 @@ fn put_count<W: Output>(
     writer: &mut W,
 ) -> Result<(), WriteFault>
     requires { count.cycles ≤ all }
-    ensures { SendsOrBreaks (W.taker writer.old) (W.taker writer.new) result (table.count_row all is_branch count label.now text.now) }
+    ensures { SendsOrBreaks (W.taker writer.old) (W.taker writer.new) result
+        (table.count_row all is_branch count label.now text.now) }
 {
     let times = decimal(count.times);
     let cycles = decimal(count.cycles);
@@ -157,7 +158,8 @@ fn put_line<A: Allocator, W: Output>(
     text: &[u8],
     writer: &mut W,
 ) -> Result<(), WriteFault>
-    ensures { SendsOrBreaks (W.taker writer.old) (W.taker writer.new) result (table.line_row profile.now statement number text.now) }
+    ensures { SendsOrBreaks (W.taker writer.old) (W.taker writer.new) result
+        (table.line_row profile.now statement number text.now) }
 {
     let label = decimal(number as u64);
     match statement {
@@ -240,7 +242,8 @@ fn put_outside_rows<A: Allocator, B: Allocator, W: Output>(
     profile: &Profile<A>,
     writer: &mut W,
 ) -> Result<(), WriteFault>
-    ensures { SendsOrBreaks (W.taker writer.old) (W.taker writer.new) result (table.outside_rows program.now.statements profile.now) }
+    ensures { SendsOrBreaks (W.taker writer.old) (W.taker writer.new) result
+        (table.outside_rows program.now.statements profile.now) }
 {
     for address in 0..ADDRESSES {
         put_outside(program, profile, address as u16, writer)?;
@@ -307,7 +310,8 @@ pub(crate) fn put_sum_line<W: Output>(
     cycles: u64,
     writer: &mut W,
 ) -> Result<(), WriteFault>
-    ensures { SendsOrBreaks (W.taker writer.old) (W.taker writer.new) result (table.sum_line (decimal_of steps) (decimal_of cycles)) }
+    ensures { SendsOrBreaks (W.taker writer.old) (W.taker writer.new) result
+        (table.sum_line (decimal_of steps) (decimal_of cycles)) }
 {
     let steps = decimal(steps);
     let cycles = decimal(cycles);
@@ -353,7 +357,8 @@ fn put_rest<A: Allocator, B: Allocator, W: Output>(
     profile: &Profile<A>,
     writer: &mut W,
 ) -> Result<(), WriteFault>
-    ensures { SendsOrBreaks (W.taker writer.old) (W.taker writer.new) result (table.outside_rows program.now.statements profile.now
+    ensures { SendsOrBreaks (W.taker writer.old) (W.taker writer.new) result
+        (table.outside_rows program.now.statements profile.now
         ++ (table.never_rows profile.now (map (λ x. x.now) texts.now) program.now.statements ++ table.sums profile.now)) }
 {
     put_outside_rows(program, profile, writer)?;

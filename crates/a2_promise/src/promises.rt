@@ -48,7 +48,6 @@ pub struct Changes {
 }
 
 /// What is said at a label within a routine.
-#[derive(Drop)]
 pub struct Within<'a> {
     /// The number of the label's line.
     pub line: usize,
@@ -61,8 +60,20 @@ pub struct Within<'a> {
     pub is_named: bool,
 }
 
+// Not derived, for the prover alone: it follows this as one call, and a derived one field by field.
+impl<'a> Drop for Within<'a> {
+    fn drop(self) {
+        let Within {
+            line: _,
+            address: _,
+            invariants: _,
+            measures: _,
+            is_named: _,
+        } = self;
+    }
+}
+
 /// What a routine promises.
-#[derive(Drop)]
 pub struct Promise<'a> {
     /// Its label.
     pub name: &'a [u8],
@@ -76,6 +87,22 @@ pub struct Promise<'a> {
     pub texts: Texts<'a>,
     /// What is said within the routine, up to the next that promises something.
     pub within: Vec<Within<'a>>,
+}
+
+// Not derived, for the prover alone: it follows this as one call, and a derived one field by field.
+impl<'a> Drop for Promise<'a> {
+    fn drop(self) {
+        let Promise {
+            name: _,
+            line: _,
+            address: _,
+            wanted: _,
+            promised: _,
+            changes: _,
+            texts: _,
+            within: _,
+        } = self;
+    }
 }
 
 /// A promise, or why lines are none.

@@ -41,7 +41,6 @@ pub(crate) struct Span {
 }
 
 /// What is left of a line, and what names mean in it.
-#[derive(Drop)]
 pub(crate) struct Reader<'a, 'p> {
     pub alloc: Global,
     parts: Vec<Part>,
@@ -53,6 +52,22 @@ pub(crate) struct Reader<'a, 'p> {
     pub is_within: bool,
     /// The labels that it names.
     pub labels: Vec<Named<'a>>,
+}
+
+// Not derived, for the prover alone: it follows this as one call, and a derived one field by field.
+impl<'a, 'p> Drop for Reader<'a, 'p> {
+    fn drop(self) {
+        let Reader {
+            alloc: _,
+            parts: _,
+            rest: _,
+            program: _,
+            names: _,
+            named: _,
+            is_within: _,
+            labels: _,
+        } = self;
+    }
 }
 
 impl<'a, 'p> Reader<'a, 'p> {

@@ -20,10 +20,19 @@ pub struct Text<'a> {
 }
 
 /// What a routine prints and which keys it takes, each text behind the one before. Of neither is anything said where it has no text.
-#[derive(Drop)]
 pub struct Texts<'a> {
     pub prints: Vec<Text<'a>>,
     pub takes: Vec<Text<'a>>,
+}
+
+// Not derived, for the prover alone: it follows this as one call, and a derived one field by field.
+impl<'a> Drop for Texts<'a> {
+    fn drop(self) {
+        let Texts {
+            prints: _,
+            takes: _,
+        } = self;
+    }
 }
 
 // The most characters of all texts of one kind, which are as many as keys can wait.

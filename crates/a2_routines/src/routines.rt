@@ -36,7 +36,8 @@ pub fn enter<A: Allocator, M: Allocator>(
     entries: &mut Vec<Entry, A>,
     machine: &Machine<M>,
 ) -> Result<(), AllocError>
-    ensures { IfOk result (λ _. entries.new.items ≡ with_call machine.now.state.steps (world_of_state machine.now.state) entries.old.items) }
+    ensures { IfOk result (λ _. entries.new.items ≡ with_call machine.now.state.steps
+        (world_of_state machine.now.state) entries.old.items) }
 {
     if is_call(machine) {
         let regs = machine.regs();

@@ -55,7 +55,8 @@ pub fn debug_script<A: Allocator + Copy, W: Output>(
     script: &[u8],
     writer: &mut W,
 ) -> Result<(), RunFault>
-    ensures meaning { Answers (IsDebugRefusal source.now script.now) (λ _. IsDebugText source.now script.now) (W.taker writer.old) (W.taker writer.new) result }
+    ensures meaning { Answers (IsDebugRefusal source.now script.now) (λ _. IsDebugText source.now script.now) (W.taker writer.old)
+        (W.taker writer.new) result }
     ensures no_reader { is_read_fault result ≡ false }
 {
     let program = program_of(alloc, source)?;

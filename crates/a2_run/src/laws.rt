@@ -1,6 +1,10 @@
 //! Laws of what source texts and scripts mean. The calls do nothing: their contracts are the laws.
 
-ghost use Rattle.a2_run.specs.Laws.{FreeRunsAreGuardedRuns, OneRefusal, RefusedHasNoProgram, RefusedHasNoRun, RefusedHasNoObjectLines, RefusedOrProgram, OneCause, OneOutput, OneObjectText, EachProgramRuns, EachProgramHasObjectLines, OneScriptRefusal, RefusedScriptHasNoOutput, EachScriptHasOutput, OneScriptOutput, OneDebugRefusal, RefusedDebuggingHasNoOutput, EachDebuggingHasOutput, RefusedOrDebugged, OneDebugOutput};
+ghost use Rattle.a2_run.specs.Laws.{FreeRunsAreGuardedRuns, OneRefusal, RefusedHasNoProgram, RefusedHasNoRun};
+ghost use Rattle.a2_run.specs.Laws.{RefusedHasNoObjectLines, RefusedOrProgram, OneCause, OneOutput, OneObjectText};
+ghost use Rattle.a2_run.specs.Laws.{EachProgramRuns, EachProgramHasObjectLines, OneScriptRefusal, RefusedScriptHasNoOutput};
+ghost use Rattle.a2_run.specs.Laws.{EachScriptHasOutput, OneScriptOutput, OneDebugRefusal, RefusedDebuggingHasNoOutput};
+ghost use Rattle.a2_run.specs.Laws.{EachDebuggingHasOutput, RefusedOrDebugged, OneDebugOutput};
 
 /// For every source text, list of keys, step limit and option: where the text's guarded run ends by a cause other than
 /// `CodeWrite` and `OffStatement`, its free run ends by the same cause and writes the same.

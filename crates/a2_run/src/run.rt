@@ -2,7 +2,8 @@
 
 ghost use Rattle.std.specs.Prelude.{◌≡◌, IfOk, IfSome, take};
 ghost use Rattle.a2_stream.specs.Stream.{count_after, TakesAtMost};
-ghost use Rattle.a2_run.specs.Answers.{read_of, Answers, LeavesBehind, OfSource, OfScript, RestsOnTexts, is_read_fault, is_unread, is_write_fault, NothingSent};
+ghost use Rattle.a2_run.specs.Answers.{read_of, Answers, LeavesBehind, OfSource, OfScript, RestsOnTexts, is_read_fault};
+ghost use Rattle.a2_run.specs.Answers.{is_unread, is_write_fault, NothingSent};
 ghost use Rattle.a2_run.specs.Meaning.{IsRefused, IsRun, AreObjectLines};
 ghost use Rattle.a2_run.specs.DebugScripts.{IsDebugRefusal, IsDebugText, ReadsFail};
 ghost use Rattle.a2_run.specs.Scripts.{IsMonText, IsRefusedScript};
@@ -155,7 +156,8 @@ pub fn debug_text<A: Allocator + Copy, R: Input, S: Input, W: Output>(
     // Whatever the readers give, a fault other than of the writer means that nothing was written.
     ensures silent { NothingSent (W.taker writer.old) (W.taker writer.new) result }
     // A fault of a reader or of the writer comes exactly where one of its calls failed.
-    ensures readers { ReadsFail (is_read_fault result) (R.giver source.old) (R.giver source.new) (S.giver script.old) (S.giver script.new) }
+    ensures readers { ReadsFail (is_read_fault result) (R.giver source.old) (R.giver source.new) (S.giver script.old)
+        (S.giver script.new) }
     ensures writer { (W.taker writer.new).failures ≡ count_after (is_write_fault result) (W.taker writer.old).failures }
 {
     let text = read_text(alloc, source)?;

@@ -44,7 +44,6 @@ impl<A: Allocator> Name<A> {
 }
 
 /// A term of an expression.
-#[derive(Drop)]
 pub enum Term<A: Allocator = Global> {
     /// A number, or the code of a character.
     Number(u16),
@@ -52,6 +51,17 @@ pub enum Term<A: Allocator = Global> {
     Named(Name<A>),
     /// `*`, the address of the line.
     Here,
+}
+
+// Not derived, for the prover alone: it follows this as one call, and a derived one field by field.
+impl<A: Allocator> Drop for Term<A> {
+    fn drop(self) {
+        match self {
+            Term::Number(_) => {}
+            Term::Named(_) => {}
+            Term::Here => {}
+        }
+    }
 }
 
 /// A term, and whether a `-` stands before it.
@@ -185,7 +195,6 @@ impl<A: Allocator> Bytes<A> {
 }
 
 /// The operand of an instruction, by the form in which it is written. `e` is an expression.
-#[derive(Drop)]
 pub enum Operand<A: Allocator = Global> {
     /// No operand.
     Nothing,
@@ -207,6 +216,23 @@ pub enum Operand<A: Allocator = Global> {
     InParentheses(Expr<A>),
 }
 
+// Not derived, for the prover alone: it follows this as one call, and a derived one field by field.
+impl<A: Allocator> Drop for Operand<A> {
+    fn drop(self) {
+        match self {
+            Operand::Nothing => {}
+            Operand::Accumulator => {}
+            Operand::Immediate(_) => {}
+            Operand::Plain(_) => {}
+            Operand::WithX(_) => {}
+            Operand::WithY(_) => {}
+            Operand::InParenthesesX(_) => {}
+            Operand::ParenthesesY(_) => {}
+            Operand::InParentheses(_) => {}
+        }
+    }
+}
+
 impl<A: Allocator> Operand<A> {
     /// The expression in it: none where it is `Nothing` or `Accumulator`, and one in every other form.
     pub fn expr(&self) -> Option<&Expr<A>>
@@ -226,7 +252,6 @@ impl<A: Allocator> Operand<A> {
 }
 
 /// What a line does.
-#[derive(Drop)]
 pub enum Body<A: Allocator = Global> {
     /// Nothing.
     Empty,
@@ -246,13 +271,35 @@ pub enum Body<A: Allocator = Global> {
     Ds(Expr<A>),
 }
 
+// Not derived, for the prover alone: it follows this as one call, and a derived one field by field.
+impl<A: Allocator> Drop for Body<A> {
+    fn drop(self) {
+        match self {
+            Body::Empty => {}
+            Body::Instr(_, _) => {}
+            Body::Org(_) => {}
+            Body::Equ(_) => {}
+            Body::Dfb(_) => {}
+            Body::Dw(_) => {}
+            Body::Asc(_) => {}
+            Body::Ds(_) => {}
+        }
+    }
+}
+
 /// A line of a source text.
-#[derive(Drop)]
 pub struct Line<A: Allocator = Global> {
     /// The name in the first column.
     pub label: Option<Name<A>>,
     /// What stands behind it.
     pub body: Body<A>,
+}
+
+// Not derived, for the prover alone: it follows this as one call, and a derived one field by field.
+impl<A: Allocator> Drop for Line<A> {
+    fn drop(self) {
+        let Line { label: _, body: _ } = self;
+    }
 }
 
 /// The lines of a source text, at most 4,096. Only `parse` makes one. Contracts see them without their allocator.

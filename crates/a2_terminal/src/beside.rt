@@ -20,14 +20,25 @@ use std::marker::Model;
 /// What tells that an answer was not kept.
 const NO_MEMORY: &[u8] = b"NO MEMORY FOR THE ANSWER\n";
 
-/// The Monitor over what a text holds, as [`Monitor`] answers, where the text is a source with names and lines of it beside the lines of
+/// The Monitor over what a text holds, as [`Monitor`] answers, where the text is a source with names and lines of it beside the
+/// lines of
 /// an answer. Contracts see the Monitor.
-#[derive(Drop)]
 pub struct Annotated<'k, 't, A: Allocator = Global> {
     monitor: Monitor<'k, A>,
     // None over object lines.
     source: Option<Source<'t, A>>,
     alloc: A,
+}
+
+// Not derived, for the prover alone: it follows this as one call, and a derived one field by field.
+impl<'k, 't, A: Allocator> Drop for Annotated<'k, 't, A> {
+    fn drop(self) {
+        let Annotated {
+            monitor: _,
+            source: _,
+            alloc: _,
+        } = self;
+    }
 }
 
 impl<'k, 't, A: Allocator> Model for Annotated<'k, 't, A> {
@@ -100,7 +111,8 @@ fn put_beside<A: Allocator + Copy, W: Output>(
 }
 
 impl<'k, 't, A: Allocator + Copy> Annotated<'k, 't, A> {
-    /// The same as [`Monitor::with`]: over what `text` holds, object lines, or, where it is none, a source. Refused where the source is,
+    /// The same as [`Monitor::with`]: over what `text` holds, object lines, or, where it is none, a source. Refused where the
+    /// source is,
     /// and for want of memory.
     pub fn with(
         alloc: A,

@@ -61,7 +61,8 @@ pub(crate) fn put_screen<A: Allocator, W: Output>(
     is_asked: bool,
     writer: &mut W,
 ) -> Result<(), WriteFault>
-    ensures { SendsOrBreaks (W.taker writer.old) (W.taker writer.new) result (screen_where is_asked (world_of_state machine.now.state)) }
+    ensures { SendsOrBreaks (W.taker writer.old) (W.taker writer.new) result
+        (screen_where is_asked (world_of_state machine.now.state)) }
 {
     if is_asked {
         print(&machine.view(), writer)

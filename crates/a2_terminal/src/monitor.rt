@@ -1,6 +1,7 @@
 //! The Monitor at a terminal.
 
-ghost use Rattle.std.specs.Prelude.{◌≡◌, ◌↔◌, ◌-◌, ◌<◌, ◌≤◌, ◌++◌, [], ℕ, List, true, Some, None, is_some, if◌then◌else◌, IfOk, IfErr};
+ghost use Rattle.std.specs.Prelude.{◌≡◌, ◌↔◌, ◌-◌, ◌<◌, ◌≤◌, ◌++◌, [], ℕ, List, true, Some, None, is_some, if◌then◌else◌, IfOk};
+ghost use Rattle.std.specs.Prelude.{IfErr};
 ghost use Rattle.a2_stream.specs.Stream.{SendsOrBreaks};
 ghost use Rattle.a2_asm.specs.Assembled.{Assembled};
 ghost use Rattle.a2_machine.specs.State.{world_of_state};
@@ -50,15 +51,27 @@ const WAITS: &[u8] = b"IT WAITS FOR A KEY; CTRL-] STOPS IT\n";
 const FULL: &[u8] = b"4096 KEYS WAIT\n";
 
 /// The Monitor at a terminal: a session whose lines are answered, a refused one by the text of its refusal. `help`, in either
-/// case, tells the forms. Behind a run stands the picture of its screen, where that changed. Where keys can be typed, a program that is
-/// called and wants one waits for it: each line is then a key, as the terminal gives it, until the run ends. Contracts see the session,
+/// case, tells the forms. Behind a run stands the picture of its screen, where that changed. Where keys can be typed, a program
+/// that is
+/// called and wants one waits for it: each line is then a key, as the terminal gives it, until the run ends. Contracts see the
+/// session,
 /// whether keys can be typed, and the steps that a program which waits may still make.
-#[derive(Drop)]
 pub struct Monitor<'a, A: Allocator = Global> {
     session: Session<A>,
     // What says to whoever reads the terminal that a key is wanted, and no line.
     keyboard: Option<&'a Cell<bool>>,
     wait: Option<u32>,
+}
+
+// Not derived, for the prover alone: it follows this as one call, and a derived one field by field.
+impl<'a, A: Allocator> Drop for Monitor<'a, A> {
+    fn drop(self) {
+        let Monitor {
+            session: _,
+            keyboard: _,
+            wait: _,
+        } = self;
+    }
 }
 
 impl<'a, A: Allocator> Model for Monitor<'a, A> {
@@ -108,7 +121,8 @@ struct Loaded<A: Allocator> {
 
 // A machine with a source's program.
 fn with_source<A: Allocator + Copy>(alloc: A, text: &[u8]) -> Result<Loaded<A>, RunFault>
-    ensures made { IfOk result (λ loaded. (program : Assembled) × IsProgramOf text.now program × IsStarted true program [] loaded.machine.state) }
+    ensures made { IfOk result (λ loaded. (program : Assembled) × IsProgramOf text.now program
+        × IsStarted true program [] loaded.machine.state) }
     ensures refused { IfErr result (λ fault. RefusesText text.now fault) }
 {
     let program = program_of(alloc, text)?;
@@ -139,7 +153,8 @@ fn with_text<A: Allocator + Copy>(alloc: A, text: &[u8]) -> Result<Loaded<A>, Ru
 }
 
 impl<'a, A: Allocator + Copy> Monitor<'a, A> {
-    /// The Monitor over a machine as it is switched on. Keys can be typed where there is a `keyboard`: it holds, behind each answer,
+    /// The Monitor over a machine as it is switched on. Keys can be typed where there is a `keyboard`: it holds, behind each
+    /// answer,
     /// whether the next line is a key. Refused only for want of memory.
     pub fn new(alloc: A, keyboard: Option<&'a Cell<bool>>) -> Result<Monitor<'a, A>, AllocError>
         ensures session { IfOk result (λ monitor. sitting_of monitor.session ≡ start_sitting) }
@@ -218,7 +233,8 @@ fn put_ending<A: Allocator, W: Output>(
     cause: Cause,
     writer: &mut W,
 ) -> Result<(), WriteFault>
-    ensures { SendsOrBreaks (W.taker writer.old) (W.taker writer.new) result (ending waits notice.now (sitting_of session.now) cause) }
+    ensures { SendsOrBreaks (W.taker writer.old) (W.taker writer.new) result
+        (ending waits notice.now (sitting_of session.now) cause) }
 {
     if waits {
         put(notice, writer)
@@ -310,7 +326,8 @@ impl<A: Allocator> Monitor<'_, A> {
 
     // Calls a program.
     fn call<W: Output>(&mut self, at: u16, writer: &mut W) -> Result<(), WriteFault>
-        ensures { (text : List ℕ) × IsCallTold at self.old text self.new × SendsOrBreaks (W.taker writer.old) (W.taker writer.new) result text }
+        ensures { (text : List ℕ) × IsCallTold at self.old text self.new
+            × SendsOrBreaks (W.taker writer.old) (W.taker writer.new) result text }
     {
         let before = standing(&self.session);
         let cause = self.session.call(at);

@@ -14,10 +14,19 @@ const NAMES_AT: usize = 31;
 const BLANKS: &[u8] = b"                                ";
 
 /// A source: its program and its lines.
-#[derive(Drop)]
 pub(crate) struct Source<'a, A: Allocator> {
     pub program: Program<A>,
     pub lines: Vec<&'a [u8], A>,
+}
+
+// Not derived, for the prover alone: it follows this as one call, and a derived one field by field.
+impl<'a, A: Allocator> Drop for Source<'a, A> {
+    fn drop(self) {
+        let Source {
+            program: _,
+            lines: _,
+        } = self;
+    }
 }
 
 // What leads from the end of so many bytes, and so many more, to a column.
@@ -162,7 +171,8 @@ fn append_names<A: Allocator>(
     Ok(())
 }
 
-/// What a source tells beside a line of the Monitor's: behind one of `300L` the line of the source whose statement begins there, where
+/// What a source tells beside a line of the Monitor's: behind one of `300L` the line of the source whose statement begins there,
+/// where
 /// none of the bytes that are shown is another than the source laid there; behind one with bytes the names that have one of their
 /// addresses. Refused only for want of memory.
 pub(crate) fn beside<A: Allocator + Copy>(

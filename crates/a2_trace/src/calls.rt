@@ -1,6 +1,7 @@
 //! The routines of a run as a tree.
 
-ghost use Rattle.std.specs.Prelude.{◌≡◌, ◌+◌, ◌<◌, ◌≤◌, ◌++◌, ◌∷◌, [], codes, false, filter, find, length, nat_lt, Some, None, IfOk, if◌then◌else◌};
+ghost use Rattle.std.specs.Prelude.{◌≡◌, ◌+◌, ◌<◌, ◌≤◌, ◌++◌, ◌∷◌, [], codes, false, filter, find, length, nat_lt, Some, None};
+ghost use Rattle.std.specs.Prelude.{IfOk, if◌then◌else◌};
 ghost use Rattle.arrayvec.specs.ArrayVec.{array_vec_len};
 ghost use Rattle.a2_stream.specs.Stream.{SendsOrBreaks};
 ghost use Rattle.a2_asm.specs.Entries.{entries};
@@ -85,7 +86,8 @@ fn put_cells<'a, W: Output>(
     name: &'a [u8],
     writer: &mut W,
 ) -> Result<(), WriteFault>
-    ensures { SendsOrBreaks (W.taker writer.old) (W.taker writer.new) result (tree.routine_cells blanks.now word.now address.now gap.now name.now) }
+    ensures { SendsOrBreaks (W.taker writer.old) (W.taker writer.new) result
+        (tree.routine_cells blanks.now word.now address.now gap.now name.now) }
 {
     put_all(&[blanks, word, address, gap, name], writer)
 }
@@ -99,7 +101,8 @@ fn put_routine<A: Allocator, W: Output>(
     writer: &mut W,
 ) -> Result<(), WriteFault>
     requires { depth ≤ 256 }
-    ensures { SendsOrBreaks (W.taker writer.old) (W.taker writer.new) result (tree.routine_text word.now (entries names.now) depth address) }
+    ensures { SendsOrBreaks (W.taker writer.old) (W.taker writer.new) result
+        (tree.routine_text word.now (entries names.now) depth address) }
 {
     let name = routine_name(names, address);
     put_cells(
@@ -270,7 +273,8 @@ fn enter_where<A: Allocator, B: Allocator, W: Output>(
     requires { array_vec_len visits.old < 256 }
     ensures row { SendsOrBreaks (W.taker writer.old) (W.taker writer.new) result
         (if is_jsr then tree.entered_row program.now (array_vec_len visits.old) (begun caller s machine.now.state) else []) }
-    ensures visits { visits.new.items ≡ (if is_jsr then visits.old.items ++ begun caller s machine.now.state ∷ [] else visits.old.items) }
+    ensures visits { visits.new.items ≡ (if is_jsr then visits.old.items ++ begun caller s machine.now.state ∷ [] else
+        visits.old.items) }
 {
     if !is_jsr {
         return Ok(());
@@ -372,10 +376,13 @@ fn draw_run<A: Allocator, B: Allocator, W: Output>(
 }
 
 /// Assembles and runs a source with these keys waiting, and writes its routines as a tree: a row where a JSR enters one, with its
-/// address and name, and where the JSR stands; and a row where it is left, with the steps and cycles since, those of what it calls
+/// address and name, and where the JSR stands; and a row where it is left, with the steps and cycles since, those of what it
+/// calls
 /// among them; at the end of the run such a row of each that was not left; then the cause line. Which routines there are
-/// [`a2_routines`] says; a service that is called is one. Each row is two blanks further right than that of the routine around it, up
-/// to 64. `limit` is the most steps, `free` runs without the guard. The cause is that of the run's end. Refused where the source is,
+/// [`a2_routines`] says; a service that is called is one. Each row is two blanks further right than that of the routine around
+/// it, up
+/// to 64. `limit` is the most steps, `free` runs without the guard. The cause is that of the run's end. Refused where the source
+/// is,
 /// where a write fails, and for want of memory. This project's profile.
 pub fn trace_calls<A: Allocator + Copy, W: Output>(
     alloc: A,

@@ -80,7 +80,8 @@ fn is_other_at<A: Allocator, B: Allocator>(old: &Machine<A>, new: &Machine<B>, a
 // Whether two machines have different bytes at an address of a span.
 #[tactic(auto, using(crate::proofs::Storing::differ_next, crate::proofs::Storing::differ_none))]
 fn differ<A: Allocator, B: Allocator>(old: &Machine<A>, new: &Machine<B>, span: Span) -> bool
-    ensures { result ≡ choices.differ_from (memory_of old.now.state.bus) (memory_of new.now.state.bus) span.first (span.last + 1 - span.first) }
+    ensures { result ≡ choices.differ_from (memory_of old.now.state.bus) (memory_of new.now.state.bus) span.first
+        (span.last + 1 - span.first) }
 {
     for address in u32::from(span.first)..u32::from(span.last) + 1 {
         if is_other_at(old, new, address as u16) {

@@ -64,7 +64,8 @@ fn decimal_pair(number: u8) -> [u8; 2]
     [decimals[place], decimals[place + 1]]
 }
 
-/// The fields of a register line up to the steps: what stands between the digits, and those of A, X, Y, the flags as they are pushed,
+/// The fields of a register line up to the steps: what stands between the digits, and those of A, X, Y, the flags as they are
+/// pushed,
 /// S and PC.
 #[inline(always)]
 #[tactic(auto, unfolding(crate::specs::Traced::fields))]

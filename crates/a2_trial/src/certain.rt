@@ -1,6 +1,7 @@
 //! Whether a promise is kept in every state of its inputs, and so in every world.
 
-ghost use Rattle.std.specs.Prelude.{◌≡◌, ◌⊎◌, ◌||◌, ◌&&◌, not, ◌<◌, ℕ, Bool, false, [], length, map, is_some, IsTrue, IfOk, IfSome};
+ghost use Rattle.std.specs.Prelude.{◌≡◌, ◌⊎◌, ◌||◌, ◌&&◌, not, ◌<◌, ℕ, Bool, false, [], length, map, is_some, IsTrue, IfOk};
+ghost use Rattle.std.specs.Prelude.{IfSome};
 ghost use Rattle.std.specs.List.{list_all, list_any};
 ghost use Rattle.a2_hex.specs.Images.{held};
 ghost use Rattle.a2_bus.specs.Memory.{Memory, ram_end};
@@ -252,7 +253,8 @@ fn sight_of<'a>(
 fn is_kept(case: &Case, before: &AddressSpace<Global>, walk: &mut Walk, stored: &mut Stored) -> bool
     requires { IsEntered (world_of (registers_of walk.old.regs) walk.old.space 0) case.now.parts before.now
         walk.old stored.old }
-    ensures kept { IsTrue result → IsKept (is_set case.now.known.now) (knows_part case.now.parts) case.now.promise.now case.now.most
+    ensures kept { IsTrue result → IsKept (is_set case.now.known.now)
+        (knows_part case.now.parts) case.now.promise.now case.now.most
         (world_of (registers_of walk.old.regs) walk.old.space 0) }
     ensures rest { IsTrue result → walk.new.space.devices ≡ before.now.devices
         → IsBut (is_set stored.new) walk.new.space before.now }
@@ -283,8 +285,10 @@ fn is_kept(case: &Case, before: &AddressSpace<Global>, walk: &mut Walk, stored: 
 /// Whether a promise is kept in the state before a routine, where S is $FD and no cycle and no store is counted, if that is as
 /// the promise requires: neither the routine nor the promise looks at what is not known, the routine comes to the RTS of its own
 /// within the steps that are enough, and stores only at what `changes` names or in the stack below its return address, what is
-/// promised holds behind the RTS, and a register that `changes` does not name is not set, or was known and is the same. False says
-/// nothing: also where a service needs a key, or a byte is stored at that is put back. Behind it each byte of RAM is as before that is
+/// promised holds behind the RTS, and a register that `changes` does not name is not set, or was known and is the same. False
+/// says
+/// nothing: also where a service needs a key, or a byte is stored at that is put back. Behind it each byte of RAM is as before
+/// that is
 /// not marked as stored at.
 pub fn is_tried(
     case: &Case,
@@ -446,11 +450,16 @@ fn parts_at(inputs: &[Input]) -> Parts
     parts
 }
 
-/// Whether a promise of a program is kept within so many steps in every state of these inputs that is as it requires, where neither the
-/// routine nor the promise looks at any other byte, register or flag but those of the program and D, which is clear, nor at the stack but
-/// by S. Then it is kept in every world in which the routine is entered so, wherever S points. An input that is a byte has that value
-/// alone which an equation says that is required, `$20 = 0` or `word $36 = #$FDF0`. False says nothing: also where a service needs a key, a
-/// window scrolls whose cells are not known, a byte is stored at that the promise does not let change and put back, more than 126 bytes of
+/// Whether a promise of a program is kept within so many steps in every state of these inputs that is as it requires, where
+/// neither the
+/// routine nor the promise looks at any other byte, register or flag but those of the program and D, which is clear, nor at the
+/// stack but
+/// by S. Then it is kept in every world in which the routine is entered so, wherever S points. An input that is a byte has that
+/// value
+/// alone which an equation says that is required, `$20 = 0` or `word $36 = #$FDF0`. False says nothing: also where a service
+/// needs a key, a
+/// window scrolls whose cells are not known, a byte is stored at that the promise does not let change and put back, more than 126
+/// bytes of
 /// the stack are used, or something is looked at that is never used. Refused only for want of memory.
 pub fn holds_in_every_state(
     alloc: Global,

@@ -51,9 +51,11 @@ fn lay_values(inputs: &[Input], values: &[u8], machine: &mut Machine<Global>)
     lay_value(*input, *value, machine);
 }
 
-/// A machine that enters the routine of a program at this address in the state of a failure, as its trial did: the program is laid
+/// A machine that enters the routine of a program at this address in the state of a failure, as its trial did: the program is
+/// laid
 /// over bytes that may be any, but for those of page 0 that services look at, which are as the machine is switched on; PC is the
-/// address, S is $FD, and the return address leads to $FF69; its keys are typed, and each input has its value. It has made no step,
+/// address, S is $FD, and the return address leads to $FF69; its keys are typed, and each input has its value. It has made no
+/// step,
 /// and has no guard. Refused only for want of memory.
 pub fn machine_at_entry(
     alloc: Global,
@@ -62,7 +64,8 @@ pub fn machine_at_entry(
     failure: &Failure,
 ) -> Result<Machine<Global>, AllocError>
     ensures world { IfOk result (λ machine. IsTrue (list_all is_input_in_ram failure.now.inputs.items)
-        → IsEntry (held program.now.image) address failure.now.keys failure.now.inputs.items failure.now.values.items (world_of_state machine.state)) }
+        → IsEntry (held program.now.image) address failure.now.keys failure.now.inputs.items failure.now.values.items
+        (world_of_state machine.state)) }
     ensures fresh { IfOk result (λ machine. IsFresh machine) }
 {
     let image = filled(alloc, program.image())?;

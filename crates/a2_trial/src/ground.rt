@@ -1,4 +1,5 @@
-//! Where a routine is run: RAM as it was entered, RAM as it is, which bytes were stored at, and what was looked at before it was known.
+//! Where a routine is run: RAM as it was entered, RAM as it is, which bytes were stored at, and what was looked at before it was
+//! known.
 
 use crate::fill::filled;
 use crate::inputs::{Input, add};
@@ -61,7 +62,8 @@ pub enum Door {
     Endless,
 }
 
-/// The end of a run, or where it stands: the registers, where the last step was made, the cycles and steps since the entry, and how
+/// The end of a run, or where it stands: the registers, where the last step was made, the cycles and steps since the entry, and
+/// how
 /// it left, or that it is still under way.
 #[derive(Clone, Copy)]
 pub(crate) struct Exit {
@@ -118,7 +120,6 @@ struct Mark {
 }
 
 /// Where a routine is run.
-#[derive(Drop)]
 pub(crate) struct Ground {
     pub alloc: Global,
     pub before: AddressSpace<Global>,
@@ -138,6 +139,26 @@ pub(crate) struct Ground {
     known: Parts,
     /// Those that the run set are known too.
     known_now: Parts,
+}
+
+// Not derived, for the prover alone: it follows this as one call, and a derived one field by field.
+impl Drop for Ground {
+    fn drop(self) {
+        let Ground {
+            alloc: _,
+            before: _,
+            now: _,
+            stored: _,
+            looked: _,
+            passage: _,
+            printed: _,
+            is_heard: _,
+            has_keys: _,
+            marks: _,
+            known: _,
+            known_now: _,
+        } = self;
+    }
 }
 
 // Nothing is known of any address.

@@ -84,7 +84,8 @@ impl Input {
     }
 }
 
-/// The inputs of a promise: those that it names, those that its routine looks at beside them, and behind them the registers and flags
+/// The inputs of a promise: those that it names, those that its routine looks at beside them, and behind them the registers and
+/// flags
 /// that are neither.
 #[derive(Drop)]
 pub(crate) struct Inputs {
@@ -147,7 +148,8 @@ pub(crate) fn may_change(changes: &Changes, address: u16) -> bool
         .any(|range| range.first <= address && address <= range.last)
 }
 
-/// Whether a byte is the routine's own, which is entered with S = $FD: one of the 126 of the stack from there down, below the return
+/// Whether a byte is the routine's own, which is entered with S = $FD: one of the 126 of the stack from there down, below the
+/// return
 /// address.
 #[tactic(auto, using(crate::proofs::Marks::own_is))]
 pub(crate) fn is_own_stack(address: u16) -> bool

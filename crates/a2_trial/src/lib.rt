@@ -38,7 +38,8 @@ pub use stored::Stored;
 pub use trial::{Failure, Trials, Verdict, try_promise};
 pub use walk::{Walk, walk_home};
 
-/// A theorem, and no code: a promise that is kept in each state of its inputs, where neither its routine nor itself looks at anything
+/// A theorem, and no code: a promise that is kept in each state of its inputs, where neither its routine nor itself looks at
+/// anything
 /// else that is not fixed, is kept in every world at the routine's entry that is as it requires.
 pub fn promises_hold_everywhere()
     ensures { PromisesHoldEverywhere }
@@ -46,7 +47,8 @@ pub fn promises_hold_everywhere()
     values_depend_on_looks();
 }
 
-/// A theorem, and no code: there is such a promise. A routine that is an RTS alone keeps one that says nothing, so that all stays.
+/// A theorem, and no code: there is such a promise. A routine that is an RTS alone keeps one that says nothing, so that all
+/// stays.
 pub fn an_rts_keeps_all()
     ensures { AnRtsKeepsAll }
 {}

@@ -1,6 +1,7 @@
 //! Where a service stores, marked.
 //!
-//! Each function here marks what it says, and answers false where the routine may not store at one of the addresses, or it is not in RAM
+//! Each function here marks what it says, and answers false where the routine may not store at one of the addresses, or it is not
+//! in RAM
 //! or holds the return address.
 
 ghost use Rattle.std.specs.Prelude.{◌<◌, ◌≤◌, ◌+◌, ℕ, [], ◌∷◌, ◌++◌, IfSome, IsTrue};
@@ -10,7 +11,8 @@ ghost use Rattle.a2_bus.specs.View.{memory_of};
 ghost use Rattle.a2_cpu.specs.View.{registers_of};
 ghost use Rattle.a2_services.specs.Put.{after_put, window_of};
 ghost use Rattle.a2_services.specs.World.{world_of};
-ghost use Rattle.a2_reads.specs.Services.{base_bytes, block_cell, blocks_across, blocks_down, cells_below, cells_to_end, changed_by, output_bytes, put_changes, service_stores, window_cells};
+ghost use Rattle.a2_reads.specs.Services.{base_bytes, block_cell, blocks_across, blocks_down, cells_below, cells_to_end};
+ghost use Rattle.a2_reads.specs.Services.{changed_by, output_bytes, put_changes, service_stores, window_cells};
 ghost use Rattle.a2_trial.specs.Screen.{IsCursor, IsOnScreen, window_by};
 ghost use Rattle.a2_trial.specs.Walking.{AreMarked};
 
@@ -89,7 +91,8 @@ fn mark_blocks_across(
     regs: &Regs,
     space: &AddressSpace<Global>,
 ) -> bool
-    ensures { IsTrue result → AreMarked stored.old stored.new changes.now (blocks_across (registers_of regs.now) (memory_of space.now)) }
+    ensures { IsTrue result → AreMarked stored.old stored.new changes.now
+        (blocks_across (registers_of regs.now) (memory_of space.now)) }
 {
     let last = load(space, H2);
     if regs.a >= 48 || regs.y >= 40 || last >= 40 {
@@ -106,7 +109,8 @@ fn mark_blocks_down(
     regs: &Regs,
     space: &AddressSpace<Global>,
 ) -> bool
-    ensures { IsTrue result → AreMarked stored.old stored.new changes.now (blocks_down (registers_of regs.now) (memory_of space.now)) }
+    ensures { IsTrue result → AreMarked stored.old stored.new changes.now
+        (blocks_down (registers_of regs.now) (memory_of space.now)) }
 {
     let last = load(space, V2);
     if regs.a >= 48 || last >= 48 {
@@ -196,7 +200,8 @@ fn mark_output(
     byte: u8,
     space: &AddressSpace<Global>,
 ) -> bool
-    ensures { IsTrue result → AreMarked stored.old stored.new changes.now (output_bytes ++ put_changes byte (memory_of space.now)) }
+    ensures { IsTrue result → AreMarked stored.old stored.new changes.now
+        (output_bytes ++ put_changes byte (memory_of space.now)) }
 {
     let Some(cursor) = cursor_on_screen(space) else {
         return false;
@@ -235,7 +240,8 @@ pub(crate) fn mark_places(
     space: &AddressSpace<Global>,
 ) -> bool
     ensures { IsTrue result → (before : ℕ)
-        → AreMarked stored.old stored.new changes.now (service_stores service (world_of (registers_of regs.now) space.now before)) }
+        → AreMarked stored.old stored.new changes.now (service_stores service
+        (world_of (registers_of regs.now) space.now before)) }
 {
     let low = digit_byte(regs.a % 16);
     match service {

@@ -1,4 +1,5 @@
-//! The window and the cursor of the screen, and what becomes of them where a byte is put. Apple II Reference Manual (1979), chapter 2, on
+//! The window and the cursor of the screen, and what becomes of them where a byte is put. Apple II Reference Manual (1979),
+//! chapter 2, on
 //! the text window; the exact effects are this project's profile.
 
 ghost use Rattle.std.specs.Prelude.{◌≡◌, ◌<◌, ◌+◌, ℕ, ◌&&◌, if◌then◌else◌, ◌∷◌, ◌++◌, [], nat_le, nat_lt, IsTrue};
@@ -16,7 +17,8 @@ use a2_services::bytes::{BACKSPACE, LINE_FEED, RETURN};
 use a2_services::{load, window};
 use std::alloc::Global;
 
-/// The window, by its first column, its number of columns, its first row and the row behind its last, and the cursor, by its row on the
+/// The window, by its first column, its number of columns, its first row and the row behind its last, and the cursor, by its row
+/// on the
 /// screen and its column in the window.
 #[derive(Clone, Copy)]
 pub(crate) struct Cursor {
@@ -65,7 +67,8 @@ fn is_control(byte: u8) -> bool
 
 /// Whether a byte that is put so stands in the cursor's cell.
 pub(crate) fn is_shown(byte: u8) -> bool
-    ensures { (memory : Memory) → changed_by byte memory ≡ (if result then cursor_cell memory ∷ [] else []) ++ moved_by byte memory }
+    ensures { (memory : Memory) → changed_by byte memory ≡ (if result then cursor_cell memory ∷ [] else []) ++ moved_by byte
+        memory }
 {
     !is_control(byte)
 }
@@ -116,7 +119,8 @@ fn down(cursor: Cursor) -> Cursor
 // It goes to the window's left edge, wherever it was, and down.
 fn down_left(cursor: Cursor) -> Cursor
     requires { IsOnScreen cursor }
-    ensures cursor { (memory : Memory) (column : ℕ) → IsCursor (record cursor { column = column }) memory → IsCursor result (after_return memory) }
+    ensures cursor { (memory : Memory) (column : ℕ) → IsCursor (record cursor { column = column }) memory
+        → IsCursor result (after_return memory) }
     ensures screen { IsOnScreen result }
 {
     down(Cursor {

@@ -1,4 +1,5 @@
-//! What the Monitor's services look at and set of the registers, and whether the bytes that they read are known. Apple II Reference
+//! What the Monitor's services look at and set of the registers, and whether the bytes that they read are known. Apple II
+//! Reference
 //! Manual (1979), chapter 3.
 
 ghost use Rattle.std.specs.Prelude.{◌≡◌, ◌<◌, ◌+◌, ◌∷◌, ◌++◌, ℕ, IsTrue, map};
@@ -12,7 +13,8 @@ ghost use Rattle.a2_services.specs.Put.{after_put};
 ghost use Rattle.a2_services.specs.Rows.{service_row};
 ghost use Rattle.a2_services.specs.World.{world_of};
 ghost use Rattle.a2_reads.specs.Reads.{Knows};
-ghost use Rattle.a2_reads.specs.Services.{block_cell, bytes_used, fit_bytes, is_keyless as is_keyless_by, moved_by, put_moves, service_needs, service_reads, service_sets, way_bytes, window_cells};
+ghost use Rattle.a2_reads.specs.Services.{block_cell, bytes_used, fit_bytes, is_keyless as is_keyless_by, moved_by, put_moves};
+ghost use Rattle.a2_reads.specs.Services.{service_needs, service_reads, service_sets, way_bytes, window_cells};
 ghost use Rattle.a2_trial.specs.Screen.{IsCursor, IsOnScreen, window_by};
 ghost use Rattle.a2_trial.specs.Walking.{known_now};
 
@@ -124,7 +126,8 @@ fn is_block_known(known: &[bool], stored: &Stored, row: u8, column: u8) -> bool
 
 // Whether the cells are of the blocks of a row, from a column on.
 fn are_known_across(known: &[bool], stored: &Stored, row: u8, first: u8, last: u8) -> bool
-    ensures { IsTrue result → Knows (known_now known.now stored.now) (map (λ column. block_cell row column) (span_of first last)) }
+    ensures { IsTrue result → Knows (known_now known.now stored.now)
+        (map (λ column. block_cell row column) (span_of first last)) }
 {
     let end = first.max(last);
     if end >= 40 {
@@ -157,7 +160,8 @@ fn are_known_down(known: &[bool], stored: &Stored, first: u8, last: u8, column: 
 // Whether the cells are known that a byte moves, which is put as it is.
 fn are_moved_known(known: &[bool], stored: &Stored, byte: u8, cursor: &Cursor) -> bool
     requires { IsOnScreen cursor.now }
-    ensures { IsTrue result → (memory : Memory) → IsCursor cursor.now memory → Knows (known_now known.now stored.now) (moved_by byte memory) }
+    ensures { IsTrue result → (memory : Memory) → IsCursor cursor.now memory
+        → Knows (known_now known.now stored.now) (moved_by byte memory) }
 {
     !scrolls(byte, cursor) || is_window_known(known, stored, cursor)
 }
@@ -208,7 +212,8 @@ fn is_used_known(
     regs: &Regs,
     space: &AddressSpace<Global>,
 ) -> bool
-    ensures { IsTrue result → Knows (known_now known.now stored.now) (bytes_used service (registers_of regs.now) (memory_of space.now)) }
+    ensures { IsTrue result → Knows (known_now known.now stored.now)
+        (bytes_used service (registers_of regs.now) (memory_of space.now)) }
 {
     let low = digit_byte(regs.a % 16);
     match service {

@@ -53,7 +53,8 @@ fn settled_of(
 
 // The byte at an address where what stands at the left is the number at the right.
 fn settled_between(among: &[Input], left: &Expr, right: &Expr, address: u16) -> Option<u8>
-    ensures { IfSome result (Settles (λ m. holds (operated_on Equal (value_of left.now m m no_names) (value_of right.now m m no_names)))
+    ensures { IfSome result (Settles (λ m. holds (operated_on Equal (value_of left.now m m no_names)
+        (value_of right.now m m no_names)))
         among.now address) }
 {
     let number = number_of(right)?;

@@ -11,11 +11,20 @@ use std::alloc::{AllocError, Global};
 use std::marker::Model;
 
 /// The addresses of RAM at which a routine stored. Contracts see the marks of all addresses, from 0 on.
-#[derive(Drop)]
 pub struct Stored {
     marks: Vec<bool>,
     // Those that are marked, each once.
     places: Vec<u16>,
+}
+
+// Not derived, for the prover alone: it follows this as one call, and a derived one field by field.
+impl Drop for Stored {
+    fn drop(self) {
+        let Stored {
+            marks: _,
+            places: _,
+        } = self;
+    }
 }
 
 impl Model for Stored {

@@ -31,7 +31,6 @@ pub struct Trials {
 }
 
 /// A state in which a promise does not hold.
-#[derive(Drop)]
 pub struct Failure {
     /// What it has at the entry, and how many of that the promise names.
     pub inputs: Vec<Input>,
@@ -50,11 +49,31 @@ pub struct Failure {
     pub last: Vec<Traced>,
 }
 
+// Not derived, for the prover alone: it follows this as one call, and a derived one field by field.
+impl Drop for Failure {
+    fn drop(self) {
+        let Failure {
+            inputs: _,
+            named: _,
+            values: _,
+            keys: _,
+            broken: _,
+            passage: _,
+            told: _,
+            steps: _,
+            regs: _,
+            last: _,
+        } = self;
+    }
+}
+
 /// What is found of a promise.
 #[derive(Drop)]
 pub enum Verdict {
-    /// It held in so many states that it admits, of so many tried, of so many that there are of these inputs: those that it names, and
-    /// those that its routine looks at; a byte that what it requires settles has one value. Whether it holds in every world at the
+    /// It held in so many states that it admits, of so many tried, of so many that there are of these inputs: those that it
+    /// names, and
+    /// those that its routine looks at; a byte that what it requires settles has one value. Whether it holds in every world at
+    /// the
     /// routine's entry is known too, or not.
     Held {
         inputs: Vec<Input>,
@@ -120,7 +139,8 @@ fn enter(ground: &mut Ground, inputs: &[Input], values: &[u8]) {
     }
 }
 
-// Runs a routine from these registers, with RAM as it is at the entry, until it leaves, or what is said at a label within it is not
+// Runs a routine from these registers, with RAM as it is at the entry, until it leaves, or what is said at a label within it is
+// not
 // so; and what of the promise does not hold.
 fn run(
     ground: &mut Ground,
@@ -165,7 +185,8 @@ fn try_state(
     }
 }
 
-// The values that are tried first: bounds, the bytes of the numbers of a promise, and the numbers of its program with their neighbours.
+// The values that are tried first: bounds, the bytes of the numbers of a promise, and the numbers of its program with their
+// neighbours.
 fn corners_of(
     alloc: Global,
     program: &Program<Global>,
@@ -202,7 +223,8 @@ fn any_value(corners: &[u8], number: u64, index: usize) -> u8 {
     }
 }
 
-// Makes values those of the state of a number: in their order where all are tried, and else like any others. Those that are not varied
+// Makes values those of the state of a number: in their order where all are tried, and else like any others. Those that are not
+// varied
 // always are, and those that are settled always the same.
 fn put_values(values: &mut Vec<u8>, inputs: &Inputs, corners: &[u8], number: u64, is_all: bool) {
     let mut rest = number;
@@ -443,7 +465,8 @@ fn has_no_text(texts: &Texts) -> bool
     texts.prints.is_empty() && texts.takes.is_empty()
 }
 
-// Whether a promise that held in all states of these inputs holds everywhere; of one that says what is printed or which keys are taken,
+// Whether a promise that held in all states of these inputs holds everywhere; of one that says what is printed or which keys are
+// taken,
 // that is not said.
 fn is_certain(
     alloc: Global,
@@ -493,10 +516,13 @@ fn certified(
     }
 }
 
-/// Tries a promise of a program, one of those that are found in its source: its routine is entered in states of what the promise names
-/// and of what the routine looks at before it sets it, which is noted as it runs; bytes that the program lays are as it lays them,
+/// Tries a promise of a program, one of those that are found in its source: its routine is entered in states of what the promise
+/// names
+/// and of what the routine looks at before it sets it, which is noted as it runs; bytes that the program lays are as it lays
+/// them,
 /// unless the promise names them. Where it held in all states, and neither the routine nor the promise looks at anything else, it
-/// holds in every world in which the routine is entered as the promise requires, wherever S points, within 1,000,000 steps; of a promise
+/// holds in every world in which the routine is entered as the promise requires, wherever S points, within 1,000,000 steps; of a
+/// promise
 /// that says what is printed or which keys are taken, that is not said. Refused only for want of memory.
 pub fn try_promise(
     alloc: Global,

@@ -13,7 +13,8 @@ ghost use Rattle.a2_uses.specs.Parts.{needs as parts_needed, mode_needs as parts
 ghost use Rattle.a2_uses.specs.Reads.{effect_reads, pointer_reads};
 ghost use Rattle.a2_reads.specs.Turned.{in_stack, moves_s, operand_uses};
 ghost use Rattle.a2_trial.specs.Walking as walking;
-ghost use Rattle.a2_trial.specs.Walking.{known_now, knows_part, is_allowed, is_beside, AreMarked, IsHome, IsOwnRts, IsStep, StandsAt};
+ghost use Rattle.a2_trial.specs.Walking.{known_now, knows_part, is_allowed, is_beside, AreMarked, IsHome, IsOwnRts, IsStep};
+ghost use Rattle.a2_trial.specs.Walking.{StandsAt};
 
 use crate::ground::ENTRY_S;
 use crate::inputs::{is_own_stack, may_change};
@@ -93,7 +94,8 @@ pub(crate) fn is_in_stack(address: u16) -> bool
     0x0100 <= address && address <= 0x01FF
 }
 
-// Whether the routine may store at an address: it is one of its own of the stack, or `changes` names it and it is none of the stack's
+// Whether the routine may store at an address: it is one of its own of the stack, or `changes` names it and it is none of the
+// stack's
 // page.
 fn is_allowed_at(changes: &Changes, address: u16) -> bool
     ensures { result ≡ is_allowed changes.now address }
@@ -105,7 +107,8 @@ fn is_allowed_at(changes: &Changes, address: u16) -> bool
     }
 }
 
-/// Marks an address at which the routine stores; false where it may not, or the address is not in RAM or holds the return address.
+/// Marks an address at which the routine stores; false where it may not, or the address is not in RAM or holds the return
+/// address.
 pub(crate) fn mark(stored: &mut Stored, changes: &Changes, address: u16) -> bool
     ensures { IsTrue result → AreMarked stored.old stored.new changes.now (address ∷ []) }
 {
@@ -123,7 +126,8 @@ fn are_reads_known(
     regs: &Regs,
     space: &AddressSpace<Global>,
 ) -> bool
-    ensures { IsTrue result → (list_all (known_now known.now stored.now) (pointer_reads instr.mode instr.value (registers_of regs.now))
+    ensures { IsTrue result → (list_all (known_now known.now stored.now)
+        (pointer_reads instr.mode instr.value (registers_of regs.now))
         && list_all (known_now known.now stored.now) (effect_reads (effect_of instr.mnemonic)
         (place_of board_access space.now (registers_of regs.now) instr.mode instr.value) (registers_of regs.now).s)) ≡ true }
 {
@@ -138,7 +142,8 @@ fn are_reads_known(
 
 // Whether the registers and flags that an instruction looks at are known.
 fn are_parts_known(parts: &Parts, instr: Instr) -> bool
-    ensures { result ≡ (list_all (knows_part parts.now) (parts_needed instr.mnemonic) && list_all (knows_part parts.now) (parts_of_mode instr.mode)) }
+    ensures { result ≡ (list_all (knows_part parts.now) (parts_needed instr.mnemonic)
+        && list_all (knows_part parts.now) (parts_of_mode instr.mode)) }
 {
     parts.have(needs(instr.mnemonic)) && parts.have(mode_needs(instr.mode))
 }
@@ -207,7 +212,8 @@ fn is_any_in_stack(addresses: &[u16]) -> bool
     addresses.iter().any(|address| is_in_stack(*address))
 }
 
-// Makes a step, of this instruction, and answers its cycles; none where it is not made, looks at what is not known or at the stack
+// Makes a step, of this instruction, and answers its cycles; none where it is not made, looks at what is not known or at the
+// stack
 // otherwise than by S, or stores where it may not.
 fn make_step(
     regs: &mut Regs,
@@ -248,7 +254,8 @@ fn make_step(
     Some(cycles)
 }
 
-// Calls the service at PC, and answers its cycles; none where there is none or it is not called, it needs a key, looks at what is not
+// Calls the service at PC, and answers its cycles; none where there is none or it is not called, it needs a key, looks at what is
+// not
 // known, or stores where it may not.
 fn serve(
     regs: &mut Regs,
@@ -324,8 +331,10 @@ pub struct Walk {
     pub cycles: u32,
 }
 
-/// Goes on from a routine's entry, with S = $FD, to the RTS of its own, before which S is that again, and answers the steps up to there;
-/// none where it does not come to it within so many, looks at a byte, a register or a flag that is not known, or stores where it may
+/// Goes on from a routine's entry, with S = $FD, to the RTS of its own, before which S is that again, and answers the steps up to
+/// there;
+/// none where it does not come to it within so many, looks at a byte, a register or a flag that is not known, or stores where it
+/// may
 /// not. Which bytes of RAM are known at the entry is said by their addresses; those that are stored at are marked.
 pub fn walk_home(
     walk: &mut Walk,

@@ -7,12 +7,22 @@ use a2_cpu::Regs;
 use a2_promise::{Clause, Promise, Sight, Visit, Within, value_in};
 use std::alloc::{AllocError, Global};
 
-/// The measures of a routine's labels as a run last came to them, in the order in which they stand, and the states at those that `at`
+/// The measures of a routine's labels as a run last came to them, in the order in which they stand, and the states at those that
+/// `at`
 /// names.
-#[derive(Drop)]
 pub(crate) struct Tally {
     lasts: Vec<i64>,
     visits: Vec<Visit<Global>>,
+}
+
+// Not derived, for the prover alone: it follows this as one call, and a derived one field by field.
+impl Drop for Tally {
+    fn drop(self) {
+        let Tally {
+            lasts: _,
+            visits: _,
+        } = self;
+    }
 }
 
 impl Tally {
@@ -72,7 +82,8 @@ fn broken_fact(
     None
 }
 
-// A measure that is below 0, or not less than it was where a run comes back to its label. Theirs are the numbers from this place on.
+// A measure that is below 0, or not less than it was where a run comes back to its label. Theirs are the numbers from this place
+// on.
 fn broken_measure(
     measures: &[Clause],
     visits: &[Visit<Global>],

@@ -60,7 +60,8 @@ fn next_due(typed: &[Typed], made: u32, limit: u32) -> u32
     until
 }
 
-// Runs a machine from its start, and types keys behind their steps: the cause of its end, or the steps behind which they do not fit.
+// Runs a machine from its start, and types keys behind their steps: the cause of its end, or the steps behind which they do not
+// fit.
 fn run_typed<A: Allocator>(
     machine: &mut Machine<A>,
     typed: &[Typed],
@@ -68,8 +69,10 @@ fn run_typed<A: Allocator>(
 ) -> Result<Cause, u64>
     requires codes { All (λ t. t.key < 128) typed.now }
     requires start { machine.old.state.steps ≡ 0 }
-    ensures stopped { IfOk result (λ cause. IsTypedStop (code_of machine.old.state) (world_of_state machine.old.state) typed.now limit machine.new.state cause) }
-    ensures full { IfErr result (λ steps. IsOverfull (code_of machine.old.state) (world_of_state machine.old.state) typed.now limit steps) }
+    ensures stopped { IfOk result (λ cause. IsTypedStop (code_of machine.old.state)
+        (world_of_state machine.old.state) typed.now limit machine.new.state cause) }
+    ensures full { IfErr result (λ steps. IsOverfull (code_of machine.old.state)
+        (world_of_state machine.old.state) typed.now limit steps) }
 {
     let mut made = 0;
     if !type_due(machine, typed, 0) {
@@ -90,8 +93,10 @@ fn run_typed<A: Allocator>(
     Ok(machine.run(0))
 }
 
-/// Runs `program` with `keys` waiting at its start, and types those of `strokes`, each when so many steps are made as it says: the
-/// machine as the run leaves it, and the cause of its end. Keys behind more steps than the run makes are not typed. `limit` is the
+/// Runs `program` with `keys` waiting at its start, and types those of `strokes`, each when so many steps are made as it says:
+/// the
+/// machine as the run leaves it, and the cause of its end. Keys behind more steps than the run makes are not typed. `limit` is
+/// the
 /// most steps, `free` runs without the guard. Refused where keys are to be typed behind which more than 4,096 would wait, and for
 /// want of memory. This project's profile.
 pub fn ended_typed<A: Allocator + Copy, B: Allocator>(
