@@ -381,16 +381,19 @@ class Trial:
 
     def rounds(self, faults):
         """Tries these faults in rounds. Of a caller whose callee is edited beside it a check may say nothing: what a round says nothing of
-        is tried in further ones, as long as these tell of some, and else alone."""
+        is tried in further ones, as long as these tell of some, then each in one of its own, and else alone."""
         rounds = rounds_of(faults)
         for number, now in enumerate(rounds):
             # (one check by itself is done sooner where it keeps nothing)
             self.round(f"round {number + 1} of {len(rounds)}", now, self.kept if len(rounds) > 1 else None)
         left, self.unsaid = self.unsaid, []
-        if 0 < len(left) < len(faults):
+        if len(faults) == 1:
+            self.alone += left
+        elif len(left) < len(faults):
             self.rounds([it for it, _ in left])
         else:
-            self.alone += left
+            for it, _ in left:
+                self.rounds([it])
 
     def round(self, title, faults, kept):
         """Tries these faults in one check."""
