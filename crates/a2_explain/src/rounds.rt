@@ -93,8 +93,7 @@ fn put_round<A: Allocator, W: Output>(
 }
 
 /// Writes the lines in which the last 4,096 of so many steps went round, where they began at 16 addresses or fewer, of which one
-/// is of
-/// the source.
+/// is of the source.
 pub(crate) fn tell_round<A: Allocator + Copy, W: Output>(
     alloc: A,
     scene: &Scene<A>,

@@ -262,12 +262,10 @@ fn explain<A: Allocator + Copy, W: Output>(
 
 /// Writes why the run of a source stops, in lines that begin with `a2x: `: the cause, what stands at PC, the last step of the
 /// source; of an `RTS` that led astray what pushed the bytes that it pulled, of a window off the screen which lines stored it, as
-/// far
-/// as the last 100,000 steps tell; what stands behind an instruction that ran on; and of the limit the lines in which the last
-/// 4,096
-/// steps went round. Nothing is written of a run that ends by RETURNED or BRK. The run is that of the source as `course` says; it
-/// is
-/// made again for this. Refused where the source is, where a write fails, and for want of memory. This project's profile.
+/// far as the last 100,000 steps tell; what stands behind an instruction that ran on; and of the limit the lines in which the
+/// last 4,096 steps went round. Nothing is written of a run that ends by RETURNED or BRK. The run is that of the source as
+/// `course` says; it is made again for this. Refused where the source is, where a write fails, and for want of memory. This
+/// project's profile.
 pub fn explain_stop<A: Allocator + Copy, W: Output>(
     alloc: A,
     source: &[u8],

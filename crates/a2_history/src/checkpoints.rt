@@ -32,8 +32,7 @@ impl<A: Allocator> Model for Checkpoints<A> {
 }
 
 // The steps from one that is made to the next: `STRIDE`, doubled as long as that is at most a fiftieth of the steps so far. A
-// copy takes
-// the time of thousands of steps.
+// copy takes the time of thousands of steps.
 fn stride_at(position: u64) -> u64
     ensures { 0 < result }
 {
@@ -114,8 +113,7 @@ fn add<A: Allocator>(held: &mut Vec<Machine<A>, A>, copy: Machine<A>, most: usiz
 }
 
 // Drops those that are not kept where a machine has come to, and adds a copy of it, where there is memory. It takes the place of
-// one
-// that is dropped: a new one would take longer.
+// one that is dropped: a new one would take longer.
 fn hold<A: Allocator + Copy>(
     alloc: A,
     held: &mut Vec<Machine<A>, A>,

@@ -158,9 +158,8 @@ impl<A: Allocator> Course<A> {
     }
 
     /// Makes some steps, up to an end at the latest, each of which the observer sees, and types the keys that were typed behind
-    /// the last;
-    /// or answers why there is none. No keys were typed behind the others, and it goes beyond no position where a checkpoint may
-    /// be made.
+    /// the last; or answers why there is none. No keys were typed behind the others, and it goes beyond no position where a
+    /// checkpoint may be made.
     pub fn leap<O: Observer>(
         &self,
         machine: &mut Machine<A>,
@@ -234,8 +233,7 @@ impl<A: Allocator> Course<A> {
     }
 
     /// Types keys at a machine, behind those that wait, and notes them at its position; those that were typed later are
-    /// forgotten. Refused,
-    /// with nothing changed, where more than 4,096 would wait, and for want of memory.
+    /// forgotten. Refused, with nothing changed, where more than 4,096 would wait, and for want of memory.
     pub fn type_keys(&mut self, machine: &mut Machine<A>, keys: Keys) -> Result<(), TypingFault>
         requires { IsOn self.old machine.old.state }
         ensures typed { OnOk result (IsTyped keys machine.old.state machine.new.state) }

@@ -24,13 +24,11 @@ use std::marker::Model;
 const MOST_STEPS: u64 = 100_000_000;
 
 /// How far a scout stays behind, in steps: a copy takes what some 250 steps of a run take, and these are made again once, to
-/// where an
-/// alarmed burst began.
+/// where an alarmed burst began.
 const MOST_BEHIND: u64 = 8 * STRIDE;
 
 /// A run, and a position in it: how many steps lead there from the start, at most 100,000,000. Contracts see the machine at the
-/// start, the
-/// keys that were typed with their positions, and the position; the world at each position is a function of these.
+/// start, the keys that were typed with their positions, and the position; the world at each position is a function of these.
 pub struct History<A: Allocator = Global> {
     alloc: A,
     course: Course<A>,
@@ -70,9 +68,9 @@ impl<A: Allocator> Model for History<A> {
 
 impl<A: Allocator + Copy> History<A> {
     /// The history of a machine that has made no step, at its start, with at most `most` checkpoints later, of which each takes
-    /// some
-    /// 124,000 bytes. They are made at each 1,024 steps, and later at each fiftieth to hundredth of the steps so far; of these
-    /// are held those that `a2_spread` keeps where the farthest position is that was reached. Refused only for want of memory.
+    /// some 124,000 bytes. They are made at each 1,024 steps, and later at each fiftieth to hundredth of the steps so far; of
+    /// these are held those that `a2_spread` keeps where the farthest position is that was reached. Refused only for want of
+    /// memory.
     pub fn new(alloc: A, machine: Machine<A>, most: usize) -> Result<History<A>, AllocError>
         requires { machine.state.steps ≡ 0 }
         ensures { IfOk result (λ h. h ≡ record { course = record { origin = machine.state; log = [] }; position = 0 }) }
@@ -90,12 +88,9 @@ impl<A: Allocator + Copy> History<A> {
     }
 
     /// Makes steps up to the first behind which `sight` is seen, which is not looked for before the first step; up to a world
-    /// that is
-    /// stuck; or `limit` of them, and none beyond position 100,000,000. Answers which it was, `Cause::Limit` only where no other
-    /// cause
-    /// holds. Keys that were typed on the way are typed again. The steps are made in bursts, and worlds are looked at only where
-    /// `lookout`
-    /// alarms: so it wants that each step alarms behind which something is newly seen.
+    /// that is stuck; or `limit` of them, and none beyond position 100,000,000. Answers which it was, `Cause::Limit` only where
+    /// no other cause holds. Keys that were typed on the way are typed again. The steps are made in bursts, and worlds are looked
+    /// at only where `lookout` alarms: so it wants that each step alarms behind which something is newly seen.
     pub fn advance<S: Sight, L: Lookout>(&mut self, limit: u32, sight: &S, lookout: &L) -> Halt
         requires { Warns (S.is_seen sight.now) (L.alarms lookout.now) self.old.course self.old.position }
         ensures course { self.new.course ≡ self.old.course }
@@ -363,8 +358,7 @@ impl<A: Allocator> History<A> {
     }
 
     /// The newest position before its own, from the start on, at which `sight` is seen; none where it is seen at none of them. It
-    /// stands
-    /// where it stood.
+    /// stands where it stood.
     pub fn newest<S: Sight>(&mut self, sight: &S) -> Option<u64>
         ensures newest { IsNewest (S.is_seen sight.now) self.old.course 0 self.old.position result }
         ensures kept { self.new ≡ self.old }
@@ -376,8 +370,7 @@ impl<A: Allocator> History<A> {
 
 impl<A: Allocator + Copy> History<A> {
     /// Types `keys` at its position, behind those that wait; keys that were typed at later positions are forgotten. Refused, with
-    /// nothing
-    /// changed, by `TypingFault::Full` where more than 4,096 would wait, and by `TypingFault::Memory` for want of memory.
+    /// nothing changed, by `TypingFault::Full` where more than 4,096 would wait, and by `TypingFault::Memory` for want of memory.
     pub fn type_keys(&mut self, keys: Keys) -> Result<(), TypingFault>
         ensures typed { OnOk result (self.new ≡ record self.old { course = with_typed self.old.position keys self.old.course }) }
         ensures here { OnOk result (here self.new ≡ with_keys keys (here self.old)) }
@@ -393,9 +386,8 @@ impl<A: Allocator + Copy> History<A> {
     }
 
     /// The routines that were entered on the way to its position and not left, the outermost first: a JSR enters one, and the
-    /// first step
-    /// behind which the stack pointer is not below that before the JSR leaves it. It stays where it was. Refused only for want of
-    /// memory.
+    /// first step behind which the stack pointer is not below that before the JSR leaves it. It stays where it was. Refused only
+    /// for want of memory.
     pub fn entered(&mut self) -> Result<Vec<Entry, A>, AllocError>
         ensures entered { IfOk result (λ entries. entries.items ≡ entered_on self.old.course self.old.position) }
         ensures kept { self.new ≡ self.old }
@@ -406,8 +398,7 @@ impl<A: Allocator + Copy> History<A> {
     }
 
     /// The newest position before its own at which no more routines were entered than at its own; none at the start. It stands
-    /// where
-    /// it stood. Refused only for want of memory.
+    /// where it stood. Refused only for want of memory.
     pub fn newest_outside(&mut self) -> Result<Option<u64>, AllocError>
         ensures newest { IfOk result (λ found.
             IsNewestOutside self.old.course (length (entered_on self.old.course self.old.position)) self.old.position found) }

@@ -19,8 +19,7 @@ pub struct Way<A: Allocator> {
 }
 
 /// Goes along a run from its start to an end that was reached: the routines that are entered there, and the newest position
-/// before it
-/// at which no more than `most` were. Refused only for want of memory.
+/// before it at which no more than `most` were. Refused only for want of memory.
 pub fn way_to<A: Allocator + Copy>(
     alloc: A,
     course: &Course<A>,

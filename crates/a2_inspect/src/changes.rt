@@ -156,8 +156,7 @@ fn is_free<A: Allocator>(machine: &Machine<A>, address: u16) -> bool {
 }
 
 // Whether a byte that has another value than before is to be told though it is not watched: the screen does not show it, and it
-// is
-// none of what the stack has free.
+// is none of what the stack has free.
 fn is_told<A: Allocator>(stand: &Stand<A>, address: u16) -> bool {
     !is_screen_other(stand, address) && !is_free(stand.history.machine(), address)
 }
@@ -178,8 +177,7 @@ impl Others {
 }
 
 /// Writes the watched bytes that have other values than before, and answers the others that are to be told: a look at each byte
-/// of RAM
-/// is most of what a stop takes.
+/// of RAM is most of what a stop takes.
 pub(crate) fn put_watched<A: Allocator, W: Output>(
     stand: &Stand<A>,
     writer: &mut W,

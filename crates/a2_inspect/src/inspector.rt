@@ -73,8 +73,7 @@ type Breaks = ArrayVec<Break, MOST_BREAKS>;
 type Watches = ArrayVec<Span, MOST_WATCHES>;
 
 /// A source's run, gone along in both directions by the lines of a debugger, breakpoints, bytes that are watched, and the line
-/// that
-/// an empty one repeats.
+/// that an empty one repeats.
 pub struct Inspector<'a, A: Allocator = Global> {
     alloc: A,
     program: Program<A>,

@@ -222,8 +222,7 @@ fn put_source_line<W: Output>(
 }
 
 // Writes the lines of the source around the place where the run stands, at most so many before it and behind it; none where no
-// line
-// stands there.
+// line stands there.
 fn put_lines<A: Allocator, W: Output>(
     stand: &Stand<A>,
     around: u16,

@@ -56,8 +56,7 @@ impl<B: Allocator> Sight for Stops<'_, B> {
 }
 
 /// What alarms on the way to a stop: a step to a breakpoint whose condition holds, and one that may have stored where a watched
-/// byte is
-/// another.
+/// byte is another.
 #[derive(Drop)]
 pub struct Alarm<'a, B: Allocator> {
     pub alerts: Alerts<'a>,

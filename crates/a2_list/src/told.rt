@@ -49,12 +49,9 @@ fn tell<E: Output>(fault: RunFault, line: Option<&[u8]>, complaints: &mut E)
 }
 
 /// Writes to `output` the listing of `source`, as [`list_source`](crate::list_source) does, with what is `shown`. Why there is
-/// none is
-/// told to `complaints`: the text of the fault and LF, and behind a refusal of a line that line, as it was written, and LF. Where
-/// a
-/// write there fails, a front of this went out. Refused where the source is, where a write to `output` fails, and for want of
-/// memory.
-/// This project's profile.
+/// none is told to `complaints`: the text of the fault and LF, and behind a refusal of a line that line, as it was written, and
+/// LF. Where a write there fails, a front of this went out. Refused where the source is, where a write to `output` fails, and for
+/// want of memory. This project's profile.
 pub fn list_told<A: Allocator + Copy, W: Output, E: Output>(
     alloc: A,
     source: &[u8],

@@ -152,10 +152,8 @@ impl<A: Allocator + Copy> Machine<A> {
     }
 
     /// The machine as [`Machine::new`] makes it, in 192 KB less: without the room in which a [`Machine::run`] with a limit of
-    /// 8,192 steps
-    /// and more notes what makes it fast, and that for a guard which was taken away. It makes the same steps. For copies of a
-    /// machine that
-    /// runs. This project's profile. Refused only for want of memory.
+    /// 8,192 steps and more notes what makes it fast, and that for a guard which was taken away. It makes the same steps. For
+    /// copies of a machine that runs. This project's profile. Refused only for want of memory.
     pub fn for_copies(alloc: A) -> Result<Machine<A>, AllocError>
         ensures world { IfOk result (λ m. world_of_state m.state ≡ start_world (λ _. None) 768 []) }
         ensures steps { IfOk result (λ m. m.state.steps ≡ 0) }
@@ -218,8 +216,7 @@ impl<A: Allocator> Machine<A> {
     }
 
     /// Takes the guard away, if there is one: an instruction may begin anywhere, and code may be stored to. A [`Machine::run`] is
-    /// then as
-    /// fast as a guarded one, as long as it keeps to what was guarded. This project's profile.
+    /// then as fast as a guarded one, as long as it keeps to what was guarded. This project's profile.
     pub fn free(&mut self)
         ensures { self.new ≡ (let s = self.old.state in record self.old { state = record s { guard = None } }) }
     {

@@ -1,6 +1,5 @@
 //! A run at a terminal in panes: its source, registers, stack and memory, the last answer, and the Apple's screen, drawn again
-//! behind
-//! each line.
+//! behind each line.
 //!
 //! How it is called is shown in CALLING.md.
 #![tactic(auto)]

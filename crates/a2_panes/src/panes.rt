@@ -26,8 +26,7 @@ const TOO_SMALL: &[u8] =
     b"panes want a terminal of 80 columns of 24 rows or more, begun by a2x-debug\n";
 
 /// Where panes are drawn: the columns in which lines are edited, the terminal's rows and columns, and its colours. Of more than
-/// 64 rows or
-/// 255 columns the first are taken.
+/// 64 rows or 255 columns the first are taken.
 #[derive(Clone, Copy)]
 pub struct Wall<'a> {
     pub columns: &'a Cell<usize>,

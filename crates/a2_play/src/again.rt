@@ -88,8 +88,7 @@ fn next_due(log: &[Typed], made: u64, end: u64) -> u64
 }
 
 // Goes on with a run made again: types the keys that were typed where it stands, and makes steps up to the next place where some
-// were, or
-// to `end`.
+// were, or to `end`.
 fn run_on<A: Allocator>(machine: &mut Machine<A>, log: &[Typed], end: u64)
     requires { machine.old.state.steps < end }
     ensures { (program : Assembled) (last : ℕ) → IsAgain program log.now last machine.old.state → end ≤ last
@@ -118,8 +117,7 @@ pub(crate) fn bring<A: Allocator>(machine: &mut Machine<A>, log: &[Typed], posit
 }
 
 /// Goes on with a run made again, in pieces of at most so many steps, up to one behind which `goal` cycles were made, or to
-/// `end`: where
-/// that piece began.
+/// `end`: where that piece began.
 pub(crate) fn seek<A: Allocator>(
     machine: &mut Machine<A>,
     log: &[Typed],

@@ -23,8 +23,7 @@ pub use session::{Leave, Session, play};
 pub use spelling::put_keys;
 
 /// Two plays of a program with the same keys, typed behind the same steps, stand at the same world behind as many steps: so a
-/// replay
-/// shows what the play did.
+/// replay shows what the play did.
 pub fn replay_is_play()
     ensures { ReplayIsPlay }
 {}

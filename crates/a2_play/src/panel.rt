@@ -55,8 +55,7 @@ const LEAST_WIDTH: u16 = 36;
 const MOST_WIDTH: u16 = 255;
 
 /// The rows of the state, of the pace, of the speed, of the orders, of the saved keys, of the registers, of what can be done, and
-/// of what
-/// a stop means, and the least and the most rows of the terminal.
+/// of what a stop means, and the least and the most rows of the terminal.
 const STATE_ROW: u16 = 3;
 
 const PACE_ROW: u16 = 4;

@@ -171,8 +171,7 @@ impl<A: Allocator> Player<A> {
     }
 
     /// Makes steps until so many cycles were made since the start, or a cause holds: that then. At most 100,000 stretches are
-    /// made,
-    /// each of 1,000,001 steps at most and up to a call of WAIT.
+    /// made, each of 1,000,001 steps at most and up to a call of WAIT.
     pub fn run_to(&mut self, cycles: u64) -> Option<Cause>
         ensures log { self.new.log ≡ self.old.log }
         ensures stuck { IsStuckBy self.new.machine.state result }
@@ -191,8 +190,7 @@ impl<A: Allocator> Player<A> {
     }
 
     /// Goes back to the first position, in steps, that is at most so many cycles behind where it stands; keys that were typed
-    /// there or
-    /// later are forgotten. `program` is the one that is played. The run is made again for it, from its start.
+    /// there or later are forgotten. `program` is the one that is played. The run is made again for it, from its start.
     pub fn go_back(&mut self, program: &Program<A>, cycles: u64)
         requires { IsPlayed program.now self.old }
         ensures back { IsBack program.now cycles self.old self.new }
@@ -241,8 +239,7 @@ impl<A: Allocator> Player<A> {
     }
 
     /// Types the keys of a log, each when so many steps were made since the start as it says, and makes steps until `end` of them
-    /// were
-    /// made: whether all of that could be. What could be done before stays done. Refused only for want of memory.
+    /// were made: whether all of that could be. What could be done before stays done. Refused only for want of memory.
     pub fn replay(&mut self, log: &[Typed], end: u64) -> Result<bool, AllocError>
         ensures log { IfOk result (λ is_whole. is_whole ≡ true → self.new.log ≡ self.old.log ++ log.now) }
         ensures end { IfOk result (λ is_whole. is_whole ≡ true → self.new.machine.state.steps ≡ end) }

@@ -58,8 +58,7 @@ fn put_end<W: Output>(end: u64, writer: &mut W) -> Result<(), WriteFault>
 }
 
 /// Writes a record: for each key of `log` the steps that were made when it was typed, a blank, and its code as two hexadecimal
-/// digits;
-/// and, last, the steps that were made at the end, a blank, and `END`.
+/// digits; and, last, the steps that were made at the end, a blank, and `END`.
 pub fn put_record<W: Output>(log: &[Typed], end: u64, writer: &mut W) -> Result<(), WriteFault>
     ensures { SendsOrBreaks (W.taker writer.old) (W.taker writer.new) result (record_text log.now end) }
 {

@@ -434,12 +434,9 @@ fn take_turn<R: Input, W: Output, C: Clock>(
 }
 
 /// Plays until the session leaves the terminal: reads what was typed, does what it says, makes the cycles that are due by
-/// `clock`, and
-/// draws what changed, at most thirty times a second, beginning with all of it. A read of `input` is to give what was typed, or
-/// nothing
-/// within the tenth of a second, or at `Pace::Max` at once. Refused where a read or write fails, and for want of memory: the
-/// session
-/// ends there.
+/// `clock`, and draws what changed, at most thirty times a second, beginning with all of it. A read of `input` is to give what
+/// was typed, or nothing within the tenth of a second, or at `Pace::Max` at once. Refused where a read or write fails, and for
+/// want of memory: the session ends there.
 pub fn play<R: Input, W: Output, C: Clock>(
     alloc: Global,
     session: &mut Session<'_>,

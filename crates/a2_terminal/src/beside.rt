@@ -21,8 +21,7 @@ use std::marker::Model;
 const NO_MEMORY: &[u8] = b"NO MEMORY FOR THE ANSWER\n";
 
 /// The Monitor over what a text holds, as [`Monitor`] answers, where the text is a source with names and lines of it beside the
-/// lines of
-/// an answer. Contracts see the Monitor.
+/// lines of an answer. Contracts see the Monitor.
 pub struct Annotated<'k, 't, A: Allocator = Global> {
     monitor: Monitor<'k, A>,
     // None over object lines.
@@ -112,8 +111,7 @@ fn put_beside<A: Allocator + Copy, W: Output>(
 
 impl<'k, 't, A: Allocator + Copy> Annotated<'k, 't, A> {
     /// The same as [`Monitor::with`]: over what `text` holds, object lines, or, where it is none, a source. Refused where the
-    /// source is,
-    /// and for want of memory.
+    /// source is, and for want of memory.
     pub fn with(
         alloc: A,
         keyboard: Option<&'k Cell<bool>>,

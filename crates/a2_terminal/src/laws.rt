@@ -3,8 +3,7 @@
 ghost use Rattle.a2_terminal.specs.Waits.{WaitingIsTyping};
 
 /// A program that the Monitor calls, which waits for keys and goes on when they are typed, makes the one run at which these keys
-/// are
-/// typed behind the steps where it waits: as [`a2_typed::ended_typed`] has it, with the same limit over all.
+/// are typed behind the steps where it waits: as [`a2_typed::ended_typed`] has it, with the same limit over all.
 pub fn waiting_is_typing()
     ensures { WaitingIsTyping }
 {}

@@ -52,10 +52,8 @@ const FULL: &[u8] = b"4096 KEYS WAIT\n";
 
 /// The Monitor at a terminal: a session whose lines are answered, a refused one by the text of its refusal. `help`, in either
 /// case, tells the forms. Behind a run stands the picture of its screen, where that changed. Where keys can be typed, a program
-/// that is
-/// called and wants one waits for it: each line is then a key, as the terminal gives it, until the run ends. Contracts see the
-/// session,
-/// whether keys can be typed, and the steps that a program which waits may still make.
+/// that is called and wants one waits for it: each line is then a key, as the terminal gives it, until the run ends. Contracts
+/// see the session, whether keys can be typed, and the steps that a program which waits may still make.
 pub struct Monitor<'a, A: Allocator = Global> {
     session: Session<A>,
     // What says to whoever reads the terminal that a key is wanted, and no line.
@@ -154,8 +152,7 @@ fn with_text<A: Allocator + Copy>(alloc: A, text: &[u8]) -> Result<Loaded<A>, Ru
 
 impl<'a, A: Allocator + Copy> Monitor<'a, A> {
     /// The Monitor over a machine as it is switched on. Keys can be typed where there is a `keyboard`: it holds, behind each
-    /// answer,
-    /// whether the next line is a key. Refused only for want of memory.
+    /// answer, whether the next line is a key. Refused only for want of memory.
     pub fn new(alloc: A, keyboard: Option<&'a Cell<bool>>) -> Result<Monitor<'a, A>, AllocError>
         ensures session { IfOk result (λ monitor. sitting_of monitor.session ≡ start_sitting) }
         ensures live { IfOk result (λ monitor. monitor.is_live ≡ is_some keyboard.entry) }

@@ -172,9 +172,8 @@ fn append_names<A: Allocator>(
 }
 
 /// What a source tells beside a line of the Monitor's: behind one of `300L` the line of the source whose statement begins there,
-/// where
-/// none of the bytes that are shown is another than the source laid there; behind one with bytes the names that have one of their
-/// addresses. Refused only for want of memory.
+/// where none of the bytes that are shown is another than the source laid there; behind one with bytes the names that have one of
+/// their addresses. Refused only for want of memory.
 pub(crate) fn beside<A: Allocator + Copy>(
     alloc: A,
     source: &Source<'_, A>,

@@ -65,8 +65,7 @@ fn decimal_pair(number: u8) -> [u8; 2]
 }
 
 /// The fields of a register line up to the steps: what stands between the digits, and those of A, X, Y, the flags as they are
-/// pushed,
-/// S and PC.
+/// pushed, S and PC.
 #[inline(always)]
 #[tactic(auto, unfolding(crate::specs::Traced::fields))]
 pub(crate) fn fields(regs: Regs) -> [u8; 39]

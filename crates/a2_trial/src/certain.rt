@@ -286,10 +286,8 @@ fn is_kept(case: &Case, before: &AddressSpace<Global>, walk: &mut Walk, stored: 
 /// the promise requires: neither the routine nor the promise looks at what is not known, the routine comes to the RTS of its own
 /// within the steps that are enough, and stores only at what `changes` names or in the stack below its return address, what is
 /// promised holds behind the RTS, and a register that `changes` does not name is not set, or was known and is the same. False
-/// says
-/// nothing: also where a service needs a key, or a byte is stored at that is put back. Behind it each byte of RAM is as before
-/// that is
-/// not marked as stored at.
+/// says nothing: also where a service needs a key, or a byte is stored at that is put back. Behind it each byte of RAM is as
+/// before that is not marked as stored at.
 pub fn is_tried(
     case: &Case,
     before: &AddressSpace<Global>,
@@ -451,16 +449,12 @@ fn parts_at(inputs: &[Input]) -> Parts
 }
 
 /// Whether a promise of a program is kept within so many steps in every state of these inputs that is as it requires, where
-/// neither the
-/// routine nor the promise looks at any other byte, register or flag but those of the program and D, which is clear, nor at the
-/// stack but
-/// by S. Then it is kept in every world in which the routine is entered so, wherever S points. An input that is a byte has that
-/// value
-/// alone which an equation says that is required, `$20 = 0` or `word $36 = #$FDF0`. False says nothing: also where a service
-/// needs a key, a
-/// window scrolls whose cells are not known, a byte is stored at that the promise does not let change and put back, more than 126
-/// bytes of
-/// the stack are used, or something is looked at that is never used. Refused only for want of memory.
+/// neither the routine nor the promise looks at any other byte, register or flag but those of the program and D, which is clear,
+/// nor at the stack but by S. Then it is kept in every world in which the routine is entered so, wherever S points. An input that
+/// is a byte has that value alone which an equation says that is required, `$20 = 0` or `word $36 = #$FDF0`. False says nothing:
+/// also where a service needs a key, a window scrolls whose cells are not known, a byte is stored at that the promise does not
+/// let change and put back, more than 126 bytes of the stack are used, or something is looked at that is never used. Refused only
+/// for want of memory.
 pub fn holds_in_every_state(
     alloc: Global,
     image: &Image<Global>,

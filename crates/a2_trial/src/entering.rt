@@ -52,11 +52,9 @@ fn lay_values(inputs: &[Input], values: &[u8], machine: &mut Machine<Global>)
 }
 
 /// A machine that enters the routine of a program at this address in the state of a failure, as its trial did: the program is
-/// laid
-/// over bytes that may be any, but for those of page 0 that services look at, which are as the machine is switched on; PC is the
-/// address, S is $FD, and the return address leads to $FF69; its keys are typed, and each input has its value. It has made no
-/// step,
-/// and has no guard. Refused only for want of memory.
+/// laid over bytes that may be any, but for those of page 0 that services look at, which are as the machine is switched on; PC is
+/// the address, S is $FD, and the return address leads to $FF69; its keys are typed, and each input has its value. It has made no
+/// step, and has no guard. Refused only for want of memory.
 pub fn machine_at_entry(
     alloc: Global,
     program: &Program<Global>,

@@ -46,8 +46,7 @@ fn lay_at(program: &Image<Global>, address: u16, image: &mut Image<Global>)
 }
 
 /// The bytes of RAM where routines of a program are entered, but for what is named and the caller's return address. Refused only
-/// for
-/// want of memory.
+/// for want of memory.
 pub(crate) fn filled(alloc: Global, program: &Image<Global>) -> Result<Image<Global>, AllocError>
     ensures { IfOk result (λ image. IsFilled (held program.now) (held image)) }
 {

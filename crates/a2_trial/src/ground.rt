@@ -63,8 +63,7 @@ pub enum Door {
 }
 
 /// The end of a run, or where it stands: the registers, where the last step was made, the cycles and steps since the entry, and
-/// how
-/// it left, or that it is still under way.
+/// how it left, or that it is still under way.
 #[derive(Clone, Copy)]
 pub(crate) struct Exit {
     pub regs: Regs,

@@ -85,8 +85,7 @@ impl Input {
 }
 
 /// The inputs of a promise: those that it names, those that its routine looks at beside them, and behind them the registers and
-/// flags
-/// that are neither.
+/// flags that are neither.
 #[derive(Drop)]
 pub(crate) struct Inputs {
     pub all: Vec<Input>,
@@ -149,8 +148,7 @@ pub(crate) fn may_change(changes: &Changes, address: u16) -> bool
 }
 
 /// Whether a byte is the routine's own, which is entered with S = $FD: one of the 126 of the stack from there down, below the
-/// return
-/// address.
+/// return address.
 #[tactic(auto, using(crate::proofs::Marks::own_is))]
 pub(crate) fn is_own_stack(address: u16) -> bool
     ensures { result ≡ is_own 0xFD address }

@@ -39,8 +39,7 @@ pub use trial::{Failure, Trials, Verdict, try_promise};
 pub use walk::{Walk, walk_home};
 
 /// A theorem, and no code: a promise that is kept in each state of its inputs, where neither its routine nor itself looks at
-/// anything
-/// else that is not fixed, is kept in every world at the routine's entry that is as it requires.
+/// anything else that is not fixed, is kept in every world at the routine's entry that is as it requires.
 pub fn promises_hold_everywhere()
     ensures { PromisesHoldEverywhere }
 {

@@ -1,8 +1,7 @@
 //! Where a service stores, marked.
 //!
 //! Each function here marks what it says, and answers false where the routine may not store at one of the addresses, or it is not
-//! in RAM
-//! or holds the return address.
+//! in RAM or holds the return address.
 
 ghost use Rattle.std.specs.Prelude.{◌<◌, ◌≤◌, ◌+◌, ℕ, [], ◌∷◌, ◌++◌, IfSome, IsTrue};
 ghost use Rattle.a2_page.specs.Cells.{numbers_from};

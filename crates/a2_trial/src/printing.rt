@@ -104,8 +104,7 @@ fn push_getln(printed: &mut Vec<u8>, prompt: u8, keys: &[u8]) -> Result<(), Allo
 }
 
 /// Adds the bytes that a call of a service prints, with these registers and memory before it: each byte that it puts and that is
-/// a
-/// character, before INVFLG masks it. Apple II Reference Manual (1979), chapter 3, has the services. Refused only for want of
+/// a character, before INVFLG masks it. Apple II Reference Manual (1979), chapter 3, has the services. Refused only for want of
 /// memory.
 pub fn push_printed(
     printed: &mut Vec<u8>,

@@ -1,6 +1,5 @@
 //! The window and the cursor of the screen, and what becomes of them where a byte is put. Apple II Reference Manual (1979),
-//! chapter 2, on
-//! the text window; the exact effects are this project's profile.
+//! chapter 2, on the text window; the exact effects are this project's profile.
 
 ghost use Rattle.std.specs.Prelude.{◌≡◌, ◌<◌, ◌+◌, ℕ, ◌&&◌, if◌then◌else◌, ◌∷◌, ◌++◌, [], nat_le, nat_lt, IsTrue};
 ghost use Rattle.a2_page.specs.Grid.{blank};
@@ -18,8 +17,7 @@ use a2_services::{load, window};
 use std::alloc::Global;
 
 /// The window, by its first column, its number of columns, its first row and the row behind its last, and the cursor, by its row
-/// on the
-/// screen and its column in the window.
+/// on the screen and its column in the window.
 #[derive(Clone, Copy)]
 pub(crate) struct Cursor {
     pub left: u8,

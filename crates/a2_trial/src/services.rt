@@ -1,6 +1,5 @@
 //! What the Monitor's services look at and set of the registers, and whether the bytes that they read are known. Apple II
-//! Reference
-//! Manual (1979), chapter 3.
+//! Reference Manual (1979), chapter 3.
 
 ghost use Rattle.std.specs.Prelude.{◌≡◌, ◌<◌, ◌+◌, ◌∷◌, ◌++◌, ℕ, IsTrue, map};
 ghost use Rattle.a2_page.specs.Cells.{numbers_from};

@@ -71,10 +71,8 @@ impl Drop for Failure {
 #[derive(Drop)]
 pub enum Verdict {
     /// It held in so many states that it admits, of so many tried, of so many that there are of these inputs: those that it
-    /// names, and
-    /// those that its routine looks at; a byte that what it requires settles has one value. Whether it holds in every world at
-    /// the
-    /// routine's entry is known too, or not.
+    /// names, and those that its routine looks at; a byte that what it requires settles has one value. Whether it holds in every
+    /// world at the routine's entry is known too, or not.
     Held {
         inputs: Vec<Input>,
         kept: u64,
@@ -140,8 +138,7 @@ fn enter(ground: &mut Ground, inputs: &[Input], values: &[u8]) {
 }
 
 // Runs a routine from these registers, with RAM as it is at the entry, until it leaves, or what is said at a label within it is
-// not
-// so; and what of the promise does not hold.
+// not so; and what of the promise does not hold.
 fn run(
     ground: &mut Ground,
     promise: &Promise,
@@ -224,8 +221,7 @@ fn any_value(corners: &[u8], number: u64, index: usize) -> u8 {
 }
 
 // Makes values those of the state of a number: in their order where all are tried, and else like any others. Those that are not
-// varied
-// always are, and those that are settled always the same.
+// varied always are, and those that are settled always the same.
 fn put_values(values: &mut Vec<u8>, inputs: &Inputs, corners: &[u8], number: u64, is_all: bool) {
     let mut rest = number;
     for (index, (input, settled)) in inputs.all.iter().zip(&inputs.settled).enumerate() {
@@ -466,8 +462,7 @@ fn has_no_text(texts: &Texts) -> bool
 }
 
 // Whether a promise that held in all states of these inputs holds everywhere; of one that says what is printed or which keys are
-// taken,
-// that is not said.
+// taken, that is not said.
 fn is_certain(
     alloc: Global,
     program: &Program<Global>,
@@ -517,13 +512,11 @@ fn certified(
 }
 
 /// Tries a promise of a program, one of those that are found in its source: its routine is entered in states of what the promise
-/// names
-/// and of what the routine looks at before it sets it, which is noted as it runs; bytes that the program lays are as it lays
-/// them,
-/// unless the promise names them. Where it held in all states, and neither the routine nor the promise looks at anything else, it
-/// holds in every world in which the routine is entered as the promise requires, wherever S points, within 1,000,000 steps; of a
-/// promise
-/// that says what is printed or which keys are taken, that is not said. Refused only for want of memory.
+/// names and of what the routine looks at before it sets it, which is noted as it runs; bytes that the program lays are as it
+/// lays them, unless the promise names them. Where it held in all states, and neither the routine nor the promise looks at
+/// anything else, it holds in every world in which the routine is entered as the promise requires, wherever S points, within
+/// 1,000,000 steps; of a promise that says what is printed or which keys are taken, that is not said. Refused only for want of
+/// memory.
 pub fn try_promise(
     alloc: Global,
     program: &Program<Global>,

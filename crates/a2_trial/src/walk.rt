@@ -95,8 +95,7 @@ pub(crate) fn is_in_stack(address: u16) -> bool
 }
 
 // Whether the routine may store at an address: it is one of its own of the stack, or `changes` names it and it is none of the
-// stack's
-// page.
+// stack's page.
 fn is_allowed_at(changes: &Changes, address: u16) -> bool
     ensures { result ≡ is_allowed changes.now address }
 {
@@ -213,8 +212,7 @@ fn is_any_in_stack(addresses: &[u16]) -> bool
 }
 
 // Makes a step, of this instruction, and answers its cycles; none where it is not made, looks at what is not known or at the
-// stack
-// otherwise than by S, or stores where it may not.
+// stack otherwise than by S, or stores where it may not.
 fn make_step(
     regs: &mut Regs,
     space: &mut AddressSpace<Global>,
@@ -255,8 +253,7 @@ fn make_step(
 }
 
 // Calls the service at PC, and answers its cycles; none where there is none or it is not called, it needs a key, looks at what is
-// not
-// known, or stores where it may not.
+// not known, or stores where it may not.
 fn serve(
     regs: &mut Regs,
     space: &mut AddressSpace<Global>,
@@ -332,10 +329,8 @@ pub struct Walk {
 }
 
 /// Goes on from a routine's entry, with S = $FD, to the RTS of its own, before which S is that again, and answers the steps up to
-/// there;
-/// none where it does not come to it within so many, looks at a byte, a register or a flag that is not known, or stores where it
-/// may
-/// not. Which bytes of RAM are known at the entry is said by their addresses; those that are stored at are marked.
+/// there; none where it does not come to it within so many, looks at a byte, a register or a flag that is not known, or stores
+/// where it may not. Which bytes of RAM are known at the entry is said by their addresses; those that are stored at are marked.
 pub fn walk_home(
     walk: &mut Walk,
     known: &[bool],

@@ -8,8 +8,7 @@ use a2_promise::{Clause, Promise, Sight, Visit, Within, value_in};
 use std::alloc::{AllocError, Global};
 
 /// The measures of a routine's labels as a run last came to them, in the order in which they stand, and the states at those that
-/// `at`
-/// names.
+/// `at` names.
 pub(crate) struct Tally {
     lasts: Vec<i64>,
     visits: Vec<Visit<Global>>,

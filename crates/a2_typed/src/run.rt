@@ -94,11 +94,9 @@ fn run_typed<A: Allocator>(
 }
 
 /// Runs `program` with `keys` waiting at its start, and types those of `strokes`, each when so many steps are made as it says:
-/// the
-/// machine as the run leaves it, and the cause of its end. Keys behind more steps than the run makes are not typed. `limit` is
-/// the
-/// most steps, `free` runs without the guard. Refused where keys are to be typed behind which more than 4,096 would wait, and for
-/// want of memory. This project's profile.
+/// the machine as the run leaves it, and the cause of its end. Keys behind more steps than the run makes are not typed. `limit`
+/// is the most steps, `free` runs without the guard. Refused where keys are to be typed behind which more than 4,096 would wait,
+/// and for want of memory. This project's profile.
 pub fn ended_typed<A: Allocator + Copy, B: Allocator>(
     alloc: A,
     program: &Program<A>,

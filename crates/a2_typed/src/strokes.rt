@@ -102,8 +102,7 @@ impl<A: Allocator> Strokes<A> {
     }
 
     /// Types at a machine the keys of the steps that it has made since its start, where there is room for all of them: whether
-    /// there
-    /// was.
+    /// there was.
     pub fn type_due<B: Allocator>(&self, machine: &mut Machine<B>) -> bool
         ensures typed { result ≡ true → machine.new ≡ with_keys (keys_at self.now machine.old.state.steps) machine.old }
         ensures full { result ≡ false → 4096 < length machine.old.state.bus.devices.keys + length

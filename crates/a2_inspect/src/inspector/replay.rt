@@ -13,8 +13,7 @@ const MOST_POSITION: u64 = 100_000_000;
 
 impl<A: Allocator + Copy> Inspector<'_, A> {
     /// Goes on to `position`, so many steps behind the start, or as far as the run goes, at most to 100,000,000: whether it
-    /// stands there.
-    /// No byte counts as changed by that.
+    /// stands there. No byte counts as changed by that.
     pub fn bring(&mut self, position: u64) -> bool
         ensures gone { GoesOn (λ world. false) (min (position - self.old.track.position) 100_000_000) self.old.track
             self.new.track }
@@ -30,8 +29,7 @@ impl<A: Allocator + Copy> Inspector<'_, A> {
     }
 
     /// Types `keys` where it stands; keys that were typed at later positions are forgotten. Refused, with nothing changed, where
-    /// more
-    /// than 4,096 would wait, and for want of memory.
+    /// more than 4,096 would wait, and for want of memory.
     pub fn type_keys(&mut self, keys: Keys) -> Result<(), TypingFault>
         ensures typed { OnOk result (self.new ≡ record self.old { track = with_keys_typed keys self.old.track }) }
         ensures kept { OnErr result (self.new ≡ self.old) }
