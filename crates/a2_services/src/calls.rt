@@ -56,6 +56,7 @@ pub fn call<A: Allocator>(service: Service, live: &mut Live, space: &mut Address
         // What is called for each character and each block is done in place, by an arm that names it: so nothing is looked
         // for but what that one service needs.
         Service::Cout => call_in_place(Service::Cout, live, space),
+        Service::Cout1 => call_in_place(Service::Cout1, live, space),
         Service::Crout => call_in_place(Service::Crout, live, space),
         Service::Rdkey => call_in_place(Service::Rdkey, live, space),
         Service::Plot => call_in_place(Service::Plot, live, space),
