@@ -1,6 +1,5 @@
 -- What an opcode tells of stores.
-use Rattle.std.proofs.Common.{◌≡◌, ℕ, ◌-◌, List, [], Option, Some, None, refl, sym, ap, ◌∙◌}
-use Rattle.std.proofs.Common.{length, ◌+◌}
+use Rattle.std.proofs.Common.{◌≡◌, ℕ, ◌-◌, List, [], Option, Some, None, refl, sym, ap, ◌∙◌, length, ◌+◌}
 use Rattle.a2_opcode.specs.declared.Row.{Row}
 use Rattle.a2_opcode.specs.Table.{row_of, length_of}
 use Rattle.a2_opcode.specs.Encoding.{Fetched, no_byte, undocumented, instruction, bytes_from, value_of, fetched}

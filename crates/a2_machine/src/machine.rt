@@ -16,10 +16,10 @@ ghost use Rattle.a2_machine.specs.Looks.{shown_at, seen_after};
 ghost use Rattle.a2_machine.specs.Meaning.{stuck};
 ghost use Rattle.a2_machine.specs.Outcome.{most_cost};
 ghost use Rattle.a2_machine.specs.ProgramGuard.{guard_of_program};
-ghost use Rattle.a2_machine.specs.Start.{start_world};
-ghost use Rattle.a2_machine.specs.Start.{called_at};
+ghost use Rattle.a2_machine.specs.Start.{start_world, called_at};
 ghost use Rattle.a2_machine.specs.State.{world_of_state, code_of, cause_of, most_steps, steps_left, raised_by, IsStep};
 ghost use Rattle.a2_machine.specs.State.{IsMachineRun, IsRunTo, after_print};
+ghost use Rattle.a2_machine.specs.declared.Cause.TheVariants.{Limit};
 ghost use Rattle.a2_machine.specs.declared.Stop.TheVariants.{Cause as StopCause, Breakpoint};
 
 use crate::step::{Outcome, cause_at};
@@ -111,32 +111,6 @@ impl<A: Allocator> Model for Machine<A> {
 }
 
 impl<A: Allocator + Copy> Machine<A> {
-    // The machine as it is switched on, with room for notes and for a guard that was taken away, or with neither.
-    fn with_notes(
-        alloc: A,
-        notes: Vec<u8, A>,
-        likely: Option<Watch<A>>,
-    ) -> Result<Machine<A>, AllocError>
-        ensures world { IfOk result (λ m. world_of_state m.state ≡ start_world (λ _. None) 768 []) }
-        ensures steps { IfOk result (λ m. m.state.steps ≡ 0) }
-        ensures guard { IfOk result (λ m. m.state.guard ≡ None) }
-        ensures made { IfOk result (λ m. m.made ≡ 0) }
-        ensures marked { IfOk result (λ m. (row : ℕ) → row < 24 → is_row_marked m.state.picture row ≡ true) }
-    {
-        let board = Board::new(alloc)?;
-        let watch = Watch::new(alloc)?;
-        Ok(Machine {
-            board,
-            watch,
-            notes,
-            likely,
-            regs: Regs::start(FIRST_ENTRY),
-            cycles: 0,
-            steps: 0,
-            made: 0,
-        })
-    }
-
     /// The machine as it is switched on, in memory of `alloc`: nothing loaded, no keys, PC $0300, no guard, no steps and
     /// no cycles, and every row marked. This project's profile. Refused only for want of memory.
     pub fn new(alloc: A) -> Result<Machine<A>, AllocError>
@@ -146,9 +120,10 @@ impl<A: Allocator + Copy> Machine<A> {
         ensures made { IfOk result (λ m. m.made ≡ 0) }
         ensures marked { IfOk result (λ m. (row : ℕ) → row < 24 → is_row_marked m.state.picture row ≡ true) }
     {
-        let notes = zeros(alloc, NOTES)?;
-        let likely = Watch::new(alloc)?;
-        Machine::with_notes(alloc, notes, Some(likely))
+        let mut machine = Machine::for_copies(alloc)?;
+        machine.notes = zeros(alloc, NOTES)?;
+        machine.likely = Some(Watch::new(alloc)?);
+        Ok(machine)
     }
 
     /// The machine as [`Machine::new`] makes it, in 192 KB less: without the room in which a [`Machine::run`] with a limit of
@@ -161,7 +136,16 @@ impl<A: Allocator + Copy> Machine<A> {
         ensures made { IfOk result (λ m. m.made ≡ 0) }
         ensures marked { IfOk result (λ m. (row : ℕ) → row < 24 → is_row_marked m.state.picture row ≡ true) }
     {
-        Machine::with_notes(alloc, Vec::new(alloc), None)
+        Ok(Machine {
+            board: Board::new(alloc)?,
+            watch: Watch::new(alloc)?,
+            notes: Vec::new(alloc),
+            likely: None,
+            regs: Regs::start(FIRST_ENTRY),
+            cycles: 0,
+            steps: 0,
+            made: 0,
+        })
     }
 
     /// The machine as it is switched on, in memory of `alloc`, with `image` laid over its RAM, PC at `entry` ($0000 to $FFFF) and
@@ -455,11 +439,12 @@ impl<A: Allocator> Machine<A> {
         done.stop
     }
 
-    // Why the machine is stuck, leaving the greatest number of steps aside.
-    fn stop(&self) -> Option<Cause>
-        ensures { result ≡ stuck (code_of self.now.state) (world_of_state self.now.state) }
+    // Why a run ends here: the machine is stuck, or no more steps are to be made.
+    fn stop(&self) -> Cause
+        ensures stuck { IfSome (stuck (code_of self.now.state) (world_of_state self.now.state)) (λ cause. result ≡ cause) }
+        ensures limit { IfNone (stuck (code_of self.now.state) (world_of_state self.now.state)) (result ≡ Limit) }
     {
-        cause_at(&Live::of(&self.regs), self.board.space(), &self.watch)
+        cause_at(&Live::of(&self.regs), self.board.space(), &self.watch).unwrap_or(Cause::Limit)
     }
 
     /// Makes one step, of an instruction or a service, and answers `None`; or answers the first of [`Cause`] that holds,
@@ -482,10 +467,7 @@ impl<A: Allocator> Machine<A> {
                 Outcome::Stuck(cause) => Some(cause),
             };
         }
-        match self.stop() {
-            Some(cause) => Some(cause),
-            None => Some(Cause::Limit),
-        }
+        Some(self.stop())
     }
 
     /// Makes steps until a cause holds or `limit` steps are made in this call (0 to 2^32 - 1, and no more than are left
@@ -497,10 +479,7 @@ impl<A: Allocator> Machine<A> {
         if let Some(stop) = self.make_alone(u64::from(limit)) {
             return cause_in(stop);
         }
-        match self.stop() {
-            Some(cause) => cause,
-            None => Cause::Limit,
-        }
+        self.stop()
     }
 
     /// Makes steps as [`Machine::run`] does, each of which `observer` sees as it is made, the calls of services too, and
@@ -536,9 +515,6 @@ impl<A: Allocator> Machine<A> {
         if let Some(stop) = self.make(u64::from(limit), breakpoints, observer) {
             return stop;
         }
-        match self.stop() {
-            Some(cause) => Stop::Cause(cause),
-            None => Stop::Cause(Cause::Limit),
-        }
+        Stop::Cause(self.stop())
     }
 }

@@ -1,7 +1,6 @@
-use Rattle.std.proofs.Common.{◌≡◌, ◌++◌, List, ℕ, subst, ◌∙◌}
+use Rattle.std.proofs.Common.{◌≡◌, ◌++◌, List, ℕ, subst, ◌∙◌, sym}
 use Rattle.a2_stream.specs.Stream.{Sends, Breaks}
 use Rattle.a2_stream.proofs.Joined.{Sends-nil, Sends-then}
-use Rattle.std.proofs.Common.{sym}
 use Rattle.a2_bus.specs.View.{memory_of}
 use Rattle.a2_machine.specs.Output.{cause_line}
 use Rattle.a2_run.specs.Meaning.{picture_of, attributes_of, screen}

@@ -1,4 +1,4 @@
-use Rattle.std.specs.Prelude.{◌≡◌, false, ◌-◌, refl}
+use Rattle.std.specs.Prelude.{◌≡◌, false, refl}
 use Rattle.std.proofs.Common.{sym, ap, subst, ◌∙◌}
 use Rattle.a2_bus.specs.BusState.{BusState}
 use Rattle.a2_cpu.specs.View.{registers_of}
