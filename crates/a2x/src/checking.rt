@@ -154,8 +154,8 @@ fn check_text<S: Shelf, R: Input, W: Output, E: Output>(
 }
 
 /// Tells the refusals of the files that words name, or of the standard input. The status is the greatest of those of the texts: 1
-/// where one is refused, 2 where the words are, 4 where a file does not open or a read or a write fails, and 5 for want of memory,
-/// each told on `complaints`.
+/// where one is refused, 2 where the words are, 4 where a file does not open or a read or a write fails, and 5 for want of
+/// memory, each told on `complaints`.
 pub fn check_of<S: Shelf, R: Input, W: Output, E: Output>(
     alloc: Global,
     word: &Word,

@@ -115,8 +115,8 @@ pub fn wall_of(terminal: Option<Terminal>, columns: Option<&Cell<usize>>) -> Opt
     }
 }
 
-/// Answers the lines of a session over a run, in panes from its start where these are up; the status: 4 or 5 where something fails, which
-/// is told.
+/// Answers the lines of a session over a run, in panes from its start where these are up; the status: 4 or 5 where something
+/// fails, which is told.
 pub fn debug_in<R: Input, W: Output, E: Output>(
     alloc: Global,
     panes: &mut Panes<'_, '_>,
@@ -223,8 +223,8 @@ fn debug<R: Input, W: Output, E: Output>(
 /// name, up to the input's end or `quit`. `prompts` says whether a prompt stands before each line. The lines are edited where the
 /// words tell of a terminal that gives each byte, `--tui` begins with panes, `--plain` leaves lines of the source out of the
 /// answers, and `--keep` says how many copies of the machine are kept. The status is 1 where the source is refused, 2 where the
-/// words are, no file is named or panes have no room, 4 where the file does not open or a read or a write fails, and 5 for want of
-/// memory, each told on `complaints`.
+/// words are, no file is named or panes have no room, 4 where the file does not open or a read or a write fails, and 5 for want
+/// of memory, each told on `complaints`.
 pub fn debug_of<S: Shelf, R: Input, W: Output, E: Output>(
     alloc: Global,
     word: &Word,

@@ -171,7 +171,8 @@ pub fn film_into<D: Desk>(
     page: &str,
     desk: &mut D,
 ) -> Result<Cause, RunFault>
-    ensures { FilmsInto source.now title.now chapters.now keys.now window free page.now (D.files desk.old) (D.files desk.new) result }
+    ensures { FilmsInto source.now title.now chapters.now keys.now window free page.now
+        (D.files desk.old) (D.files desk.new) result }
 {
     let mut draft = desk.begin(page)?;
     match film_source(

@@ -90,8 +90,8 @@ fn has_input(files: &[String]) -> bool {
 }
 
 /// What the words behind `fmt` ask for, and with which files: `--check` or `-w` may stand before them or behind them. Without a
-/// file, as by a single `-`, the standard input is meant. Refused are further words that begin with `-`, several files that are to go
-/// out, and `-w` without a file or with the standard input.
+/// file, as by a single `-`, the standard input is meant. Refused are further words that begin with `-`, several files that are
+/// to go out, and `-w` without a file or with the standard input.
 pub fn fmt_order(words: &[String]) -> Result<(Way, &[String]), FmtWordsFault<'_>> {
     let (way, files) = parted(words);
     are_files(files)?;

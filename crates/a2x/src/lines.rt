@@ -87,8 +87,8 @@ pub fn columns_of(terminal: Option<Terminal>) -> Option<Cell<usize>> {
     }
 }
 
-/// Talks with `partner` until the input ends; the status. The lines are edited where the terminal gives each byte: they are shown by
-/// `complaints` then.
+/// Talks with `partner` until the input ends; the status. The lines are edited where the terminal gives each byte: they are shown
+/// by `complaints` then.
 pub fn talked<P: Partner, R: Input, W: Output, E: Output>(
     alloc: Global,
     partner: &mut P,

@@ -48,8 +48,8 @@ fn shown_by(found: &[Found<'_>]) -> Shown
     }
 }
 
-/// Lists the source that the words name, as their options say. The status is 1 where the source is refused, 2 where the words are,
-/// 4 where the file does not open or a read or a write fails, and 5 for want of memory, each told on `complaints`.
+/// Lists the source that the words name, as their options say. The status is 1 where the source is refused, 2 where the words
+/// are, 4 where the file does not open or a read or a write fails, and 5 for want of memory, each told on `complaints`.
 pub fn list_of<S: Shelf, R: Input, W: Output, E: Output>(
     alloc: Global,
     word: &Word,

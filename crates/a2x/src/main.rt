@@ -93,8 +93,8 @@ fn obeyed<W: Output>(
     )
 }
 
-// Sends what `lines` keeps, and gives the status. By 4 a failed write was told already; where it was a file that could not be read,
-// what was written of others goes out.
+// Sends what `lines` keeps, and gives the status. By 4 a failed write was told already; where it was a file that could not be
+// read, what was written of others goes out.
 fn ended<W: Write + Drop>(status: u8, lines: &mut BufWriter<W>) -> Result<u8, RunFault>
     ensures status { IfOk result (λ answer. answer ≡ status) }
     // By any status but 4 all that was kept went out.

@@ -4,7 +4,8 @@ ghost use Rattle.std.specs.Prelude.{◌≡◌, ◌<◌, ◌≤◌, ◌↔◌, So
 ghost use Rattle.std.specs.Str.Parse.{digits_value};
 ghost use Rattle.a2_ansi.specs.declared.colours.Colours.{Colours as DeclaredColours};
 ghost use Rattle.a2_play.specs.declared.pace.Pace.{Pace as DeclaredPace};
-ghost use Rattle.a2x.specs.PlayWords.{IsPaceNumber, IsPace, AreColours, PlayAsked, AsksPlay, AsksNoSession, play_asked_of, no_play_asked};
+ghost use Rattle.a2x.specs.PlayWords.{IsPaceNumber, IsPace, AreColours};
+ghost use Rattle.a2x.specs.PlayWords.{PlayAsked, AsksPlay, AsksNoSession, play_asked_of, no_play_asked};
 
 use crate::lines::{Terminal, terminal_in};
 use crate::program::{behind, tell, tell_option, tell_value, text_of};
@@ -118,9 +119,11 @@ pub fn colours_named(word: &str) -> Option<Colours>
 fn take<'a>(order: &mut PlayOrder<'a>, words: &'a [String]) -> Result<&'a [String], PlayMisfit<'a>>
     requires { 0 < length words.now }
     ensures fewer { IfOk result (λ rest. length rest.now < length words.now) }
-    ensures asked { IfOk result (λ rest. (asked : PlayAsked) → AsksPlay (play_asked_of order.old) (map string_bytes words.now) asked
+    ensures asked { IfOk result (λ rest. (asked : PlayAsked)
+        → AsksPlay (play_asked_of order.old) (map string_bytes words.now) asked
         ↔ AsksPlay (play_asked_of order.new) (map string_bytes rest.now) asked) }
-    ensures refused { IfErr result (λ misfit. (asked : PlayAsked) → AsksPlay (play_asked_of order.old) (map string_bytes words.now) asked → ⊥) }
+    ensures refused { IfErr result (λ misfit. (asked : PlayAsked)
+        → AsksPlay (play_asked_of order.old) (map string_bytes words.now) asked → ⊥) }
 {
     match words {
         [word, value, rest @ ..] if word.as_str() == "--pace" => {
@@ -153,8 +156,8 @@ fn take<'a>(order: &mut PlayOrder<'a>, words: &'a [String]) -> Result<&'a [Strin
     }
 }
 
-/// What the `words` behind `play` ask for: the options `--pace N`, `--colours C` and `--record T`, of two of one name the later, and a
-/// file. Refused are words that ask for no session, and they alone: the first that cannot stand is told.
+/// What the `words` behind `play` ask for: the options `--pace N`, `--colours C` and `--record T`, of two of one name the later,
+/// and a file. Refused are words that ask for no session, and they alone: the first that cannot stand is told.
 pub fn play_order(words: &[String]) -> Result<PlayOrder<'_>, PlayMisfit<'_>>
     ensures asked { IfOk result (λ order. AsksPlay no_play_asked (map string_bytes words.now) (play_asked_of order)) }
     ensures named { IfOk result (λ order. 0 < length order.file.now) }
@@ -299,9 +302,9 @@ fn told_end<W: Output, E: Output>(
     status
 }
 
-/// Plays a source: its run at a terminal, with the keys that are typed, which a file takes where the words name one. The status is 1
-/// where the source is refused, 3 where the machine stopped but by RETURNED or BRK, 4 where a read or a write fails, and 5 for want of
-/// memory, each told on `complaints`.
+/// Plays a source: its run at a terminal, with the keys that are typed, which a file takes where the words name one. The status
+/// is 1 where the source is refused, 3 where the machine stopped but by RETURNED or BRK, 4 where a read or a write fails, and 5
+/// for want of memory, each told on `complaints`.
 pub fn play_source<D: Desk, R: Input, W: Output, E: Output, C: Clock>(
     alloc: Global,
     source: &[u8],
@@ -449,8 +452,8 @@ fn spares_source<D: Desk, E: Output>(
     }
 }
 
-/// Plays the file that the words name, of which the first is `play`. The status is 2 where they are refused, and where nobody sits
-/// there; as of [`play_source`] else.
+/// Plays the file that the words name, of which the first is `play`. The status is 2 where they are refused, and where nobody
+/// sits there; as of [`play_source`] else.
 pub fn play_of<S: Shelf, D: Desk, R: Input, W: Output, E: Output, C: Clock>(
     alloc: Global,
     words: &[String],

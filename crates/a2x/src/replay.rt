@@ -139,8 +139,8 @@ fn replay<W: Output, E: Output>(
 }
 
 /// Runs a source again by the record of a session: `words`, behind `run`, are `--replay`, the record's file and the source's. The
-/// picture, the registers and the cause are those of the session's end. The status is 1 where record or source is refused, or where
-/// they do not fit, 2 where the words are refused, and else as of a session.
+/// picture, the registers and the cause are those of the session's end. The status is 1 where record or source is refused, or
+/// where they do not fit, 2 where the words are refused, and else as of a session.
 pub fn replay_of<S: Shelf, R: Input, W: Output, E: Output>(
     alloc: Global,
     words: &[String],

@@ -89,11 +89,11 @@ fn talk_alone<R: Input, W: Output, E: Output>(
     }
 }
 
-/// Answers the Monitor lines of `input` on `output`, each before the next is read, up to its end or `quit`. What the text
-/// holds, object lines or a source, is loaded first; names and lines of a source are told beside what they stand at, but where
-/// the session is plain. `prompts` says whether a prompt stands before each line, and `terminal` which
-/// one gives each byte as it is typed, so that lines are edited, and a program that waits for a key takes it from there. The status
-/// is 1 where the source is refused, 4 where a read or a write fails, and 5 for want of memory, each told on `complaints`.
+/// Answers the Monitor lines of `input` on `output`, each before the next is read, up to its end or `quit`. What the text holds,
+/// object lines or a source, is loaded first; names and lines of a source are told beside what they stand at, but where the
+/// session is plain. `prompts` says whether a prompt stands before each line, and `terminal` which one gives each byte as it is
+/// typed, so that lines are edited, and a program that waits for a key takes it from there. The status is 1 where the source is
+/// refused, 4 where a read or a write fails, and 5 for want of memory, each told on `complaints`.
 pub fn mon<R: Input, W: Output, E: Output>(
     alloc: Global,
     loaded: Loaded<'_>,

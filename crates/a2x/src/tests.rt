@@ -227,8 +227,8 @@ fn test_by<S: Shelf, R: Input, W: Output, E: Output>(
     Ok(status_of(&totals))
 }
 
-/// Judges solutions by a WANT, and writes what is found. The status is 6 where one did not pass all cases, and 1 where lines of the WANT
-/// are in no form, each told on `complaints`.
+/// Judges solutions by a WANT, and writes what is found. The status is 6 where one did not pass all cases, and 1 where lines of
+/// the WANT are in no form, each told on `complaints`.
 pub fn test<S: Shelf, R: Input, W: Output, E: Output>(
     alloc: Global,
     exam: &Exam,

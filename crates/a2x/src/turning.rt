@@ -112,8 +112,9 @@ fn talk_in_panes<R: Input, W: Output, E: Output>(
     );
 }
 
-/// Goes into the debugger, in panes, where a session stands, with the keys that were typed at it, and comes back at its `quit` or its
-/// end: the session stands where it stood. Where the debugger does not go so far, the session tells it. Refused for want of memory.
+/// Goes into the debugger, in panes, where a session stands, with the keys that were typed at it, and comes back at its `quit` or
+/// its end: the session stands where it stood. Where the debugger does not go so far, the session tells it. Refused for want of
+/// memory.
 pub fn debug_here<R: Input, W: Output, E: Output>(
     alloc: Global,
     source: &[u8],

@@ -100,8 +100,8 @@ fn put_image<W: Output>(alloc: Global, machine: &Machine, writer: &mut W) -> Res
     Ok(())
 }
 
-/// Writes the object lines of all of a machine's RAM into the file `image` of `desk`, whole or not at all: where it is refused all
-/// files are as they were. Refused where a write fails, and for want of memory.
+/// Writes the object lines of all of a machine's RAM into the file `image` of `desk`, whole or not at all: where it is refused
+/// all files are as they were. Refused where a write fails, and for want of memory.
 pub fn machine_into<D: Desk>(
     alloc: Global,
     machine: &Machine,
@@ -146,8 +146,8 @@ fn do_behind<D: Desk, W: Output, E: Output>(
     greatest.max(written(answer, complaints))
 }
 
-/// Makes a run at which keys are typed, tells why it stopped, and does what is asked for behind it. The status is that of a run; it
-/// is 2 where keys do not fit, which is told.
+/// Makes a run at which keys are typed, tells why it stopped, and does what is asked for behind it. The status is that of a run;
+/// it is 2 where keys do not fit, which is told.
 pub fn run_typed<D: Desk, W: Output, E: Output>(
     alloc: Global,
     source: &[u8],

@@ -66,11 +66,10 @@ fn take<'a>(order: &mut Order<'a>, words: &'a [String]) -> Result<&'a [String], 
     }
 }
 
-/// What the `words` of a run ask for. The first says what is done with it. The options `--keys K`, `--limit N` and `--free` stand before
-/// the file; of two of one name the later counts. Without a file, as by a single `-`, the standard input is taken; without options the
-/// run is guarded, no keys wait, and it has at most 1,000,000 steps. Refused are keys that are badly spelt, by
-/// `WordsFault::Keys`, and other words, by `WordsFault::Words`; of two such words the first is told. This project's
-/// profile.
+/// What the `words` of a run ask for. The first says what is done with it. The options `--keys K`, `--limit N` and `--free` stand
+/// before the file; of two of one name the later counts. Without a file, as by a single `-`, the standard input is taken; without
+/// options the run is guarded, no keys wait, and it has at most 1,000,000 steps. Refused are keys that are badly spelt, by
+/// `WordsFault::Keys`, and other words, by `WordsFault::Words`; of two such words the first is told. This project's profile.
 #[tactic(auto, using(crate::proofs::WordLaws::same_fault))]
 pub fn order_of(words: &[String]) -> Result<Order<'_>, WordsFault>
     ensures asked { IfOk result (λ order. Asks nothing_asked (drop 1 (map string_bytes words.now)) (asked_of order)) }
