@@ -5,6 +5,7 @@ import os
 import re
 import shutil
 import subprocess
+from pathlib import Path
 
 from .terms import in_words
 from .writing import BELOW, CRATE, function_of
@@ -20,6 +21,9 @@ VALUE = re.compile(r"\(?(old )?(\$[0-9A-F]{2,4}|[AXYNVZC])\)? = \d+")
 VALUES = re.compile(r"goal fails, at (.*?)\. It read", re.DOTALL)
 UNMET = "the prover does not find the state to be as it requires that was found by trying"
 OTHERWISE = "the definitions read this otherwise, so nothing is proved of it"
+
+# The kit's rt, which sums each crate once here: its own way takes longer for that than for the check.
+RT = str(Path(__file__).resolve().parent.parent / "tests/rt")
 
 # Files that are open as long as this process lives.
 LOCKS = []
@@ -74,7 +78,7 @@ def build_rules(top, room, tell):
     if is_built(top, needs(top), mark):
         return
     tell("the rules and what they stand on are proved first, which takes minutes, or an hour where nothing is built yet")
-    status, said = run(["../../tests/rt", "lib"], top / "crates/a2_rules")
+    status, said = run([RT, "lib"], top / "crates/a2_rules")
     if status:
         (room / "rules.log").write_text(said, encoding="utf-8")
         raise NoKit("the rules are not proved: what the kit said stands in out/prove/rules.log")
@@ -118,7 +122,7 @@ def make_room(top, room):
 
 def check(folder):
     """What the kit says of a crate."""
-    return run(["rt", "check"], folder)[1]
+    return run([RT, "check"], folder)[1]
 
 
 class Answers:
