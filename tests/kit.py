@@ -14,6 +14,7 @@ KIT = Path(os.path.realpath(shutil.which("rt") or "rt")).parent.parent
 CACHE = Path(os.environ.get("XDG_CACHE_HOME") or Path.home() / ".cache")
 # The verdict on each program that `rt ci` last proved, over which it can be compiled again: a folder for each, of its name.
 CHECKED = CACHE / "a2-checked"
+TICKS = os.sysconf("SC_CLK_TCK")
 
 
 def module_of(file):
@@ -24,6 +25,18 @@ def module_of(file):
     sys.modules[name] = made
     loader.exec_module(made)
     return made
+
+
+def processes():
+    """The parent of each process, and its processor seconds with those of the children that it has waited for."""
+    found = {}
+    for stat in Path("/proc").glob("[0-9]*/stat"):
+        try:
+            fields = stat.read_text().rpartition(") ")[2].split()
+        except OSError:
+            continue
+        found[int(stat.parent.name)] = int(fields[1]), sum(map(int, fields[11:15])) / TICKS
+    return found
 
 
 def sum_each_once(crate):
@@ -66,6 +79,21 @@ def keep_what_is_checked(made):
         return whole(self, backend, words, to)
 
     made.Crate.compile_by = compile_by
+
+
+def share_processors(made):
+    """Has the last proofs of `rt ci` take the processors that no other crate is left for. Several that share a proof take up to a third
+    more in all, so each of those before has one."""
+    whole = made.Crate.ci
+    is_there = lambda it: os.path.exists(f"{it.folder}/out/{it.name}" if it.is_program else it.rlib)
+
+    def ci(self, flags, tests):
+        left = sum(not is_there(it) for it in made.rtlib.crates_below(os.getcwd()))
+        if flags == ["--jobs", "1"] and 0 < left <= made.processors():
+            flags = ["--jobs", str(made.processors() // left)]
+        return whole(self, flags, tests)
+
+    made.Crate.ci = ci
 
 
 def listed_sources(top):

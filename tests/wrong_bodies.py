@@ -2,13 +2,13 @@
 
 An edit has the form of rt's must-fail edits. A check names each function that is not proved, and above it the goals of its own
 that failed: a caller's goals rest on the contracts of what it calls alone, so they say nothing of a callee that is not proved. So
-the faults of a crate are tried in rounds: the first fault of a function stands in its place, each further one in a copy of the
-function beside it, with a copy of its proof. A fault is refused where its own function, or copy, has a failed goal. A round checks
-these alone: each other function of the crate, which `rt ci` proves beside that, has a hole for its proof there, which stands for
-its contract; so nothing is said of a function that no fault edits. A trait's methods, which no copy can stand beside, have a round
-for each further fault; and what a check says nothing of, as of a caller whose callee is edited beside it, is tried in further ones. An
-edit of a constant, or of what no function has, names by a line `refused: PATH` the function that is not proved with it; nothing stands
-beside one of a definition that may rest on it. What is not refused so is tried alone, as rt does, and is refused where that check is.
+the faults of a crate are tried in rounds: each stands in a copy of its function beside it, with a copy of its proof, and is refused
+where its copy has a failed goal. A round checks these alone: each function of the crate, which `rt ci` proves beside that, has a
+hole for its proof there, which stands for its contract; so nothing is said of a function that no fault edits, and callers of an edited one
+rest on what it promises. A trait's methods, which no copy can stand beside, and circles of calls are edited in their place, and have a
+round for each further fault; what a check says nothing of, as of a caller of such a one, is tried in further ones. An edit of a constant,
+or of what no function has, names by a line `refused: PATH` the function that is not proved with it; nothing stands beside one of a
+definition that may rest on it. What is not refused so is tried alone, as rt does, and is refused where that check is.
 """
 import contextlib
 import hashlib
@@ -17,10 +17,11 @@ import re
 import shutil
 import subprocess
 import tempfile
+import threading
 import time
 from pathlib import Path
 
-from kit import CACHE, module_of, rt_of_kit
+from kit import CACHE, module_of, processes, rt_of_kit
 
 # What a check says as it ends with a function.
 ENDED = re.compile(r"checked (\S+), \d+ of \d+$")
@@ -31,6 +32,9 @@ class Toolchain:
 
     def __init__(self, version):
         self.version = version
+        # The process below which no more checks are to run than there are processors, if one is named: more of them take a third longer
+        # for the same work.
+        self.together, self.beginning = None, threading.Lock()
         self.rt = rt_of_kit()
         self.lib = self.rt.rtlib
         self.bodies = module_of("rt-plant-bodies")
@@ -55,11 +59,18 @@ class Toolchain:
             it.circle = circle_of(it, crate)
         return source.functions
 
+    def begin(self, words, **how):
+        """Begins a check, where there is room for it."""
+        with self.beginning:
+            while self.together and checks_below(self.together) >= self.rt.processors():
+                time.sleep(0.5)
+            return subprocess.Popen(words, **how)
+
     def check(self, crate, faults, functions, kept):
         """Checks the functions that these faults edit, and their copies, in a copy of the crate with all of the edits in it and a hole
         for the proof of each other function. What it checked it leaves in the folder `kept`, where there is one. Returns the status,
         what was said, and how many seconds each function took."""
-        edited = [function for it in faults for function in it.functions]
+        edited = [function for it in faults if not it.number for function in it.functions]
         paths = [path for it in faults for path in it.paths()]
         with tempfile.TemporaryDirectory(prefix="faults-") as room:
             for part in self.lib.PARTS:
@@ -82,12 +93,31 @@ class Toolchain:
             whole = [*self.lib.guarded(), self.lib.RATTLE, "check", *words]
             how = {"stdin": subprocess.DEVNULL, "stdout": subprocess.PIPE, "stderr": subprocess.STDOUT, "errors": "replace"}
             said, seconds, before = [], {}, time.time()
-            with subprocess.Popen(whole, cwd=room, **how) as ran:
+            with self.begin(whole, cwd=room, **how) as ran:
                 for line in ran.stdout:
                     said.append(line)
                     if at := ENDED.match(line):
                         seconds[at[1]], before = time.time() - before, time.time()
             return ran.returncode, "".join(said), seconds
+
+
+def checks_below(top):
+    """How many checks run below a process."""
+    above = {process: parent for process, (parent, _) in processes().items()}
+
+    def is_below(process):
+        while process in above and process != top:
+            process = above[process]
+        return process == top
+
+    return sum(is_below(it) and is_check(it) for it in above)
+
+
+def is_check(process):
+    try:
+        return bool(re.match(rb"[^\0]*/rattle\0(check|build)\0", Path(f"/proc/{process}/cmdline").read_bytes()))
+    except OSError:
+        return False
 
 
 def circle_of(function, crate):
@@ -140,7 +170,7 @@ def copy_proof(crate, path, other, proofs):
 
 class Fault:
     """An edit: where it changes which text, and in which functions; in none where some of it stands outside of all, and no line of
-    the edit names one. A number above 0 says that it stands in a copy of its function."""
+    the edit names one. A number above 0 says in which copy of its function it stands."""
 
     def __init__(self, path, crate, functions, rt):
         self.path, self.name, self.changes, self.number, self.seconds = path, path.stem, [], 0, 0
@@ -254,14 +284,12 @@ def rounds_of(faults):
     places = lambda fault: {it.circle or it for it in fault.functions}
     rounds = []
     for fault in sorted(faults, key=lambda it: it.can_be_copied):
-        fault.number = 0
         shared = [it for it in rounds if all(are_apart(fault, other) and are_apart(other, fault) for other in it)]
-        free = next((it for it in shared if not any(places(fault) & places(other) for other in it)), None)
-        if fault.can_be_copied and shared:
-            free = shared[0]
-            fault.number = sum(fault.functions[0] in it.functions for it in free)
+        has_room = lambda it: fault.can_be_copied or not any(places(fault) & places(other) for other in it)
+        free = next(filter(has_room, shared), None)
         if free is None:
             rounds.append(free := [])
+        fault.number = 1 + sum(fault.functions[0] in it.functions for it in free) if fault.can_be_copied else 0
         free.append(fault)
     return rounds
 
@@ -322,11 +350,15 @@ class Refused:
         self.sum = self.sum_now()
 
     def sum_now(self):
-        """The sum of the toolchain's name, of this script, and of the sources of the crate and of those below it."""
-        crates = [self.crate, *self.crate.below()]
-        lines = [it for it in Path("crates.txt").read_text().split("\n") if it.partition(":")[0] in {crate.name for crate in crates}]
-        texts = [self.version, Path(__file__).read_text(), *lines]
-        texts += [f"{name} {Path(name).read_text()}" for crate in crates for name in sorted(files_of(crate))]
+        """The sum of the toolchain's name, of this script, of the crate's sources, and of the libraries below it as they are built: a comment
+        or a proof in one of these changes nothing there."""
+        line = next(it for it in Path("crates.txt").read_text().split("\n") if it.partition(":")[0] == self.crate.name)
+        texts = [self.version, Path(__file__).read_text(), line]
+        texts += [f"{name} {Path(name).read_text()}" for name in sorted(files_of(self.crate))]
+        for it in self.crate.below():
+            # (it has a sum of the library's other files)
+            built = Path(it.rlib, "format")
+            texts.append(f"{it.name} {built.read_text() if built.is_file() else None}")
         return hashlib.sha256("\0".join(texts).encode()).hexdigest()
 
     def file(self, fault):
