@@ -1,6 +1,11 @@
-"""Host instructions as valgrind counts them, for the benches that tell them."""
+"""What the benches have in common: the loads, and how a process runs whose host instructions valgrind counts."""
 
 import os
+
+# The sources of loads/ that call no service: those that were among the programs by which pairs of instructions were chosen to be one
+# kind, and those that were not.
+CHOSEN_BY = ("primes", "memcopy", "calls", "page", "sort", "rule")
+OTHERS = ("sieve", "mult", "text", "divide", "crc", "search")
 
 
 def environment():
