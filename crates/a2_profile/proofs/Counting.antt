@@ -11,7 +11,7 @@ use Rattle.a2_asm.specs.Assembled.{Assembled}
 use Rattle.a2_asm.specs.Programs.{IsSound}
 use Rattle.a2_machine.specs.declared.Cause.{Cause}
 use Rattle.a2_machine.specs.ByteRun.{bytes}
-use Rattle.a2_machine.specs.Meaning.{Code, End, IsEnd, stuck, world_at}
+use Rattle.a2_machine.specs.Meaning.{Code, IsEnd, stuck, world_at}
 use Rattle.a2_machine.specs.Looks.{shown_at, seen_after}
 use Rattle.a2_machine.specs.State.{Device, MachineState, world_of_state, code_of, IsMachineRun}
 use Rattle.a2_run.specs.Meaning.{code_of_run, start_of_run}

@@ -1,12 +1,12 @@
 -- The items of an array, and the bytes of a string, one after another.
-use Rattle.std.specs.Prelude.{◌≡◌, ℕ, zero, suc, ◌+◌, ◌-◌, ◌<◌, Bool, true, false, cond, List, [], ◌∷◌, ◌++◌, length, map, drop, codes, Option, refl}
-use Rattle.std.specs.List.{filter, flat_map, join_by, range_with_len}
+use Rattle.std.specs.Prelude.{◌≡◌, ℕ, suc, ◌+◌, ◌-◌, ◌<◌, Bool, true, false, cond, List, [], ◌∷◌, ◌++◌, length, map, drop, codes, Option, Result, refl}
+use Rattle.std.specs.List.{filter, flat_map}
 use Rattle.std.specs.Borrow.{Bor}
 use Rattle.std.specs.Fmt.{decimal}
 use Rattle.std.proofs.Common.{sym, ap, ◌∙◌, arith, get_or, subst}
 use Rattle.std.proofs.lemmas.List.{length-map, get_or-map, drop_more}
-use Rattle.a2_stream.specs.Stream.{Taker}
-use Rattle.a2_stream.proofs.Joined.{Sends-nil}
+use Rattle.a2_stream.specs.Stream.{Taker, Sends, SendsOrBreaks}
+use Rattle.a2_stream.proofs.Joined.{went_on}
 use Rattle.a2_page.proofs.Sending.{IsLeft}
 use Rattle.a2_asm.specs.declared.program.Statement.{Statement}
 use Rattle.a2_machine.specs.declared.Cause.{Cause}
@@ -15,7 +15,7 @@ use Rattle.a2_places.specs.Statements.{instruction_on}
 use Rattle.a2_profile.specs.Table.{is_never_done}
 use Rattle.a2_text.specs.Json.{escaped}
 use Rattle.a2_profile.specs.Json.{escapes, items, addresses_from, line_object, line_objects, never_numbers, cause_string}
-use Rattle.a2_profile.specs.Callgrind.{shown_byte, shown_name, line_cost, line_costs}
+use Rattle.a2_profile.specs.Callgrind.{shown_byte, line_cost, line_costs}
 
 abbrev pub comma : List ℕ
 comma = codes ",\n"
@@ -37,9 +37,14 @@ items-behind (text ∷ texts) = ap (λ (l : List ℕ). text ++ l) (go texts)
 pub behind-next : (front text : List ℕ) (texts rest : List (List ℕ)) → texts ≡ text ∷ rest → behind front texts ≡ (front ++ text) ++ behind comma rest
 behind-next front text texts rest is = ap (behind front) is
 
--- before the first item all are left
-pub left_items : (a : Taker) (front : List ℕ) (texts : List (List ℕ)) → front ≡ [] → IsLeft a a (items texts) (behind front texts)
-left_items a front texts none = record { sent = []; sends = Sends-nil a; parts = ap (λ (l : List ℕ). behind l texts) none ∙ items-behind texts }
+-- behind the head of an array all items are left
+pub left_items : (a b : Taker) (head front : List ℕ) (texts : List (List ℕ)) → front ≡ [] → Sends a b head
+    → IsLeft a b (head ++ items texts) (behind front texts)
+left_items a b head front texts none sends = record {
+  sent = head;
+  sends = sends;
+  parts = ap (λ (l : List ℕ). head ++ l) (ap (λ (l : List ℕ). behind l texts) none ∙ items-behind texts);
+}
 
 -- what is left is the same
 pub left_same : (a b : Taker) (whole rest more : List ℕ) → rest ≡ more → IsLeft a b whole rest → IsLeft a b whole more
@@ -121,8 +126,17 @@ pub escapes-over : (text : List ℕ) → text ≡ [] → escapes text ≡ []
 unfolding escapes
 escapes-over text none = ap escapes none
 
-pub name-shown-next : (name : List ℕ) (i d shown : ℕ) → shown ≡ shown_byte (get_or name i d) → i < length name
-    → shown_name (drop i name) ≡ (shown ∷ []) ++ shown_name (drop (i + 1) name)
-unfolding shown_name
-name-shown-next name i d shown is low =
-    ap shown_name (drop_more name i d low) ∙ ap (λ (byte : ℕ). byte ∷ shown_name (drop (i + 1) name)) (sym is)
+-- the rest of a name's line, from a byte on
+abbrev pub name_rest : List ℕ → List ℕ
+name_rest bytes = map shown_byte bytes ++ codes "\n"
+
+pub name-next : (name : List ℕ) (i d shown : ℕ) → shown ≡ shown_byte (get_or name i d) → i < length name
+    → name_rest (drop i name) ≡ (shown ∷ []) ++ name_rest (drop (i + 1) name)
+name-next name i d shown is low =
+    ap name_rest (drop_more name i d low) ∙ ap (λ (byte : ℕ). byte ∷ name_rest (drop (i + 1) name)) (sym is)
+
+-- the last part went out, or broke off, as the result says
+pub left_last : {T E : Type 0} → (a b c : Taker) (r : Result T E) (whole rest part : List ℕ) → rest ≡ part → IsLeft a b whole rest
+    → SendsOrBreaks b c r part → SendsOrBreaks a c r whole
+left_last a b c r whole rest part is h p =
+    subst (SendsOrBreaks a c r) (ap (λ (l : List ℕ). h.sent ++ l) (sym is) ∙ h.parts) (went_on a b c r h.sent part h.sends p)

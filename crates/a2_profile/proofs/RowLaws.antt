@@ -1,6 +1,5 @@
 -- The rows of a table, one after another.
-use Rattle.std.specs.Prelude.{◌≡◌, ℕ, zero, suc, ◌+◌, ◌-◌, ◌<◌, ◌==◌, Bool, true, false, if◌then◌else◌, find, slice_get, Some, List, [], ◌∷◌, ◌++◌, length, map, drop, Option, refl}
-use Rattle.std.specs.List.{flat_map}
+use Rattle.std.specs.Prelude.{◌≡◌, ℕ, suc, ◌+◌, ◌-◌, ◌<◌, ◌==◌, Bool, true, false, if◌then◌else◌, find, slice_get, Some, List, [], ◌∷◌, ◌++◌, length, map, drop, Option, refl}
 use Rattle.std.specs.Borrow.{Bor}
 use Rattle.std.proofs.Common.{sym, ap, ◌∙◌, arith, get_or, option_map}
 use Rattle.std.proofs.lemmas.List.{length-map, get_or-map, drop_more}

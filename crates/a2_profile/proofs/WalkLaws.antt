@@ -1,6 +1,6 @@
 -- What each part of a step leaves of a walk.
 use Rattle.std.specs.Prelude.{◌≡◌, ◌≢◌, ◌⊎◌, ℕ, zero, suc, ◌+◌, ◌-◌, ◌<◌, ◌≤◌, ◌^◌, ◌==◌, ◌&&◌, nat_le, not, Bool, true, false, List, [], ◌∷◌, ◌++◌, length, take, filter, nat_lt, replicate, slice_set, slice_get, slice_index_or, if◌then◌else◌, Some, refl}
-use Rattle.std.specs.List.{All, AllPairs, count_by, sum_by}
+use Rattle.std.specs.List.{All, AllPairs}
 use Rattle.std.proofs.Common.{sym, ap, ap₂, ◌∙◌, subst, arith, inl, inr, get_or-set_same, get_or-set_other, mul-zero, lit<, lit≤}
 use Rattle.std.proofs.lemmas.Bool.{and_parts, leb-true, le-ltb, lt-ltb}
 use Rattle.std.proofs.lemmas.Bool.Decides.{nat_tests}
@@ -10,13 +10,13 @@ use Rattle.std.proofs.lemmas.Option.{get_or_from_slice_get}
 use Rattle.std.proofs.lemmas.List.Elements.{All-push, filter-append}
 use Rattle.std.proofs.lemmas.List.Folds.{sum_by-replicate}
 use Rattle.std.proofs.lemmas.List.Quantifiers.{all_pairs_push}
-use Rattle.std.proofs.lemmas.List.Sums.{sum_by-set, sum_by_push, sum_by_more, count_by-le-length}
+use Rattle.std.proofs.lemmas.List.Sums.{sum_by-set, sum_by_push, sum_by_more}
 use Rattle.a2_live.specs.declared.observer.Look.{Look}
 use Rattle.a2_profile.specs.declared.walk.Frame.{Frame}
 use Rattle.a2_profile.specs.declared.walk.Opening.{Opening}
 use Rattle.a2_profile.specs.declared.walk.Totals.{Totals}
 use Rattle.a2_profile.specs.Seeing.{is_small}
-use Rattle.a2_profile.specs.Totals.{itself, nothing, totals_at, own_steps_in, own_cycles_in}
+use Rattle.a2_profile.specs.Totals.{itself, nothing, totals_at}
 use Rattle.a2_profile.specs.Walks.{Walk, base, closed, opening_at, frame_at, inner, depth_of, with_open, seen, seen_at, IsWithin, IsWalk, IsLow, most_steps, counted, noted, opened, left, leaves, left_many, left_below, has_room, with_made, with_look, lost, SeesAlike}
 
 -- a step more, the own one of a routine, or among those of what it calls

@@ -1,11 +1,11 @@
 -- The steps of a run that is walked along, one after another.
-use Rattle.std.specs.Prelude.{◌≡◌, ◌≢◌, ◌⊎◌, ℕ, zero, suc, ◌+◌, ◌-◌, ◌^◌, ◌<◌, ◌≤◌, ◌==◌, ◌&&◌, ◌||◌, not, nat_lt, Bool, true, false, List, [], ◌∷◌, ◌++◌, map, filter, length, slice_index_or, if◌then◌else◌, Option, Some, None, refl}
-use Rattle.std.specs.List.{All, list_any, sum_by}
+use Rattle.std.specs.Prelude.{◌≡◌, ℕ, zero, suc, ◌+◌, ◌-◌, ◌^◌, ◌<◌, ◌≤◌, ◌==◌, ◌&&◌, ◌||◌, not, nat_lt, Bool, true, false, List, [], ◌∷◌, ◌++◌, map, filter, length, slice_index_or, if◌then◌else◌, Option, Some, None, refl}
+use Rattle.std.specs.List.{All, list_any}
 use Rattle.std.specs.Option.{unwrap_or}
-use Rattle.std.proofs.Common.{sym, ap, ap₂, ◌∙◌, subst, arith, inl, inr}
+use Rattle.std.proofs.Common.{sym, ap, ap₂, ◌∙◌, subst, arith}
 use Rattle.std.proofs.lemmas.Bool.{and_parts, lt-ltb, ltb-true}
 use Rattle.std.proofs.lemmas.Bool.Decides.{nat_tests}
-use Rattle.std.proofs.lemmas.List.{length-map, get_or-map, get_or_default}
+use Rattle.std.proofs.lemmas.List.{length-map, get_or-map}
 use Rattle.std.proofs.lemmas.List.Elements.{All-filter, All-push, filter_passes}
 use Rattle.std.proofs.lemmas.List.Sums.{sum_by-cons}
 use Rattle.a2_bus.specs.Memory.{peek}
@@ -25,9 +25,9 @@ use Rattle.a2_routines.specs.declared.routines.Entry.{Entry}
 use Rattle.a2_routines.specs.Routines.{is_jsr, is_call, entry_at, is_within, with_call, entered}
 use Rattle.a2_profile.specs.declared.walk.Frame.{Frame}
 use Rattle.a2_profile.specs.declared.walk.Totals.{Totals}
-use Rattle.a2_profile.specs.Run.{over_steps, is_at}
+use Rattle.a2_profile.specs.Run.{is_at}
 use Rattle.a2_profile.specs.Totals.{itself, nothing, totals_at, own_steps_in, own_cycles_in}
-use Rattle.a2_profile.specs.Routines.{begin_of, around, innermost, is_in, is_own, is_entry, cost, totals_of, AreTotals, IsRoutineProfile}
+use Rattle.a2_profile.specs.Routines.{begin_of, around, innermost, is_in, is_own, is_entry, cost, totals_of, IsRoutineProfile}
 use Rattle.a2_profile.specs.Seeing.{is_small}
 use Rattle.a2_profile.specs.Walks.{Walk, IsWalk, IsLow, most_steps, base, frame_at, inner, depth_of, seen_at, counted, noted, opened, left_below, has_room, with_made, lost, shown_to, SeesAlike}
 use Rattle.a2_profile.specs.Walks as walks

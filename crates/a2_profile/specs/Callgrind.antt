@@ -20,8 +20,8 @@ use Rattle.a2_profile.specs.RoutineTable.{name_of}
 abbrev pub shown_byte : ℕ → ℕ
 shown_byte byte = if nat_lt byte 0x20 || (byte == 0x7F) then 0x3F else byte
 
-unfoldable pub shown_name : List ℕ → List ℕ
-shown_name name = map shown_byte name
+unfoldable pub name_line : List ℕ → List ℕ
+name_line name = map shown_byte name ++ codes "\n"
 
 -- what stands first: of which kind the costs are, all of them, and the files: 2 stands for what lies in none, 1 for the source
 unfoldable pub heading : ℕ → ℕ → List ℕ
@@ -56,6 +56,10 @@ line_costs counts statements n [] = []
 line_costs counts statements n (text ∷ texts) =
     line_cost counts (instruction_on statements n) n ++ line_costs counts statements (n + 1) texts
 
+-- and of all lines, in one function
+unfoldable pub source_costs : List Count → List Statement → List (List ℕ) → List ℕ
+source_costs counts statements texts = codes "fn=THE SOURCE\n" ++ line_costs counts statements 1 texts
+
 -- a function for each other address where steps began
 abbrev pub outside_record : Assembled → List Count → ℕ → List ℕ
 outside_record program counts address =
@@ -67,8 +71,8 @@ outside_record program counts address =
 -- all of a profile by line
 abbrev pub callgrind_profile : List ℕ → Assembled → List (List ℕ) → List Count → List ℕ
 callgrind_profile name program texts counts =
-    heading (steps_in counts) (cycles_in counts) ++ (shown_name name ++ (codes "\nfn=THE SOURCE\n"
-    ++ (line_costs counts program.statements 1 texts ++ rows_from (outside_record program counts) 0 65536)))
+    heading (steps_in counts) (cycles_in counts) ++ (name_line name ++ (source_costs counts program.statements texts
+    ++ rows_from (outside_record program counts) 0 65536))
 
 -- the line of the instruction that begins at an address, or 0
 abbrev pub line_of_found : Option Statement → ℕ
@@ -94,5 +98,5 @@ itself_record program totals =
 -- all of a profile by routine
 abbrev pub callgrind_routines : List ℕ → Assembled → List Totals → List ℕ
 callgrind_routines name program totals =
-    heading (own_steps_in totals) (own_cycles_in totals) ++ (shown_name name ++ (codes "\n"
-    ++ (itself_record program totals ++ rows_from (routine_record program totals) 0 65536)))
+    heading (own_steps_in totals) (own_cycles_in totals) ++ (name_line name ++ (itself_record program totals
+    ++ rows_from (routine_record program totals) 0 65536))

@@ -1,5 +1,5 @@
 -- What is written of a profile as an object of JSON (RFC 8259). This project's profile.
-use Rattle.std.specs.Prelude.{◌≡◌, ℕ, suc, ◌+◌, ◌-◌, ◌==◌, nat_lt, not, Bool, true, false, List, [], ◌∷◌, ◌++◌, map, codes, Option, Some, None, if◌then◌else◌}
+use Rattle.std.specs.Prelude.{ℕ, ◌+◌, ◌-◌, ◌==◌, nat_lt, not, Bool, true, false, List, [], ◌∷◌, ◌++◌, map, codes, Option, Some, None, if◌then◌else◌}
 use Rattle.std.specs.List.{concat, filter, flat_map, join_by, range_with_len}
 use Rattle.std.specs.Fmt.{decimal}
 use Rattle.a2_text.specs.Json.{escaped}
@@ -19,6 +19,10 @@ use Rattle.a2_profile.specs.RoutineTable.{name_of}
 -- a text between the quotes of a string
 unfoldable pub escapes : List ℕ → List ℕ
 escapes text = flat_map escaped text
+
+-- the same between these
+unfoldable pub string_field : List ℕ → List ℕ → List ℕ → List ℕ
+string_field front text end = front ++ (escapes text ++ end)
 
 -- what a reader of JSON finds behind a string that is open: what stands behind its first quote before which no backslash
 -- stands. `behind` says whether one stands before the next byte. No string has a control byte.
@@ -59,11 +63,9 @@ statement_fields counts (Some s) =
 unfoldable pub line_head : ℕ → List ℕ
 line_head n = concat (codes "{\"line\":" ∷ decimal n ∷ [])
 
-abbrev pub source_field : List ℕ → List ℕ
-source_field text = codes ",\"source\":\"" ++ (escapes text ++ codes "\"}")
-
 abbrev pub line_object : List Count → Option Statement → ℕ → List ℕ → List ℕ
-line_object counts own n text = line_head n ++ (statement_fields counts own ++ source_field text)
+line_object counts own n text =
+    line_head n ++ (statement_fields counts own ++ string_field (codes ",\"source\":\"") text (codes "\"}"))
 
 -- the objects of lines, from the line of a number on
 abbrev pub line_objects : List Count → List Statement → ℕ → List (List ℕ) → List (List ℕ)
@@ -92,22 +94,22 @@ sum_fields steps cycles = concat (
     codes "{\"steps\":" ∷ decimal steps ∷ codes ",\"cycles\":" ∷ decimal cycles ∷ codes ",\"causes\":[" ∷ [])
 
 -- the arrays of a profile by line, each of which ends the one before it
-abbrev pub lines_array : List Count → List Statement → List (List ℕ) → List ℕ
+unfoldable pub lines_array : List Count → List Statement → List (List ℕ) → List ℕ
 lines_array counts statements texts = codes "],\n\"lines\":[\n" ++ items (line_objects counts statements 1 texts)
 
-abbrev pub outside_array : List Statement → List Count → List ℕ
+unfoldable pub outside_array : List Statement → List Count → List ℕ
 outside_array statements counts =
     codes "],\n\"outside\":[\n" ++ items (outside_objects statements counts (addresses_from 0 65536))
 
-abbrev pub never_array : List Count → List Statement → List ℕ
-never_array counts statements = codes "],\n\"never\":[\n" ++ (items (never_numbers counts statements) ++ codes "]}\n")
+unfoldable pub never_array : List Count → List Statement → List ℕ
+never_array counts statements = codes "],\n\"never\":[\n" ++ items (never_numbers counts statements)
 
 -- all of a profile by line
 abbrev pub json_profile : Assembled → List (List ℕ) → List Count → List Cause → List ℕ
 json_profile program texts counts causes =
     sum_fields (steps_in counts) (cycles_in counts) ++ (items (map cause_string causes)
     ++ (lines_array counts program.statements texts
-    ++ (outside_array program.statements counts ++ never_array counts program.statements)))
+    ++ (outside_array program.statements counts ++ (never_array counts program.statements ++ codes "]}\n"))))
 
 -- what is counted of a routine
 unfoldable pub totals_fields : List ℕ → Totals → List ℕ
@@ -117,15 +119,13 @@ totals_fields front t = concat (
 
 unfoldable pub entry_fields : ℕ → ℕ → List ℕ
 entry_fields address times = concat (
-    codes "\",\"address\":" ∷ decimal address ∷ codes ",\"times\":" ∷ decimal times ∷ codes "," ∷ [])
+    codes "\"address\":" ∷ decimal address ∷ codes ",\"times\":" ∷ decimal times ∷ codes "," ∷ [])
 
 -- the object of a routine: its name, its address, how often it was entered, and its totals
-abbrev pub counted_fields : ℕ → Totals → List ℕ
-counted_fields address t = entry_fields address t.times ++ totals_fields [] t
-
 abbrev pub routine_object : Names → List Totals → ℕ → List ℕ
 routine_object names totals address =
-    codes "{\"name\":\"" ++ (escapes (name_of names address) ++ counted_fields address (totals_at totals address))
+    string_field (codes "{\"name\":\"") (name_of names address) (codes "\",")
+    ++ (entry_fields address (totals_at totals address).times ++ totals_fields [] (totals_at totals address))
 
 -- those of the routines that were entered
 abbrev pub is_entered : List Totals → ℕ → Bool
@@ -134,12 +134,12 @@ is_entered totals address = not ((totals_at totals address).times == 0)
 abbrev pub routine_objects : Names → List Totals → List ℕ → List (List ℕ)
 routine_objects names totals addresses = map (routine_object names totals) (filter (is_entered totals) addresses)
 
-abbrev pub routines_array : Names → List Totals → List ℕ
-routines_array names totals =
-    codes ",\n\"routines\":[\n" ++ (items (routine_objects names totals (addresses_from 0 65536)) ++ codes "]}\n")
+unfoldable pub routines_array : Names → List Totals → List ℕ
+routines_array names totals = codes ",\n\"routines\":[\n" ++ items (routine_objects names totals (addresses_from 0 65536))
 
 -- all of a profile by routine
 abbrev pub json_routines : Assembled → List Totals → List Cause → List ℕ
 json_routines program totals causes =
     sum_fields (own_steps_in totals) (own_cycles_in totals) ++ (items (map cause_string causes)
-    ++ (totals_fields (codes "],\n\"itself\":{") (totals_at totals itself) ++ routines_array program.names totals))
+    ++ (totals_fields (codes "],\n\"itself\":{") (totals_at totals itself)
+    ++ (routines_array program.names totals ++ codes "]}\n")))

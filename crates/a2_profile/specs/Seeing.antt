@@ -1,5 +1,5 @@
 -- What an observer counts of the steps that it sees. No public clause cites this file.
-use Rattle.std.specs.Prelude.{ℕ, ◌+◌, ◌%◌, ◌^◌, ◌==◌, ◌&&◌, not, nat_lt, Bool, List, [], length, slice_set, if◌then◌else◌}
+use Rattle.std.specs.Prelude.{ℕ, ◌+◌, ◌%◌, ◌^◌, ◌==◌, ◌&&◌, not, nat_lt, Bool, List, [], slice_set, if◌then◌else◌}
 use Rattle.a2_live.specs.declared.observer.Look.{Look}
 use Rattle.a2_live.specs.Shown.{Shown}
 use Rattle.a2_profile.specs.declared.profile.Count.{Count}

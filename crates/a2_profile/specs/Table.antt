@@ -1,10 +1,9 @@
 -- What is shown of a profile: a row for each line of the source, for each other address where a step began, and for each
 -- line that was never done; and the sums. This project's profile.
-use Rattle.std.specs.Prelude.{◌≡◌, ℕ, zero, suc, ◌+◌, ◌-◌, ◌*◌, ◌/◌, ◌%◌, ◌==◌, ◌&&◌, not, Bool, true, false, List, [], ◌∷◌, ◌++◌, length, take, codes, Option, Some, None, is_some, is_none, slice_get, unwrap_or, if◌then◌else◌}
+use Rattle.std.specs.Prelude.{ℕ, zero, suc, ◌+◌, ◌-◌, ◌*◌, ◌/◌, ◌%◌, ◌==◌, ◌&&◌, not, Bool, true, false, List, [], ◌∷◌, ◌++◌, length, take, codes, Option, Some, None, is_some, is_none, slice_get, unwrap_or, if◌then◌else◌}
 use Rattle.std.specs.List.{concat, flat_map}
 use Rattle.std.specs.Fmt.{decimal}
 use Rattle.a2_text.specs.Digits.{hex_word}
-use Rattle.a2_opcode.specs.declared.Instr.{Instr}
 use Rattle.a2_opcode.specs.declared.Mode.{Mode}
 use Rattle.a2_opcode.specs.declared.Mode.TheVariants.{Relative}
 use Rattle.a2_asm.specs.declared.program.Statement.{Statement}

@@ -7,7 +7,7 @@ use Rattle.a2_profile.specs.declared.walk.Frame.{Frame}
 use Rattle.a2_profile.specs.declared.walk.Opening.{Opening}
 use Rattle.a2_profile.specs.declared.walk.Totals.{Totals}
 use Rattle.a2_profile.specs.Seeing.{is_small}
-use Rattle.a2_profile.specs.Totals.{itself, nothing, totals_at, own_steps_in, own_cycles_in}
+use Rattle.a2_profile.specs.Totals.{itself, totals_at, own_steps_in, own_cycles_in}
 
 -- the routines that are entered and not left, what is counted of each, since when it is, and the steps and cycles so far
 pub record Walk : Type 0 where

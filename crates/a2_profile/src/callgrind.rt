@@ -1,13 +1,12 @@
 //! A profile in the form of Callgrind's files.
 
-ghost use Rattle.std.specs.Prelude.{◌≡◌, ◌==◌, ◌∷◌, ◌++◌, if◌then◌else◌, codes, length, map};
+ghost use Rattle.std.specs.Prelude.{◌≡◌, ◌==◌, ◌∷◌, if◌then◌else◌, length, map};
 ghost use Rattle.a2_text.specs.Digits.{hex_word as hex_word_of};
 ghost use Rattle.a2_stream.specs.Stream.{SendsOrBreaks};
 ghost use Rattle.a2_profile.specs.Callgrind as callgrind;
 ghost use Rattle.a2_profile.specs.RoutineTable.{name_of as name_at};
-ghost use Rattle.a2_profile.specs.Table.{rows_from};
 
-use crate::profile::ADDRESSES;
+use crate::addresses::{ByAddress, put_each};
 use crate::table::is_outside;
 use crate::{Profile, RoutineProfile, Totals, name_of};
 use a2_asm::{Program, Statement};
@@ -26,15 +25,14 @@ fn shown_byte(byte: u8) -> u8
     }
 }
 
-// Writes a file's name.
-#[tactic(auto, unfolding(crate::specs::Callgrind::shown_name))]
+// Writes the line of a file's name.
 fn put_name<W: Output>(name: &[u8], writer: &mut W) -> Result<(), WriteFault>
-    ensures { SendsOrBreaks (W.taker writer.old) (W.taker writer.new) result (callgrind.shown_name name.now) }
+    ensures { SendsOrBreaks (W.taker writer.old) (W.taker writer.new) result (callgrind.name_line name.now) }
 {
     for byte in name {
         put(&[shown_byte(*byte)], writer)?;
     }
-    Ok(())
+    put(b"\n", writer)
 }
 
 // Writes what stands first, up to the source's name.
@@ -142,7 +140,7 @@ fn put_line<A: Allocator, W: Output>(
     put_cost(number as u64, count.times, count.cycles, writer)
 }
 
-// Writes the costs of all lines.
+// Writes the function of the source, with the costs of all lines.
 fn put_lines<A: Allocator, W: Output>(
     profile: &Profile<A>,
     statements: &[Statement],
@@ -150,8 +148,9 @@ fn put_lines<A: Allocator, W: Output>(
     writer: &mut W,
 ) -> Result<(), WriteFault>
     ensures { SendsOrBreaks (W.taker writer.old) (W.taker writer.new) result
-        (callgrind.line_costs profile.now statements.now 1 (map (λ x. x.now) texts.now)) }
+        (callgrind.source_costs profile.now statements.now (map (λ x. x.now) texts.now)) }
 {
+    put(b"fn=THE SOURCE\n", writer)?;
     let mut number = 1usize;
     for _text in texts {
         let statement = instruction_on(statements, number);
@@ -161,88 +160,25 @@ fn put_lines<A: Allocator, W: Output>(
     Ok(())
 }
 
-// Writes the function of an address where no instruction of the source stands, if steps began there.
-fn put_outside<A: Allocator, B: Allocator, W: Output>(
-    program: &Program<B>,
-    profile: &Profile<A>,
-    address: u16,
-    writer: &mut W,
-) -> Result<(), WriteFault>
-    ensures { SendsOrBreaks (W.taker writer.old) (W.taker writer.new) result
-        (callgrind.outside_record program.now profile.now address) }
-{
-    if !is_outside(program, profile, address) {
-        return Ok(());
+// The functions of the addresses where steps began and no instruction of the source stands.
+#[derive(Drop)]
+struct OutsideRecords<'a, A: Allocator, B: Allocator> {
+    program: &'a Program<B>,
+    profile: &'a Profile<A>,
+}
+
+impl<'a, A: Allocator, B: Allocator> ByAddress for OutsideRecords<'a, A, B> {
+    ghost text = { λ records address. callgrind.outside_record records.program.now records.profile.now address };
+
+    fn put<W: Output>(&self, address: u16, writer: &mut W) -> Result<(), WriteFault> {
+        if !is_outside(self.program, self.profile, address) {
+            return Ok(());
+        }
+        let count = self.profile.at(address);
+        let digits = address_digits(address);
+        let name = name_or(self.program, address, &digits);
+        put_function(b"2", name, 0, count.times, count.cycles, writer)
     }
-    let count = profile.at(address);
-    let digits = address_digits(address);
-    let name = name_or(program, address, &digits);
-    put_function(b"2", name, 0, count.times, count.cycles, writer)
-}
-
-// Writes the functions of all such addresses.
-fn put_outsides<A: Allocator, B: Allocator, W: Output>(
-    program: &Program<B>,
-    profile: &Profile<A>,
-    writer: &mut W,
-) -> Result<(), WriteFault>
-    ensures { SendsOrBreaks (W.taker writer.old) (W.taker writer.new) result
-        (rows_from (callgrind.outside_record program.now profile.now) 0 65536) }
-{
-    for address in 0..ADDRESSES {
-        put_outside(program, profile, address as u16, writer)?;
-    }
-    Ok(())
-}
-
-// Writes the costs of all lines, and the functions of the other addresses.
-#[tactic(auto, using(a2_stream::proofs::Joined::broke_off, a2_stream::proofs::Joined::went_on))]
-fn put_costs<A: Allocator, B: Allocator, W: Output>(
-    program: &Program<B>,
-    texts: &[&[u8]],
-    profile: &Profile<A>,
-    writer: &mut W,
-) -> Result<(), WriteFault>
-    ensures { SendsOrBreaks (W.taker writer.old) (W.taker writer.new) result
-        (callgrind.line_costs profile.now program.now.statements 1 (map (λ x. x.now) texts.now)
-        ++ rows_from (callgrind.outside_record program.now profile.now) 0 65536) }
-{
-    put_lines(profile, program.statements(), texts, writer)?;
-    put_outsides(program, profile, writer)
-}
-
-// Writes the function of the source, and those of the other addresses.
-#[tactic(auto, using(a2_stream::proofs::Joined::broke_off, a2_stream::proofs::Joined::went_on))]
-fn put_source<A: Allocator, B: Allocator, W: Output>(
-    program: &Program<B>,
-    texts: &[&[u8]],
-    profile: &Profile<A>,
-    writer: &mut W,
-) -> Result<(), WriteFault>
-    ensures { SendsOrBreaks (W.taker writer.old) (W.taker writer.new) result (codes "\nfn=THE SOURCE\n"
-        ++ (callgrind.line_costs profile.now program.now.statements 1 (map (λ x. x.now) texts.now)
-        ++ rows_from (callgrind.outside_record program.now profile.now) 0 65536)) }
-{
-    put(b"\nfn=THE SOURCE\n", writer)?;
-    put_costs(program, texts, profile, writer)
-}
-
-// Writes the name of the source, and all functions.
-#[tactic(auto, using(a2_stream::proofs::Joined::broke_off, a2_stream::proofs::Joined::went_on))]
-fn put_named_source<A: Allocator, B: Allocator, W: Output>(
-    name: &[u8],
-    program: &Program<B>,
-    texts: &[&[u8]],
-    profile: &Profile<A>,
-    writer: &mut W,
-) -> Result<(), WriteFault>
-    ensures { SendsOrBreaks (W.taker writer.old) (W.taker writer.new) result
-        (callgrind.shown_name name.now ++ (codes "\nfn=THE SOURCE\n"
-        ++ (callgrind.line_costs profile.now program.now.statements 1 (map (λ x. x.now) texts.now)
-        ++ rows_from (callgrind.outside_record program.now profile.now) 0 65536))) }
-{
-    put_name(name, writer)?;
-    put_source(program, texts, profile, writer)
 }
 
 /// Writes a profile of `program`, whose source has this name and these lines, in the form of Callgrind's files, as
@@ -254,7 +190,6 @@ fn put_named_source<A: Allocator, B: Allocator, W: Output>(
 /// # Errors
 ///
 /// `WriteFault` at the first write that failed, which is the last one made: a front of the file went out.
-#[tactic(auto, using(a2_stream::proofs::Joined::broke_off, a2_stream::proofs::Joined::went_on))]
 pub fn write_callgrind<A: Allocator, B: Allocator, W: Output>(
     name: &[u8],
     program: &Program<B>,
@@ -266,7 +201,9 @@ pub fn write_callgrind<A: Allocator, B: Allocator, W: Output>(
         (callgrind.callgrind_profile name.now program.now (map (λ x. x.now) texts.now) profile.now) }
 {
     put_heading(profile.steps(), profile.cycles(), writer)?;
-    put_named_source(name, program, texts, profile, writer)
+    put_name(name, writer)?;
+    put_lines(profile, program.statements(), texts, writer)?;
+    put_each(&OutsideRecords { program, profile }, writer)
 }
 
 // The line of the instruction that begins at an address, or 0.
@@ -301,38 +238,26 @@ fn put_totals<W: Output>(
     )
 }
 
-// Writes a routine, if it was entered.
-fn put_routine<A: Allocator, B: Allocator, W: Output>(
-    program: &Program<B>,
-    profile: &RoutineProfile<A>,
-    address: u16,
-    writer: &mut W,
-) -> Result<(), WriteFault>
-    ensures { SendsOrBreaks (W.taker writer.old) (W.taker writer.new) result
-        (callgrind.routine_record program.now profile.now address) }
-{
-    let totals = profile.at(address);
-    if totals.times == 0 {
-        return Ok(());
-    }
-    let digits = address_digits(address);
-    let name = name_or(program, address, &digits);
-    put_totals(name, line_at(program.statements(), address), totals, writer)
+// The functions of the routines that were entered.
+#[derive(Drop)]
+struct RoutineRecords<'a, A: Allocator, B: Allocator> {
+    program: &'a Program<B>,
+    profile: &'a RoutineProfile<A>,
 }
 
-// Writes all routines.
-fn put_routines<A: Allocator, B: Allocator, W: Output>(
-    program: &Program<B>,
-    profile: &RoutineProfile<A>,
-    writer: &mut W,
-) -> Result<(), WriteFault>
-    ensures { SendsOrBreaks (W.taker writer.old) (W.taker writer.new) result
-        (rows_from (callgrind.routine_record program.now profile.now) 0 65536) }
-{
-    for address in 0..ADDRESSES {
-        put_routine(program, profile, address as u16, writer)?;
+impl<'a, A: Allocator, B: Allocator> ByAddress for RoutineRecords<'a, A, B> {
+    ghost text = { λ records address. callgrind.routine_record records.program.now records.profile.now address };
+
+    fn put<W: Output>(&self, address: u16, writer: &mut W) -> Result<(), WriteFault> {
+        let totals = self.profile.at(address);
+        if totals.times == 0 {
+            return Ok(());
+        }
+        let digits = address_digits(address);
+        let name = name_or(self.program, address, &digits);
+        let line = line_at(self.program.statements(), address);
+        put_totals(name, line, totals, writer)
     }
-    Ok(())
 }
 
 // Writes the program itself.
@@ -347,52 +272,6 @@ fn put_itself<A: Allocator, B: Allocator, W: Output>(
     put_totals(b"THE PROGRAM ITSELF", line, profile.itself(), writer)
 }
 
-// Writes the program itself, and all routines.
-#[tactic(auto, using(a2_stream::proofs::Joined::broke_off, a2_stream::proofs::Joined::went_on))]
-fn put_records<A: Allocator, B: Allocator, W: Output>(
-    program: &Program<B>,
-    profile: &RoutineProfile<A>,
-    writer: &mut W,
-) -> Result<(), WriteFault>
-    ensures { SendsOrBreaks (W.taker writer.old) (W.taker writer.new) result
-        (callgrind.itself_record program.now profile.now
-        ++ rows_from (callgrind.routine_record program.now profile.now) 0 65536) }
-{
-    put_itself(program, profile, writer)?;
-    put_routines(program, profile, writer)
-}
-
-// Writes them behind the line of the source's name.
-#[tactic(auto, using(a2_stream::proofs::Joined::broke_off, a2_stream::proofs::Joined::went_on))]
-fn put_functions<A: Allocator, B: Allocator, W: Output>(
-    program: &Program<B>,
-    profile: &RoutineProfile<A>,
-    writer: &mut W,
-) -> Result<(), WriteFault>
-    ensures { SendsOrBreaks (W.taker writer.old) (W.taker writer.new) result (codes "\n"
-        ++ (callgrind.itself_record program.now profile.now
-        ++ rows_from (callgrind.routine_record program.now profile.now) 0 65536)) }
-{
-    put(b"\n", writer)?;
-    put_records(program, profile, writer)
-}
-
-// Writes the name of the source, and all functions.
-#[tactic(auto, using(a2_stream::proofs::Joined::broke_off, a2_stream::proofs::Joined::went_on))]
-fn put_named_routines<A: Allocator, B: Allocator, W: Output>(
-    name: &[u8],
-    program: &Program<B>,
-    profile: &RoutineProfile<A>,
-    writer: &mut W,
-) -> Result<(), WriteFault>
-    ensures { SendsOrBreaks (W.taker writer.old) (W.taker writer.new) result (callgrind.shown_name name.now ++ (codes "\n"
-        ++ (callgrind.itself_record program.now profile.now
-        ++ rows_from (callgrind.routine_record program.now profile.now) 0 65536))) }
-{
-    put_name(name, writer)?;
-    put_functions(program, profile, writer)
-}
-
 /// Writes a profile of `program` by routine, whose source has this name, in the form of Callgrind's files. The program itself and
 /// each routine that was entered is a function with its own `Steps` and `Cycles`, at the line of the file `name` where it begins;
 /// or in the file `???`, where no instruction of the source stands there. A control byte of `name` stands as `?`. Valgrind's
@@ -401,7 +280,6 @@ fn put_named_routines<A: Allocator, B: Allocator, W: Output>(
 /// # Errors
 ///
 /// `WriteFault` at the first write that failed, which is the last one made: a front of the file went out.
-#[tactic(auto, using(a2_stream::proofs::Joined::broke_off, a2_stream::proofs::Joined::went_on))]
 pub fn write_routine_callgrind<A: Allocator, B: Allocator, W: Output>(
     name: &[u8],
     program: &Program<B>,
@@ -412,5 +290,7 @@ pub fn write_routine_callgrind<A: Allocator, B: Allocator, W: Output>(
         (callgrind.callgrind_routines name.now program.now profile.now) }
 {
     put_heading(profile.steps(), profile.cycles(), writer)?;
-    put_named_routines(name, program, profile, writer)
+    put_name(name, writer)?;
+    put_itself(program, profile, writer)?;
+    put_each(&RoutineRecords { program, profile }, writer)
 }

@@ -26,22 +26,29 @@ pub fn no_text_ends_its_string()
         → json.behind_string false (json.escapes text ++ 0x22 ∷ rest) ≡ Some rest }
 {}
 
-// Writes a byte of a string.
-fn put_escaped<W: Output>(byte: u8, writer: &mut W) -> Result<(), WriteFault>
-    ensures { SendsOrBreaks (W.taker writer.old) (W.taker writer.new) result (escaped byte) }
-{
-    put(json_escape(byte).as_slice(), writer)
-}
-
 // Writes a text between the quotes of a string.
 #[tactic(auto, unfolding(crate::specs::Json::escapes))]
-pub(crate) fn put_escapes<W: Output>(text: &[u8], writer: &mut W) -> Result<(), WriteFault>
+fn put_escapes<W: Output>(text: &[u8], writer: &mut W) -> Result<(), WriteFault>
     ensures { SendsOrBreaks (W.taker writer.old) (W.taker writer.new) result (json.escapes text.now) }
 {
     for byte in text {
-        put_escaped(*byte, writer)?;
+        put(json_escape(*byte).as_slice(), writer)?;
     }
     Ok(())
+}
+
+// Writes a text so, between what stands before it and behind it.
+pub(crate) fn put_string<W: Output>(
+    front: &[u8],
+    text: &[u8],
+    end: &[u8],
+    writer: &mut W,
+) -> Result<(), WriteFault>
+    ensures { SendsOrBreaks (W.taker writer.old) (W.taker writer.new) result (json.string_field front.now text.now end.now) }
+{
+    put(front, writer)?;
+    put_escapes(text, writer)?;
+    put(end, writer)
 }
 
 // Writes what is counted at an address, between these.
@@ -94,22 +101,8 @@ fn put_branch<W: Output>(is_branch: bool, count: Count, writer: &mut W) -> Resul
     )
 }
 
-// Writes what is counted of an instruction.
-#[tactic(auto, using(a2_stream::proofs::Joined::broke_off, a2_stream::proofs::Joined::went_on))]
-fn put_instruction<A: Allocator, W: Output>(
-    profile: &Profile<A>,
-    statement: &Statement,
-    writer: &mut W,
-) -> Result<(), WriteFault>
-    ensures { SendsOrBreaks (W.taker writer.old) (W.taker writer.new) result
-        (json.statement_fields profile.now (Some statement.now)) }
-{
-    let count = profile.at(statement.addr);
-    put_count(b",", statement.addr, count, b"", writer)?;
-    put_branch(is_branch(statement), count, writer)
-}
-
 // Writes what is counted of the instruction on a line, if one stands there.
+#[tactic(auto, using(a2_stream::proofs::Joined::broke_off, a2_stream::proofs::Joined::went_on))]
 fn put_statement<A: Allocator, W: Output>(
     profile: &Profile<A>,
     statement: Option<Statement>,
@@ -117,42 +110,12 @@ fn put_statement<A: Allocator, W: Output>(
 ) -> Result<(), WriteFault>
     ensures { SendsOrBreaks (W.taker writer.old) (W.taker writer.new) result (json.statement_fields profile.now statement) }
 {
-    match statement {
-        Some(statement) => put_instruction(profile, &statement, writer),
-        None => Ok(()),
-    }
-}
-
-// Writes a line to the end of its object.
-#[tactic(auto, using(a2_stream::proofs::Joined::broke_off, a2_stream::proofs::Joined::went_on))]
-fn put_text_end<W: Output>(text: &[u8], writer: &mut W) -> Result<(), WriteFault>
-    ensures { SendsOrBreaks (W.taker writer.old) (W.taker writer.new) result (json.escapes text.now ++ codes "\"}") }
-{
-    put_escapes(text, writer)?;
-    put(b"\"}", writer)
-}
-
-// Writes a line as the last field of its object.
-fn put_source<W: Output>(text: &[u8], writer: &mut W) -> Result<(), WriteFault>
-    ensures { SendsOrBreaks (W.taker writer.old) (W.taker writer.new) result (json.source_field text.now) }
-{
-    put(b",\"source\":\"", writer)?;
-    put_text_end(text, writer)
-}
-
-// Writes what is counted on a line, and the line.
-#[tactic(auto, using(a2_stream::proofs::Joined::broke_off, a2_stream::proofs::Joined::went_on))]
-fn put_fields<A: Allocator, W: Output>(
-    profile: &Profile<A>,
-    statement: Option<Statement>,
-    text: &[u8],
-    writer: &mut W,
-) -> Result<(), WriteFault>
-    ensures { SendsOrBreaks (W.taker writer.old) (W.taker writer.new) result
-        (json.statement_fields profile.now statement ++ json.source_field text.now) }
-{
-    put_statement(profile, statement, writer)?;
-    put_source(text, writer)
+    let Some(statement) = statement else {
+        return Ok(());
+    };
+    let count = profile.at(statement.addr);
+    put_count(b",", statement.addr, count, b"", writer)?;
+    put_branch(is_branch(&statement), count, writer)
 }
 
 // Writes how the object of a line begins.
@@ -164,24 +127,7 @@ fn put_head<W: Output>(number: usize, writer: &mut W) -> Result<(), WriteFault>
     put_all(&[b"{\"line\":", number.as_slice()], writer)
 }
 
-// Writes the object of a line.
-#[tactic(auto, using(a2_stream::proofs::Joined::broke_off, a2_stream::proofs::Joined::went_on))]
-fn put_object<A: Allocator, W: Output>(
-    profile: &Profile<A>,
-    statement: Option<Statement>,
-    number: usize,
-    text: &[u8],
-    writer: &mut W,
-) -> Result<(), WriteFault>
-    ensures { SendsOrBreaks (W.taker writer.old) (W.taker writer.new) result
-        (json.line_object profile.now statement number text.now) }
-{
-    put_head(number, writer)?;
-    put_fields(profile, statement, text, writer)
-}
-
 // Writes the object of a line, behind what stands before it.
-#[tactic(auto, using(a2_stream::proofs::Joined::broke_off, a2_stream::proofs::Joined::went_on))]
 fn put_line<'a, A: Allocator, W: Output>(
     front: &'a [u8],
     profile: &Profile<A>,
@@ -194,10 +140,12 @@ fn put_line<'a, A: Allocator, W: Output>(
         (front.now ++ json.line_object profile.now statement number text.now) }
 {
     put(front, writer)?;
-    put_object(profile, statement, number, text, writer)
+    put_head(number, writer)?;
+    put_statement(profile, statement, writer)?;
+    put_string(b",\"source\":\"", text, b"\"}", writer)
 }
 
-// Writes the objects of all lines.
+// Writes the array of all lines.
 fn put_lines<A: Allocator, W: Output>(
     profile: &Profile<A>,
     statements: &[Statement],
@@ -205,8 +153,9 @@ fn put_lines<A: Allocator, W: Output>(
     writer: &mut W,
 ) -> Result<(), WriteFault>
     ensures { SendsOrBreaks (W.taker writer.old) (W.taker writer.new) result
-        (json.items (json.line_objects profile.now statements.now 1 (map (λ x. x.now) texts.now))) }
+        (json.lines_array profile.now statements.now (map (λ x. x.now) texts.now)) }
 {
+    put(b"],\n\"lines\":[\n", writer)?;
     let mut front = b"".as_slice();
     let mut number = 1usize;
     for text in texts {
@@ -218,49 +167,45 @@ fn put_lines<A: Allocator, W: Output>(
     Ok(())
 }
 
-// Writes the object of an address where no instruction of the source stands, behind what stands before it.
-#[tactic(auto, using(a2_stream::proofs::Joined::broke_off, a2_stream::proofs::Joined::went_on))]
-fn put_outside<A: Allocator, W: Output>(
-    front: &[u8],
-    profile: &Profile<A>,
-    address: u16,
-    writer: &mut W,
-) -> Result<(), WriteFault>
-    ensures { SendsOrBreaks (W.taker writer.old) (W.taker writer.new) result
-        (front.now ++ json.outside_object profile.now address) }
-{
-    put(front, writer)?;
-    put_count(b"{", address, profile.at(address), b"}", writer)
-}
-
-// Writes the objects of all such addresses where steps began.
+// Writes the array of the other addresses where steps began.
 fn put_outsides<A: Allocator, B: Allocator, W: Output>(
     program: &Program<B>,
     profile: &Profile<A>,
     writer: &mut W,
 ) -> Result<(), WriteFault>
     ensures { SendsOrBreaks (W.taker writer.old) (W.taker writer.new) result
-        (json.items (json.outside_objects program.now.statements profile.now (json.addresses_from 0 65536))) }
+        (json.outside_array program.now.statements profile.now) }
 {
+    put(b"],\n\"outside\":[\n", writer)?;
     let mut front = b"".as_slice();
     for address in 0..ADDRESSES {
-        if is_outside(program, profile, address as u16) {
-            put_outside(front, profile, address as u16, writer)?;
+        let address = address as u16;
+        if is_outside(program, profile, address) {
+            put(front, writer)?;
+            put_count(b"{", address, profile.at(address), b"}", writer)?;
             front = COMMA;
         }
     }
     Ok(())
 }
 
-// Writes the numbers of the lines that were never done.
+// Writes a number, behind what stands before it.
+fn put_number<'a, W: Output>(front: &'a [u8], number: u16, writer: &mut W) -> Result<(), WriteFault>
+    ensures { SendsOrBreaks (W.taker writer.old) (W.taker writer.new) result (front.now ++ decimal_of number) }
+{
+    let number = decimal(u64::from(number));
+    put_all(&[front, number.as_slice()], writer)
+}
+
+// Writes the array of the numbers of the lines that were never done.
 fn put_never<A: Allocator, W: Output>(
     profile: &Profile<A>,
     statements: &[Statement],
     writer: &mut W,
 ) -> Result<(), WriteFault>
-    ensures { SendsOrBreaks (W.taker writer.old) (W.taker writer.new) result
-        (json.items (json.never_numbers profile.now statements.now)) }
+    ensures { SendsOrBreaks (W.taker writer.old) (W.taker writer.new) result (json.never_array profile.now statements.now) }
 {
+    put(b"],\n\"never\":[\n", writer)?;
     let mut front = b"".as_slice();
     for statement in statements {
         if is_never_done(profile, statement) {
@@ -271,17 +216,7 @@ fn put_never<A: Allocator, W: Output>(
     Ok(())
 }
 
-// Writes a number, behind what stands before it.
-#[tactic(auto, using(a2_stream::proofs::Joined::broke_off, a2_stream::proofs::Joined::went_on))]
-fn put_number<W: Output>(front: &[u8], number: u16, writer: &mut W) -> Result<(), WriteFault>
-    ensures { SendsOrBreaks (W.taker writer.old) (W.taker writer.new) result (front.now ++ decimal_of number) }
-{
-    put(front, writer)?;
-    put(decimal(u64::from(number)).as_slice(), writer)
-}
-
 // Writes a cause, behind what stands before it.
-#[tactic(auto, using(a2_stream::proofs::Joined::broke_off, a2_stream::proofs::Joined::went_on))]
 fn put_cause<W: Output>(front: &[u8], cause: Cause, writer: &mut W) -> Result<(), WriteFault>
     ensures { SendsOrBreaks (W.taker writer.old) (W.taker writer.new) result (front.now ++ json.cause_string cause) }
 {
@@ -319,104 +254,6 @@ pub(crate) fn put_sums<W: Output>(steps: u64, cycles: u64, writer: &mut W) -> Re
     )
 }
 
-// Writes the array of all lines.
-fn put_lines_array<A: Allocator, W: Output>(
-    profile: &Profile<A>,
-    statements: &[Statement],
-    texts: &[&[u8]],
-    writer: &mut W,
-) -> Result<(), WriteFault>
-    ensures { SendsOrBreaks (W.taker writer.old) (W.taker writer.new) result
-        (json.lines_array profile.now statements.now (map (λ x. x.now) texts.now)) }
-{
-    put(b"],\n\"lines\":[\n", writer)?;
-    put_lines(profile, statements, texts, writer)
-}
-
-// Writes the array of the other addresses.
-fn put_outside_array<A: Allocator, B: Allocator, W: Output>(
-    program: &Program<B>,
-    profile: &Profile<A>,
-    writer: &mut W,
-) -> Result<(), WriteFault>
-    ensures { SendsOrBreaks (W.taker writer.old) (W.taker writer.new) result
-        (json.outside_array program.now.statements profile.now) }
-{
-    put(b"],\n\"outside\":[\n", writer)?;
-    put_outsides(program, profile, writer)
-}
-
-// Writes the numbers of the lines that were never done, to the end of all.
-#[tactic(auto, using(a2_stream::proofs::Joined::broke_off, a2_stream::proofs::Joined::went_on))]
-fn put_never_end<A: Allocator, W: Output>(
-    profile: &Profile<A>,
-    statements: &[Statement],
-    writer: &mut W,
-) -> Result<(), WriteFault>
-    ensures { SendsOrBreaks (W.taker writer.old) (W.taker writer.new) result
-        (json.items (json.never_numbers profile.now statements.now) ++ codes "]}\n") }
-{
-    put_never(profile, statements, writer)?;
-    put(b"]}\n", writer)
-}
-
-// Writes the array of the lines that were never done.
-fn put_never_array<A: Allocator, W: Output>(
-    profile: &Profile<A>,
-    statements: &[Statement],
-    writer: &mut W,
-) -> Result<(), WriteFault>
-    ensures { SendsOrBreaks (W.taker writer.old) (W.taker writer.new) result (json.never_array profile.now statements.now) }
-{
-    put(b"],\n\"never\":[\n", writer)?;
-    put_never_end(profile, statements, writer)
-}
-
-// Writes the arrays behind that of the lines.
-fn put_rest<A: Allocator, B: Allocator, W: Output>(
-    program: &Program<B>,
-    profile: &Profile<A>,
-    writer: &mut W,
-) -> Result<(), WriteFault>
-    ensures { SendsOrBreaks (W.taker writer.old) (W.taker writer.new) result
-        (json.outside_array program.now.statements profile.now ++ json.never_array profile.now program.now.statements) }
-{
-    put_outside_array(program, profile, writer)?;
-    put_never_array(profile, program.statements(), writer)
-}
-
-// Writes the arrays behind that of the causes.
-fn put_arrays<A: Allocator, B: Allocator, W: Output>(
-    program: &Program<B>,
-    texts: &[&[u8]],
-    profile: &Profile<A>,
-    writer: &mut W,
-) -> Result<(), WriteFault>
-    ensures { SendsOrBreaks (W.taker writer.old) (W.taker writer.new) result
-        (json.lines_array profile.now program.now.statements (map (λ x. x.now) texts.now)
-        ++ (json.outside_array program.now.statements profile.now ++ json.never_array profile.now program.now.statements)) }
-{
-    put_lines_array(profile, program.statements(), texts, writer)?;
-    put_rest(program, profile, writer)
-}
-
-// Writes what stands behind the sums.
-#[tactic(auto, using(a2_stream::proofs::Joined::broke_off, a2_stream::proofs::Joined::went_on))]
-fn put_body<A: Allocator, B: Allocator, W: Output>(
-    program: &Program<B>,
-    texts: &[&[u8]],
-    profile: &Profile<A>,
-    causes: &[Cause],
-    writer: &mut W,
-) -> Result<(), WriteFault>
-    ensures { SendsOrBreaks (W.taker writer.old) (W.taker writer.new) result (json.items (map json.cause_string causes.now)
-        ++ (json.lines_array profile.now program.now.statements (map (λ x. x.now) texts.now)
-        ++ (json.outside_array program.now.statements profile.now ++ json.never_array profile.now program.now.statements))) }
-{
-    put_causes(causes, writer)?;
-    put_arrays(program, texts, profile, writer)
-}
-
 /// Writes a profile of `program`, whose source has these lines, as an object of JSON: all `steps` and `cycles`; `causes`, by
 /// which its runs ended; `lines`, each with its number and the line as `source`, and where an instruction stands there with its
 /// `address`, how many `times` it was done and its `cycles`, and of a branch with `taken` and `not_taken`; `outside`, the other
@@ -426,7 +263,6 @@ fn put_body<A: Allocator, B: Allocator, W: Output>(
 /// # Errors
 ///
 /// `WriteFault` at the first write that failed, which is the last one made: a front of the object went out.
-#[tactic(auto, using(a2_stream::proofs::Joined::broke_off, a2_stream::proofs::Joined::went_on))]
 pub fn write_json<A: Allocator, B: Allocator, W: Output>(
     program: &Program<B>,
     texts: &[&[u8]],
@@ -437,6 +273,11 @@ pub fn write_json<A: Allocator, B: Allocator, W: Output>(
     ensures { SendsOrBreaks (W.taker writer.old) (W.taker writer.new) result
         (json.json_profile program.now (map (λ x. x.now) texts.now) profile.now causes.now) }
 {
+    let statements = program.statements();
     put_sums(profile.steps(), profile.cycles(), writer)?;
-    put_body(program, texts, profile, causes, writer)
+    put_causes(causes, writer)?;
+    put_lines(profile, statements, texts, writer)?;
+    put_outsides(program, profile, writer)?;
+    put_never(profile, statements, writer)?;
+    put(b"]}\n", writer)
 }

@@ -3,6 +3,7 @@
 //! How it is called is shown in CALLING.md.
 #![tactic(auto)]
 
+mod addresses;
 mod callgrind;
 mod joined;
 mod json;

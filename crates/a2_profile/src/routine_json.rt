@@ -1,12 +1,11 @@
 //! A profile by routine as an object of JSON.
 
-ghost use Rattle.std.specs.Prelude.{◌≡◌, ◌++◌, codes, map};
+ghost use Rattle.std.specs.Prelude.{◌≡◌, ◌++◌};
 ghost use Rattle.a2_asm.specs.Entries.{entries};
 ghost use Rattle.a2_stream.specs.Stream.{SendsOrBreaks};
 ghost use Rattle.a2_profile.specs.Json as json;
-ghost use Rattle.a2_profile.specs.Totals.{itself, totals_at};
 
-use crate::json::{COMMA, put_causes, put_escapes, put_sums};
+use crate::json::{COMMA, put_causes, put_string, put_sums};
 use crate::profile::ADDRESSES;
 use crate::{RoutineProfile, Totals, name_of};
 use a2_asm::{Names, Program};
@@ -49,7 +48,7 @@ fn put_entry<W: Output>(address: u16, times: u64, writer: &mut W) -> Result<(), 
     let times = decimal(times);
     put_all(
         &[
-            b"\",\"address\":",
+            b"\"address\":",
             address.as_slice(),
             b",\"times\":",
             times.as_slice(),
@@ -59,51 +58,7 @@ fn put_entry<W: Output>(address: u16, times: u64, writer: &mut W) -> Result<(), 
     )
 }
 
-// Writes what is counted of a routine behind its name.
-#[tactic(auto, using(a2_stream::proofs::Joined::broke_off, a2_stream::proofs::Joined::went_on))]
-fn put_counted<W: Output>(address: u16, totals: Totals, writer: &mut W) -> Result<(), WriteFault>
-    ensures { SendsOrBreaks (W.taker writer.old) (W.taker writer.new) result (json.counted_fields address totals) }
-{
-    put_entry(address, totals.times, writer)?;
-    put_totals(b"", totals, writer)
-}
-
-// Writes the name of a routine, and what is counted of it.
-#[tactic(auto, using(a2_stream::proofs::Joined::broke_off, a2_stream::proofs::Joined::went_on))]
-fn put_named<W: Output>(
-    name: &[u8],
-    address: u16,
-    totals: Totals,
-    writer: &mut W,
-) -> Result<(), WriteFault>
-    ensures { SendsOrBreaks (W.taker writer.old) (W.taker writer.new) result
-        (json.escapes name.now ++ json.counted_fields address totals) }
-{
-    put_escapes(name, writer)?;
-    put_counted(address, totals, writer)
-}
-
-// Writes the object of a routine.
-fn put_object<A: Allocator, B: Allocator, W: Output>(
-    names: &Names<B>,
-    profile: &RoutineProfile<A>,
-    address: u16,
-    writer: &mut W,
-) -> Result<(), WriteFault>
-    ensures { SendsOrBreaks (W.taker writer.old) (W.taker writer.new) result
-        (json.routine_object (entries names.now) profile.now address) }
-{
-    put(b"{\"name\":\"", writer)?;
-    put_named(
-        name_of(names, address),
-        address,
-        profile.at(address),
-        writer,
-    )
-}
-
 // Writes the object of a routine, behind what stands before it.
-#[tactic(auto, using(a2_stream::proofs::Joined::broke_off, a2_stream::proofs::Joined::went_on))]
 fn put_routine<A: Allocator, B: Allocator, W: Output>(
     front: &[u8],
     names: &Names<B>,
@@ -114,8 +69,11 @@ fn put_routine<A: Allocator, B: Allocator, W: Output>(
     ensures { SendsOrBreaks (W.taker writer.old) (W.taker writer.new) result
         (front.now ++ json.routine_object (entries names.now) profile.now address) }
 {
+    let totals = profile.at(address);
     put(front, writer)?;
-    put_object(names, profile, address, writer)
+    put_string(b"{\"name\":\"", name_of(names, address), b"\",", writer)?;
+    put_entry(address, totals.times, writer)?;
+    put_totals(b"", totals, writer)
 }
 
 // Whether a routine was entered.
@@ -125,15 +83,16 @@ fn is_entered<A: Allocator>(profile: &RoutineProfile<A>, address: u16) -> bool
     profile.at(address).times != 0
 }
 
-// Writes the objects of all routines that were entered.
+// Writes the array of the routines that were entered.
 fn put_routines<A: Allocator, B: Allocator, W: Output>(
     names: &Names<B>,
     profile: &RoutineProfile<A>,
     writer: &mut W,
 ) -> Result<(), WriteFault>
     ensures { SendsOrBreaks (W.taker writer.old) (W.taker writer.new) result
-        (json.items (json.routine_objects (entries names.now) profile.now (json.addresses_from 0 65536))) }
+        (json.routines_array (entries names.now) profile.now) }
 {
+    put(b",\n\"routines\":[\n", writer)?;
     let mut front = b"".as_slice();
     for address in 0..ADDRESSES {
         if is_entered(profile, address as u16) {
@@ -144,62 +103,6 @@ fn put_routines<A: Allocator, B: Allocator, W: Output>(
     Ok(())
 }
 
-// Writes the objects of all routines, to the end of all.
-#[tactic(auto, using(a2_stream::proofs::Joined::broke_off, a2_stream::proofs::Joined::went_on))]
-fn put_routines_end<A: Allocator, B: Allocator, W: Output>(
-    names: &Names<B>,
-    profile: &RoutineProfile<A>,
-    writer: &mut W,
-) -> Result<(), WriteFault>
-    ensures { SendsOrBreaks (W.taker writer.old) (W.taker writer.new) result
-        (json.items (json.routine_objects (entries names.now) profile.now (json.addresses_from 0 65536)) ++ codes "]}\n") }
-{
-    put_routines(names, profile, writer)?;
-    put(b"]}\n", writer)
-}
-
-// Writes the array of the routines.
-fn put_routines_array<A: Allocator, B: Allocator, W: Output>(
-    names: &Names<B>,
-    profile: &RoutineProfile<A>,
-    writer: &mut W,
-) -> Result<(), WriteFault>
-    ensures { SendsOrBreaks (W.taker writer.old) (W.taker writer.new) result
-        (json.routines_array (entries names.now) profile.now) }
-{
-    put(b",\n\"routines\":[\n", writer)?;
-    put_routines_end(names, profile, writer)
-}
-
-// Writes the program itself, and the routines.
-#[tactic(auto, using(a2_stream::proofs::Joined::broke_off, a2_stream::proofs::Joined::went_on))]
-fn put_rest<A: Allocator, B: Allocator, W: Output>(
-    names: &Names<B>,
-    profile: &RoutineProfile<A>,
-    writer: &mut W,
-) -> Result<(), WriteFault>
-    ensures { SendsOrBreaks (W.taker writer.old) (W.taker writer.new) result
-        (json.totals_fields (codes "],\n\"itself\":{") (totals_at profile.now itself) ++ json.routines_array (entries names.now) profile.now) }
-{
-    put_totals(b"],\n\"itself\":{", profile.itself(), writer)?;
-    put_routines_array(names, profile, writer)
-}
-
-// Writes what stands behind the sums.
-#[tactic(auto, using(a2_stream::proofs::Joined::broke_off, a2_stream::proofs::Joined::went_on))]
-fn put_body<A: Allocator, B: Allocator, W: Output>(
-    names: &Names<B>,
-    profile: &RoutineProfile<A>,
-    causes: &[Cause],
-    writer: &mut W,
-) -> Result<(), WriteFault>
-    ensures { SendsOrBreaks (W.taker writer.old) (W.taker writer.new) result (json.items (map json.cause_string causes.now)
-        ++ (json.totals_fields (codes "],\n\"itself\":{") (totals_at profile.now itself) ++ json.routines_array (entries names.now) profile.now)) }
-{
-    put_causes(causes, writer)?;
-    put_rest(names, profile, writer)
-}
-
 /// Writes a profile of `program` by routine as an object of JSON: all `steps` and `cycles`; `causes`, by which its runs ended;
 /// `itself`, the program itself, with its own `steps` and `cycles`, and `all_steps` and `all_cycles` with those of what it calls;
 /// and `routines`, each that was entered, with the first `name` of the source that stands for it or an empty one, its `address`,
@@ -208,7 +111,6 @@ fn put_body<A: Allocator, B: Allocator, W: Output>(
 /// # Errors
 ///
 /// `WriteFault` at the first write that failed, which is the last one made: a front of the object went out.
-#[tactic(auto, using(a2_stream::proofs::Joined::broke_off, a2_stream::proofs::Joined::went_on))]
 pub fn write_routine_json<A: Allocator, B: Allocator, W: Output>(
     program: &Program<B>,
     profile: &RoutineProfile<A>,
@@ -219,5 +121,8 @@ pub fn write_routine_json<A: Allocator, B: Allocator, W: Output>(
         (json.json_routines program.now profile.now causes.now) }
 {
     put_sums(profile.steps(), profile.cycles(), writer)?;
-    put_body(program.names(), profile, causes, writer)
+    put_causes(causes, writer)?;
+    put_totals(b"],\n\"itself\":{", profile.itself(), writer)?;
+    put_routines(program.names(), profile, writer)?;
+    put(b"]}\n", writer)
 }

@@ -1,11 +1,11 @@
 //! The table of a profile by routine.
 
-ghost use Rattle.std.specs.Prelude.{◌≡◌, ◌≤◌, ◌++◌, string_bytes};
+ghost use Rattle.std.specs.Prelude.{◌≡◌, ◌≤◌, string_bytes};
 ghost use Rattle.a2_asm.specs.Entries.{entries};
 ghost use Rattle.a2_profile.specs.RoutineTable as table;
 ghost use Rattle.a2_stream.specs.Stream.{SendsOrBreaks};
 
-use crate::profile::ADDRESSES;
+use crate::addresses::{ByAddress, put_each};
 use crate::table::{before_text, gap, per_mille, put_sum_line, share_digits};
 use crate::{RoutineProfile, Totals};
 use a2_asm::{Names, Program};
@@ -129,82 +129,31 @@ pub fn name_of<A: Allocator>(names: &Names<A>, address: u16) -> &[u8]
     b""
 }
 
-// Writes the row of a routine, if it was entered.
-fn put_routine<A: Allocator, B: Allocator, W: Output>(
-    names: &Names<B>,
-    profile: &RoutineProfile<A>,
-    address: u16,
-    writer: &mut W,
-) -> Result<(), WriteFault>
-    ensures { SendsOrBreaks (W.taker writer.old) (W.taker writer.new) result
-        (table.routine_row (entries names.now) profile.now address) }
-{
-    let totals = profile.at(address);
-    if totals.times == 0 {
-        return Ok(());
+// The rows of the routines that were entered.
+#[derive(Drop)]
+struct RoutineRows<'a, A: Allocator, B: Allocator> {
+    program: &'a Program<B>,
+    profile: &'a RoutineProfile<A>,
+}
+
+impl<'a, A: Allocator, B: Allocator> ByAddress for RoutineRows<'a, A, B> {
+    ghost text = { λ rows address. table.routine_row rows.program.now.names rows.profile.now address };
+
+    fn put<W: Output>(&self, address: u16, writer: &mut W) -> Result<(), WriteFault> {
+        let totals = self.profile.at(address);
+        if totals.times == 0 {
+            return Ok(());
+        }
+        let times = decimal(totals.times);
+        put_totals(
+            self.profile.cycles(),
+            times.as_slice(),
+            totals,
+            &hex_word(address),
+            name_of(self.program.names(), address),
+            writer,
+        )
     }
-    let times = decimal(totals.times);
-    put_totals(
-        profile.cycles(),
-        times.as_slice(),
-        totals,
-        &hex_word(address),
-        name_of(names, address),
-        writer,
-    )
-}
-
-// Writes the rows of all routines.
-fn put_routines<A: Allocator, B: Allocator, W: Output>(
-    names: &Names<B>,
-    profile: &RoutineProfile<A>,
-    writer: &mut W,
-) -> Result<(), WriteFault>
-    ensures { SendsOrBreaks (W.taker writer.old) (W.taker writer.new) result
-        (table.routine_rows (entries names.now) profile.now) }
-{
-    for address in 0..ADDRESSES {
-        put_routine(names, profile, address as u16, writer)?;
-    }
-    Ok(())
-}
-
-// Writes the line of the sums.
-fn put_sums<A: Allocator, W: Output>(
-    profile: &RoutineProfile<A>,
-    writer: &mut W,
-) -> Result<(), WriteFault>
-    ensures { SendsOrBreaks (W.taker writer.old) (W.taker writer.new) result (table.routine_sums profile.now) }
-{
-    put_sum_line(profile.steps(), profile.cycles(), writer)
-}
-
-// Writes what stands behind the row of the program itself.
-#[tactic(auto, using(a2_stream::proofs::Joined::broke_off, a2_stream::proofs::Joined::went_on))]
-fn put_rest<A: Allocator, B: Allocator, W: Output>(
-    names: &Names<B>,
-    profile: &RoutineProfile<A>,
-    writer: &mut W,
-) -> Result<(), WriteFault>
-    ensures { SendsOrBreaks (W.taker writer.old) (W.taker writer.new) result
-        (table.routine_rows (entries names.now) profile.now ++ table.routine_sums profile.now) }
-{
-    put_routines(names, profile, writer)?;
-    put_sums(profile, writer)
-}
-
-// Writes what stands behind the heading.
-#[tactic(auto, using(a2_stream::proofs::Joined::broke_off, a2_stream::proofs::Joined::went_on))]
-fn put_body<A: Allocator, B: Allocator, W: Output>(
-    program: &Program<B>,
-    profile: &RoutineProfile<A>,
-    writer: &mut W,
-) -> Result<(), WriteFault>
-    ensures { SendsOrBreaks (W.taker writer.old) (W.taker writer.new) result
-        (table.itself_row profile.now ++ (table.routine_rows program.now.names profile.now ++ table.routine_sums profile.now)) }
-{
-    put_itself(profile, writer)?;
-    put_rest(program.names(), profile, writer)
 }
 
 // Writes the heading.
@@ -232,7 +181,6 @@ fn put_heading<W: Output>(writer: &mut W) -> Result<(), WriteFault>
 /// # Errors
 ///
 /// `WriteFault` at the first write that failed, which is the last one made: a front of the table went out.
-#[tactic(auto, using(a2_stream::proofs::Joined::broke_off, a2_stream::proofs::Joined::went_on))]
 pub fn write_routines<A: Allocator, B: Allocator, W: Output>(
     program: &Program<B>,
     profile: &RoutineProfile<A>,
@@ -241,5 +189,7 @@ pub fn write_routines<A: Allocator, B: Allocator, W: Output>(
     ensures { SendsOrBreaks (W.taker writer.old) (W.taker writer.new) result (table.routine_table program.now profile.now) }
 {
     put_heading(writer)?;
-    put_body(program, profile, writer)
+    put_itself(profile, writer)?;
+    put_each(&RoutineRows { program, profile }, writer)?;
+    put_sum_line(profile.steps(), profile.cycles(), writer)
 }

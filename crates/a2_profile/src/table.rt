@@ -1,11 +1,11 @@
 //! The table of a profile.
 
-ghost use Rattle.std.specs.Prelude.{◌≡◌, ◌+◌, ◌-◌, ◌≤◌, ◌++◌, map};
+ghost use Rattle.std.specs.Prelude.{◌≡◌, ◌+◌, ◌-◌, ◌≤◌, map};
 ghost use Rattle.a2_stream.specs.Stream.{SendsOrBreaks};
 ghost use Rattle.a2_profile.specs.Table as table;
 ghost use Rattle.std.specs.Fmt.{decimal as decimal_of};
 
-use crate::profile::ADDRESSES;
+use crate::addresses::{ByAddress, put_each};
 use crate::{Count, Profile};
 use a2_asm::{Program, Statement};
 use a2_opcode::Mode;
@@ -212,43 +212,29 @@ pub(crate) fn is_outside<A: Allocator, B: Allocator>(
     profile.at(address).times != 0 && program.instr_at(address).is_none()
 }
 
-// Writes the row of an address where no instruction of the source stands, if steps began there.
-fn put_outside<A: Allocator, B: Allocator, W: Output>(
-    program: &Program<B>,
-    profile: &Profile<A>,
-    address: u16,
-    writer: &mut W,
-) -> Result<(), WriteFault>
-    ensures { SendsOrBreaks (W.taker writer.old) (W.taker writer.new) result
-        (table.outside_row program.now.statements profile.now address) }
-{
-    if is_outside(program, profile, address) {
+// The rows of the addresses where steps began and no instruction of the source stands.
+#[derive(Drop)]
+struct OutsideRows<'a, A: Allocator, B: Allocator> {
+    program: &'a Program<B>,
+    profile: &'a Profile<A>,
+}
+
+impl<'a, A: Allocator, B: Allocator> ByAddress for OutsideRows<'a, A, B> {
+    ghost text = { λ rows address. table.outside_row rows.program.now.statements rows.profile.now address };
+
+    fn put<W: Output>(&self, address: u16, writer: &mut W) -> Result<(), WriteFault> {
+        if !is_outside(self.program, self.profile, address) {
+            return Ok(());
+        }
         put_count(
-            profile.cycles(),
+            self.profile.cycles(),
             false,
-            profile.at(address),
+            self.profile.at(address),
             &hex_word(address),
             outside_text(),
             writer,
         )
-    } else {
-        Ok(())
     }
-}
-
-// Writes the rows of all such addresses.
-fn put_outside_rows<A: Allocator, B: Allocator, W: Output>(
-    program: &Program<B>,
-    profile: &Profile<A>,
-    writer: &mut W,
-) -> Result<(), WriteFault>
-    ensures { SendsOrBreaks (W.taker writer.old) (W.taker writer.new) result
-        (table.outside_rows program.now.statements profile.now) }
-{
-    for address in 0..ADDRESSES {
-        put_outside(program, profile, address as u16, writer)?;
-    }
-    Ok(())
 }
 
 // The line of a statement.
@@ -327,61 +313,6 @@ pub(crate) fn put_sum_line<W: Output>(
     )
 }
 
-// Writes the line of the sums.
-fn put_sums<A: Allocator, W: Output>(profile: &Profile<A>, writer: &mut W) -> Result<(), WriteFault>
-    ensures { SendsOrBreaks (W.taker writer.old) (W.taker writer.new) result (table.sums profile.now) }
-{
-    put_sum_line(profile.steps(), profile.cycles(), writer)
-}
-
-// Writes what stands behind the rows of addresses.
-#[tactic(auto, using(a2_stream::proofs::Joined::broke_off, a2_stream::proofs::Joined::went_on))]
-fn put_ends<A: Allocator, W: Output>(
-    profile: &Profile<A>,
-    texts: &[&[u8]],
-    statements: &[Statement],
-    writer: &mut W,
-) -> Result<(), WriteFault>
-    ensures { SendsOrBreaks (W.taker writer.old) (W.taker writer.new) result
-        (table.never_rows profile.now (map (λ x. x.now) texts.now) statements.now ++ table.sums profile.now) }
-{
-    put_never_rows(profile, texts, statements, writer)?;
-    put_sums(profile, writer)
-}
-
-// Writes what stands behind the rows of lines.
-#[tactic(auto, using(a2_stream::proofs::Joined::broke_off, a2_stream::proofs::Joined::went_on))]
-fn put_rest<A: Allocator, B: Allocator, W: Output>(
-    program: &Program<B>,
-    texts: &[&[u8]],
-    profile: &Profile<A>,
-    writer: &mut W,
-) -> Result<(), WriteFault>
-    ensures { SendsOrBreaks (W.taker writer.old) (W.taker writer.new) result
-        (table.outside_rows program.now.statements profile.now
-        ++ (table.never_rows profile.now (map (λ x. x.now) texts.now) program.now.statements ++ table.sums profile.now)) }
-{
-    put_outside_rows(program, profile, writer)?;
-    put_ends(profile, texts, program.statements(), writer)
-}
-
-// Writes what stands behind the heading.
-#[tactic(auto, using(a2_stream::proofs::Joined::broke_off, a2_stream::proofs::Joined::went_on))]
-fn put_body<A: Allocator, B: Allocator, W: Output>(
-    program: &Program<B>,
-    texts: &[&[u8]],
-    profile: &Profile<A>,
-    writer: &mut W,
-) -> Result<(), WriteFault>
-    ensures { SendsOrBreaks (W.taker writer.old) (W.taker writer.new) result
-        (table.line_rows profile.now program.now.statements 1 (map (λ x. x.now) texts.now)
-        ++ (table.outside_rows program.now.statements profile.now
-        ++ (table.never_rows profile.now (map (λ x. x.now) texts.now) program.now.statements ++ table.sums profile.now))) }
-{
-    put_lines(profile, program.statements(), texts, writer)?;
-    put_rest(program, texts, profile, writer)
-}
-
 // Writes the heading.
 fn put_heading<W: Output>(writer: &mut W) -> Result<(), WriteFault>
     ensures { SendsOrBreaks (W.taker writer.old) (W.taker writer.new) result table.heading }
@@ -399,7 +330,6 @@ fn put_heading<W: Output>(writer: &mut W) -> Result<(), WriteFault>
 /// # Errors
 ///
 /// `WriteFault` at the first write that failed, which is the last one made: a front of the table went out.
-#[tactic(auto, using(a2_stream::proofs::Joined::broke_off, a2_stream::proofs::Joined::went_on))]
 pub fn write_profile<A: Allocator, B: Allocator, W: Output>(
     program: &Program<B>,
     texts: &[&[u8]],
@@ -409,6 +339,10 @@ pub fn write_profile<A: Allocator, B: Allocator, W: Output>(
     ensures { SendsOrBreaks (W.taker writer.old) (W.taker writer.new) result
         (table.profile_table program.now (map (λ x. x.now) texts.now) profile.now) }
 {
+    let statements = program.statements();
     put_heading(writer)?;
-    put_body(program, texts, profile, writer)
+    put_lines(profile, statements, texts, writer)?;
+    put_each(&OutsideRows { program, profile }, writer)?;
+    put_never_rows(profile, texts, statements, writer)?;
+    put_sum_line(profile.steps(), profile.cycles(), writer)
 }

@@ -1,11 +1,12 @@
-use Rattle.std.proofs.Common.{map}
+use Rattle.std.proofs.Common.{map, []}
+use Rattle.a2_stream.proofs.Joined.{Sends-nil}
 use Rattle.a2_page.proofs.Sending.{left_more, left_broke_off}
 use Rattle.a2_profile.specs.Json.{cause_string}
 use Rattle.a2_profile.proofs.ItemLaws.{left_items, behind-next, causes-next}
 use Rattle.a2_profile.proofs.json.put_causes.Goals as goal
 
 pub loop-cause-init : goal.loop-cause-init
-loop-cause-init g c = left_items _ _ (map cause_string c.args.causes.now) c.as_slice-front.ensures
+loop-cause-init g c = left_items _ _ [] _ (map cause_string c.args.causes.now) c.as_slice-front.ensures (Sends-nil _)
 
 pub returns-in_err-put_cause : goal.returns-in_err-put_cause
 returns-in_err-put_cause g c =

@@ -1,16 +1,24 @@
+use Rattle.a2_stream.proofs.Joined.{broke_off}
 use Rattle.a2_page.proofs.Sending.{left_more, left_broke_off}
-use Rattle.std.proofs.Common.{ap, sym, ◌∙◌}
-use Rattle.a2_profile.specs.Json.{never_numbers}
+use Rattle.std.proofs.Common.{ap, sym, codes, ◌∙◌}
+use Rattle.a2_profile.specs.Json.{never_numbers, never_array}
 use Rattle.a2_profile.proofs.ItemLaws.{behind, left_items, left_same, behind-next, numbers-next, numbers-skip}
 use Rattle.a2_profile.proofs.json.put_never.Goals as goal
 use Rattle.a2_profile.proofs.json.put_never.Goals.{then-is_never_done+in_ok-put_number, else-is_never_done}
 
+pub returns-in_err-put : goal.returns-in_err-put
+unfolding never_array
+returns-in_err-put g c =
+    broke_off _ _ c.from_residual.result (codes "],\n\"never\":[\n") _ c.from_residual.ensures.0 c.in_err-put.ensures
+
 pub loop-statement-init : goal.loop-statement-init
-loop-statement-init g c = left_items _ _ (never_numbers c.args.profile.now c.args.statements.now) c.as_slice-front.ensures
+unfolding never_array
+loop-statement-init g c =
+    left_items _ _ (codes "],\n\"never\":[\n") _ (never_numbers c.args.profile.now c.args.statements.now) c.as_slice-front.ensures c.in_ok-put.ensures
 
 pub returns-in_err-put_number : goal.returns-in_err-put_number
 returns-in_err-put_number g c =
-    left_broke_off _ _ _ c.from_residual.result _ _ _ _ c.from_residual.ensures.0
+    left_broke_off _ _ _ c.from_residual-in_err-put_number.result _ _ _ _ c.from_residual-in_err-put_number.ensures.0
     (behind-next c.loop-statement.front.now _ _ _
     (numbers-next c.args.profile.now c.args.statements.now c.loop-statement.statement-index _ c.loop-statement-test.true (sym c.is_never_done.ensures ∙ c.if-is_never_done.true)))
     c.loop-statement.invariant c.in_err-put_number.ensures

@@ -7,7 +7,7 @@ use Rattle.a2_profile.proofs.routine_json.put_entry.Goals as goal
 pub returns : goal.returns
 unfolding entry_fields
 returns g c =
-    let text : List ℕ → List ℕ → List ℕ = λ address times. codes "\",\"address\":" ++ (address ++ (codes ",\"times\":" ++ (times ++ codes ","))) in
+    let text : List ℕ → List ℕ → List ℕ = λ address times. codes "\"address\":" ++ (address ++ (codes ",\"times\":" ++ (times ++ codes ","))) in
     subst (SendsOrBreaks (g.W.Output.taker c.args.writer.now) (g.W.Output.taker c.put_all.new.writer) c.put_all.result)
     (ap (λ (address : List ℕ). text address c.as_slice-2.result.now) (c.as_slice.ensures.value ∙ c.decimal-address.ensures ∙ ap decimal c.from.ensures)
     ∙ ap (λ (times : List ℕ). text (decimal c.args.address) times) (c.as_slice-2.ensures.value ∙ c.decimal-times.ensures))

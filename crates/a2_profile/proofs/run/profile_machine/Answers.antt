@@ -1,4 +1,4 @@
-use Rattle.std.proofs.Common.{sym, ap₂, ℕ, subst, arith}
+use Rattle.std.proofs.Common.{sym, ℕ, subst, arith}
 use Rattle.a2_machine.specs.State.{code_of, world_of_state}
 use Rattle.a2_profile.specs.Counts.{AreSummed}
 use Rattle.a2_profile.specs.declared.profile.Count.{Count}

@@ -1,8 +1,8 @@
-use Rattle.std.proofs.Common.{◌<◌, ◌≤◌, ap, subst, sym, arith, length, refl, List}
+use Rattle.std.proofs.Common.{◌<◌, ◌≤◌, subst, sym, arith, length, refl, List}
 use Rattle.std.proofs.lemmas.List.{get_or_read_under}
 use Rattle.std.proofs.lemmas.List.Sums.{get_or-le-sum_by}
 use Rattle.a2_profile.specs.declared.walk.Totals.{Totals}
-use Rattle.a2_profile.specs.Totals.{itself, nothing, totals_at, own_cycles_in}
+use Rattle.a2_profile.specs.Totals.{itself, nothing, own_cycles_in}
 use Rattle.a2_profile.proofs.walk.RoutineProfile.itself.Goals as goal
 
 pub returns-clause-own_within : goal.returns-clause-own_within

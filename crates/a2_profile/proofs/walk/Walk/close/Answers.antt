@@ -1,4 +1,4 @@
-use Rattle.std.proofs.Common.{◌≡◌, ◌<◌, sym, ap, ◌∙◌, subst, arith, ℕ, length, vec_len, refl}
+use Rattle.std.proofs.Common.{◌≡◌, ◌<◌, sym, ap, ◌∙◌, subst, arith, length, vec_len, refl}
 use Rattle.std.proofs.lemmas.List.{get_or_read_under}
 use Rattle.a2_profile.specs.declared.walk.Opening.{Opening}
 use Rattle.a2_profile.specs.Totals.{nothing}

@@ -1,0 +1,25 @@
+use Rattle.a2_stream.proofs.Joined.{broke_off, went_on}
+use Rattle.a2_profile.proofs.callgrind.write_callgrind.Goals as goal
+
+pub returns-in_err-put_heading : goal.returns-in_err-put_heading
+returns-in_err-put_heading g c = broke_off _ _ c.from_residual.result _ _ c.from_residual.ensures.0 (rw (c.steps.ensures, c.cycles.ensures) at c.in_err-put_heading.ensures)
+
+pub returns-in_err-put_name : goal.returns-in_err-put_name
+returns-in_err-put_name g c =
+    let r = c.from_residual-in_err-put_name in
+    went_on _ _ _ r.result _ _ (rw (c.steps.ensures, c.cycles.ensures) at c.in_ok-put_heading.ensures) (
+    broke_off _ _ r.result _ _ r.ensures.0 c.in_err-put_name.ensures)
+
+pub returns-in_err-put_lines : goal.returns-in_err-put_lines
+returns-in_err-put_lines g c =
+    let r = c.from_residual-in_err-put_lines in
+    went_on _ _ _ r.result _ _ (rw (c.steps.ensures, c.cycles.ensures) at c.in_ok-put_heading.ensures) (
+    went_on _ _ _ r.result _ _ c.in_ok-put_name.ensures (
+    broke_off _ _ r.result _ _ r.ensures.0 (rw c.statements.ensures at c.in_err-put_lines.ensures)))
+
+pub returns : goal.returns
+returns g c =
+    let r = c.put_each.result in
+    went_on _ _ _ r _ _ (rw (c.steps.ensures, c.cycles.ensures) at c.in_ok-put_heading.ensures) (
+    went_on _ _ _ r _ _ c.in_ok-put_name.ensures (
+    went_on _ _ _ r _ _ (rw c.statements.ensures at c.in_ok-put_lines.ensures) c.put_each.ensures))
