@@ -43,10 +43,7 @@ with_open now depth done since = done + (if depth == 0 then 0 else now - since)
 
 -- the totals of a routine so far
 abbrev pub seen : ℕ → ℕ → Opening → Totals → Totals
-seen steps cycles opening t = record {
-  times = t.times;
-  steps = t.steps;
-  cycles = t.cycles;
+seen steps cycles opening t = record t {
   all_steps = with_open steps opening.depth t.all_steps opening.steps;
   all_cycles = with_open cycles opening.depth t.all_cycles opening.cycles;
 }
@@ -89,11 +86,8 @@ pub record IsWalk (walk : Walk) : Type 0 where
 abbrev pub counted : ℕ → Walk → Walk
 counted cost walk =
     let i = inner walk.frames in
-    let t = totals_at walk.totals i in record {
-      frames = walk.frames;
-      totals = slice_set walk.totals i
-          (record { times = t.times; steps = t.steps + 1; cycles = t.cycles + cost; all_steps = t.all_steps; all_cycles = t.all_cycles });
-      openings = walk.openings;
+    let t = totals_at walk.totals i in record walk {
+      totals = slice_set walk.totals i (record t { steps = t.steps + 1; cycles = t.cycles + cost });
       steps = walk.steps + 1;
       cycles = walk.cycles + cost;
     }
@@ -101,28 +95,19 @@ counted cost walk =
 -- a JSR went to a routine
 abbrev pub noted : ℕ → Walk → Walk
 noted routine walk =
-    let t = totals_at walk.totals routine in record {
-      frames = walk.frames;
-      totals = slice_set walk.totals routine
-          (record { times = t.times + 1; steps = t.steps; cycles = t.cycles; all_steps = t.all_steps; all_cycles = t.all_cycles });
-      openings = walk.openings;
-      steps = walk.steps;
-      cycles = walk.cycles;
-    }
+    let t = totals_at walk.totals routine in
+    record walk { totals = slice_set walk.totals routine (record t { times = t.times + 1 }) }
 
 -- it is entered
 abbrev pub opened : ℕ → ℕ → Walk → Walk
 opened routine s walk =
-    let o = opening_at walk.openings routine in record {
+    let o = opening_at walk.openings routine in record walk {
       frames = walk.frames ++ record { routine = routine; s = s } ∷ [];
-      totals = walk.totals;
       openings = slice_set walk.openings routine (record {
         depth = o.depth + 1;
         steps = if o.depth == 0 then walk.steps else o.steps;
         cycles = if o.depth == 0 then walk.cycles else o.cycles;
       });
-      steps = walk.steps;
-      cycles = walk.cycles;
     }
 
 -- the innermost is left
@@ -130,18 +115,13 @@ abbrev pub left : Walk → Walk
 left walk =
     let i = inner walk.frames in
     let o = opening_at walk.openings i in
-    let t = totals_at walk.totals i in record {
+    let t = totals_at walk.totals i in record walk {
       frames = take (length walk.frames - 1) walk.frames;
-      totals = slice_set walk.totals i (record {
-        times = t.times;
-        steps = t.steps;
-        cycles = t.cycles;
+      totals = slice_set walk.totals i (record t {
         all_steps = t.all_steps + (if o.depth == 1 then walk.steps - o.steps else 0);
         all_cycles = t.all_cycles + (if o.depth == 1 then walk.cycles - o.cycles else 0);
       });
-      openings = slice_set walk.openings i (record { depth = o.depth - 1; steps = o.steps; cycles = o.cycles });
-      steps = walk.steps;
-      cycles = walk.cycles;
+      openings = slice_set walk.openings i (record o { depth = o.depth - 1 });
     }
 
 -- a stack pointer is not below that before the innermost, if there is one

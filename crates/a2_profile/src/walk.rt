@@ -200,15 +200,7 @@ impl<A: Allocator> Walk<A> {
         requires { (totals_at self.old.totals routine).times < self.old.steps }
         ensures { self.new ≡ walks.noted routine self.old }
     {
-        let index = usize::from(routine);
-        let totals = self.totals[index];
-        self.totals[index] = Totals {
-            times: totals.times + 1,
-            steps: totals.steps,
-            cycles: totals.cycles,
-            all_steps: totals.all_steps,
-            all_cycles: totals.all_cycles,
-        };
+        self.totals[usize::from(routine)].times += 1;
     }
 
     // Enters a routine from where the stack pointer is this, which is below that of any other.
