@@ -4,6 +4,7 @@ pub mod Counting
 pub mod RowLaws
 pub mod ItemLaws
 pub mod StringLaws
+pub mod Joining
 pub mod JoinLaws
 pub mod RunLaws
 pub mod WalkLaws

@@ -194,13 +194,6 @@ fn put_lines<A: Allocator, W: Output>(
     Ok(())
 }
 
-// What is told of an address where no instruction of the source stands.
-fn outside_text() -> &'static [u8]
-    ensures { result.now ≡ Rattle.std.specs.Prelude.codes "OUTSIDE THE SOURCE" }
-{
-    b"OUTSIDE THE SOURCE"
-}
-
 // Whether steps began at an address where no instruction of the source stands.
 pub(crate) fn is_outside<A: Allocator, B: Allocator>(
     program: &Program<B>,
@@ -231,7 +224,7 @@ impl<'a, A: Allocator, B: Allocator> ByAddress for OutsideRows<'a, A, B> {
             false,
             self.profile.at(address),
             &hex_word(address),
-            outside_text(),
+            b"OUTSIDE THE SOURCE",
             writer,
         )
     }

@@ -3,7 +3,8 @@ use Rattle.std.specs.Prelude.{slice_set, ◌+◌}
 use Rattle.a2_profile.specs.declared.walk.Totals.{Totals}
 use Rattle.a2_profile.specs.Totals.{nothing}
 use Rattle.a2_profile.specs.Room.{joined_totals}
-use Rattle.a2_profile.proofs.JoinLaws.{IsJoining, joining-none, joining-more, joining-fits, joining-done}
+use Rattle.a2_profile.proofs.Joining.{IsJoining, joining-none, joining-more, joining-done}
+use Rattle.a2_profile.proofs.JoinLaws.{joining-fits}
 use Rattle.a2_profile.proofs.joined.join_totals.Goals as goal
 
 pub loop-index-init : goal.loop-index-init

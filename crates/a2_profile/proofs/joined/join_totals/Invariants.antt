@@ -1,6 +1,6 @@
 use Rattle.a2_profile.specs.Totals.{nothing}
 use Rattle.a2_profile.specs.Room.{joined_totals}
-use Rattle.a2_profile.proofs.JoinLaws.{IsJoining}
+use Rattle.a2_profile.proofs.Joining.{IsJoining}
 use Rattle.a2_profile.proofs.joined.join_totals.Given as goal
 
 -- the totals so far are joined
