@@ -12,6 +12,6 @@ abbrev pub most_steps : ℕ
 most_steps = 1000000
 
 abbrev pub IsCertain : (ℕ → Option ℕ) → Promise → ℕ → Verdict → Type 0
-IsCertain program promise limit (Held inputs kept tried total is_everywhere passage) =
-    IsTrue is_everywhere → HasNoText promise.texts × IsKeptEverywhere program promise inputs.items limit
+IsCertain program promise limit (Held held) =
+    IsTrue held.is_everywhere → HasNoText promise.texts × IsKeptEverywhere program promise held.inputs.items limit
 IsCertain program promise limit _ = Unit {0}

@@ -12,6 +12,7 @@ use Rattle.a2_opcode.specs.declared.Row.{Row}
 use Rattle.a2_bus.specs.BusState.{BusState}
 use Rattle.a2_bus.specs.Memory.{ram_end}
 use Rattle.a2_cpu.specs.Registers.{Registers}
+use Rattle.a2_cpu.specs.View.{registers_of}
 use Rattle.a2_services.specs.World.{world_of}
 use Rattle.a2_machine.specs.Meaning.{next, world_at}
 use Rattle.a2_promise.specs.declared.promises.Changes.{Changes}
@@ -25,6 +26,7 @@ use Rattle.a2_reads.specs.Runs.{RunReads, StepReads, known_behind, step_stores}
 use Rattle.a2_reads.specs.Turned.{RunIsOffStack, StepIsOffStack, in_stack}
 use Rattle.a2_reads.specs.Uses.{RunNeeds, step_needs, step_sets, parts_behind}
 use Rattle.a2_trial.specs.declared.parts.Parts.{Parts}
+use Rattle.a2_trial.specs.declared.walk.Walk.{Walk}
 use Rattle.a2_trial.specs.Kept.{code, is_own, may_store}
 
 -- what stands at an address of a list of marks, false behind its end
@@ -110,6 +112,11 @@ pub record IsStep (known old_marks new_marks : List Bool) (old_parts new_parts :
   pub stores : (before : ℕ) → AreMarked old_marks new_marks changes (step_stores code (world_of registers bus before))
   pub parts : (before : ℕ) (part : Part)
       → knows_part new_parts part ≡ with_parts (step_sets code (world_of registers bus before)) (knows_part old_parts) part
+
+-- A walk makes it, whose cycles are not counted yet.
+pub record IsStepOf (known old_marks new_marks : List Bool) (changes : Changes) (old new : Walk) (cycles : ℕ) : Type 0 where
+  pub step : IsStep known old_marks new_marks old.parts new.parts changes (registers_of old.regs) old.space (registers_of new.regs) new.space cycles
+  pub uncounted : new.cycles ≡ old.cycles
 
 -- So many steps are made, in so many cycles.
 pub record IsWalk (known marks : List Bool) (first_parts last_parts : Parts) (changes : Changes)

@@ -6,6 +6,7 @@ ghost use Rattle.std.specs.List.{list_all, list_any};
 ghost use Rattle.a2_hex.specs.Images.{held};
 ghost use Rattle.a2_bus.specs.Memory.{Memory, ram_end};
 ghost use Rattle.a2_bus.specs.PowerOn.{first_devices};
+ghost use Rattle.a2_bus.specs.View.{memory_of};
 ghost use Rattle.a2_cpu.specs.Live.{live_registers};
 ghost use Rattle.a2_cpu.specs.View.{registers_of};
 ghost use Rattle.a2_cpu.specs.Registers.{registers_at};
@@ -15,7 +16,6 @@ ghost use Rattle.a2_promise.specs.Values.{moment_of};
 ghost use Rattle.a2_uses.specs.declared.Part.{Part as DeclaredPart};
 ghost use Rattle.a2_reads.specs.Turned.{in_stack};
 ghost use Rattle.a2_reads.specs.Counting.{states_of, state_at};
-ghost use Rattle.a2_bus.specs.View.{memory_of};
 ghost use Rattle.a2_trial.specs.But.{IsBut};
 ghost use Rattle.a2_trial.specs.Kept.{bytes_of, code, IsKept};
 ghost use Rattle.a2_trial.specs.States.{has_byte, has_part, holds_part, is_byte, values_of, with_value, with_values};
@@ -24,8 +24,8 @@ ghost use Rattle.a2_trial.specs.Walking.{is_set, knows_part, no_parts};
 ghost use Rattle.a2_trial.specs.Certifying.{AreLaid, AreRegistersKept, IsEntered, may_vary, IsReady, IsStateTried, start_of};
 
 use crate::inputs::Input;
-use crate::judge::all_hold;
-use crate::looks::{Sure, look_at_known};
+use crate::judge::{all_hold, sight_of};
+use crate::looks::{View, look_at_known};
 use crate::parts::Parts;
 use crate::promises_hold_everywhere;
 use crate::settled::settle;
@@ -37,12 +37,12 @@ use a2_cpu::live::Live;
 use a2_cpu::run::guarded_step;
 use a2_cpu::{GuardedStep, NoProtection, Regs};
 use a2_hex::{Image, RAM_END};
-use a2_promise::{Changes, Promise, Sight};
+use a2_promise::{Changes, Promise};
 use a2_uses::Part;
 use std::alloc::{AllocError, Global};
 
-/// How many states inputs have; none where they are 2^64 or more.
-pub(crate) fn count_states(inputs: &[Input]) -> Option<u64>
+// How many states inputs have; none where they are 2^64 or more.
+fn count_states(inputs: &[Input]) -> Option<u64>
     ensures { IfSome result (λ states. states ≡ states_of (map values_of inputs.now)) }
 {
     let mut states: u64 = 1;
@@ -142,13 +142,21 @@ pub struct Case<'a> {
     pub inputs: &'a [Input],
 }
 
-// What is known at the entry.
-fn known_at_entry<'a>(case: &Case<'a>) -> Sure<'a>
+// What promises see of the state before a routine, and what is known of it.
+fn view_of_entry<'k, 's>(
+    case: &Case<'k>,
+    regs: &Regs,
+    before: &'s AddressSpace<Global>,
+) -> View<'k, 's>
     ensures known { result.known.now ≡ case.now.known.now }
     ensures stored { result.stored.now ≡ [] }
     ensures parts { result.parts ≡ case.now.parts }
+    ensures moment { moment_of result.sight
+        ≡ record { registers = registers_of regs.now; bytes = bytes_of (memory_of before.now); cycles = 0; steps = 0 } }
+    ensures size { length before.now.bytes ≡ ram_end }
 {
-    Sure {
+    View {
+        sight: sight_of(regs, before, 0, 0),
         known: case.known,
         stored: &[],
         parts: case.parts,
@@ -228,27 +236,6 @@ fn step_out(walk: &mut Walk) -> Option<u32>
     Some(walk.cycles)
 }
 
-// What promises see of registers and RAM, so many cycles and steps after the entry.
-fn sight_of<'a>(
-    regs: &Regs,
-    space: &'a AddressSpace<Global>,
-    cycles: u32,
-    steps: u32,
-) -> Sight<'a, Global>
-    ensures moment { moment_of result
-        ≡ record { registers = registers_of regs.now; bytes = bytes_of (memory_of space.now); cycles = cycles; steps = steps } }
-    ensures size { length space.now.bytes ≡ ram_end }
-{
-    // For the prover, which learns from it how long RAM is.
-    let _first = space.peek(0);
-    Sight {
-        regs: *regs,
-        space,
-        cycles,
-        steps,
-    }
-}
-
 // Whether a promise is kept of the state before a routine, which is as it requires.
 fn is_kept(case: &Case, before: &AddressSpace<Global>, walk: &mut Walk, stored: &mut Stored) -> bool
     requires { IsEntered (world_of (registers_of walk.old.regs) walk.old.space 0) case.now.parts before.now
@@ -270,16 +257,15 @@ fn is_kept(case: &Case, before: &AddressSpace<Global>, walk: &mut Walk, stored: 
     let Some(cycles) = step_out(walk) else {
         return false;
     };
-    let known = known_at_entry(case);
-    let behind = Sure {
+    let entry = view_of_entry(case, &regs, before);
+    let exit = View {
+        sight: sight_of(&walk.regs, &walk.space, cycles, steps + 1),
         known: case.known,
         stored: stored.marks(),
         parts: walk.parts,
     };
-    let entry = sight_of(&regs, before, 0, 0);
-    let exit = sight_of(&walk.regs, &walk.space, cycles, steps + 1);
     let promised = case.promise.promised.as_slice();
-    look_at_known(promised, &known, &behind, &entry, &exit) && all_hold(promised, &entry, &exit)
+    look_at_known(promised, &entry, &exit) && all_hold(promised, &entry.sight, &exit.sight)
 }
 
 /// Whether a promise is kept in the state before a routine, where S is $FD and no cycle and no store is counted, if that is as
@@ -301,13 +287,12 @@ pub fn is_tried(
     ensures rest { IsTrue result → walk.new.space.devices ≡ before.now.devices
         → IsBut (is_set stored.new) walk.new.space before.now }
 {
-    let known = known_at_entry(case);
-    let entry = sight_of(&walk.regs, before, 0, 0);
+    let entry = view_of_entry(case, &walk.regs, before);
     let wanted = case.promise.wanted.as_slice();
-    if !look_at_known(wanted, &known, &known, &entry, &entry) {
+    if !look_at_known(wanted, &entry, &entry) {
         return false;
     }
-    if !all_hold(wanted, &entry, &entry) {
+    if !all_hold(wanted, &entry.sight, &entry.sight) {
         return true;
     }
     is_kept(case, before, walk, stored)

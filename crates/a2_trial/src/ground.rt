@@ -6,6 +6,8 @@ use crate::inputs::{Input, add};
 use crate::parts::Parts;
 use crate::printing::push_printed;
 use crate::services::{given_by, taken_by};
+use crate::stored::Stored;
+use crate::walk::is_set;
 use a2_asm::Program;
 use a2_bus::locations::{KBD, KBDSTRB, LAST_RETURN, RETURN_ADDRESS};
 use a2_bus::{AddressSpace, Bus, Keys};
@@ -112,10 +114,19 @@ struct Mark {
     is_known: bool,
     /// A routine begins there that promises something.
     is_entry: bool,
-    /// The run stored there, or called a service that may have.
-    is_stored: bool,
-    /// An instruction did, so that what it holds is known.
-    is_set: bool,
+}
+
+// Why no step is made: the routine leaves, or memory is wanting.
+#[derive(Clone, Copy)]
+enum Stop {
+    Left(Door),
+    Memory,
+}
+
+impl From<AllocError> for Stop {
+    fn from(_error: AllocError) -> Stop {
+        Stop::Memory
+    }
 }
 
 /// Where a routine is run.
@@ -123,8 +134,10 @@ pub(crate) struct Ground {
     pub alloc: Global,
     pub before: AddressSpace<Global>,
     pub now: AddressSpace<Global>,
-    /// The addresses of RAM at which the run stored, each once.
-    pub stored: Vec<u16>,
+    /// Where the run stored, or called a service that may have.
+    pub stored: Stored,
+    /// Where an instruction did, so that what stands there is known.
+    set: Stored,
     /// What runs looked at before it was set, and is not known at the entry, each once; none behind the first 1,024.
     pub looked: Vec<Input>,
     /// Where the first run that did so went on into another routine.
@@ -148,6 +161,7 @@ impl Drop for Ground {
             before: _,
             now: _,
             stored: _,
+            set: _,
             looked: _,
             passage: _,
             printed: _,
@@ -160,21 +174,13 @@ impl Drop for Ground {
     }
 }
 
-// Nothing is known of any address.
-fn no_marks(alloc: Global) -> Result<Vec<Mark>, AllocError> {
-    let mut marks = Vec::new(alloc);
-    for _ in 0..RAM_END {
-        marks.push(Mark {
-            instr: None,
-            is_code: false,
-            is_known: false,
-            is_entry: false,
-            is_stored: false,
-            is_set: false,
-        })?;
-    }
-    Ok(marks)
-}
+// Nothing is known of an address.
+const NO_MARK: Mark = Mark {
+    instr: None,
+    is_code: false,
+    is_known: false,
+    is_entry: false,
+};
 
 // Marks the bytes of a program, which are laid before it is called, and the caller's return address.
 fn mark_program(marks: &mut [Mark], program: &Program<Global>) {
@@ -237,13 +243,14 @@ impl Ground {
         let image = filled(alloc, program.image())?;
         let before = entered(alloc, &image)?;
         let now = entered(alloc, &image)?;
-        let mut marks = no_marks(alloc)?;
+        let mut marks = vec![in alloc; NO_MARK; usize::from(RAM_END)]?;
         mark_program(marks.as_mut_slice(), program);
         Ok(Ground {
             alloc,
             before,
             now,
-            stored: Vec::new(alloc),
+            stored: Stored::new(alloc)?,
+            set: Stored::new(alloc)?,
             looked: Vec::new(alloc),
             passage: None,
             printed: Vec::new(alloc),
@@ -298,16 +305,8 @@ impl Ground {
             self.now.copy_from(&self.before);
         }
         self.printed.clear();
-        for address in &self.stored {
-            if let Some(byte) = self.before.peek(*address) {
-                self.now.write(*address, byte);
-            }
-            if let Some(mark) = self.marks.get_mut(usize::from(*address)) {
-                mark.is_stored = false;
-                mark.is_set = false;
-            }
-        }
-        self.stored.clear();
+        self.stored.take_back(&mut self.now, &self.before);
+        self.set.take_back(&mut self.now, &self.before);
         self.known_now = self.known;
     }
 
@@ -316,36 +315,31 @@ impl Ground {
         self.marks.get(usize::from(address)).copied()
     }
 
-    // Notes a store, whose byte is known if an instruction makes it, or says why it can't be.
-    fn note(&mut self, address: u16, is_set: bool) -> Result<Option<Door>, AllocError> {
+    // Notes a store, whose byte is known if an instruction makes it.
+    fn note(&mut self, address: u16, is_set: bool) -> Result<(), Stop> {
         if self.is_keyboard(address) {
-            return Ok(None);
+            return Ok(());
         }
-        let Some(mark) = self.marks.get_mut(usize::from(address)) else {
-            return Ok(Some(Door::Device(address)));
-        };
-        if mark.is_code {
-            return Ok(Some(Door::Code(address)));
+        match self.mark(address) {
+            None => return Err(Stop::Left(Door::Device(address))),
+            Some(Mark { is_code: true, .. }) => return Err(Stop::Left(Door::Code(address))),
+            Some(_) => {}
         }
-        let is_first = !mark.is_stored;
-        mark.is_stored = true;
-        mark.is_set = mark.is_set || is_set;
-        if is_first {
-            self.stored.push(address)?;
+        // They are marked: all are in RAM.
+        self.stored.mark(address);
+        if is_set {
+            self.set.mark(address);
         }
-        Ok(None)
+        Ok(())
     }
 
-    // Notes the stores of the next step, or says why one can't be.
-    fn note_stores(&mut self, regs: &Regs) -> Result<Option<Door>, AllocError> {
+    // Notes the stores of the next step.
+    fn note_stores(&mut self, regs: &Regs) -> Result<(), Stop> {
         let targets = writes(regs, &self.now);
         for address in targets.as_slice() {
-            let refused = self.note(*address, true)?;
-            if refused.is_some() {
-                return Ok(refused);
-            }
+            self.note(*address, true)?;
         }
-        Ok(None)
+        Ok(())
     }
 
     // Notes what was looked at before it was known.
@@ -356,17 +350,17 @@ impl Ground {
         Ok(())
     }
 
-    // Notes reads, or says why one can't be.
-    fn note_reads(&mut self, addresses: &[u16]) -> Result<Option<Door>, AllocError> {
+    // Notes reads.
+    fn note_reads(&mut self, addresses: &[u16]) -> Result<(), Stop> {
         for address in addresses {
             match self.mark(*address) {
                 None if self.is_keyboard(*address) => {}
-                None => return Ok(Some(Door::Read(*address))),
-                Some(mark) if mark.is_known || mark.is_set => {}
+                None => return Err(Stop::Left(Door::Read(*address))),
+                Some(mark) if mark.is_known || is_set(self.set.marks(), *address) => {}
                 Some(_) => self.note_look(Input::Byte(*address))?,
             }
         }
-        Ok(None)
+        Ok(())
     }
 
     // Notes registers and flags that are looked at.
@@ -381,94 +375,69 @@ impl Ground {
         Ok(())
     }
 
-    // Notes what an instruction looks at and sets, or says why a byte can't be read.
-    fn note_looks(&mut self, instr: Instr, regs: &Regs) -> Result<Option<Door>, AllocError> {
+    // Notes what an instruction looks at and sets.
+    fn note_looks(&mut self, instr: Instr, regs: &Regs) -> Result<(), Stop> {
         // No such instruction has a greater value: for the prover, whose clauses of a program do not say so.
         if instr.mode == Mode::IndirectIndexed && instr.value > 255 {
-            return Ok(None);
+            return Ok(());
         }
         let read = reads(instr, regs, &self.now);
-        for addresses in [&read.pointer, &read.operand] {
-            let refused = self.note_reads(addresses.as_slice())?;
-            if refused.is_some() {
-                return Ok(refused);
-            }
-        }
+        self.note_reads(read.pointer.as_slice())?;
+        self.note_reads(read.operand.as_slice())?;
         self.note_parts(needs(instr.mnemonic))?;
         self.note_parts(mode_needs(instr.mode))?;
-        for part in sets(instr.mnemonic) {
-            self.known_now.add(*part);
-        }
-        Ok(None)
+        self.known_now.learn(sets(instr.mnemonic));
+        Ok(())
     }
 
-    // Notes where a service may store, or says why it can't.
-    fn note_reach(&mut self, service: Service) -> Result<Option<Door>, AllocError> {
+    // Notes where a service may store.
+    fn note_reach(&mut self, service: Service) -> Result<(), Stop> {
         for address in 0..REACH_END {
             if reach(service, address) {
-                let refused = self.note(address, false)?;
-                if refused.is_some() {
-                    return Ok(refused);
-                }
+                self.note(address, false)?;
             }
         }
-        Ok(None)
+        Ok(())
     }
 
-    // Calls the service at PC, and adds its cycles; or says why it is not called.
-    fn call_service(
-        &mut self,
-        service: Service,
-        exit: &mut Exit,
-    ) -> Result<Option<Door>, AllocError> {
+    // Calls the service at PC, and adds its cycles.
+    fn call_service(&mut self, service: Service, exit: &mut Exit) -> Result<(), Stop> {
         self.note_parts(taken_by(service))?;
-        let refused = self.note_reach(service)?;
-        if refused.is_some() {
-            return Ok(refused);
-        }
+        self.note_reach(service)?;
         let printed = self.printed.len();
         if self.is_heard {
             push_printed(&mut self.printed, service, &exit.regs, &self.now)?;
         }
         let mut live = Live::of(&exit.regs);
-        let answer = call(service, &mut live, &mut self.now);
-        if !matches!(answer, Served::Next(_)) {
-            self.printed.truncate(printed);
-        }
-        match answer {
+        let refused = match call(service, &mut live, &mut self.now) {
             Served::Next(cycles) => {
                 exit.advance(live.regs(), cycles);
-                for part in given_by(service) {
-                    self.known_now.add(*part);
-                }
-                Ok(None)
+                self.known_now.learn(given_by(service));
+                return Ok(());
             }
-            Served::Window => Ok(Some(Door::Window(exit.regs.pc))),
-            Served::Keys => Ok(Some(Door::Keys(exit.regs.pc))),
-        }
+            Served::Window => Door::Window(exit.regs.pc),
+            Served::Keys => Door::Keys(exit.regs.pc),
+        };
+        self.printed.truncate(printed);
+        Err(Stop::Left(refused))
     }
 
-    // Does an instruction, and adds its cycles; or says why it is not done.
-    fn do_instr(&mut self, instr: Instr, exit: &mut Exit) -> Result<Option<Door>, AllocError> {
-        let refused = self.note_looks(instr, &exit.regs)?;
-        if refused.is_some() {
-            return Ok(refused);
-        }
-        let refused = self.note_stores(&exit.regs)?;
-        if refused.is_some() {
-            return Ok(refused);
-        }
+    // Does an instruction, and adds its cycles.
+    fn do_instr(&mut self, instr: Instr, exit: &mut Exit) -> Result<(), Stop> {
+        self.note_looks(instr, &exit.regs)?;
+        self.note_stores(&exit.regs)?;
         let mut regs = exit.regs;
-        match step(&mut regs, &mut self.now) {
+        let refused = match step(&mut regs, &mut self.now) {
             Step::Next(cycles) => {
                 exit.advance(regs, cycles);
                 self.note_passage(instr, exit);
-                Ok(None)
+                return Ok(());
             }
-            Step::Brk => Ok(Some(Door::Brk)),
-            Step::Decimal => Ok(Some(Door::Decimal)),
-            Step::Opcode | Step::Rom => Ok(Some(Door::Elsewhere(exit.regs.pc))),
-        }
+            Step::Brk => Door::Brk,
+            Step::Decimal => Door::Decimal,
+            Step::Opcode | Step::Rom => Door::Elsewhere(exit.regs.pc),
+        };
+        Err(Stop::Left(refused))
     }
 
     // Notes that the routine itself went on into another, without calling it: where an RTS leads there, it is the JSR before.
@@ -488,11 +457,11 @@ impl Ground {
         };
     }
 
-    /// Makes a step, and adds its cycles; or says why there is none.
-    pub fn make_step(&mut self, exit: &mut Exit) -> Result<Option<Door>, AllocError> {
+    // Goes on from PC, and adds the cycles of the step.
+    fn go_on(&mut self, exit: &mut Exit) -> Result<(), Stop> {
         let pc = exit.regs.pc;
         if pc == RETURN_ADDRESS {
-            return Ok(Some(door_of_return(exit.regs.s)));
+            return Err(Stop::Left(door_of_return(exit.regs.s)));
         }
         match self.mark(pc) {
             Some(
@@ -501,11 +470,23 @@ impl Ground {
                     ..
                 },
             ) => self.do_instr(instr, exit),
-            Some(_) => Ok(Some(Door::Elsewhere(pc))),
+            Some(_) => Err(Stop::Left(Door::Elsewhere(pc))),
             None => match service_at(pc) {
                 Some(service) => self.call_service(service, exit),
-                None => Ok(Some(Door::Above(pc))),
+                None => Err(Stop::Left(Door::Above(pc))),
             },
+        }
+    }
+
+    /// Makes a step, and adds its cycles; false where there is none, and it is noted how the routine leaves.
+    pub fn make_step(&mut self, exit: &mut Exit) -> Result<bool, AllocError> {
+        match self.go_on(exit) {
+            Ok(()) => Ok(true),
+            Err(Stop::Left(door)) => {
+                exit.door = door;
+                Ok(false)
+            }
+            Err(Stop::Memory) => Err(AllocError),
         }
     }
 }
@@ -522,16 +503,15 @@ const TOLD: u32 = 8;
 
 /// The last steps of a run of so many from these registers, with RAM as it is at the entry.
 pub(crate) fn last_steps(
-    alloc: Global,
     ground: &mut Ground,
     regs: Regs,
     steps: u32,
 ) -> Result<Vec<Traced>, AllocError> {
     let mut exit = Exit::at(regs);
-    let mut told = Vec::new(alloc);
+    let mut told = Vec::new(ground.alloc);
     for left in (0..steps).rev() {
         let address = exit.regs.pc;
-        if ground.make_step(&mut exit)?.is_some() {
+        if !ground.make_step(&mut exit)? {
             return Ok(told);
         }
         if left < TOLD {

@@ -6,8 +6,8 @@ ghost use Rattle.a2_reads.specs.Parts.{is_part};
 ghost use Rattle.a2_trial.specs.Kept.{is_own, may_store};
 ghost use Rattle.a2_trial.specs.States.{holds_part, values_of};
 
-use crate::settled::settled_value;
-use a2_promise::{Atom, Changes, Expr, Function, Operation, Promise};
+use crate::settled::{number_of, settled_value};
+use a2_promise::{Atom, Changes, Expr, Function, Promise};
 use a2_uses::Part;
 use std::alloc::{AllocError, Global};
 
@@ -92,23 +92,17 @@ pub(crate) struct Inputs {
     /// How many it names.
     pub named: usize,
     /// How many it names or its routine looks at.
-    pub varied: usize,
+    varied: usize,
     /// The byte of each that what it requires settles.
     pub settled: Vec<Option<u8>>,
-    /// The bytes of the numbers that it names, which are tried among the first.
-    pub corners: Vec<u8>,
+    /// How many states those have that are varied and not settled; 2^64 - 1 stands for more.
+    pub states: u64,
 }
 
 impl Inputs {
-    /// Those that are varied and not settled, so that all values of them are tried, or some.
-    pub fn free(&self, alloc: Global) -> Result<Vec<Input>, AllocError> {
-        let mut free = Vec::new(alloc);
-        for (input, settled) in self.all.iter().zip(&self.settled).take(self.varied) {
-            if settled.is_none() {
-                free.push(*input)?;
-            }
-        }
-        Ok(free)
+    /// Those that it names or its routine looks at.
+    pub fn varied(&self) -> &[Input] {
+        self.all.as_slice().get(..self.varied).unwrap_or(&[])
     }
 }
 
@@ -167,18 +161,11 @@ fn is_kept(changes: &Changes, input: Input) -> bool {
     }
 }
 
-// What is looked for: where an expression speaks of the entry, or of what is there as it was.
-#[derive(Clone, Copy)]
-struct Search<'a> {
-    changes: &'a Changes,
-    is_entry: bool,
-}
-
-// What expressions name: inputs, and the bytes of numbers.
+/// What a promise names: inputs, and the bytes of numbers, which are tried among the first.
 #[derive(Drop)]
-struct Named {
-    inputs: Vec<Input>,
-    corners: Vec<u8>,
+pub(crate) struct Named {
+    pub inputs: Vec<Input>,
+    pub corners: Vec<u8>,
 }
 
 // Adds the bytes of a number, the low one first, where it is one of two bytes.
@@ -190,135 +177,102 @@ fn add_corners(named: &mut Named, number: i64) -> Result<(), AllocError> {
     Ok(())
 }
 
-// Adds an input that an expression names, where it is one of the entry.
-fn add_named(named: &mut Named, input: Input, search: Search) -> Result<(), AllocError> {
-    if search.is_entry || is_kept(search.changes, input) {
-        add(&mut named.inputs, input)
-    } else {
-        Ok(())
+// Adds an input that an expression names; of a state behind the routine only one that it does not change.
+fn add_named(named: &mut Named, input: Input, behind: Option<&Changes>) -> Result<(), AllocError> {
+    match behind {
+        Some(changes) if !is_kept(changes, input) => Ok(()),
+        _ => add(&mut named.inputs, input),
     }
 }
 
 // Adds so many bytes from an address on.
-fn add_bytes(named: &mut Named, address: i64, count: u8, search: Search) -> Result<(), AllocError> {
+fn add_bytes(
+    named: &mut Named,
+    address: i64,
+    count: u8,
+    behind: Option<&Changes>,
+) -> Result<(), AllocError> {
     for further in 0..count {
         let place = address.saturating_add(i64::from(further));
         if 0 <= place && place < 0xC000 {
-            add_named(named, Input::Byte(place as u16), search)?;
+            add_named(named, Input::Byte(place as u16), behind)?;
         }
     }
     Ok(())
 }
 
-// Adds what a function names of an expression.
-#[cycle(search)]
-fn search_of(
-    named: &mut Named,
-    function: Function,
-    of: &Expr,
-    search: Search,
-) -> Result<(), AllocError> {
-    match (function, of) {
-        (Function::Byte, Expr::Number(address)) => add_bytes(named, *address, 1, search),
-        (Function::Word, Expr::Number(address)) => add_bytes(named, *address, 2, search),
-        _ => search_in(named, of, search),
-    }
-}
-
-// Adds what an expression names of the entry.
-#[cycle(search)]
-fn search_in(named: &mut Named, expr: &Expr, search: Search) -> Result<(), AllocError> {
+// Adds what an expression names, of the entry, or of a state behind the routine with these changes.
+fn search_in(named: &mut Named, expr: &Expr, behind: Option<&Changes>) -> Result<(), AllocError> {
     match expr {
         Expr::Number(number) => add_corners(named, *number),
         // What was at a label is no part of a promise's own clauses.
         Expr::Bound(_) | Expr::At(_, _) => Ok(()),
         Expr::Held(atom) => match input_of(*atom) {
-            Some(input) => add_named(named, input, search),
+            Some(input) => add_named(named, input, behind),
             None => Ok(()),
         },
-        Expr::Old(within) => {
-            let entry = Search {
-                changes: search.changes,
-                is_entry: true,
-            };
-            search_in(named, within, entry)
-        }
-        Expr::Of(function, of) => search_of(named, *function, of, search),
+        Expr::Old(within) => search_in(named, within, None),
+        Expr::Of(function, of) => match (function, number_of(of)) {
+            (Function::Byte, Some(address)) => add_bytes(named, address, 1, behind),
+            (Function::Word, Some(address)) => add_bytes(named, address, 2, behind),
+            _ => search_in(named, of, behind),
+        },
         Expr::Pair(_, left, right) | Expr::Each(_, left, right) | Expr::Sum(_, left, right) => {
-            search_in(named, left, search)?;
-            search_in(named, right, search)
+            search_in(named, left, behind)?;
+            search_in(named, right, behind)
         }
         Expr::Choice(by, one, other) => {
-            search_in(named, by, search)?;
-            search_in(named, one, search)?;
-            search_in(named, other, search)
+            search_in(named, by, behind)?;
+            search_in(named, one, behind)?;
+            search_in(named, other, behind)
         }
     }
 }
 
-/// The inputs of a promise.
-pub(crate) fn inputs_of(alloc: Global, promise: &Promise) -> Result<Inputs, AllocError> {
-    let changes = &promise.changes;
+/// What a promise names.
+pub(crate) fn named_by(alloc: Global, promise: &Promise) -> Result<Named, AllocError> {
     let mut named = Named {
         inputs: Vec::new(alloc),
         corners: Vec::new(alloc),
     };
     for clause in promise.wanted.as_slice() {
-        let search = Search {
-            changes,
-            is_entry: true,
-        };
-        search_in(&mut named, &clause.expr, search)?;
+        search_in(&mut named, &clause.expr, None)?;
     }
     for clause in promise.promised.as_slice() {
-        let search = Search {
-            changes,
-            is_entry: false,
-        };
-        search_in(&mut named, &clause.expr, search)?;
+        search_in(&mut named, &clause.expr, Some(&promise.changes))?;
     }
-    let count = named.inputs.len();
-    with_rest(alloc, promise, named.inputs, count, named.corners)
+    Ok(named)
 }
 
-// Inputs that are varied, of which a promise names so many, with the registers and flags behind them that are not.
-fn with_rest(
+/// The inputs of a promise that names these, and whose routine looks at these.
+pub(crate) fn inputs_of(
     alloc: Global,
     promise: &Promise,
-    varied: Vec<Input>,
-    named: usize,
-    corners: Vec<u8>,
+    named: &[Input],
+    looked: &[Input],
 ) -> Result<Inputs, AllocError> {
-    let mut all = varied;
+    let mut all = Vec::from_slice(alloc, named)?;
+    for input in looked {
+        add(&mut all, *input)?;
+    }
     let varied = all.len();
     for register in REGISTERS {
         add(&mut all, register)?;
     }
     let mut settled = Vec::new(alloc);
-    let wanted = promise.wanted.as_slice();
-    for input in &all {
-        settled.push(settled_value(all.as_slice(), wanted, *input))?;
+    let mut states: u64 = 1;
+    for (index, input) in all.iter().enumerate() {
+        let byte = settled_value(all.as_slice(), promise.wanted.as_slice(), *input);
+        if index < varied && byte.is_none() {
+            states = states.saturating_mul(input.values());
+        }
+        settled.push(byte)?;
     }
     Ok(Inputs {
         all,
-        named,
+        named: named.len(),
         varied,
         settled,
-        corners,
+        states,
     })
-}
-
-/// The same inputs, and those varied too that a routine looks at.
-pub(crate) fn with_looked(
-    alloc: Global,
-    promise: &Promise,
-    inputs: Inputs,
-    looked: &[Input],
-) -> Result<Inputs, AllocError> {
-    let mut varied = inputs.all;
-    varied.truncate(inputs.varied);
-    for input in looked {
-        add(&mut varied, *input)?;
-    }
-    with_rest(alloc, promise, varied, inputs.named, inputs.corners)
 }

@@ -1,20 +1,25 @@
 //! Whether a run kept a promise.
 
-ghost use Rattle.std.specs.Prelude.{◌≡◌, ◌↔◌, true, IfOk};
+ghost use Rattle.std.specs.Prelude.{◌≡◌, ◌↔◌, true, length, IfOk};
+ghost use Rattle.a2_bus.specs.Memory.{ram_end};
+ghost use Rattle.a2_bus.specs.View.{memory_of};
+ghost use Rattle.a2_cpu.specs.View.{registers_of};
 ghost use Rattle.a2_promise.specs.Values.{moment_of};
 ghost use Rattle.a2_trial.specs.Judging as judging;
+ghost use Rattle.a2_trial.specs.Kept.{bytes_of as ram_bytes_of};
 
 use crate::ground::{Door, Exit, Ground};
 use crate::inputs::{Input, is_own_stack, may_change};
 use crate::printing::bytes_of;
-use a2_bus::Bus;
+use crate::settled::number_of;
+use a2_bus::{AddressSpace, Bus};
 use a2_cpu::Regs;
 use a2_promise::{
     Bounds, Changes, Clause, Expr, Operation, Promise, Sight, Text, Texts, Visit, value, value_in,
 };
 use std::alloc::{AllocError, Global};
 
-/// Why what a line says is not so where a run comes to its label.
+/// Why what a line says is not so.
 #[derive(Clone, Copy)]
 pub enum Unmet {
     /// The fact does not hold; and what stands at the left and the right of what decides it, where it compares.
@@ -32,16 +37,12 @@ pub enum Unmet {
 pub enum Broken {
     /// The routine leaves by this door.
     Left(Door),
-    /// The clause of this index; and what stands at the left and the right of what decides it, where it compares.
-    Clause(usize, Option<(i64, i64)>),
-    /// The clause of this index has no value.
-    NoValue(usize),
+    /// What this line says is not so, behind the routine or where a run comes to its label.
+    Line(usize, Unmet),
     /// It prints otherwise than the text of this index says.
     Prints(usize),
     /// Keys are left that were typed.
     Keys,
-    /// What this line says is not so where a run comes to its label.
-    Within(usize, Unmet),
     /// A register that does not stand behind `changes`, its byte before, and behind.
     Register(Input, u8, u8),
     /// A byte that does not.
@@ -70,13 +71,29 @@ pub(crate) fn all_hold(clauses: &[Clause], entry: &Sight<Global>, exit: &Sight<G
         .all(|clause| holds(value(&clause.expr, entry, exit, NO_NAMES)))
 }
 
-// Whether an expression is a number as it stands.
-fn is_number(expr: &Expr) -> bool {
-    matches!(expr, Expr::Number(_))
+/// What promises see of registers and RAM, so many cycles and steps after the entry.
+pub(crate) fn sight_of<'a>(
+    regs: &Regs,
+    space: &'a AddressSpace<Global>,
+    cycles: u32,
+    steps: u32,
+) -> Sight<'a, Global>
+    ensures moment { moment_of result
+        ≡ record { registers = registers_of regs.now; bytes = ram_bytes_of (memory_of space.now); cycles = cycles; steps = steps } }
+    ensures size { length space.now.bytes ≡ ram_end }
+{
+    // For the prover, which learns from it how long RAM is.
+    let _first = space.peek(0);
+    Sight {
+        regs: *regs,
+        space,
+        cycles,
+        steps,
+    }
 }
 
-/// What a fact compares that decides it: of two that both have to hold the first that does not.
-pub(crate) fn sides(
+// What a fact compares that decides it: of two that both have to hold the first that does not.
+fn sides(
     expr: &Expr,
     entry: &Sight<Global>,
     exit: &Sight<Global>,
@@ -90,7 +107,7 @@ pub(crate) fn sides(
         Expr::Choice(by, one, other) => {
             if value_in(by, entry, exit, visits, NO_NAMES)? != 0 {
                 sides(one, entry, exit, visits)
-            } else if is_number(other) {
+            } else if number_of(other).is_some() {
                 sides(by, entry, exit, visits)
             } else {
                 sides(other, entry, exit, visits)
@@ -100,16 +117,22 @@ pub(crate) fn sides(
     }
 }
 
-// The first clause that does not hold.
-fn broken_clause(clauses: &[Clause], entry: &Sight<Global>, exit: &Sight<Global>) -> Broken {
-    for (index, clause) in clauses.iter().enumerate() {
-        match value(&clause.expr, entry, exit, NO_NAMES) {
-            None => return Broken::NoValue(index),
-            Some(0) => return Broken::Clause(index, sides(&clause.expr, entry, exit, &[])),
-            Some(_) => {}
-        }
+/// The first of clauses that does not hold.
+pub(crate) fn broken_line(
+    clauses: &[Clause],
+    entry: &Sight<Global>,
+    exit: &Sight<Global>,
+    visits: &[Visit<Global>],
+) -> Option<Broken> {
+    for clause in clauses {
+        let unmet = match value_in(&clause.expr, entry, exit, visits, NO_NAMES) {
+            None => Unmet::NoValue,
+            Some(0) => Unmet::Fact(sides(&clause.expr, entry, exit, visits)),
+            Some(_) => continue,
+        };
+        return Some(Broken::Line(clause.line, unmet));
     }
-    Broken::NoValue(clauses.len())
+    None
 }
 
 // A register that is other than before, and may not be.
@@ -129,7 +152,7 @@ fn broken_register(changes: &Changes, before: &Regs, behind: &Regs) -> Option<Br
 
 // A byte that is other than before, and may not be.
 fn broken_byte(changes: &Changes, ground: &Ground) -> Option<Broken> {
-    for address in ground.stored.as_slice() {
+    for address in ground.stored.places() {
         let address = *address;
         if is_own_stack(address) || may_change(changes, address) {
             continue;
@@ -192,21 +215,10 @@ pub(crate) fn broken_by(
     if exit.door != Door::Returned {
         return Ok(Some(Broken::Left(exit.door)));
     }
-    let entry = Sight {
-        regs,
-        space: &ground.before,
-        cycles: 0,
-        steps: 0,
-    };
-    let behind = Sight {
-        regs: exit.regs,
-        space: &ground.now,
-        cycles: exit.cycles,
-        steps: exit.steps,
-    };
-    let promised = promise.promised.as_slice();
-    if !all_hold(promised, &entry, &behind) {
-        return Ok(Some(broken_clause(promised, &entry, &behind)));
+    let entry = sight_of(&regs, &ground.before, 0, 0);
+    let behind = sight_of(&exit.regs, &ground.now, exit.cycles, exit.steps);
+    if let Some(broken) = broken_line(promise.promised.as_slice(), &entry, &behind, &[]) {
+        return Ok(Some(broken));
     }
     if let Some(broken) = broken_text(promise, ground)? {
         return Ok(Some(broken));

@@ -35,7 +35,7 @@ pub use parts::Parts;
 pub use printing::push_printed;
 pub use report::{put_refusal, put_verdict};
 pub use stored::Stored;
-pub use trial::{Failure, Trials, Verdict, try_promise};
+pub use trial::{Failure, Held, Trials, Verdict, try_promise};
 pub use walk::{Walk, walk_home};
 
 /// A theorem, and no code: a promise that is kept in each state of its inputs, where neither its routine nor itself looks at

@@ -14,52 +14,53 @@ use a2_promise::{Atom, Bounds, Clause, Expr, Function, Sight, value};
 use a2_uses::Part;
 use std::alloc::Global;
 
-/// What is known of a state: bytes of RAM, by their marks at the entry and those of what was stored since, and registers and
-/// flags.
+/// What promises see of a state, and what is known of that: bytes of RAM, by their marks at the entry and those of what was stored
+/// since, and registers and flags.
 #[derive(Clone, Copy)]
-pub(crate) struct Sure<'a> {
-    pub known: &'a [bool],
-    pub stored: &'a [bool],
+pub(crate) struct View<'k, 's> {
+    pub sight: Sight<'s, Global>,
+    pub known: &'k [bool],
+    pub stored: &'k [bool],
     pub parts: Parts,
 }
 
 // Whether what an atom is is known; cycles and steps always are, and S never: a routine may be entered with any.
-fn is_atom(sure: &Sure, atom: Atom) -> bool
-    ensures { result ≡ is_atom_known (knows_part sure.now.parts) atom }
+fn is_atom(view: &View, atom: Atom) -> bool
+    ensures { result ≡ is_atom_known (knows_part view.now.parts) atom }
 {
     match atom {
-        Atom::A => sure.parts.has(Part::A),
-        Atom::X => sure.parts.has(Part::X),
-        Atom::Y => sure.parts.has(Part::Y),
-        Atom::Carry => sure.parts.has(Part::C),
-        Atom::Zero => sure.parts.has(Part::Z),
-        Atom::Negative => sure.parts.has(Part::N),
-        Atom::Overflow => sure.parts.has(Part::V),
-        Atom::Decimal => sure.parts.has(Part::D),
-        Atom::Interrupt => sure.parts.has(Part::I),
+        Atom::A => view.parts.has(Part::A),
+        Atom::X => view.parts.has(Part::X),
+        Atom::Y => view.parts.has(Part::Y),
+        Atom::Carry => view.parts.has(Part::C),
+        Atom::Zero => view.parts.has(Part::Z),
+        Atom::Negative => view.parts.has(Part::N),
+        Atom::Overflow => view.parts.has(Part::V),
+        Atom::Decimal => view.parts.has(Part::D),
+        Atom::Interrupt => view.parts.has(Part::I),
         Atom::S => false,
         Atom::Cycles | Atom::Steps => true,
     }
 }
 
 // Whether what an address holds is known; of the stack's page none is, since it lies elsewhere there with another S.
-fn is_seen(sure: &Sure, address: u16) -> bool
-    ensures { result ≡ (known_of sure.now).bytes address }
+fn is_seen(view: &View, address: u16) -> bool
+    ensures { result ≡ (known_of view.now).bytes address }
 {
-    !is_in_stack(address) && is_known(sure.known, sure.stored, address)
+    !is_in_stack(address) && is_known(view.known, view.stored, address)
 }
 
 // Whether what a function of this number looks at is known.
-fn is_made(sure: &Sure, function: Function, number: Option<i64>) -> bool
-    ensures { IsTrue result → KnowsMade function (known_of sure.now) number }
+fn is_made(view: &View, function: Function, number: Option<i64>) -> bool
+    ensures { IsTrue result → KnowsMade function (known_of view.now) number }
 {
     let Some(number @ 0..65536) = number else {
         return true;
     };
     let address = number as u16;
     match function {
-        Function::Byte => is_seen(sure, address),
-        Function::Word => is_seen(sure, address) && is_seen(sure, address.wrapping_add(1)),
+        Function::Byte => is_seen(view, address),
+        Function::Word => is_seen(view, address) && is_seen(view, address.wrapping_add(1)),
         Function::Signed | Function::Abs => true,
     }
 }
@@ -82,21 +83,18 @@ fn is_each_known<'k, 's>(
     name: u8,
     count: Option<i64>,
     body: &Expr,
-    before: &Sure<'k>,
-    behind: &Sure<'k>,
-    entry: &Sight<'s, Global>,
-    exit: &Sight<'s, Global>,
+    entry: &View<'k, 's>,
+    exit: &View<'k, 's>,
     names: Bounds,
 ) -> bool
-    ensures { IsTrue result → (k : ℕ) → IsBelow k (count_of count) → Knows body.now (known_of before.now) (known_of behind.now)
-        (moment_of entry.now) (moment_of exit.now) (slice_set names name (pos k)) }
+    ensures { IsTrue result → (k : ℕ) → IsBelow k (count_of count) → Knows body.now (known_of entry.now) (known_of exit.now)
+        (moment_of entry.now.sight) (moment_of exit.now.sight) (slice_set names name (pos k)) }
 {
     let Some(count @ 0..65536) = count else {
         return true;
     };
     for number in 0..count {
-        let names = with_bound(names, name, number);
-        if !is_looked_at(body, before, behind, entry, exit, names) {
+        if !is_looked_at(body, entry, exit, with_bound(names, name, number)) {
             return false;
         }
     }
@@ -107,49 +105,36 @@ fn is_each_known<'k, 's>(
 #[cycle(looks)]
 fn is_looked_at<'k, 's>(
     expr: &Expr,
-    before: &Sure<'k>,
-    behind: &Sure<'k>,
-    entry: &Sight<'s, Global>,
-    exit: &Sight<'s, Global>,
+    entry: &View<'k, 's>,
+    exit: &View<'k, 's>,
     names: Bounds,
 ) -> bool
-    ensures { IsTrue result → Knows expr.now (known_of before.now) (known_of behind.now)
-        (moment_of entry.now) (moment_of exit.now) names }
+    ensures { IsTrue result → Knows expr.now (known_of entry.now) (known_of exit.now)
+        (moment_of entry.now.sight) (moment_of exit.now.sight) names }
 {
     match expr {
         Expr::Number(_) | Expr::Bound(_) | Expr::At(_, _) => true,
-        Expr::Held(atom) => is_atom(behind, *atom),
-        Expr::Old(of) => is_looked_at(of, before, before, entry, entry, names),
+        Expr::Held(atom) => is_atom(exit, *atom),
+        Expr::Old(of) => is_looked_at(of, entry, entry, names),
         Expr::Of(function, of) => {
-            is_looked_at(of, before, behind, entry, exit, names)
-                && is_made(behind, *function, value(of, entry, exit, names))
+            is_looked_at(of, entry, exit, names)
+                && is_made(exit, *function, value(of, &entry.sight, &exit.sight, names))
         }
         Expr::Pair(_, left, right) => {
-            is_looked_at(left, before, behind, entry, exit, names)
-                && is_looked_at(right, before, behind, entry, exit, names)
+            is_looked_at(left, entry, exit, names) && is_looked_at(right, entry, exit, names)
         }
         Expr::Choice(by, yes, no) => {
-            is_looked_at(by, before, behind, entry, exit, names)
-                && match value(by, entry, exit, names) {
+            is_looked_at(by, entry, exit, names)
+                && match value(by, &entry.sight, &exit.sight, names) {
                     None => true,
-                    chosen if holds(chosen) => {
-                        is_looked_at(yes, before, behind, entry, exit, names)
-                    }
-                    Some(_) => is_looked_at(no, before, behind, entry, exit, names),
+                    chosen if holds(chosen) => is_looked_at(yes, entry, exit, names),
+                    Some(_) => is_looked_at(no, entry, exit, names),
                 }
         }
         Expr::Each(name, count, body) | Expr::Sum(name, count, body) => {
-            is_looked_at(count, before, behind, entry, exit, names)
-                && is_each_known(
-                    *name,
-                    value(count, entry, exit, names),
-                    body,
-                    before,
-                    behind,
-                    entry,
-                    exit,
-                    names,
-                )
+            let number = value(count, &entry.sight, &exit.sight, names);
+            is_looked_at(count, entry, exit, names)
+                && is_each_known(*name, number, body, entry, exit, names)
         }
     }
 }
@@ -157,16 +142,14 @@ fn is_looked_at<'k, 's>(
 /// Whether all that clauses look at is known, of a state where a routine is entered and one that it leaves.
 pub(crate) fn look_at_known<'k, 's>(
     clauses: &[Clause],
-    before: &Sure<'k>,
-    behind: &Sure<'k>,
-    entry: &Sight<'s, Global>,
-    exit: &Sight<'s, Global>,
+    entry: &View<'k, 's>,
+    exit: &View<'k, 's>,
 ) -> bool
-    ensures { IsTrue result → LookAtKnown clauses.now (known_of before.now) (known_of behind.now)
-        (moment_of entry.now) (moment_of exit.now) }
+    ensures { IsTrue result → LookAtKnown clauses.now (known_of entry.now) (known_of exit.now)
+        (moment_of entry.now.sight) (moment_of exit.now.sight) }
 {
     for clause in clauses {
-        if !is_looked_at(&clause.expr, before, behind, entry, exit, NO_NAMES) {
+        if !is_looked_at(&clause.expr, entry, exit, NO_NAMES) {
             return false;
         }
     }

@@ -4,7 +4,7 @@ use crate::ground::{Door, Passage, Traced};
 use crate::inputs::Input;
 use crate::judge::{Broken, Unmet};
 use crate::settled::settled_value;
-use crate::trial::{Failure, LEAST_TRIED, Verdict};
+use crate::trial::{Failure, Held, LEAST_TRIED, Verdict};
 use a2_asm::Program;
 use a2_cpu::Regs;
 use a2_hex::RAM_END;
@@ -13,8 +13,24 @@ use a2_stream::{Output, WriteFault, put_all};
 use a2_text::{behind_blanks, decimal, hex_pair, hex_word};
 use std::alloc::Global;
 
-// Writes a number, with a comma before each three digits.
-fn put_grouped<W: Output>(number: u64, output: &mut W) -> Result<(), WriteFault> {
+// Writes a number between words.
+fn put_number<W: Output>(
+    before: &[u8],
+    number: u64,
+    behind: &[u8],
+    output: &mut W,
+) -> Result<(), WriteFault> {
+    put_all(&[before, decimal(number).as_slice(), behind], output)
+}
+
+// The same, with a comma before each three digits.
+fn put_grouped<W: Output>(
+    before: &[u8],
+    number: u64,
+    behind: &[u8],
+    output: &mut W,
+) -> Result<(), WriteFault> {
+    put_all(&[before], output)?;
     let digits = decimal(number);
     let count = digits.len();
     for (index, digit) in digits.as_slice().iter().enumerate() {
@@ -24,40 +40,37 @@ fn put_grouped<W: Output>(number: u64, output: &mut W) -> Result<(), WriteFault>
         }
         put_all(&[&[*digit]], output)?;
     }
-    Ok(())
+    put_all(&[behind], output)
 }
 
-// Writes a number that may be below 0.
-fn put_signed<W: Output>(number: i64, output: &mut W) -> Result<(), WriteFault> {
-    if number < 0 {
-        put_all(&[b"-"], output)?;
-    }
+// Writes words, and a number behind them that may be below 0.
+fn put_signed<W: Output>(words: &[u8], number: i64, output: &mut W) -> Result<(), WriteFault> {
+    let sign: &[u8] = if number < 0 { b"-" } else { b"" };
     let digits = decimal(number.unsigned_abs());
-    put_all(&[digits.as_slice()], output)
+    put_all(&[words, sign, digits.as_slice()], output)
 }
 
-// Writes an address: in page 0 with two digits.
-fn put_address<W: Output>(address: u16, output: &mut W) -> Result<(), WriteFault> {
-    if address < 256 {
-        put_all(&[b"$", &hex_pair((address % 256) as u8)], output)
-    } else {
-        put_all(&[b"$", &hex_word(address)], output)
-    }
+// Writes words, and an address behind them: in page 0 with two digits.
+fn put_address<W: Output>(words: &[u8], address: u16, output: &mut W) -> Result<(), WriteFault> {
+    let digits = hex_word(address);
+    let shown: &[u8] = if address < 256 { &digits[2..] } else { &digits };
+    put_all(&[words, b"$", shown], output)
 }
 
-// Writes what an input is called.
-fn put_input<W: Output>(input: Input, output: &mut W) -> Result<(), WriteFault> {
-    match input {
-        Input::A => put_all(&[b"A"], output),
-        Input::X => put_all(&[b"X"], output),
-        Input::Y => put_all(&[b"Y"], output),
-        Input::Carry => put_all(&[b"C"], output),
-        Input::Zero => put_all(&[b"Z"], output),
-        Input::Negative => put_all(&[b"N"], output),
-        Input::Overflow => put_all(&[b"V"], output),
-        Input::Interrupt => put_all(&[b"I"], output),
-        Input::Byte(address) => put_address(address, output),
-    }
+// Writes words, and behind them what an input is called.
+fn put_input<W: Output>(words: &[u8], input: Input, output: &mut W) -> Result<(), WriteFault> {
+    let name: &[u8] = match input {
+        Input::A => b"A",
+        Input::X => b"X",
+        Input::Y => b"Y",
+        Input::Carry => b"C",
+        Input::Zero => b"Z",
+        Input::Negative => b"N",
+        Input::Overflow => b"V",
+        Input::Interrupt => b"I",
+        Input::Byte(address) => return put_address(words, address, output),
+    };
+    put_all(&[words, name], output)
 }
 
 // Whether an input of these has one value, since what is required settles it.
@@ -81,17 +94,13 @@ fn put_inputs<W: Output>(
         }
         if count < MOST_TOLD {
             let before: &[u8] = if count == 0 { b" of " } else { b", " };
-            put_all(&[before], output)?;
-            put_input(*input, output)?;
+            put_input(before, *input, output)?;
         }
         count = count.saturating_add(1);
     }
     let more = count.saturating_sub(MOST_TOLD);
     if more > 0 {
-        put_all(
-            &[b" and ", decimal(more as u64).as_slice(), b" more"],
-            output,
-        )?;
+        put_number(b" and ", more as u64, b" more", output)?;
     }
     Ok(())
 }
@@ -100,63 +109,40 @@ fn put_inputs<W: Output>(
 fn put_holds<W: Output>(kept: u64, tried: u64, output: &mut W) -> Result<(), WriteFault> {
     put_all(&[b"HOLDS in every state ("], output)?;
     if kept != tried {
-        put_grouped(kept, output)?;
-        put_all(&[b" that it requires, of "], output)?;
+        put_grouped(b"", kept, b" that it requires, of ", output)?;
     }
-    put_grouped(tried, output)?;
-    put_all(&[b" tried)\n"], output)
-}
-
-// Writes that a promise held of a routine that looks at nothing at the entry.
-fn put_held_anywhere<W: Output>(output: &mut W) -> Result<(), WriteFault> {
-    put_all(&[b"held in "], output)?;
-    put_grouped(LEAST_TRIED, output)?;
-    put_all(&[b" states: it looks at nothing at its entry\n"], output)
+    put_grouped(b"", tried, b" tried)\n", output)
 }
 
 // Writes in how many states a promise held, which may be all that there are.
 fn put_count<W: Output>(kept: u64, is_all: bool, output: &mut W) -> Result<(), WriteFault> {
-    if kept == 1 {
-        let one: &[u8] = if is_all {
-            b"held in the one state"
-        } else {
-            b"held in 1 state"
-        };
-        return put_all(&[one], output);
+    match (kept, is_all) {
+        (1, true) => put_all(&[b"held in the one state"], output),
+        (1, false) => put_all(&[b"held in 1 state"], output),
+        (_, true) => put_grouped(b"held in all ", kept, b" states", output),
+        (_, false) => put_grouped(b"held in ", kept, b" states", output),
     }
-    let before: &[u8] = if is_all { b"held in all " } else { b"held in " };
-    put_all(&[before], output)?;
-    put_grouped(kept, output)?;
-    put_all(&[b" states"], output)
 }
 
-// Writes in how many states a promise held, of which inputs, and of how many.
-fn put_held<W: Output>(
-    promise: &Promise,
-    inputs: &[Input],
-    kept: u64,
-    tried: u64,
-    total: u64,
-    output: &mut W,
-) -> Result<(), WriteFault> {
+// Writes in how many states a promise held, of which inputs, and of how many; or that its routine looks at nothing at the entry.
+fn put_held<W: Output>(promise: &Promise, held: &Held, output: &mut W) -> Result<(), WriteFault> {
+    let inputs = held.inputs.as_slice();
     if inputs.is_empty() {
-        return put_held_anywhere(output);
+        let behind = b" states: it looks at nothing at its entry\n";
+        return put_grouped(b"held in ", LEAST_TRIED, behind, output);
     }
-    put_count(kept, tried == total, output)?;
+    put_count(held.kept, held.tried == held.total, output)?;
     put_inputs(promise, inputs, output)?;
-    if kept != tried {
-        put_all(&[b" that it requires, of "], output)?;
-        put_grouped(tried, output)?;
-        put_all(&[b" tried"], output)?;
+    if held.kept != held.tried {
+        put_grouped(b" that it requires, of ", held.tried, b" tried", output)?;
     } else if inputs
         .iter()
         .all(|input| is_settled(promise, inputs, *input))
     {
         put_all(&[b" that it requires"], output)?;
     }
-    if tried != total {
-        put_all(&[b"; there are "], output)?;
-        put_total(total, output)?;
+    if held.tried != held.total {
+        put_total(held.total, output)?;
     }
     put_all(&[b"\n"], output)
 }
@@ -164,36 +150,16 @@ fn put_held<W: Output>(
 // Writes how many states there are.
 fn put_total<W: Output>(total: u64, output: &mut W) -> Result<(), WriteFault> {
     if total == u64::MAX {
-        put_all(&[b"more than 18 quintillion"], output)
+        put_all(&[b"; there are more than 18 quintillion"], output)
     } else {
-        put_grouped(total, output)
+        put_grouped(b"; there are ", total, b"", output)
     }
 }
 
 // Writes the number of a line and a text that stands in it.
 fn put_line<W: Output>(line: usize, text: &[u8], output: &mut W) -> Result<(), WriteFault> {
-    put_all(
-        &[
-            b"line ",
-            decimal(line as u64).as_slice(),
-            b": ",
-            text,
-            b"\n",
-        ],
-        output,
-    )
-}
-
-// Writes the clause of an index.
-fn put_clause<W: Output>(
-    clauses: &[Clause],
-    index: usize,
-    output: &mut W,
-) -> Result<(), WriteFault> {
-    match clauses.get(index) {
-        Some(clause) => put_line(clause.line, clause.text, output),
-        None => put_all(&[b"\n"], output),
-    }
+    put_number(b"line ", line as u64, b": ", output)?;
+    put_all(&[text, b"\n"], output)
 }
 
 // The address that is told of how a routine leaves.
@@ -233,9 +199,9 @@ fn told_around(door: Door) -> (&'static str, &'static str) {
 // Writes how a routine leaves.
 fn put_door<W: Output>(door: Door, output: &mut W) -> Result<(), WriteFault> {
     let (before, behind) = told_around(door);
-    put_all(&[before.as_bytes()], output)?;
-    if let Some(address) = address_of(door) {
-        put_address(address, output)?;
+    match address_of(door) {
+        Some(address) => put_address(before.as_bytes(), address, output)?,
+        None => put_all(&[before.as_bytes()], output)?,
     }
     put_all(&[behind.as_bytes()], output)
 }
@@ -247,29 +213,20 @@ fn put_change<W: Output>(
     behind: u8,
     output: &mut W,
 ) -> Result<(), WriteFault> {
-    put_input(input, output)?;
-    put_all(
-        &[
-            b" does not stand behind changes, and is ",
-            decimal(u64::from(behind)).as_slice(),
-            b", before ",
-            decimal(u64::from(before)).as_slice(),
-            b"\n",
-        ],
-        output,
-    )
+    put_input(b"", input, output)?;
+    let words = b" does not stand behind changes, and is ";
+    put_number(words, u64::from(behind), b", before ", output)?;
+    put_number(b"", u64::from(before), b"\n", output)
 }
 
 // What a comparison that decides compares.
 fn put_sides<W: Output>(sides: Option<(i64, i64)>, output: &mut W) -> Result<(), WriteFault> {
-    if let Some((left, right)) = sides {
-        put_all(&[b"  compared are "], output)?;
-        put_signed(left, output)?;
-        put_all(&[b" and "], output)?;
-        put_signed(right, output)?;
-        put_all(&[b"\n"], output)?;
-    }
-    Ok(())
+    let Some((left, right)) = sides else {
+        return Ok(());
+    };
+    put_signed(b"  compared are ", left, output)?;
+    put_signed(b" and ", right, output)?;
+    put_all(&[b"\n"], output)
 }
 
 // The text of the clause of a line, of several.
@@ -282,8 +239,11 @@ fn text_in<'a>(clauses: &[Clause<'a>], line: usize) -> Option<&'a [u8]> {
     None
 }
 
-// What a line within a routine says.
+// What a line of a promise says.
 fn said_at<'a>(promise: &Promise<'a>, line: usize) -> &'a [u8] {
+    if let Some(text) = text_in(promise.promised.as_slice(), line) {
+        return text;
+    }
     for within in &promise.within {
         if let Some(text) = text_in(within.invariants.as_slice(), line) {
             return text;
@@ -295,8 +255,8 @@ fn said_at<'a>(promise: &Promise<'a>, line: usize) -> &'a [u8] {
     b""
 }
 
-// Writes what does not hold where a run comes to a label: what the line says, and why it is not so.
-fn put_within<W: Output>(
+// Writes what a line says that is not so, and why.
+fn put_unmet<W: Output>(
     unmet: Unmet,
     line: usize,
     says: &[u8],
@@ -310,15 +270,12 @@ fn put_within<W: Output>(
         Unmet::NoValue => Ok(()),
         Unmet::Fact(sides) => put_sides(sides, output),
         Unmet::BelowZero(number) => {
-            put_all(&[b"  it is below 0: "], output)?;
-            put_signed(number, output)?;
+            put_signed(b"  it is below 0: ", number, output)?;
             put_all(&[b"\n"], output)
         }
         Unmet::NotLess(before, number) => {
-            put_all(&[b"  it does not get less: it is "], output)?;
-            put_signed(number, output)?;
-            put_all(&[b", before "], output)?;
-            put_signed(before, output)?;
+            put_signed(b"  it does not get less: it is ", number, output)?;
+            put_signed(b", before ", before, output)?;
             put_all(&[b"\n"], output)
         }
     }
@@ -326,15 +283,16 @@ fn put_within<W: Output>(
 
 // Writes a byte of a text as it is spelt, or its number in brackets.
 fn put_spelt<W: Output>(byte: u8, output: &mut W) -> Result<(), WriteFault> {
-    match byte {
-        0x8D => put_all(&[b"\\r"], output),
-        0x88 => put_all(&[b"\\b"], output),
-        0x95 => put_all(&[b"\\f"], output),
-        0x98 => put_all(&[b"\\x"], output),
-        0xDC => put_all(&[b"\\\\"], output),
-        0xA0..=0xFE => put_all(&[&[byte % 128]], output),
-        _ => put_all(&[b"[$", &hex_pair(byte), b"]"], output),
-    }
+    let spelt: &[u8] = match byte {
+        0x8D => b"\\r",
+        0x88 => b"\\b",
+        0x95 => b"\\f",
+        0x98 => b"\\x",
+        0xDC => b"\\\\",
+        0xA0..=0xFE => return put_all(&[&[byte % 128]], output),
+        _ => return put_all(&[b"[$", &hex_pair(byte), b"]"], output),
+    };
+    put_all(&[spelt], output)
 }
 
 // Writes a text between quotes.
@@ -354,11 +312,8 @@ fn put_unprinted<W: Output>(
     output: &mut W,
 ) -> Result<(), WriteFault> {
     if let Some(text) = texts.get(index) {
-        let line = decimal(text.line as u64);
-        put_all(
-            &[b"line ", line.as_slice(), b": prints ", text.written, b"\n"],
-            output,
-        )?;
+        put_number(b"line ", text.line as u64, b": prints ", output)?;
+        put_all(&[text.written, b"\n"], output)?;
     }
     put_all(&[b"  it printed "], output)?;
     put_text(told, output)
@@ -370,21 +325,13 @@ fn put_broken<W: Output>(
     failure: &Failure,
     output: &mut W,
 ) -> Result<(), WriteFault> {
-    let clauses = promise.promised.as_slice();
     let told = failure.told.as_slice();
     match failure.broken {
         Broken::Left(door) => {
             put_door(door, output)?;
             put_all(&[b"\n"], output)
         }
-        Broken::Clause(index, sides) => {
-            put_clause(clauses, index, output)?;
-            put_sides(sides, output)
-        }
-        Broken::NoValue(index) => {
-            put_all(&[b"no value is there of "], output)?;
-            put_clause(clauses, index, output)
-        }
+        Broken::Line(line, unmet) => put_unmet(unmet, line, said_at(promise, line), output),
         Broken::Prints(index) => {
             put_unprinted(promise.texts.prints.as_slice(), index, told, output)
         }
@@ -392,7 +339,6 @@ fn put_broken<W: Output>(
             put_all(&[b"it leaves keys that were typed: "], output)?;
             put_text(told, output)
         }
-        Broken::Within(line, unmet) => put_within(unmet, line, said_at(promise, line), output),
         Broken::Register(register, before, behind) => {
             put_change(register, before, behind, output)
         }
@@ -408,9 +354,8 @@ fn put_state<W: Output>(failure: &Failure, output: &mut W) -> Result<(), WriteFa
     put_all(&[b"  entered with"], output)?;
     for (index, (input, value)) in failure.inputs.iter().zip(&failure.values).enumerate() {
         if index < failure.named || *value != 0 {
-            put_all(&[b" "], output)?;
-            put_input(*input, output)?;
-            put_all(&[b"=", decimal(u64::from(*value)).as_slice()], output)?;
+            put_input(b" ", *input, output)?;
+            put_number(b"=", u64::from(*value), b"", output)?;
             is_any = true;
         }
     }
@@ -444,11 +389,8 @@ fn text_of<'a>(lines: &[&'a [u8]], number: usize) -> &'a [u8] {
 fn put_registers<W: Output>(regs: Regs, output: &mut W) -> Result<(), WriteFault> {
     let (a, x, y) = (hex_pair(regs.a), hex_pair(regs.x), hex_pair(regs.y));
     put_all(&[b"  A=", &a, b" X=", &x, b" Y=", &y], output)?;
-    if regs.p.carry() {
-        put_all(&[b" C=1  "], output)
-    } else {
-        put_all(&[b" C=0  "], output)
-    }
+    let carry: &[u8] = if regs.p.carry() { b" C=1  " } else { b" C=0  " };
+    put_all(&[carry], output)
 }
 
 // Writes a step: the registers behind it, its line, and what stands there.
@@ -496,23 +438,15 @@ fn put_passage<W: Output>(
     let Some(Passage { from, to }) = passage else {
         return Ok(());
     };
-    let (from, to) = (
-        decimal(line_at(program, from) as u64),
-        decimal(line_at(program, to) as u64),
-    );
-    put_all(
-        &[
-            b"  line ",
-            from.as_slice(),
-            b" goes on into the routine of line ",
-            to.as_slice(),
-        ],
+    let (from, to) = (line_at(program, from) as u64, line_at(program, to) as u64);
+    put_number(
+        b"  line ",
+        from,
+        b" goes on into the routine of line ",
         output,
     )?;
-    put_all(
-        &[b", which it does not call: RTS ends a routine, JSR calls one\n"],
-        output,
-    )
+    let behind = b", which it does not call: RTS ends a routine, JSR calls one\n";
+    put_number(b"", to, behind, output)
 }
 
 // Writes that none of these states is as a promise requires.
@@ -521,9 +455,7 @@ fn put_no_state<W: Output>(tried: u64, output: &mut W) -> Result<(), WriteFault>
     if tried == 1 {
         put_all(&[b"the one state that was tried is not"], output)?;
     } else {
-        put_all(&[b"none of "], output)?;
-        put_grouped(tried, output)?;
-        put_all(&[b" states is"], output)?;
+        put_grouped(b"none of ", tried, b" states is", output)?;
     }
     put_all(&[b" as it requires, so it promises nothing\n"], output)
 }
@@ -538,20 +470,13 @@ pub fn put_verdict<W: Output>(
 ) -> Result<(), WriteFault> {
     put_all(&[promise.name, b": "], output)?;
     match verdict {
-        Verdict::Held {
-            inputs,
-            kept,
-            tried,
-            total,
-            is_everywhere,
-            passage,
-        } => {
-            if *is_everywhere {
-                put_holds(*kept, *tried, output)?;
+        Verdict::Held(held) => {
+            if held.is_everywhere {
+                put_holds(held.kept, held.tried, output)?;
             } else {
-                put_held(promise, inputs.as_slice(), *kept, *tried, *total, output)?;
+                put_held(promise, held, output)?;
             }
-            put_passage(program, *passage, output)
+            put_passage(program, held.passage, output)
         }
         Verdict::Fails(failure) => {
             put_failure(program, lines, promise, failure, output)?;
@@ -570,8 +495,8 @@ pub fn put_refusal<W: Output>(
     if !name.is_empty() {
         put_all(&[name, b": "], output)?;
     }
-    let (line, column) = (decimal(refusal.line as u64), decimal(refusal.column as u64));
-    put_all(&[b"REFUSED: line ", line.as_slice()], output)?;
-    put_all(&[b", column ", column.as_slice(), b": "], output)?;
+    let (line, column) = (refusal.line as u64, refusal.column as u64);
+    put_number(b"REFUSED: line ", line, b", column ", output)?;
+    put_number(b"", column, b": ", output)?;
     put_all(&[refusal.says.as_bytes(), b"\n"], output)
 }

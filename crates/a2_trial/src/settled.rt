@@ -16,8 +16,8 @@ use a2_hex::RAM_END;
 use a2_promise::{Clause, Expr, Function, Operation};
 use std::alloc::{AllocError, Global};
 
-// The number that an expression is as it stands.
-fn number_of(expr: &Expr) -> Option<i64>
+/// The number that an expression is as it stands.
+pub(crate) fn number_of(expr: &Expr) -> Option<i64>
     ensures { IfSome result (λ number. expr.now ≡ Number number) }
 {
     match expr {

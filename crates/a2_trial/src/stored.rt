@@ -57,6 +57,11 @@ impl Stored {
         self.marks.as_slice()
     }
 
+    /// The addresses that are marked, each once, in the order in which they were.
+    pub(crate) fn places(&self) -> &[u16] {
+        self.places.as_slice()
+    }
+
     /// Marks an address; false where it is not in RAM.
     pub(crate) fn mark(&mut self, address: u16) -> bool
         ensures { IsTrue result → (a : ℕ) → is_set self.new a ≡ ((address == a) || is_set self.old a) }

@@ -6,19 +6,20 @@ ghost use Rattle.a2_trial.specs.Certain.{IsCertain, most_steps};
 ghost use Rattle.a2_trial.specs.Entering.{IsKeptEverywhere};
 ghost use Rattle.a2_trial.specs.Judging.{HasNoText};
 
-use crate::certain::{count_states, holds_in_every_state};
+use crate::certain::{holds_in_every_state, put_register};
 use crate::fill::any_byte;
 use crate::ground::{
-    ENTRY_S, Exit, Ground, MOST_LOOKED, MOST_STEPS, Passage, Traced, keys_taken, last_steps,
+    Exit, Ground, MOST_LOOKED, MOST_STEPS, Passage, Traced, keys_taken, last_steps,
 };
-use crate::inputs::{Input, Inputs, inputs_of, with_looked};
-use crate::judge::{Broken, all_hold, broken_by};
+use crate::inputs::{Input, Inputs, inputs_of, named_by};
+use crate::judge::{Broken, all_hold, broken_by, sight_of};
 use crate::within::{Tally, broken_within};
 use a2_asm::Program;
 use a2_bus::Keys;
-use a2_cpu::{Regs, Status};
+use a2_cpu::Regs;
+use a2_cpu::live::Live;
 use a2_opcode::Mode;
-use a2_promise::{Found, Promise, Sight, Texts};
+use a2_promise::{Found, Promise, Texts};
 use std::alloc::{AllocError, Global};
 
 /// How many states are tried.
@@ -67,20 +68,23 @@ impl Drop for Failure {
     }
 }
 
+/// A promise that held in so many states that it admits, of so many tried, of so many that there are of these inputs: those that
+/// it names, and those that its routine looks at; a byte that what it requires settles has one value. Whether it holds in every
+/// world at the routine's entry is known too, or not.
+#[derive(Drop)]
+pub struct Held {
+    pub inputs: Vec<Input>,
+    pub kept: u64,
+    pub tried: u64,
+    pub total: u64,
+    pub is_everywhere: bool,
+    pub passage: Option<Passage>,
+}
+
 /// What is found of a promise.
 #[derive(Drop)]
 pub enum Verdict {
-    /// It held in so many states that it admits, of so many tried, of so many that there are of these inputs: those that it
-    /// names, and those that its routine looks at; a byte that what it requires settles has one value. Whether it holds in every
-    /// world at the routine's entry is known too, or not.
-    Held {
-        inputs: Vec<Input>,
-        kept: u64,
-        tried: u64,
-        total: u64,
-        is_everywhere: bool,
-        passage: Option<Passage>,
-    },
+    Held(Held),
     /// It does not hold in a state.
     Fails(Failure),
     /// None of so many states is one that it admits.
@@ -93,48 +97,20 @@ enum Tried {
     /// The promise does not admit it.
     LeftOut,
     Kept,
-    Broken(Broken, Exit, Regs),
+    Broken(Broken, Exit),
 }
 
-// The value of an input in a state, 0 where there is none.
-fn value_in(inputs: &[Input], values: &[u8], input: Input) -> u8 {
-    for (known, value) in inputs.iter().zip(values) {
-        if *known == input {
-            return *value;
-        }
-    }
-    0
-}
-
-// The registers of a state, where a routine is entered.
-fn registers_of(inputs: &[Input], values: &[u8], entry: u16) -> Regs {
-    let byte = |input| value_in(inputs, values, input);
-    let flag = |input| value_in(inputs, values, input) % 2 == 1;
-    Regs {
-        a: byte(Input::A),
-        x: byte(Input::X),
-        y: byte(Input::Y),
-        s: ENTRY_S,
-        pc: entry,
-        p: Status::pack(
-            flag(Input::Negative),
-            flag(Input::Overflow),
-            false,
-            flag(Input::Interrupt),
-            flag(Input::Zero),
-            flag(Input::Carry),
-        ),
-    }
-}
-
-// Makes RAM that of a state.
-fn enter(ground: &mut Ground, inputs: &[Input], values: &[u8]) {
+// Makes RAM that of a state, and answers the registers with which the routine at an address is entered.
+fn enter(ground: &mut Ground, inputs: &[Input], values: &[u8], address: u16) -> Regs {
     ground.restore();
+    let mut live = Live::of(&Regs::start(address));
     for (input, value) in inputs.iter().zip(values) {
-        if let Input::Byte(address) = *input {
-            ground.set(address, *value);
+        match *input {
+            Input::Byte(place) => ground.set(place, *value),
+            register => put_register(register, *value, &mut live),
         }
     }
+    live.regs()
 }
 
 // Runs a routine from these registers, with RAM as it is at the entry, until it leaves, or what is said at a label within it is
@@ -150,8 +126,7 @@ fn run(
         if let Some(broken) = broken_within(promise, ground, &mut tally, regs, &exit) {
             return Ok((exit, Some(broken)));
         }
-        if let Some(door) = ground.make_step(&mut exit)? {
-            exit.door = door;
+        if !ground.make_step(&mut exit)? {
             break;
         }
     }
@@ -165,19 +140,13 @@ fn try_state(
     inputs: &[Input],
     values: &[u8],
 ) -> Result<Tried, AllocError> {
-    enter(ground, inputs, values);
-    let regs = registers_of(inputs, values, promise.address);
-    let entry = Sight {
-        regs,
-        space: &ground.before,
-        cycles: 0,
-        steps: 0,
-    };
+    let regs = enter(ground, inputs, values, promise.address);
+    let entry = sight_of(&regs, &ground.before, 0, 0);
     if !all_hold(promise.wanted.as_slice(), &entry, &entry) {
         return Ok(Tried::LeftOut);
     }
     match run(ground, promise, regs)? {
-        (exit, Some(broken)) => Ok(Tried::Broken(broken, exit, regs)),
+        (exit, Some(broken)) => Ok(Tried::Broken(broken, exit)),
         (_, None) => Ok(Tried::Kept),
     }
 }
@@ -197,9 +166,8 @@ fn corners_of(
             && instr.mode == Mode::Immediate
         {
             let number = (instr.value % 256) as u8;
-            corners.push(number)?;
-            corners.push(number.wrapping_add(1))?;
-            corners.push(number.wrapping_sub(1))?;
+            let around = [number, number.wrapping_add(1), number.wrapping_sub(1)];
+            corners.extend_from_slice(&around)?;
         }
     }
     Ok(corners)
@@ -222,13 +190,14 @@ fn any_value(corners: &[u8], number: u64, index: usize) -> u8 {
 
 // Makes values those of the state of a number: in their order where all are tried, and else like any others. Those that are not
 // varied always are, and those that are settled always the same.
-fn put_values(values: &mut Vec<u8>, inputs: &Inputs, corners: &[u8], number: u64, is_all: bool) {
+fn put_values(values: &mut [u8], inputs: &Inputs, corners: &[u8], number: u64, is_all: bool) {
+    let varied = inputs.varied().len();
     let mut rest = number;
     for (index, (input, settled)) in inputs.all.iter().zip(&inputs.settled).enumerate() {
         let among = input.values().max(1);
         let value = if let Some(byte) = settled {
             *byte
-        } else if is_all && index < inputs.varied {
+        } else if is_all && index < varied {
             let digit = rest % among;
             rest /= among;
             (digit % 256) as u8
@@ -241,52 +210,27 @@ fn put_values(values: &mut Vec<u8>, inputs: &Inputs, corners: &[u8], number: u64
     }
 }
 
-// A state with the values of the first that is tried.
-fn first_values(alloc: Global, inputs: &Inputs) -> Result<Vec<u8>, AllocError> {
-    let mut values = Vec::new(alloc);
-    for _ in &inputs.all {
-        values.push(0)?;
-    }
-    Ok(values)
-}
-
-// Whether a state breaks the promise with this value of the input of an index; the state has it then.
-fn breaks_with(
-    ground: &mut Ground,
-    promise: &Promise,
-    inputs: &Inputs,
-    values: &mut Vec<u8>,
-    index: usize,
-    value: u8,
-) -> Result<bool, AllocError> {
-    if let Some(place) = values.get_mut(index) {
-        *place = value;
-    }
-    let tried = try_state(ground, promise, inputs.all.as_slice(), values.as_slice())?;
-    Ok(matches!(tried, Tried::Broken(_, _, _)))
-}
-
 // Lets one value of a state that breaks the promise be 0, if it does then, or else one of these, if it does with it.
 fn lessen(
     ground: &mut Ground,
     promise: &Promise,
-    inputs: &Inputs,
-    values: &mut Vec<u8>,
+    inputs: &[Input],
+    values: &mut [u8],
     index: usize,
     is_short: bool,
 ) -> Result<(), AllocError> {
-    let Some(greatest) = values.get(index).copied() else {
+    if index >= values.len() {
         return Ok(());
-    };
-    let tried = if is_short { greatest } else { 1.min(greatest) };
-    for less in 0..tried {
-        if breaks_with(ground, promise, inputs, values, index, less)? {
+    }
+    let greatest = values[index];
+    let end = if is_short { greatest } else { 1.min(greatest) };
+    for less in 0..end {
+        values[index] = less;
+        if let Tried::Broken(_, _) = try_state(ground, promise, inputs, values)? {
             return Ok(());
         }
     }
-    if let Some(place) = values.get_mut(index) {
-        *place = greatest;
-    }
+    values[index] = greatest;
     Ok(())
 }
 
@@ -297,8 +241,8 @@ const MOST_LESSENED: u32 = 20_000;
 const MOST_LESSENED_BY_ONE: u64 = 200_000;
 
 // The text that is told of what does not hold: what was printed, or the keys that are left.
-fn told_of(alloc: Global, ground: &Ground, broken: Broken) -> Result<Vec<u8>, AllocError> {
-    let mut told = Vec::new(alloc);
+fn told_of(ground: &Ground, broken: Broken) -> Result<Vec<u8>, AllocError> {
+    let mut told = Vec::new(ground.alloc);
     match broken {
         Broken::Prints(_) => told.extend_from_slice(ground.printed.as_slice())?,
         Broken::Keys => {
@@ -311,34 +255,42 @@ fn told_of(alloc: Global, ground: &Ground, broken: Broken) -> Result<Vec<u8>, Al
     Ok(told)
 }
 
-// What is told of a state that breaks the promise behind so many steps, once its values are lessened.
-fn failure_of(
-    alloc: Global,
+// Lessens the values of a state that breaks the promise behind so many steps.
+fn lessen_all(
     ground: &mut Ground,
     promise: &Promise,
-    inputs: Inputs,
-    values: Vec<u8>,
+    inputs: &[Input],
+    values: &mut [u8],
     steps: u32,
-) -> Result<Verdict, AllocError> {
-    let mut values = values;
-    if steps <= MOST_LESSENED {
-        let is_short = u64::from(steps).saturating_mul(inputs.all.len() as u64)
-            <= MOST_LESSENED_BY_ONE;
-        for index in (0..inputs.all.len()).rev() {
-            lessen(ground, promise, &inputs, &mut values, index, is_short)?;
-        }
+) -> Result<(), AllocError> {
+    if steps > MOST_LESSENED {
+        return Ok(());
     }
-    let tried = try_state(ground, promise, inputs.all.as_slice(), values.as_slice())?;
-    let Tried::Broken(broken, exit, regs) = tried else {
+    let is_short = u64::from(steps).saturating_mul(inputs.len() as u64) <= MOST_LESSENED_BY_ONE;
+    for index in (0..inputs.len()).rev() {
+        lessen(ground, promise, inputs, values, index, is_short)?;
+    }
+    Ok(())
+}
+
+// What is told of a state that breaks the promise.
+fn failure_of(
+    ground: &mut Ground,
+    promise: &Promise,
+    inputs: &Inputs,
+    values: &[u8],
+) -> Result<Verdict, AllocError> {
+    let all = inputs.all.as_slice();
+    let Tried::Broken(broken, exit) = try_state(ground, promise, all, values)? else {
         return Ok(Verdict::NoState(0));
     };
-    let told = told_of(alloc, ground, broken)?;
-    enter(ground, inputs.all.as_slice(), values.as_slice());
-    let last = last_steps(alloc, ground, regs, exit.steps)?;
+    let told = told_of(ground, broken)?;
+    let regs = enter(ground, all, values, promise.address);
+    let last = last_steps(ground, regs, exit.steps)?;
     Ok(Verdict::Fails(Failure {
-        inputs: inputs.all,
+        inputs: Vec::from_slice(ground.alloc, all)?,
         named: inputs.named,
-        values,
+        values: Vec::from_slice(ground.alloc, values)?,
         keys: keys_taken(&promise.texts),
         broken,
         passage: ground.passage,
@@ -352,75 +304,67 @@ fn failure_of(
 /// How many states there are at least, so that what is not named is tried in several ways.
 pub(crate) const LEAST_TRIED: u64 = 4096;
 
-// What comes of trying states of inputs.
-#[derive(Drop)]
-enum Round {
-    Done(Verdict),
-    /// A run looked at what is not among those of them that are varied.
-    Looked(Inputs),
-}
-
 // What is found of a promise that was kept in so many states of inputs, and broken in none that were tried.
-fn unbroken(ground: &Ground, inputs: Inputs, kept: u64, tried: u64, total: u64) -> Verdict {
+fn unbroken(
+    ground: &Ground,
+    inputs: &Inputs,
+    kept: u64,
+    tried: u64,
+) -> Result<Verdict, AllocError> {
     if kept == 0 {
-        return Verdict::NoState(tried);
+        return Ok(Verdict::NoState(tried));
     }
-    let mut varied = inputs.all;
-    varied.truncate(inputs.varied);
-    Verdict::Held {
-        inputs: varied,
+    Ok(Verdict::Held(Held {
+        inputs: Vec::from_slice(ground.alloc, inputs.varied())?,
         kept,
         tried,
-        total,
+        total: inputs.states,
         is_everywhere: false,
         passage: ground.passage,
-    }
+    }))
 }
 
-// Tries states of inputs, up to one that breaks the promise, or a run that looks at what is not varied.
+// Tries states of inputs, up to one that breaks the promise; none where a run looks at what is not varied.
 fn try_inputs(
-    alloc: Global,
     ground: &mut Ground,
     promise: &Promise,
-    inputs: Inputs,
+    inputs: &Inputs,
     corners: &[u8],
     trials: Trials,
-) -> Result<Round, AllocError> {
-    let mut values = first_values(alloc, &inputs)?;
-    let free = inputs.free(alloc)?;
-    // 2^64 - 1 stands for more.
-    let total = count_states(free.as_slice()).unwrap_or(u64::MAX);
-    let is_all = total <= trials.all;
-    let states = if is_all { total } else { trials.some };
+) -> Result<Option<Verdict>, AllocError> {
+    for input in inputs.varied() {
+        ground.know(*input);
+    }
+    let all = inputs.all.as_slice();
+    let mut values = vec![in ground.alloc; 0u8; all.len()]?;
+    let is_all = inputs.states <= trials.all;
+    let states = if is_all { inputs.states } else { trials.some };
     let looked = ground.looked.len();
     let mut kept: u64 = 0;
     for number in 0..states.max(LEAST_TRIED) {
-        put_values(&mut values, &inputs, corners, number, is_all);
-        match try_state(ground, promise, inputs.all.as_slice(), values.as_slice())? {
-            Tried::LeftOut => {}
+        put_values(values.as_mut_slice(), inputs, corners, number, is_all);
+        match try_state(ground, promise, all, values.as_slice())? {
             Tried::Kept if number < states => kept = kept.saturating_add(1),
-            Tried::Kept => {}
-            Tried::Broken(_, exit, _) => {
-                let failure = failure_of(alloc, ground, promise, inputs, values, exit.steps)?;
-                return Ok(Round::Done(failure));
+            Tried::Kept | Tried::LeftOut => {}
+            Tried::Broken(_, exit) => {
+                lessen_all(ground, promise, all, values.as_mut_slice(), exit.steps)?;
+                return Ok(Some(failure_of(ground, promise, inputs, values.as_slice())?));
             }
         }
         if ground.looked.len() != looked {
-            return Ok(Round::Looked(inputs));
+            return Ok(None);
         }
     }
-    let found = unbroken(ground, inputs, kept, states, total);
-    Ok(Round::Done(found))
+    Ok(Some(unbroken(ground, inputs, kept, states)?))
 }
 
-// The same, where only states are tried.
-fn try_states(
+// Where the routine of a promise is run, of those that are found.
+fn ground_of(
     alloc: Global,
     program: &Program<Global>,
     found: &[Found],
     promise: &Promise,
-    trials: Trials,
-) -> Result<Verdict, AllocError> {
+) -> Result<Ground, AllocError> {
     let mut ground = Ground::new(alloc, program)?;
     ground.hear(&promise.texts);
     for other in found {
@@ -430,25 +374,28 @@ fn try_states(
             ground.begin_at(other.address);
         }
     }
-    let mut inputs = inputs_of(alloc, promise)?;
-    let corners = corners_of(alloc, program, inputs.corners.as_slice())?;
+    Ok(ground)
+}
+
+// Tries a promise, where only states are tried.
+fn try_states(
+    ground: &mut Ground,
+    program: &Program<Global>,
+    promise: &Promise,
+    trials: Trials,
+) -> Result<Verdict, AllocError> {
+    let named = named_by(ground.alloc, promise)?;
+    let corners = corners_of(ground.alloc, program, named.corners.as_slice())?;
     // Each round but the last finds one more thing at least that is looked at, and so many are noted.
     for _ in 0..=MOST_LOOKED {
-        for input in inputs.all.as_slice().iter().take(inputs.varied) {
-            ground.know(*input);
-        }
-        match try_inputs(
-            alloc,
-            &mut ground,
+        let inputs = inputs_of(
+            ground.alloc,
             promise,
-            inputs,
-            corners.as_slice(),
-            trials,
-        )? {
-            Round::Done(verdict) => return Ok(verdict),
-            Round::Looked(before) => {
-                inputs = with_looked(alloc, promise, before, ground.looked.as_slice())?;
-            }
+            named.inputs.as_slice(),
+            ground.looked.as_slice(),
+        )?;
+        if let Some(verdict) = try_inputs(ground, promise, &inputs, corners.as_slice(), trials)? {
+            return Ok(verdict);
         }
     }
     Ok(Verdict::NoState(0))
@@ -488,24 +435,13 @@ fn certified(
     ensures { IfOk result (IsCertain (held program.now.image) promise.now most_steps) }
 {
     match verdict {
-        Verdict::Held {
-            inputs,
-            kept,
-            tried,
-            total,
-            passage,
-            ..
-        } => {
-            let is_everywhere = tried == total
-                && is_certain(alloc, program, promise, inputs.as_slice())?;
-            Ok(Verdict::Held {
-                inputs,
-                kept,
-                tried,
-                total,
+        Verdict::Held(held) => {
+            let is_everywhere = held.tried == held.total
+                && is_certain(alloc, program, promise, held.inputs.as_slice())?;
+            Ok(Verdict::Held(Held {
                 is_everywhere,
-                passage,
-            })
+                ..held
+            }))
         }
         other => Ok(other),
     }
@@ -526,6 +462,7 @@ pub fn try_promise(
 ) -> Result<Verdict, AllocError>
     ensures { IfOk result (IsCertain (held program.now.image) promise.now most_steps) }
 {
-    let verdict = try_states(alloc, program, found, promise, trials)?;
+    let mut ground = ground_of(alloc, program, found, promise)?;
+    let verdict = try_states(&mut ground, program, promise, trials)?;
     certified(alloc, program, promise, verdict)
 }

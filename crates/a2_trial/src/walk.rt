@@ -13,7 +13,7 @@ ghost use Rattle.a2_uses.specs.Parts.{needs as parts_needed, mode_needs as parts
 ghost use Rattle.a2_uses.specs.Reads.{effect_reads, pointer_reads};
 ghost use Rattle.a2_reads.specs.Turned.{in_stack, moves_s, operand_uses};
 ghost use Rattle.a2_trial.specs.Walking as walking;
-ghost use Rattle.a2_trial.specs.Walking.{known_now, knows_part, is_allowed, is_beside, AreMarked, IsHome, IsOwnRts, IsStep};
+ghost use Rattle.a2_trial.specs.Walking.{known_now, knows_part, is_allowed, is_beside, AreMarked, IsHome, IsOwnRts, IsStepOf};
 ghost use Rattle.a2_trial.specs.Walking.{StandsAt};
 
 use crate::ground::ENTRY_S;
@@ -34,8 +34,8 @@ use a2_services::{Served, service_at};
 use a2_uses::{mode_needs, needs, reads, sets};
 use std::alloc::Global;
 
-// Whether an address is marked.
-fn is_set(marks: &[bool], address: u16) -> bool
+/// Whether an address is marked.
+pub(crate) fn is_set(marks: &[bool], address: u16) -> bool
     ensures { result ≡ walking.is_set marks.now address }
 {
     match marks.get(usize::from(address)) {
@@ -214,93 +214,78 @@ fn is_any_in_stack(addresses: &[u16]) -> bool
 // Makes a step, of this instruction, and answers its cycles; none where it is not made, looks at what is not known or at the
 // stack otherwise than by S, or stores where it may not.
 fn make_step(
-    regs: &mut Regs,
-    space: &mut AddressSpace<Global>,
+    walk: &mut Walk,
     instr: Instr,
     known: &[bool],
     stored: &mut Stored,
-    parts: &mut Parts,
     changes: &Changes,
 ) -> Option<u32>
-    requires { StandsAt instr regs.old.pc space.old.bytes }
-    ensures { IfSome result (λ cycles. IsStep known.now stored.old stored.new parts.old parts.new changes.now
-        (registers_of regs.old) space.old (registers_of regs.new) space.new cycles) }
+    requires { StandsAt instr walk.old.regs.pc walk.old.space.bytes }
+    ensures { IfSome result (IsStepOf known.now stored.old stored.new changes.now walk.old walk.new) }
 {
-    if !is_fetch_known(known, stored, regs.pc, instr.mode) {
+    let pc = walk.regs.pc;
+    if !is_fetch_known(known, stored, pc, instr.mode) || !is_code_off_stack(pc) {
         return None;
     }
-    if !is_code_off_stack(regs.pc) {
+    if !is_off_stack(instr, &walk.regs, &walk.space) {
         return None;
     }
-    if !is_off_stack(instr, regs, space) {
+    if !are_reads_known(known, stored, instr, &walk.regs, &walk.space) {
         return None;
     }
-    if !are_reads_known(known, stored, instr, regs, space) {
+    if !are_parts_known(&walk.parts, instr) {
         return None;
     }
-    if !are_parts_known(parts, instr) {
-        return None;
-    }
-    let targets = writes(regs, space);
+    let targets = writes(&walk.regs, &walk.space);
     if !mark_each(stored, changes, targets.as_slice()) {
         return None;
     }
-    let GuardedStep::Next(cycles) = guarded_step(regs, space, &NoProtection) else {
+    let GuardedStep::Next(cycles) = guarded_step(&mut walk.regs, &mut walk.space, &NoProtection)
+    else {
         return None;
     };
-    parts.learn(sets(instr.mnemonic));
+    walk.parts.learn(sets(instr.mnemonic));
     Some(cycles)
 }
 
 // Calls the service at PC, and answers its cycles; none where there is none or it is not called, it needs a key, looks at what is
 // not known, or stores where it may not.
-fn serve(
-    regs: &mut Regs,
-    space: &mut AddressSpace<Global>,
-    known: &[bool],
-    stored: &mut Stored,
-    parts: &mut Parts,
-    changes: &Changes,
-) -> Option<u32>
-    ensures { IfSome result (λ cycles. IsStep known.now stored.old stored.new parts.old parts.new changes.now
-        (registers_of regs.old) space.old (registers_of regs.new) space.new cycles) }
+fn serve(walk: &mut Walk, known: &[bool], stored: &mut Stored, changes: &Changes) -> Option<u32>
+    ensures { IfSome result (IsStepOf known.now stored.old stored.new changes.now walk.old walk.new) }
 {
-    let service = service_at(regs.pc)?;
-    if !is_keyless(service) || !parts.have(taken_by(service)) {
+    let service = service_at(walk.regs.pc)?;
+    if !is_keyless(service) || !walk.parts.have(taken_by(service)) {
         return None;
     }
-    if !is_all_known(service, known, stored, regs, space) {
+    if !is_all_known(service, known, stored, &walk.regs, &walk.space) {
         return None;
     }
-    if !mark_places(service, stored, changes, regs, space) {
+    if !mark_places(service, stored, changes, &walk.regs, &walk.space) {
         return None;
     }
-    let mut live = Live::of(regs);
-    let Served::Next(cycles) = call(service, &mut live, space) else {
+    let mut live = Live::of(&walk.regs);
+    let Served::Next(cycles) = call(service, &mut live, &mut walk.space) else {
         return None;
     };
-    *regs = live.regs();
-    parts.learn(given_by(service));
+    walk.regs = live.regs();
+    walk.parts.learn(given_by(service));
     Some(cycles)
 }
 
 // Makes the next step, which is of this instruction, or where there is none a call of a service, and answers its cycles.
 fn go_on(
-    regs: &mut Regs,
-    space: &mut AddressSpace<Global>,
+    walk: &mut Walk,
     instr: Option<Instr>,
     known: &[bool],
     stored: &mut Stored,
-    parts: &mut Parts,
     changes: &Changes,
 ) -> Option<u32>
-    requires { IfSome instr (λ instr. StandsAt instr regs.old.pc space.old.bytes) }
-    ensures { IfSome result (λ cycles. IsStep known.now stored.old stored.new parts.old parts.new changes.now
-        (registers_of regs.old) space.old (registers_of regs.new) space.new cycles) }
+    requires { IfSome instr (λ instr. StandsAt instr walk.old.regs.pc walk.old.space.bytes) }
+    ensures { IfSome result (IsStepOf known.now stored.old stored.new changes.now walk.old walk.new) }
 {
     match instr {
-        Some(instr) => make_step(regs, space, instr, known, stored, parts, changes),
-        None => serve(regs, space, known, stored, parts, changes),
+        Some(instr) => make_step(walk, instr, known, stored, changes),
+        None => serve(walk, known, stored, changes),
     }
 }
 
@@ -351,15 +336,7 @@ pub fn walk_home(
         {
             return Some(steps);
         }
-        let cycles = go_on(
-            &mut walk.regs,
-            &mut walk.space,
-            instr,
-            known,
-            stored,
-            &mut walk.parts,
-            changes,
-        )?;
+        let cycles = go_on(walk, instr, known, stored, changes)?;
         walk.cycles = walk.cycles.checked_add(cycles)?;
     }
     None

@@ -1,7 +1,7 @@
 //! What is said at labels within a routine, tried where a run comes to them.
 
 use crate::ground::{Exit, Ground};
-use crate::judge::{Broken, NO_NAMES, Unmet, sides};
+use crate::judge::{Broken, NO_NAMES, Unmet, broken_line, sight_of};
 use a2_bus::AddressSpace;
 use a2_cpu::Regs;
 use a2_promise::{Clause, Promise, Sight, Visit, Within, value_in};
@@ -27,12 +27,10 @@ impl Drop for Tally {
 impl Tally {
     /// Before a run has come to any.
     pub fn new(alloc: Global, promise: &Promise) -> Result<Tally, AllocError> {
-        let mut lasts = Vec::new(alloc);
+        let mut measures: usize = 0;
         let mut visits = Vec::new(alloc);
         for within in promise.within.as_slice() {
-            for _ in within.measures.as_slice() {
-                lasts.push(0)?;
-            }
+            measures = measures.saturating_add(within.measures.len());
             if within.is_named {
                 visits.push(Visit {
                     address: within.address,
@@ -44,69 +42,57 @@ impl Tally {
                 })?;
             }
         }
+        let lasts = vec![in alloc; 0i64; measures]?;
         Ok(Tally { lasts, visits })
     }
-}
 
-// Notes the state in which a run comes to the label at this address, where `at` names that.
-fn note_visit(visits: &mut [Visit<Global>], ground: &Ground, exit: &Exit) {
-    for visit in visits {
-        if visit.address == exit.regs.pc {
-            visit.is_there = true;
-            visit.regs = exit.regs;
-            visit.space.copy_from(&ground.now);
-            visit.cycles = exit.cycles;
-            visit.steps = exit.steps;
-        }
-    }
-}
-
-// A fact that does not hold where a run comes to its label.
-fn broken_fact(
-    facts: &[Clause],
-    visits: &[Visit<Global>],
-    entry: &Sight<Global>,
-    here: &Sight<Global>,
-) -> Option<Broken> {
-    for fact in facts {
-        match value_in(&fact.expr, entry, here, visits, NO_NAMES) {
-            None => return Some(Broken::Within(fact.line, Unmet::NoValue)),
-            Some(0) => return Some(Broken::Within(
-                fact.line,
-                Unmet::Fact(sides(&fact.expr, entry, here, visits)),
-            )),
-            Some(_) => {}
-        }
-    }
-    None
-}
-
-// A measure that is below 0, or not less than it was where a run comes back to its label. Theirs are the numbers from this place
-// on.
-fn broken_measure(
-    measures: &[Clause],
-    visits: &[Visit<Global>],
-    lasts: &mut [i64],
-    first: usize,
-    is_back: bool,
-    entry: &Sight<Global>,
-    here: &Sight<Global>,
-) -> Option<Broken> {
-    for (place, measure) in (first..lasts.len()).zip(measures) {
-        let Some(number) = value_in(&measure.expr, entry, here, visits, NO_NAMES) else {
-            return Some(Broken::Within(measure.line, Unmet::NoValue));
-        };
-        if number < 0 {
-            return Some(Broken::Within(measure.line, Unmet::BelowZero(number)));
-        }
-        if let Some(last) = lasts.get_mut(place) {
-            if is_back && number >= *last {
-                return Some(Broken::Within(measure.line, Unmet::NotLess(*last, number)));
+    // Notes the state in which a run comes to a label, where `at` names that.
+    fn note_visit(&mut self, ground: &Ground, exit: &Exit) {
+        for visit in self.visits.as_mut_slice() {
+            if visit.address == exit.regs.pc {
+                note(visit, ground, exit);
             }
-            *last = number;
         }
     }
-    None
+
+    // A measure that is below 0, or not less than it was where a run comes back to its label. Theirs are the numbers from this
+    // place on.
+    fn broken_measure(
+        &mut self,
+        measures: &[Clause],
+        first: usize,
+        is_back: bool,
+        entry: &Sight<Global>,
+        here: &Sight<Global>,
+    ) -> Option<Broken> {
+        let mut place = first;
+        for measure in measures {
+            let visits = self.visits.as_slice();
+            let Some(number) = value_in(&measure.expr, entry, here, visits, NO_NAMES) else {
+                return Some(Broken::Line(measure.line, Unmet::NoValue));
+            };
+            if number < 0 {
+                return Some(Broken::Line(measure.line, Unmet::BelowZero(number)));
+            }
+            if let Some(last) = self.lasts.get_mut(place) {
+                if is_back && number >= *last {
+                    return Some(Broken::Line(measure.line, Unmet::NotLess(*last, number)));
+                }
+                *last = number;
+            }
+            place = place.saturating_add(1);
+        }
+        None
+    }
+}
+
+// Notes the state in which a run stands.
+fn note(visit: &mut Visit<Global>, ground: &Ground, exit: &Exit) {
+    visit.is_there = true;
+    visit.regs = exit.regs;
+    visit.space.copy_from(&ground.now);
+    visit.cycles = exit.cycles;
+    visit.steps = exit.steps;
 }
 
 /// What is said at the label where a run stands and is not so, if a label within its routine is there.
@@ -127,7 +113,7 @@ pub(crate) fn broken_within(
     None
 }
 
-// The same of a label where a run stands.
+// The same of a label where a run stands, whose measures are those from this place on.
 fn broken_at(
     within: &Within,
     ground: &Ground,
@@ -136,34 +122,13 @@ fn broken_at(
     regs: Regs,
     exit: &Exit,
 ) -> Option<Broken> {
-    let entry = Sight {
-        regs,
-        space: &ground.before,
-        cycles: 0,
-        steps: 0,
-    };
-    let here = Sight {
-        regs: exit.regs,
-        space: &ground.now,
-        cycles: exit.cycles,
-        steps: exit.steps,
-    };
-    note_visit(tally.visits.as_mut_slice(), ground, exit);
-    let visits = tally.visits.as_slice();
-    if let Some(broken) = broken_fact(within.invariants.as_slice(), visits, &entry, &here) {
+    let entry = sight_of(&regs, &ground.before, 0, 0);
+    let here = sight_of(&exit.regs, &ground.now, exit.cycles, exit.steps);
+    tally.note_visit(ground, exit);
+    let facts = within.invariants.as_slice();
+    if let Some(broken) = broken_line(facts, &entry, &here, tally.visits.as_slice()) {
         return Some(broken);
     }
-    let is_back = match exit.from {
-        Some(from) => within.address <= from,
-        None => false,
-    };
-    broken_measure(
-        within.measures.as_slice(),
-        visits,
-        tally.lasts.as_mut_slice(),
-        first,
-        is_back,
-        &entry,
-        &here,
-    )
+    let is_back = matches!(exit.from, Some(from) if within.address <= from);
+    tally.broken_measure(within.measures.as_slice(), first, is_back, &entry, &here)
 }

@@ -17,9 +17,9 @@ returns-then-look_at_known-clause-kept c = λ is.
     let home = c.walk_home.new.walk in
     let behind = c.step_out.new.walk in
     let clauses = c.as_slice-promised.result.now in
-    let known = known_of c.known_at_entry-known.result in
-    let entry = moment_of c.sight_of-entry.result in
-    let exit = moment_of c.sight_of-exit.result in
+    let known = known_of c.view_of_entry-entry.result in
+    let entry = moment_of c.view_of_entry-entry.result.sight in
+    let exit = moment_of c.sight_of.result in
     let looks = subst (λ (marks : List Bool). LookAtKnown clauses known (known_by (known_now case.known.now marks) (knows_part behind.parts)) entry exit)
     c.marks.ensures (c.look_at_known.ensures c.if-look_at_known.true) in
     kept_by case.known.now c.walk_home.new.stored case.parts walk.parts home.parts behind.parts case.promise.now case.most (registers_of walk.regs)
@@ -27,9 +27,9 @@ returns-then-look_at_known-clause-kept c = λ is.
     c.in-Some.ensures.0 c.in-Some.ensures.1 (c.are_registers_kept.ensures c.if-not-are_registers_kept.false)
     (registers_of behind.regs) behind.space c.in-Some-step_out.cycles c.in-Some-step_out.ensures.made
     clauses c.as_slice-promised.ensures.value known
-    (λ i. known_by (known_now (c.known_at_entry-known.ensures.known i) (c.known_at_entry-known.ensures.stored i))
-    (knows_part (c.known_at_entry-known.ensures.parts i)))
-    entry exit c.sight_of-entry.ensures.moment c.sight_of-exit.ensures.moment looks (sym c.all_hold.ensures ∙ is)
+    (λ i. known_by (known_now (c.view_of_entry-entry.ensures.known i) (c.view_of_entry-entry.ensures.stored i))
+    (knows_part (c.view_of_entry-entry.ensures.parts i)))
+    entry exit c.view_of_entry-entry.ensures.moment c.sight_of.ensures.moment looks (sym c.all_hold.ensures ∙ is)
 
 pub returns-then-look_at_known-clause-rest : goal.returns-then-look_at_known-clause-rest
 returns-then-look_at_known-clause-rest c = λ is devices.
@@ -42,5 +42,5 @@ returns-then-look_at_known-clause-rest c = λ is devices.
     (left_by_walk case.known.now c.walk_home.new.stored walk.parts home.parts case.promise.now (registers_of walk.regs) walk.space
     (registers_of home.regs) home.space home.cycles c.in-Some.steps c.in-Some.ensures.1
     (registers_of behind.regs) behind.space c.in-Some-step_out.cycles c.in-Some-step_out.ensures.made
-    (ap (λ (b : BusState). length b.bytes) (sym c.requires.space) ∙ c.sight_of-entry.ensures.size) c.sight_of-exit.ensures.size
+    (ap (λ (b : BusState). length b.bytes) (sym c.requires.space) ∙ c.view_of_entry-entry.ensures.size) c.sight_of.ensures.size
     (devices ∙ ap (λ (b : BusState). b.devices) c.requires.space))

@@ -17,11 +17,11 @@ returns-then-not-all_hold-clause-tried c = λ _.
     let case = c.args.case.now in
     let walk = c.args.walk.now in
     tried_by case.known.now case.parts case.promise.now case.most (world_of (registers_of walk.regs) walk.space 0)
-    c.as_slice-wanted.result.now c.as_slice-wanted.ensures.value (known_of c.known_at_entry-known.result)
-    (λ i. known_by (known_now (c.known_at_entry-known.ensures.known i) (c.known_at_entry-known.ensures.stored i))
-    (knows_part (c.known_at_entry-known.ensures.parts i)))
-    (moment_of c.sight_of-entry.result)
-    (c.sight_of-entry.ensures.moment
+    c.as_slice-wanted.result.now c.as_slice-wanted.ensures.value (known_of c.view_of_entry-entry.result)
+    (λ i. known_by (known_now (c.view_of_entry-entry.ensures.known i) (c.view_of_entry-entry.ensures.stored i))
+    (knows_part (c.view_of_entry-entry.ensures.parts i)))
+    (moment_of c.view_of_entry-entry.result.sight)
+    (c.view_of_entry-entry.ensures.moment
     ∙ (λ i. record { registers = registers_of walk.regs; bytes = bytes_of (memory_of (c.requires.space i)); cycles = 0; steps = 0 }))
     (c.look_at_known.ensures c.if-not-look_at_known.false)
     (λ holds. absurd (true≢false (sym holds ∙ sym c.all_hold.ensures ∙ c.if-not-all_hold.true)))
@@ -31,11 +31,11 @@ returns-clause-tried c = λ is.
     let case = c.args.case.now in
     let walk = c.args.walk.now in
     tried_by case.known.now case.parts case.promise.now case.most (world_of (registers_of walk.regs) walk.space 0)
-    c.as_slice-wanted.result.now c.as_slice-wanted.ensures.value (known_of c.known_at_entry-known.result)
-    (λ i. known_by (known_now (c.known_at_entry-known.ensures.known i) (c.known_at_entry-known.ensures.stored i))
-    (knows_part (c.known_at_entry-known.ensures.parts i)))
-    (moment_of c.sight_of-entry.result)
-    (c.sight_of-entry.ensures.moment
+    c.as_slice-wanted.result.now c.as_slice-wanted.ensures.value (known_of c.view_of_entry-entry.result)
+    (λ i. known_by (known_now (c.view_of_entry-entry.ensures.known i) (c.view_of_entry-entry.ensures.stored i))
+    (knows_part (c.view_of_entry-entry.ensures.parts i)))
+    (moment_of c.view_of_entry-entry.result.sight)
+    (c.view_of_entry-entry.ensures.moment
     ∙ (λ i. record { registers = registers_of walk.regs; bytes = bytes_of (memory_of (c.requires.space i)); cycles = 0; steps = 0 }))
     (c.look_at_known.ensures c.if-not-look_at_known.false)
     (λ holds. c.is_kept.ensures.kept is)

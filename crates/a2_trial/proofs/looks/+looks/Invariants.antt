@@ -6,4 +6,4 @@ use Rattle.a2_trial.proofs.looks.+looks.Given as goal
 
 abbrev pub invariant-is_each_known-loop-number : goal.invariant-is_each_known-loop-number
 invariant-is_each_known-loop-number l =
-    (k : ℕ) → pos k <ℤ l.number → Knows l.body (known_of l.before) (known_of l.behind) (moment_of l.entry) (moment_of l.exit) (slice_set l.names l.name (pos k))
+    (k : ℕ) → pos k <ℤ l.number → Knows l.body (known_of l.entry) (known_of l.exit) (moment_of l.entry.sight) (moment_of l.exit.sight) (slice_set l.names l.name (pos k))

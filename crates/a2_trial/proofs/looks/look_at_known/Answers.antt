@@ -10,10 +10,10 @@ use Rattle.a2_trial.proofs.looks.look_at_known.Goals as goal
 
 pub loop-clause-preserved : goal.loop-clause-preserved
 loop-clause-preserved c = λ rest.
-    let m = moment_of c.args.entry.now in
-    let n = moment_of c.args.exit.now in
-    let before = known_of c.args.before.now in
-    let behind = known_of c.args.behind.now in
+    let m = moment_of c.args.entry.now.sight in
+    let n = moment_of c.args.exit.now.sight in
+    let before = known_of c.args.entry.now in
+    let behind = known_of c.args.exit.now in
     c.loop-clause.invariant
     (subst (λ clauses. LookAtKnown clauses before behind m n)
     (sym (drop_more c.args.clauses.now c.loop-clause.clause-index c.clause-item.result c.loop-clause-test.true)) (

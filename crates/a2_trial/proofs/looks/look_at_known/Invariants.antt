@@ -6,5 +6,5 @@ use Rattle.a2_trial.proofs.looks.look_at_known.Given as goal
 
 abbrev pub invariant-loop-clause : goal.invariant-loop-clause
 invariant-loop-clause l =
-    LookAtKnown (drop l.clause-index l.clauses) (known_of l.before) (known_of l.behind) (moment_of l.entry) (moment_of l.exit)
-    → LookAtKnown l.clauses (known_of l.before) (known_of l.behind) (moment_of l.entry) (moment_of l.exit)
+    LookAtKnown (drop l.clause-index l.clauses) (known_of l.entry) (known_of l.exit) (moment_of l.entry.sight) (moment_of l.exit.sight)
+    → LookAtKnown l.clauses (known_of l.entry) (known_of l.exit) (moment_of l.entry.sight) (moment_of l.exit.sight)

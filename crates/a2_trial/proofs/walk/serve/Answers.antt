@@ -1,3 +1,4 @@
+use Rattle.std.specs.Prelude.{refl}
 use Rattle.std.specs.List.{list_all}
 use Rattle.std.proofs.Common.{sym, ap, ◌∙◌, subst₂}
 use Rattle.a2_cpu.specs.View.{registers_of}
@@ -9,13 +10,16 @@ use Rattle.a2_trial.proofs.walk.serve.Goals as goal
 
 pub returns : goal.returns
 returns c =
-    let made : IsCallMade c.in_ok-service.service (registers_of c.args.regs.now) c.args.space.now (registers_of c.regs.result) c.call.new.space c.in-Next.cycles =
-    subst₂ (λ r q. IsCallMade c.in_ok-service.service r c.args.space.now q c.call.new.space c.in-Next.cycles)
-    c.of-live.ensures.registers (sym c.regs.ensures.registers) c.in-Next.ensures.called in
-    is_step c.in_ok-service.service (registers_of c.args.regs.now) c.args.space.now (sym c.service_at.ensures ∙ c.in_ok-service.was)
-    (sym c.is_keyless.ensures ∙ c.if-not-is_keyless.false)
-    c.args.known.now c.args.stored.now c.mark_places.new.stored c.args.parts.now c.learn.new.self c.args.changes.now
-    (registers_of c.regs.result) c.call.new.space c.in-Next.cycles
-    (sym (c.have.ensures ∙ ap (λ xs. list_all (knows_part c.args.parts.now) xs) c.taken_by.ensures) ∙ c.if-not-have.false)
-    (c.is_all_known.ensures c.if-not-is_all_known.false) (c.mark_places.ensures c.if-not-mark_places.false) made
-    (λ part. c.learn.ensures part ∙ ap (λ xs. with_parts xs (knows_part c.args.parts.now) part) c.given_by.ensures)
+    let walk = c.args.walk.now in
+    let made : IsCallMade c.in_ok-service.service (registers_of walk.regs) walk.space (registers_of c.regs-walk.result) c.call.new.space c.in-Next.cycles =
+    subst₂ (λ r q. IsCallMade c.in_ok-service.service r walk.space q c.call.new.space c.in-Next.cycles)
+    c.of-live.ensures.registers (sym c.regs-walk.ensures.registers) c.in-Next.ensures.called in record {
+      step = is_step c.in_ok-service.service (registers_of walk.regs) walk.space (sym c.service_at.ensures ∙ c.in_ok-service.was)
+          (sym c.is_keyless.ensures ∙ c.if-not-is_keyless.false)
+          c.args.known.now c.args.stored.now c.mark_places.new.stored walk.parts c.learn.new.self c.args.changes.now
+          (registers_of c.regs-walk.result) c.call.new.space c.in-Next.cycles
+          (sym (c.have.ensures ∙ ap (λ xs. list_all (knows_part walk.parts) xs) c.taken_by.ensures) ∙ c.if-not-have.false)
+          (c.is_all_known.ensures c.if-not-is_all_known.false) (c.mark_places.ensures c.if-not-mark_places.false) made
+          (λ part. c.learn.ensures part ∙ ap (λ xs. with_parts xs (knows_part walk.parts) part) c.given_by.ensures);
+      uncounted = refl;
+    }

@@ -1,5 +1,5 @@
 use Rattle.std.specs.Prelude.{◌≡◌, ℕ, suc, ◌+◌}
-use Rattle.std.proofs.Common.{sym, subst, arith}
+use Rattle.std.proofs.Common.{ap, sym, subst, ◌∙◌, arith}
 use Rattle.a2_cpu.specs.View.{registers_of}
 use Rattle.a2_trial.specs.Walking.{IsWalk}
 use Rattle.a2_trial.proofs.Home.{home, none, one_more}
@@ -17,15 +17,18 @@ pub loop-steps-preserved : goal.loop-steps-preserved
 loop-steps-preserved c =
     let first = c.args.walk.now in
     let last = c.loop-steps.walk in
+    let new = c.go_on.new.walk in
     let At : ℕ → ℕ → Type 0 = λ cycles steps.
-    IsWalk c.args.known.now c.go_on.new.stored first.parts c.go_on.new.parts c.args.changes.now (registers_of first.regs) first.space
-    (registers_of c.go_on.new.regs) c.go_on.new.space cycles steps in
+    IsWalk c.args.known.now c.go_on.new.stored first.parts new.parts c.args.changes.now (registers_of first.regs) first.space
+    (registers_of new.regs) new.space cycles steps in
     let next : suc c.loop-steps.steps ≡ c.loop-steps.steps + 1 = omega arith in
-    subst (λ cycles. At cycles (c.loop-steps.steps + 1)) (sym c.in_ok-walk.ensures.1)
+    let step = c.in_ok-cycles.ensures in
+    let all = c.in_ok-walk.ensures.1 ∙ ap (λ cycles. cycles + c.in_ok-cycles.cycles) step.uncounted in
+    subst (λ cycles. At cycles (c.loop-steps.steps + 1)) (sym all)
     (subst (At (last.cycles + c.in_ok-cycles.cycles)) next
-    (one_more c.args.known.now c.loop-steps.stored c.go_on.new.stored first.parts last.parts c.go_on.new.parts c.args.changes.now
-    (registers_of first.regs) first.space (registers_of last.regs) last.space (registers_of c.go_on.new.regs) c.go_on.new.space
-    last.cycles c.in_ok-cycles.cycles c.loop-steps.steps c.loop-steps.invariant c.in_ok-cycles.ensures))
+    (one_more c.args.known.now c.loop-steps.stored c.go_on.new.stored first.parts last.parts new.parts c.args.changes.now
+    (registers_of first.regs) first.space (registers_of last.regs) last.space (registers_of new.regs) new.space
+    last.cycles c.in_ok-cycles.cycles c.loop-steps.steps c.loop-steps.invariant step.step))
 
 pub returns-in-loop-steps : goal.returns-in-loop-steps
 returns-in-loop-steps c =

@@ -1,6 +1,6 @@
 use Rattle.a2_cpu.specs.View.{registers_of}
 use Rattle.a2_trial.proofs.Certifying.{board_bytes}
-use Rattle.a2_trial.proofs.certain.sight_of.Goals as goal
+use Rattle.a2_trial.proofs.judge.sight_of.Goals as goal
 
 pub returns-clause-moment : goal.returns-clause-moment
 returns-clause-moment c = λ i. record {
