@@ -212,10 +212,9 @@ fn are_registers_kept(
     ensures { IsTrue result → AreRegistersKept changes.now parts.now parts_behind.now
         (registers_of before.now) (registers_of behind.now) }
 {
-    if !is_register_kept(Part::A, changes.a, parts, parts_behind, before.a, behind.a) {
-        return false;
-    }
-    if !is_register_kept(Part::X, changes.x, parts, parts_behind, before.x, behind.x) {
+    if !is_register_kept(Part::A, changes.a, parts, parts_behind, before.a, behind.a)
+        || !is_register_kept(Part::X, changes.x, parts, parts_behind, before.x, behind.x)
+    {
         return false;
     }
     is_register_kept(Part::Y, changes.y, parts, parts_behind, before.y, behind.y)

@@ -191,16 +191,13 @@ fn mark_program(marks: &mut [Mark], program: &Program<Global>) {
         }
     }
     for statement in program.statements() {
+        let instr = statement.instr;
         let first = usize::from(statement.addr);
         let end = first.saturating_add(usize::from(statement.length));
         for address in first..end {
             if let Some(mark) = marks.get_mut(address) {
-                mark.instr = if address == first {
-                    statement.instr
-                } else {
-                    None
-                };
-                mark.is_code = statement.instr.is_some();
+                mark.instr = if address == first { instr } else { None };
+                mark.is_code = instr.is_some();
             }
         }
     }
@@ -464,13 +461,10 @@ impl Ground {
             return Err(Stop::Left(door_of_return(exit.regs.s)));
         }
         match self.mark(pc) {
-            Some(
-                Mark {
-                    instr: Some(instr),
-                    ..
-                },
-            ) => self.do_instr(instr, exit),
-            Some(_) => Err(Stop::Left(Door::Elsewhere(pc))),
+            Some(mark) => match mark.instr {
+                Some(instr) => self.do_instr(instr, exit),
+                None => Err(Stop::Left(Door::Elsewhere(pc))),
+            },
             None => match service_at(pc) {
                 Some(service) => self.call_service(service, exit),
                 None => Err(Stop::Left(Door::Above(pc))),

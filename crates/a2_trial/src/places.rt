@@ -3,14 +3,15 @@
 //! Each function here marks what it says, and answers false where the routine may not store at one of the addresses, or it is not
 //! in RAM or holds the return address.
 
-ghost use Rattle.std.specs.Prelude.{◌<◌, ◌≤◌, ◌+◌, ℕ, [], ◌∷◌, ◌++◌, IfSome, IsTrue};
+ghost use Rattle.std.specs.Prelude.{◌<◌, ◌≤◌, ◌+◌, ℕ, [], ◌∷◌, ◌++◌, map, IfSome, IsTrue};
 ghost use Rattle.a2_page.specs.Cells.{numbers_from};
 ghost use Rattle.a2_bus.specs.Memory.{Memory};
 ghost use Rattle.a2_bus.specs.View.{memory_of};
 ghost use Rattle.a2_cpu.specs.View.{registers_of};
+ghost use Rattle.a2_services.specs.Blocks.{span_of};
 ghost use Rattle.a2_services.specs.Put.{after_put, window_of};
 ghost use Rattle.a2_services.specs.World.{world_of};
-ghost use Rattle.a2_reads.specs.Services.{base_bytes, block_cell, blocks_across, blocks_down, cells_below, cells_to_end};
+ghost use Rattle.a2_reads.specs.Services.{base_bytes, block_cell, cells_below, cells_to_end};
 ghost use Rattle.a2_reads.specs.Services.{changed_by, output_bytes, put_changes, service_stores, window_cells};
 ghost use Rattle.a2_trial.specs.Screen.{IsCursor, IsOnScreen, window_by};
 ghost use Rattle.a2_trial.specs.Walking.{AreMarked};
@@ -83,40 +84,26 @@ fn mark_block(stored: &mut Stored, changes: &Changes, row: u8, column: u8) -> bo
     row < 48 && column < 40 && mark(stored, changes, address(Page::One, row / 2, column))
 }
 
-// Those of HLINE's blocks.
-fn mark_blocks_across(
-    stored: &mut Stored,
-    changes: &Changes,
-    regs: &Regs,
-    space: &AddressSpace<Global>,
-) -> bool
-    ensures { IsTrue result → AreMarked stored.old stored.new changes.now
-        (blocks_across (registers_of regs.now) (memory_of space.now)) }
+// Those of the blocks of a row, from a column on.
+fn mark_blocks_across(stored: &mut Stored, changes: &Changes, row: u8, first: u8, last: u8) -> bool
+    ensures { IsTrue result → AreMarked stored.old stored.new changes.now (map (λ column. block_cell row column) (span_of first last)) }
 {
-    let last = load(space, H2);
-    if regs.a >= 48 || regs.y >= 40 || last >= 40 {
+    if row >= 48 || first >= 40 || last >= 40 {
         return false;
     }
-    let first = address(Page::One, regs.a / 2, regs.y);
-    mark_cells(stored, changes, first, last.saturating_sub(regs.y) + 1)
+    let cell = address(Page::One, row / 2, first);
+    mark_cells(stored, changes, cell, last.saturating_sub(first) + 1)
 }
 
-// Those of VLINE's.
-fn mark_blocks_down(
-    stored: &mut Stored,
-    changes: &Changes,
-    regs: &Regs,
-    space: &AddressSpace<Global>,
-) -> bool
-    ensures { IsTrue result → AreMarked stored.old stored.new changes.now
-        (blocks_down (registers_of regs.now) (memory_of space.now)) }
+// Those of a column, from a row on.
+fn mark_blocks_down(stored: &mut Stored, changes: &Changes, first: u8, last: u8, column: u8) -> bool
+    ensures { IsTrue result → AreMarked stored.old stored.new changes.now (map (λ row. block_cell row column) (span_of first last)) }
 {
-    let last = load(space, V2);
-    if regs.a >= 48 || last >= 48 {
+    if first >= 48 || last >= 48 {
         return false;
     }
-    for step in 0..last.saturating_sub(regs.a) + 1 {
-        if !mark_block(stored, changes, regs.a + step, regs.y) {
+    for step in 0..last.saturating_sub(first) + 1 {
+        if !mark_block(stored, changes, first + step, column) {
             return false;
         }
     }
@@ -257,8 +244,8 @@ pub(crate) fn mark_places(
         Service::Clreop => mark_clreop(stored, changes, space),
         Service::Setcol => mark(stored, changes, COLOR),
         Service::Plot => mark_block(stored, changes, regs.a, regs.y),
-        Service::Hline => mark_blocks_across(stored, changes, regs, space),
-        Service::Vline => mark_blocks_down(stored, changes, regs, space),
+        Service::Hline => mark_blocks_across(stored, changes, regs.a, regs.y, load(space, H2)),
+        Service::Vline => mark_blocks_down(stored, changes, regs.a, load(space, V2), regs.y),
         Service::Clrscr => {
             mark_each(stored, changes, &[COLOR, V2]) && mark_window(stored, changes, &WHOLE_SCREEN)
         }

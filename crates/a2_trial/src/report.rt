@@ -52,9 +52,11 @@ fn put_signed<W: Output>(words: &[u8], number: i64, output: &mut W) -> Result<()
 
 // Writes words, and an address behind them: in page 0 with two digits.
 fn put_address<W: Output>(words: &[u8], address: u16, output: &mut W) -> Result<(), WriteFault> {
-    let digits = hex_word(address);
-    let shown: &[u8] = if address < 256 { &digits[2..] } else { &digits };
-    put_all(&[words, b"$", shown], output)
+    if address < 256 {
+        put_all(&[words, b"$", &hex_pair((address % 256) as u8)], output)
+    } else {
+        put_all(&[words, b"$", &hex_word(address)], output)
+    }
 }
 
 // Writes words, and behind them what an input is called.

@@ -188,18 +188,14 @@ fn are_both_known(
         (at.invflg ∷ put_moves first memory ++ put_moves second (after_put first memory)) }
 {
     let cursor = cursor_in(space);
-    if !is_on_screen(&cursor) {
-        return false;
-    }
     let mask = load(space, INVFLG);
-    let put = masked(first, mask);
-    if !is_known_now(known, stored, INVFLG) {
+    let (put, next) = (masked(first, mask), masked(second, mask));
+    if !is_on_screen(&cursor)
+        || !is_known_now(known, stored, INVFLG)
+        || !are_moved_known(known, stored, put, &cursor)
+    {
         return false;
     }
-    if !are_moved_known(known, stored, put, &cursor) {
-        return false;
-    }
-    let next = masked(second, mask);
     are_moved_known(known, stored, next, &behind(put, cursor))
 }
 
@@ -246,10 +242,9 @@ pub(crate) fn is_all_known(
     ensures { IsTrue result → (before : ℕ)
         → Knows (known_now known.now stored.now) (service_reads service (world_of (registers_of regs.now) space.now before)) }
 {
-    if !are_known(known, stored, &way_of(service, regs.s)) {
-        return false;
-    }
-    if !are_known(known, stored, fit_of(service)) {
+    if !are_known(known, stored, &way_of(service, regs.s))
+        || !are_known(known, stored, fit_of(service))
+    {
         return false;
     }
     is_used_known(service, known, stored, regs, space)

@@ -179,10 +179,7 @@ fn any_value(corners: &[u8], number: u64, index: usize) -> u8 {
     let byte = any_byte(seed);
     if any_byte(!seed) < 128 {
         let place = usize::from(byte) % corners.len().max(1);
-        match corners.get(place) {
-            Some(corner) => *corner,
-            None => byte,
-        }
+        corners.get(place).copied().unwrap_or(byte)
     } else {
         byte
     }

@@ -223,20 +223,16 @@ fn make_step(
     requires { StandsAt instr walk.old.regs.pc walk.old.space.bytes }
     ensures { IfSome result (IsStepOf known.now stored.old stored.new changes.now walk.old walk.new) }
 {
-    let pc = walk.regs.pc;
-    if !is_fetch_known(known, stored, pc, instr.mode) || !is_code_off_stack(pc) {
+    let (regs, space) = (&walk.regs, &walk.space);
+    if !is_fetch_known(known, stored, regs.pc, instr.mode)
+        || !is_code_off_stack(regs.pc)
+        || !is_off_stack(instr, regs, space)
+        || !are_reads_known(known, stored, instr, regs, space)
+        || !are_parts_known(&walk.parts, instr)
+    {
         return None;
     }
-    if !is_off_stack(instr, &walk.regs, &walk.space) {
-        return None;
-    }
-    if !are_reads_known(known, stored, instr, &walk.regs, &walk.space) {
-        return None;
-    }
-    if !are_parts_known(&walk.parts, instr) {
-        return None;
-    }
-    let targets = writes(&walk.regs, &walk.space);
+    let targets = writes(regs, space);
     if !mark_each(stored, changes, targets.as_slice()) {
         return None;
     }
@@ -254,16 +250,15 @@ fn serve(walk: &mut Walk, known: &[bool], stored: &mut Stored, changes: &Changes
     ensures { IfSome result (IsStepOf known.now stored.old stored.new changes.now walk.old walk.new) }
 {
     let service = service_at(walk.regs.pc)?;
-    if !is_keyless(service) || !walk.parts.have(taken_by(service)) {
+    let (regs, space) = (&walk.regs, &walk.space);
+    if !is_keyless(service)
+        || !walk.parts.have(taken_by(service))
+        || !is_all_known(service, known, stored, regs, space)
+        || !mark_places(service, stored, changes, regs, space)
+    {
         return None;
     }
-    if !is_all_known(service, known, stored, &walk.regs, &walk.space) {
-        return None;
-    }
-    if !mark_places(service, stored, changes, &walk.regs, &walk.space) {
-        return None;
-    }
-    let mut live = Live::of(&walk.regs);
+    let mut live = Live::of(regs);
     let Served::Next(cycles) = call(service, &mut live, &mut walk.space) else {
         return None;
     };

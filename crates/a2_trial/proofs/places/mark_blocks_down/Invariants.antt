@@ -7,4 +7,4 @@ use Rattle.a2_trial.proofs.places.mark_blocks_down.Given as goal
 
 abbrev pub invariant-loop-step : goal.invariant-loop-step
 invariant-loop-step l =
-    AreMarked l.fn.stored l.stored l.changes (flat_map (λ row. block_cell row l.regs.y ∷ []) (numbers_from l.regs.a l.step))
+    AreMarked l.fn.stored l.stored l.changes (flat_map (λ row. block_cell row l.column ∷ []) (numbers_from l.first l.step))

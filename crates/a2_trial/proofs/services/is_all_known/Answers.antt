@@ -18,5 +18,5 @@ returns c = λ is before.
     knows_both known (way ++ fit) (bytes_used c.args.service (registers_of c.args.regs.now) (memory_of c.args.space.now))
     (knows_both known way fit
     (knows_all known way (ap (list_all known) (sym c.way_of.ensures) ∙ sym c.are_known.ensures ∙ c.if-not-are_known.false))
-    (knows_all known fit (ap (list_all known) (sym c.fit_of.ensures) ∙ sym c.are_known-2.ensures ∙ c.if-not-are_known-2.false)))
+    (knows_all known fit (ap (list_all known) (sym c.fit_of.ensures) ∙ sym c.are_known-else-not-are_known.ensures ∙ c.if-not-are_known-2.false)))
     (c.is_used_known.ensures is)
