@@ -38,7 +38,7 @@ const REACH_END: u16 = 0x0800;
 const EXIT_S: u8 = 0xFF;
 
 /// How a routine leaves.
-#[derive(Clone, Copy, PartialEq, Eq)]
+#[derive(Clone, Copy)]
 pub enum Door {
     /// It returns to its caller.
     Returned,

@@ -7,6 +7,8 @@ ghost use Rattle.a2_trial.specs.Kept.{is_own, may_store};
 ghost use Rattle.a2_trial.specs.States.{holds_part, values_of};
 
 use crate::settled::{number_of, settled_value};
+use a2_asm::Program;
+use a2_opcode::Mode;
 use a2_promise::{Atom, Changes, Expr, Function, Promise};
 use a2_uses::Part;
 use std::alloc::{AllocError, Global};
@@ -161,7 +163,8 @@ fn is_kept(changes: &Changes, input: Input) -> bool {
     }
 }
 
-/// What a promise names: inputs, and the bytes of numbers, which are tried among the first.
+/// What a promise names: inputs, and the values that are tried first, as bounds, the bytes of its numbers, and the numbers of its
+/// program with their neighbours.
 #[derive(Drop)]
 pub(crate) struct Named {
     pub inputs: Vec<Input>,
@@ -229,11 +232,29 @@ fn search_in(named: &mut Named, expr: &Expr, behind: Option<&Changes>) -> Result
     }
 }
 
-/// What a promise names.
-pub(crate) fn named_by(alloc: Global, promise: &Promise) -> Result<Named, AllocError> {
+// Adds the numbers of a program, with their neighbours.
+fn add_program(corners: &mut Vec<u8>, program: &Program<Global>) -> Result<(), AllocError> {
+    for statement in program.statements() {
+        if let Some(instr) = statement.instr
+            && instr.mode == Mode::Immediate
+        {
+            let number = (instr.value % 256) as u8;
+            let around = [number, number.wrapping_add(1), number.wrapping_sub(1)];
+            corners.extend_from_slice(&around)?;
+        }
+    }
+    Ok(())
+}
+
+/// What a promise of a program names.
+pub(crate) fn named_by(
+    alloc: Global,
+    program: &Program<Global>,
+    promise: &Promise,
+) -> Result<Named, AllocError> {
     let mut named = Named {
         inputs: Vec::new(alloc),
-        corners: Vec::new(alloc),
+        corners: Vec::from_slice(alloc, &[0u8, 1, 127, 128, 254, 255])?,
     };
     for clause in promise.wanted.as_slice() {
         search_in(&mut named, &clause.expr, None)?;
@@ -241,6 +262,7 @@ pub(crate) fn named_by(alloc: Global, promise: &Promise) -> Result<Named, AllocE
     for clause in promise.promised.as_slice() {
         search_in(&mut named, &clause.expr, Some(&promise.changes))?;
     }
+    add_program(&mut named.corners, program)?;
     Ok(named)
 }
 

@@ -212,7 +212,7 @@ pub(crate) fn broken_by(
     regs: Regs,
     exit: &Exit,
 ) -> Result<Option<Broken>, AllocError> {
-    if exit.door != Door::Returned {
+    if !matches!(exit.door, Door::Returned) {
         return Ok(Some(Broken::Left(exit.door)));
     }
     let entry = sight_of(&regs, &ground.before, 0, 0);

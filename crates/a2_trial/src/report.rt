@@ -75,23 +75,18 @@ fn put_input<W: Output>(words: &[u8], input: Input, output: &mut W) -> Result<()
     put_all(&[words, name], output)
 }
 
-// Whether an input of these has one value, since what is required settles it.
-fn is_settled(promise: &Promise, inputs: &[Input], input: Input) -> bool {
-    settled_value(inputs, promise.wanted.as_slice(), input).is_some()
-}
-
 // How many inputs are told.
 const MOST_TOLD: usize = 8;
 
-// Writes inputs but those that are settled, and how many more there are than are told.
+// Writes inputs but those that are settled, and how many more there are than are told; answers how many are not settled.
 fn put_inputs<W: Output>(
     promise: &Promise,
     inputs: &[Input],
     output: &mut W,
-) -> Result<(), WriteFault> {
+) -> Result<usize, WriteFault> {
     let mut count: usize = 0;
     for input in inputs {
-        if is_settled(promise, inputs, *input) {
+        if settled_value(inputs, promise.wanted.as_slice(), *input).is_some() {
             continue;
         }
         if count < MOST_TOLD {
@@ -104,7 +99,7 @@ fn put_inputs<W: Output>(
     if more > 0 {
         put_number(b" and ", more as u64, b" more", output)?;
     }
-    Ok(())
+    Ok(count)
 }
 
 // Writes that a promise holds in every state.
@@ -134,13 +129,10 @@ fn put_held<W: Output>(promise: &Promise, held: &Held, output: &mut W) -> Result
         return put_grouped(b"held in ", LEAST_TRIED, behind, output);
     }
     put_count(held.kept, held.tried == held.total, output)?;
-    put_inputs(promise, inputs, output)?;
+    let free = put_inputs(promise, inputs, output)?;
     if held.kept != held.tried {
         put_grouped(b" that it requires, of ", held.tried, b" tried", output)?;
-    } else if inputs
-        .iter()
-        .all(|input| is_settled(promise, inputs, *input))
-    {
+    } else if free == 0 {
         put_all(&[b" that it requires"], output)?;
     }
     if held.tried != held.total {
@@ -354,10 +346,11 @@ fn put_broken<W: Output>(
 fn put_state<W: Output>(failure: &Failure, output: &mut W) -> Result<(), WriteFault> {
     let mut is_any = false;
     put_all(&[b"  entered with"], output)?;
-    for (index, (input, value)) in failure.inputs.iter().zip(&failure.values).enumerate() {
-        if index < failure.named || *value != 0 {
+    for (index, input) in failure.inputs.iter().enumerate() {
+        let value = failure.values.as_slice().get(index).copied().unwrap_or(0);
+        if index < failure.named || value != 0 {
             put_input(b" ", *input, output)?;
-            put_number(b"=", u64::from(*value), b"", output)?;
+            put_number(b"=", u64::from(value), b"", output)?;
             is_any = true;
         }
     }

@@ -18,7 +18,6 @@ use a2_asm::Program;
 use a2_bus::Keys;
 use a2_cpu::Regs;
 use a2_cpu::live::Live;
-use a2_opcode::Mode;
 use a2_promise::{Found, Promise, Texts};
 use std::alloc::{AllocError, Global};
 
@@ -151,28 +150,6 @@ fn try_state(
     }
 }
 
-// The values that are tried first: bounds, the bytes of the numbers of a promise, and the numbers of its program with their
-// neighbours.
-fn corners_of(
-    alloc: Global,
-    program: &Program<Global>,
-    promised: &[u8],
-) -> Result<Vec<u8>, AllocError> {
-    let mut corners = Vec::new(alloc);
-    corners.extend_from_slice(&[0u8, 1, 127, 128, 254, 255])?;
-    corners.extend_from_slice(promised)?;
-    for statement in program.statements() {
-        if let Some(instr) = statement.instr
-            && instr.mode == Mode::Immediate
-        {
-            let number = (instr.value % 256) as u8;
-            let around = [number, number.wrapping_add(1), number.wrapping_sub(1)];
-            corners.extend_from_slice(&around)?;
-        }
-    }
-    Ok(corners)
-}
-
 // The value of the input of an index in a state that is like any other; of each two one is a corner.
 fn any_value(corners: &[u8], number: u64, index: usize) -> u8 {
     let seed = number.wrapping_mul(64).wrapping_add(index as u64);
@@ -190,9 +167,9 @@ fn any_value(corners: &[u8], number: u64, index: usize) -> u8 {
 fn put_values(values: &mut [u8], inputs: &Inputs, corners: &[u8], number: u64, is_all: bool) {
     let varied = inputs.varied().len();
     let mut rest = number;
-    for (index, (input, settled)) in inputs.all.iter().zip(&inputs.settled).enumerate() {
+    for (index, input) in inputs.all.iter().enumerate() {
         let among = input.values().max(1);
-        let value = if let Some(byte) = settled {
+        let value = if let Some(Some(byte)) = inputs.settled.as_slice().get(index) {
             *byte
         } else if is_all && index < varied {
             let digit = rest % among;
@@ -381,8 +358,7 @@ fn try_states(
     promise: &Promise,
     trials: Trials,
 ) -> Result<Verdict, AllocError> {
-    let named = named_by(ground.alloc, promise)?;
-    let corners = corners_of(ground.alloc, program, named.corners.as_slice())?;
+    let named = named_by(ground.alloc, program, promise)?;
     // Each round but the last finds one more thing at least that is looked at, and so many are noted.
     for _ in 0..=MOST_LOOKED {
         let inputs = inputs_of(
@@ -391,7 +367,13 @@ fn try_states(
             named.inputs.as_slice(),
             ground.looked.as_slice(),
         )?;
-        if let Some(verdict) = try_inputs(ground, promise, &inputs, corners.as_slice(), trials)? {
+        if let Some(verdict) = try_inputs(
+            ground,
+            promise,
+            &inputs,
+            named.corners.as_slice(),
+            trials,
+        )? {
             return Ok(verdict);
         }
     }
