@@ -1,4 +1,5 @@
 pub mod Columns
+pub mod Drafts
 pub mod Filmed
 pub mod Imports
 pub mod Named

@@ -1,18 +1,32 @@
 //! What words with options of their own ask for, or the status where their fault is told.
 
-ghost use Rattle.std.specs.Prelude.{◌≤◌, IfErr};
+ghost use Rattle.std.specs.Prelude.{◌≡◌, ◌≤◌, IfErr};
+ghost use Rattle.std.specs.List.{list_any};
+ghost use Rattle.std.specs.Str.{bytes_eq};
 
 use crate::named::file_in;
 use crate::program::{behind, refused, tell, tell_number, tell_value};
 use crate::table::Word;
-use crate::tools::told;
+use crate::tools::{or_told, told};
 use crate::words::{Order, order_of};
 use a2_asm::Program;
 use a2_options::{Found, OptionFault, Parted, Row, take_options};
 use a2_places::{Span, span_of};
-use a2_run::{RunFault, program_of, step_limit};
+use a2_run::{MOST_STEPS, RunFault, program_of, step_limit};
 use a2_stream::Output;
 use std::alloc::Global;
+
+// A row of a table of options.
+macro_rules! row {
+    ($kind:ident $name:literal) => {
+        Row {
+            name: $name,
+            kind: Kind::$kind,
+        }
+    };
+}
+
+pub(crate) use row;
 
 /// What words hold by a table of options; or the status, where their fault is told.
 pub fn held_in<'a, E: Output>(
@@ -27,11 +41,18 @@ pub fn held_in<'a, E: Output>(
     match take_options(alloc, table, words) {
         Ok(held) => Ok(held),
         Err(OptionFault::Value(option)) => {
-            tell_value(word.name.as_bytes(), option.as_bytes(), complaints);
+            tell_value(word.name, option, complaints);
             Err(2)
         }
         Err(OptionFault::Memory) => Err(told(RunFault::Memory, complaints)),
     }
+}
+
+/// Whether an option was found.
+pub fn has(found: &[Found<'_>], name: &str) -> bool
+    ensures { result ≡ list_any (λ option. bytes_eq option.name.now name.now) found.now }
+{
+    found.iter().any(|option| option.name == name)
 }
 
 /// What the words of a run ask for; or the status, where their fault is told.
@@ -70,24 +91,27 @@ pub fn program_in<E: Output>(
 ) -> Result<Program<Global>, u8>
     ensures { IfErr result (λ status. status ≤ 5) }
 {
-    match program_of(alloc, source) {
-        Ok(program) => Ok(program),
-        Err(fault) => Err(told(fault, complaints)),
-    }
+    or_told(program_of(alloc, source), complaints)
 }
 
-/// The number of steps that an option has; or the status, where its fault is told.
-pub fn steps_in<E: Output>(name: &[u8], option: &Found<'_>, complaints: &mut E) -> Result<u32, u8>
+/// The number that an option has, from `least` to 100,000,000; or the status, where its fault is told.
+pub fn number_in<E: Output>(
+    name: &str,
+    option: &Found<'_>,
+    least: u32,
+    complaints: &mut E,
+) -> Result<u32, u8>
     ensures { IfErr result (λ status. status ≤ 5) }
 {
     match step_limit(option.value) {
-        Some(steps) => Ok(steps),
-        None => {
+        Some(number) if number >= least => Ok(number),
+        _ => {
             tell_number(
                 name,
-                option.name.as_bytes(),
-                option.value.as_bytes(),
-                b"100000000",
+                option.name,
+                option.value,
+                least,
+                MOST_STEPS,
                 complaints,
             );
             Err(2)
@@ -96,12 +120,12 @@ pub fn steps_in<E: Output>(name: &[u8], option: &Found<'_>, complaints: &mut E) 
 }
 
 /// Tells what is wrong with the addresses that an option has; the status.
-pub fn tell_span<E: Output>(name: &[u8], option: &Found<'_>, why: &[u8], complaints: &mut E) -> u8
+pub fn tell_span<E: Output>(name: &str, option: &Found<'_>, why: &[u8], complaints: &mut E) -> u8
     ensures { result ≤ 5 }
 {
     tell(
         &[
-            name,
+            name.as_bytes(),
             b": ",
             option.name.as_bytes(),
             b" ",
@@ -115,7 +139,7 @@ pub fn tell_span<E: Output>(name: &[u8], option: &Found<'_>, why: &[u8], complai
 
 /// The addresses that an option has; or the status, where its fault is told.
 pub fn span_in<E: Output>(
-    name: &[u8],
+    name: &str,
     program: &Program<Global>,
     option: &Found<'_>,
     complaints: &mut E,

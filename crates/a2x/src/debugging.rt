@@ -2,44 +2,28 @@
 
 ghost use Rattle.std.specs.Prelude.{◌≤◌, IfOk, IfErr};
 
-use crate::asked::{held_in, order_in};
+use crate::asked::{held_in, number_in, order_in, row};
 use crate::lines::{Lines, Prompt, Terminal, columns_of, talked, terminal_in};
 use crate::named::is_input;
 use crate::program::{tell, tell_lines_come, text_of};
 use crate::table::Word;
-use crate::tools::{told, written};
+use crate::tools::{or_told, written};
 use crate::words::Order;
 use a2_host::Shelf;
 use a2_inspect::Inspector;
 use a2_options::{Found, Kind, Row};
 use a2_panes::{LEAST_COLUMNS, LEAST_ROWS, Panes, Wall};
-use a2_run::step_limit;
 use a2_stream::{Input, Output};
 use std::alloc::Global;
 use std::cell::Cell;
 
 // The options of `debug`, of which those of each run are left.
 static DEBUG_OPTIONS: [Row; 5] = [
-    Row {
-        name: "--tui",
-        kind: Kind::Flag,
-    },
-    Row {
-        name: "--keep",
-        kind: Kind::Value,
-    },
-    Row {
-        name: "--plain",
-        kind: Kind::Flag,
-    },
-    Row {
-        name: "--keys",
-        kind: Kind::Left,
-    },
-    Row {
-        name: "--limit",
-        kind: Kind::Left,
-    },
+    row!(Flag "--tui"),
+    row!(Value "--keep"),
+    row!(Flag "--plain"),
+    row!(Left "--keys"),
+    row!(Left "--limit"),
 ];
 
 /// How many copies of the machine are kept without `--keep`: some 64 MB of them.
@@ -59,26 +43,6 @@ struct Asked {
     is_plain: bool,
 }
 
-// The number of copies that an option has; or the status, where its fault is told.
-fn kept_in<E: Output>(option: &Found<'_>, complaints: &mut E) -> Result<usize, u8>
-    ensures { IfErr result (λ status. status ≤ 5) }
-{
-    match step_limit(option.value) {
-        Some(kept) if kept >= LEAST_KEPT => Ok(kept as usize),
-        _ => {
-            tell(
-                &[
-                    b"debug: --keep ",
-                    option.value.as_bytes(),
-                    b" is no number from 20 to 100000000",
-                ],
-                complaints,
-            );
-            Err(2)
-        }
-    }
-}
-
 // What the options say; or the status, where a fault is told.
 fn asked_in<E: Output>(found: &[Found<'_>], complaints: &mut E) -> Result<Asked, u8>
     ensures { IfErr result (λ status. status ≤ 5) }
@@ -90,7 +54,10 @@ fn asked_in<E: Output>(found: &[Found<'_>], complaints: &mut E) -> Result<Asked,
     };
     for option in found {
         match option.name {
-            "--keep" => asked.kept = kept_in(option, complaints)?,
+            "--keep" => {
+                let kept = number_in("debug", option, LEAST_KEPT, complaints)?;
+                asked.kept = kept as usize;
+            }
             "--plain" => asked.is_plain = true,
             _ => asked.are_up = true,
         }
@@ -173,15 +140,12 @@ fn inspector_of<'a, E: Output>(
     ensures { IfErr result (λ status. status ≤ 5) }
 {
     let (keys, free, limit) = (&order.keys, order.free, order.limit);
-    match Inspector::new(alloc, source, keys, free, limit, asked.kept) {
-        Ok(mut inspector) => {
-            if asked.is_plain {
-                inspector.tell_plainly();
-            }
-            Ok(inspector)
-        }
-        Err(fault) => Err(told(fault, complaints)),
+    let answer = Inspector::new(alloc, source, keys, free, limit, asked.kept);
+    let mut inspector = or_told(answer, complaints)?;
+    if asked.is_plain {
+        inspector.tell_plainly();
     }
+    Ok(inspector)
 }
 
 // Answers the debugger's lines over the run of a source.
@@ -242,13 +206,10 @@ pub fn debug_of<S: Shelf, R: Input, W: Output, E: Output>(
     let held = held_in(alloc, word, &DEBUG_OPTIONS, words, complaints)?;
     let asked = asked_in(held.found.as_slice(), complaints)?;
     let order = order_in(word, held.others.as_slice(), complaints)?;
-    let Some(file) = order.file else {
-        return Err(tell_lines_come(b"debug", complaints));
+    let source = match order.file {
+        Some(file) if !is_input(file) => text_of(alloc, order.file, shelf, input, complaints)?,
+        _ => return Err(tell_lines_come(b"debug", complaints)),
     };
-    if is_input(file) {
-        return Err(tell_lines_come(b"debug", complaints));
-    }
-    let source = text_of(alloc, order.file, shelf, input, complaints)?;
     Ok(debug(
         alloc,
         source.as_slice(),

@@ -3,8 +3,9 @@
 ghost use Rattle.std.specs.Prelude.{◌≤◌, IfErr};
 ghost use Rattle.a2x.specs.Filmed.{FilmsFailureInto};
 
+use crate::drafts::settled;
 use crate::program::tell;
-use crate::tools::told;
+use crate::tools::or_told;
 use a2_asm::Program;
 use a2_desk::Desk;
 use a2_film::{Chapter, Place, film_run};
@@ -107,18 +108,10 @@ pub fn failure_into<D: Desk>(
     let machine = machine_at_entry(alloc, program, address, failure)?;
     let (limit, free) = (failure.steps, false);
     let mut draft = desk.begin(page)?;
-    match film_run(
+    let answer = film_run(
         alloc, source, program, title, chapters, machine, limit, free, &mut draft,
-    ) {
-        Ok(cause) => {
-            desk.finish(page, draft)?;
-            Ok(cause)
-        }
-        Err(fault) => {
-            desk.give_up(draft);
-            Err(fault)
-        }
-    }
+    );
+    settled(page, draft, answer, desk)
 }
 
 // Writes the film of a promise that fails.
@@ -173,8 +166,7 @@ pub fn film_first<D: Desk, E: Output>(
         );
         return Ok(());
     };
-    match film_fallen(alloc, source, program, title, fallen, page, desk) {
-        Ok(_) => Ok(()),
-        Err(fault) => Err(told(fault, complaints)),
-    }
+    let answer = film_fallen(alloc, source, program, title, fallen, page, desk);
+    or_told(answer, complaints)?;
+    Ok(())
 }

@@ -2,13 +2,12 @@
 
 ghost use Rattle.a2x.specs.Filmed.{FilmsInto};
 
-use crate::words::Order;
+use crate::drafts::settled;
 use a2_bus::Keys;
 use a2_desk::Desk;
 use a2_film::{Chapter, Window, film_source};
 use a2_machine::Cause;
 use a2_run::{RunFault, step_limit};
-use a2_stream::Output;
 use std::alloc::{AllocError, Global};
 
 /// The most steps of a film whose words name none.
@@ -36,7 +35,7 @@ pub enum FilmFault<'a> {
     /// An option stands without a value.
     Value(&'static str),
     /// The value of an option is no number up to the one that is named.
-    Number(&'static str, &'a str, &'static str),
+    Number(&'static str, &'a str, u32),
     /// A growth of memory was refused.
     Memory,
 }
@@ -75,7 +74,7 @@ fn next_behind(word: &str) -> Next {
 fn film_steps<'a>(option: &'static str, word: &'a str) -> Result<u32, FilmFault<'a>> {
     match step_limit(word) {
         Some(steps) if steps <= MOST_STEPS => Ok(steps),
-        _ => Err(FilmFault::Number(option, word, "1000000")),
+        _ => Err(FilmFault::Number(option, word, MOST_STEPS)),
     }
 }
 
@@ -86,7 +85,7 @@ fn take<'a>(film: &mut FilmOrder<'a>, next: Next, word: &'a str) -> Result<(), F
         Next::Script => film.script = Some(word),
         Next::From => match step_limit(word) {
             Some(from) => film.from = from,
-            None => return Err(FilmFault::Number("--from", word, "100000000")),
+            None => return Err(FilmFault::Number("--from", word, a2_run::MOST_STEPS)),
         },
         Next::Steps => film.steps = Some(film_steps("--steps", word)?),
         Next::Word | Next::Value => {}
@@ -175,16 +174,8 @@ pub fn film_into<D: Desk>(
         (D.files desk.old) (D.files desk.new) result }
 {
     let mut draft = desk.begin(page)?;
-    match film_source(
+    let answer = film_source(
         alloc, source, title, chapters, keys, window, free, &mut draft,
-    ) {
-        Ok(cause) => {
-            desk.finish(page, draft)?;
-            Ok(cause)
-        }
-        Err(fault) => {
-            desk.give_up(draft);
-            Err(fault)
-        }
-    }
+    );
+    settled(page, draft, answer, desk)
 }

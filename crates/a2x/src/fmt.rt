@@ -5,14 +5,16 @@ ghost use Rattle.a2_fmt.specs.Formatted.{CanBeLaid, IsFormatFault};
 ghost use Rattle.a2_fmt.specs.Layout.{laid};
 ghost use Rattle.a2x.specs.Columns.{Shows, Names, Rewrites};
 
+use crate::drafts::settled;
 use crate::named::{is_file, is_input};
+use crate::program::tell;
 use crate::tools::told;
 use a2_check::{Format, TellFault, put_refusals, refusals_of};
 use a2_desk::Desk;
 use a2_fmt::{FormatFault, format_source};
 use a2_run::RunFault;
 use a2_stream::{Output, WriteFault, put, put_all};
-use std::alloc::{AllocError, Global};
+use std::alloc::Global;
 
 /// The status where a text is not in columns.
 const NOT_IN_COLUMNS: u8 = 6;
@@ -113,9 +115,8 @@ pub fn tell_fmt_words<E: Output>(fault: FmtWordsFault<'_>, complaints: &mut E) -
         FmtWordsFault::Several => ("several files", b" want --check or -w"),
         FmtWordsFault::NoFile => ("-w", b" wants files"),
     };
-    // Where this fails there is no place left to tell it.
-    let _ = put_all(
-        &[b"a2x: fmt: ", front.as_bytes(), rest, b" (a2x help fmt)\n"],
+    tell(
+        &[b"fmt: ", front.as_bytes(), rest, b" (a2x help fmt)"],
         complaints,
     );
     2
@@ -204,16 +205,9 @@ pub fn rewrite<D: Desk>(
         return Ok(());
     }
     let mut draft = desk.begin(name)?;
-    match put(columns.as_slice(), &mut draft) {
-        Ok(()) => {
-            desk.finish(name, draft)?;
-            Ok(())
-        }
-        Err(_) => {
-            desk.give_up(draft);
-            Err(FmtFault::Write)
-        }
-    }
+    let answer = put(columns.as_slice(), &mut draft);
+    settled(name, draft, answer, desk)?;
+    Ok(())
 }
 
 // Tells the refusals of a text; the status.
@@ -250,11 +244,11 @@ fn tell_fault<E: Output>(
     match fault {
         FmtFault::Layout(FormatFault::Source(_)) => tell_refusals(alloc, name, text, complaints),
         FmtFault::Layout(FormatFault::Unlike) => {
-            let _ = put_all(
+            tell(
                 &[
-                    b"a2x: fmt: ",
+                    b"fmt: ",
                     name.as_bytes(),
-                    b" in columns would be larger than 65536 bytes, or say something else: it stays as it is; split it\n",
+                    b" in columns would be larger than 65536 bytes, or say something else: it stays as it is; split it",
                 ],
                 complaints,
             );

@@ -4,6 +4,7 @@ ghost use Rattle.std.specs.Prelude.{◌≡◌, ◌≤◌};
 ghost use Rattle.a2x.specs.Imports.{ShowsRows};
 
 use crate::named::{is_file, option_at_end};
+use crate::program::tell;
 use crate::tools::told;
 use a2_hex::HexFault;
 use a2_import::{
@@ -17,7 +18,7 @@ use a2_text::{cut, decimal};
 use std::alloc::Global;
 
 /// Why words ask for nothing.
-#[derive(Clone, Copy, Debug, PartialEq, Eq)]
+#[derive(Clone, Copy)]
 pub enum ImportWordsFault<'a> {
     /// A word begins with `-`, and is no option here.
     Option(&'a str),
@@ -87,14 +88,8 @@ pub fn tell_import_words<E: Output>(fault: ImportWordsFault<'_>, complaints: &mu
         ImportWordsFault::Value => ("--from", b" stands without a value"),
         ImportWordsFault::Several => ("import", b" takes one file"),
     };
-    // Where this fails there is no place left to tell it.
-    let _ = put_all(
-        &[
-            b"a2x: import: ",
-            front.as_bytes(),
-            rest,
-            b" (a2x help import)\n",
-        ],
+    tell(
+        &[b"import: ", front.as_bytes(), rest, b" (a2x help import)"],
         complaints,
     );
     2
@@ -128,16 +123,19 @@ fn note_text(kind: NoteKind) -> &'static [u8] {
     }
 }
 
-// Tells a note of a line with this text.
-fn tell_note<E: Output>(name: &str, note: Note, line: &[u8], complaints: &mut E) {
-    tell_of_line(
-        name,
-        note.line,
-        b"note",
-        note_text(note.kind),
-        line.trim_ascii(),
-        complaints,
-    )
+/// Tells a note of a line of a text with this name and these lines.
+pub fn tell_note<E: Output>(
+    name: &str,
+    line: usize,
+    note: &[u8],
+    lines: &[&[u8]],
+    complaints: &mut E,
+) {
+    let shown: &[u8] = match line.checked_sub(1) {
+        Some(index) if index < lines.len() => lines[index].trim_ascii(),
+        _ => b"",
+    };
+    tell_of_line(name, line, b"note", note, shown, complaints)
 }
 
 // Tells the notes of a text.
@@ -154,8 +152,8 @@ fn tell_notes<E: Output>(
         return told(RunFault::Memory, complaints);
     };
     for note in notes {
-        let line = note.line.checked_sub(1).and_then(|i| lines.get(i).copied());
-        tell_note(name, *note, line.unwrap_or(b""), complaints);
+        let text = note_text(note.kind);
+        tell_note(name, note.line, text, lines.as_slice(), complaints);
     }
     0
 }
@@ -189,7 +187,7 @@ fn listing_fault_of(fault: ListingFault) -> (usize, &'static [u8]) {
 }
 
 /// Why the source of a listing does not go out.
-#[derive(Clone, Copy, Debug, PartialEq, Eq)]
+#[derive(Clone, Copy)]
 pub enum RowsFault {
     /// There is none.
     Listing(ListingFault),

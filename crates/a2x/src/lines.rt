@@ -69,11 +69,9 @@ fn terminal_of(word: &str) -> Option<Terminal> {
 /// gives them.) The first word says what is done.
 pub fn terminal_in(words: &[String]) -> (Option<Terminal>, &[String]) {
     match words {
-        [_, raw, rest @ ..] if raw.as_str() == "--raw" => match rest {
-            [word, ..] if terminal_of(word.as_str()).is_some() => {
-                (terminal_of(word.as_str()), rest)
-            }
-            _ => (None, words),
+        [_, raw, word, ..] if raw.as_str() == "--raw" => match terminal_of(word.as_str()) {
+            Some(terminal) => (Some(terminal), &words[2..]),
+            None => (None, words),
         },
         _ => (None, words),
     }

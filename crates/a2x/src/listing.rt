@@ -4,7 +4,7 @@ ghost use Rattle.std.specs.Prelude.{◌≡◌, ◌≤◌, codes, IfOk, IfErr};
 ghost use Rattle.std.specs.List.{list_any};
 ghost use Rattle.std.specs.Str.{bytes_eq};
 
-use crate::asked::{held_in, named_file};
+use crate::asked::{has, held_in, named_file, row};
 use crate::program::text_of;
 use crate::table::Word;
 use crate::tools::list;
@@ -15,27 +15,7 @@ use a2_stream::{Input, Output};
 use std::alloc::Global;
 
 // The options of `list`, and what stands before a file whose name begins with `-`.
-static LIST_OPTIONS: [Row; 3] = [
-    Row {
-        name: "--cycles",
-        kind: Kind::Flag,
-    },
-    Row {
-        name: "--names",
-        kind: Kind::Flag,
-    },
-    Row {
-        name: "--",
-        kind: Kind::End,
-    },
-];
-
-// Whether an option was found.
-fn has(found: &[Found<'_>], name: &str) -> bool
-    ensures { result ≡ list_any (λ option. bytes_eq option.name.now name.now) found.now }
-{
-    found.iter().any(|option| option.name == name)
-}
+static LIST_OPTIONS: [Row; 3] = [row!(Flag "--cycles"), row!(Flag "--names"), row!(End "--")];
 
 // What a listing shows, by its options.
 fn shown_by(found: &[Found<'_>]) -> Shown

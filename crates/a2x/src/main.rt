@@ -10,6 +10,7 @@ mod asked;
 mod checking;
 mod clock;
 mod debugging;
+mod drafts;
 mod failing;
 mod film;
 mod fmt;

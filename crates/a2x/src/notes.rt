@@ -2,7 +2,7 @@
 
 ghost use Rattle.std.specs.Prelude.{◌≤◌};
 
-use crate::import::tell_of_line;
+use crate::import::tell_note;
 use crate::tools::told;
 use a2_asm::Program;
 use a2_notes::{Kind, Note, notes_of};
@@ -28,23 +28,10 @@ fn text_of(kind: Kind) -> &'static [u8] {
     }
 }
 
-// Tells a note of a line with this text.
-fn tell_note<E: Output>(name: &str, note: Note, line: &[u8], complaints: &mut E) {
-    tell_of_line(
-        name,
-        note.line,
-        b"note",
-        text_of(note.kind),
-        line.trim_ascii(),
-        complaints,
-    )
-}
-
 // Tells these notes of a source with this name and these lines.
 fn tell_notes<E: Output>(name: &str, notes: &[Note], texts: &[&[u8]], complaints: &mut E) {
     for note in notes {
-        let line = note.line.checked_sub(1).and_then(|i| texts.get(i).copied());
-        tell_note(name, *note, line.unwrap_or(b""), complaints);
+        tell_note(name, note.line, text_of(note.kind), texts, complaints);
     }
 }
 

@@ -7,8 +7,9 @@ ghost use Rattle.a2_play.specs.declared.pace.Pace.{Pace as DeclaredPace};
 ghost use Rattle.a2x.specs.PlayWords.{IsPaceNumber, IsPace, AreColours};
 ghost use Rattle.a2x.specs.PlayWords.{PlayAsked, AsksPlay, AsksNoSession, play_asked_of, no_play_asked};
 
+use crate::drafts::settled;
 use crate::lines::{Terminal, terminal_in};
-use crate::program::{behind, tell, tell_option, tell_value, text_of};
+use crate::program::{behind, spares_input, tell, tell_option, tell_value, text_of};
 use crate::tools::{told, written};
 use crate::turning::debug_here;
 use a2_ansi::Colours;
@@ -216,13 +217,8 @@ pub fn status_where(cause: Option<Cause>) -> u8
 fn record_into<D: Desk>(session: &Session<'_>, file: &str, desk: &mut D) -> Result<(), WriteFault> {
     let player = session.player();
     let mut draft = desk.begin(file)?;
-    match put_record(player.log(), player.machine().steps(), &mut draft) {
-        Ok(()) => desk.finish(file, draft),
-        Err(fault) => {
-            desk.give_up(draft);
-            Err(fault)
-        }
-    }
+    let answer = put_record(player.log(), player.machine().steps(), &mut draft);
+    settled(file, draft, answer, desk)
 }
 
 // Writes the keys where a file is to take them; the status.
@@ -358,7 +354,7 @@ pub fn play_source<D: Desk, R: Input, W: Output, E: Output, C: Clock>(
 // Tells why the words of a session are refused.
 fn tell_misfit<E: Output>(misfit: PlayMisfit<'_>, complaints: &mut E) {
     match misfit {
-        PlayMisfit::Value(option) => tell_value(b"play", option.as_bytes(), complaints),
+        PlayMisfit::Value(option) => tell_value("play", option, complaints),
         PlayMisfit::Pace(pace) => tell(
             &[
                 b"play: --pace ",
@@ -375,7 +371,7 @@ fn tell_misfit<E: Output>(misfit: PlayMisfit<'_>, complaints: &mut E) {
             ],
             complaints,
         ),
-        PlayMisfit::Option(option) => tell_option(b"play", option.as_bytes(), complaints),
+        PlayMisfit::Option(option) => tell_option("play", option, complaints),
         PlayMisfit::Files => tell(
             &[b"play takes one file, behind its options (a2x help)"],
             complaints,
@@ -428,30 +424,6 @@ fn terminal_for<E: Output>(
     Ok(terminal)
 }
 
-// Tells that the keys would take the place of the source, where they would.
-fn spares_source<D: Desk, E: Output>(
-    order: &PlayOrder<'_>,
-    desk: &D,
-    complaints: &mut E,
-) -> Result<(), u8>
-    ensures { IfErr result (λ status. status ≤ 5) }
-{
-    match order.record_to {
-        Some(record) if record == order.file || desk.are_one(record, order.file) => {
-            tell(
-                &[
-                    b"play: the keys would take the place of ",
-                    order.file.as_bytes(),
-                    b": give --record another name",
-                ],
-                complaints,
-            );
-            Err(2)
-        }
-        _ => Ok(()),
-    }
-}
-
 /// Plays the file that the words name, of which the first is `play`. The status is 2 where they are refused, and where nobody
 /// sits there; as of [`play_source`] else.
 pub fn play_of<S: Shelf, D: Desk, R: Input, W: Output, E: Output, C: Clock>(
@@ -477,7 +449,14 @@ pub fn play_of<S: Shelf, D: Desk, R: Input, W: Output, E: Output, C: Clock>(
         }
     };
     let terminal = terminal_for(seat, terminal, complaints)?;
-    spares_source(&order, desk, complaints)?;
+    spares_input(
+        b"play: the keys",
+        b"--record",
+        order.record_to,
+        Some(order.file),
+        desk,
+        complaints,
+    )?;
     let source = text_of(alloc, Some(order.file), shelf, input, complaints)?;
     Ok(play_source(
         alloc,

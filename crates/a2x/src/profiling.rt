@@ -2,7 +2,7 @@
 
 ghost use Rattle.std.specs.Prelude.{◌≤◌, IfOk, IfErr};
 
-use crate::asked::{held_in, order_in};
+use crate::asked::{held_in, order_in, row};
 use crate::program::{behind, refused, tell, text_of};
 use crate::table::Word;
 use crate::tools::{profile, told};
@@ -17,22 +17,10 @@ use std::alloc::Global;
 
 // The options of `profile`, of which the limit of each run is left.
 static PROFILE_OPTIONS: [Row; 4] = [
-    Row {
-        name: "--by",
-        kind: Kind::Value,
-    },
-    Row {
-        name: "--format",
-        kind: Kind::Value,
-    },
-    Row {
-        name: "--keys",
-        kind: Kind::Value,
-    },
-    Row {
-        name: "--limit",
-        kind: Kind::Left,
-    },
+    row!(Value "--by"),
+    row!(Value "--format"),
+    row!(Value "--keys"),
+    row!(Left "--limit"),
 ];
 
 /// By what steps are counted.

@@ -2,14 +2,14 @@
 
 ghost use Rattle.std.specs.Prelude.{◌≡◌, ◌≢◌, ◌≤◌, codes, IfSome, IfOk, IfErr};
 
-use crate::asked::{held_in, named_file};
+use crate::asked::{held_in, named_file, order_in, row};
 use crate::checking::check_of;
 use crate::debugging::debug_of;
 use crate::film::{FilmFault, FilmOrder, is_film_limit, parted, window_of};
 use crate::fmt::{Way, fmt, fmt_order, tell_fmt_words};
 use crate::help::{put_page, put_use};
 use crate::import::{import, import_order, tell_import_words};
-use crate::lines::{Terminal, terminal_in};
+use crate::lines::terminal_in;
 use crate::listing::list_of;
 use crate::named::is_input;
 use crate::play::{Seat, play_of};
@@ -21,16 +21,16 @@ use crate::running::run_of;
 use crate::table::{Tool, Word, nearest, word_named};
 use crate::terminal::{Loaded, mon};
 use crate::tests::{exam_in, tell_words, test};
-use crate::tools::{film, told, written};
+use crate::tools::{film, or_told, told, written};
 use crate::tracing::trace_of;
-use crate::words::{Misfit, Order, WordsFault, misfit_in, order_of};
+use crate::words::{Misfit, Order, WordsFault, misfit_in};
 use a2_desk::Desk;
 use a2_film::{ScriptFault, chapters_of};
 use a2_host::Shelf;
 use a2_manual::{manual, near, topic};
 use a2_options::{Kind, Row};
 use a2_play::Clock;
-use a2_run::{ReadingFault, RunFault, read_front, read_text};
+use a2_run::{MOST_STEPS, ReadingFault, RunFault, read_front, read_text};
 use a2_stream::{Input, Output, put, put_all};
 use a2_syntax::Fault;
 use a2_text::decimal;
@@ -108,21 +108,44 @@ pub(crate) fn text_of<S: Shelf, R: Input, E: Output>(
         }
         _ => read_text(alloc, input),
     };
-    match read {
-        Ok(text) => Ok(text),
-        Err(fault) => Err(told(RunFault::from(fault), complaints)),
-    }
+    or_told(read, complaints)
+}
+
+// Tells that a line of a file has not this form; the status.
+pub(crate) fn tell_form<'a, E: Output>(
+    word: &'a str,
+    name: &'a str,
+    line: usize,
+    form: &'a str,
+    complaints: &mut E,
+) -> u8
+    ensures { result ≤ 5 }
+{
+    let number = decimal(line as u64);
+    tell(
+        &[
+            word.as_bytes(),
+            b": ",
+            name.as_bytes(),
+            b", line ",
+            number.as_slice(),
+            b": ",
+            form.as_bytes(),
+        ],
+        complaints,
+    );
+    1
 }
 
 // Tells that a word is no option of this word.
-pub(crate) fn tell_option<E: Output>(name: &[u8], option: &[u8], complaints: &mut E) {
+pub(crate) fn tell_option<E: Output>(name: &str, option: &str, complaints: &mut E) {
     tell(
         &[
-            name,
+            name.as_bytes(),
             b": ",
-            option,
+            option.as_bytes(),
             b" is no option here (a2x help ",
-            name,
+            name.as_bytes(),
             b")",
         ],
         complaints,
@@ -130,49 +153,55 @@ pub(crate) fn tell_option<E: Output>(name: &[u8], option: &[u8], complaints: &mu
 }
 
 // Tells that an option has no value.
-pub(crate) fn tell_value<E: Output>(name: &[u8], option: &[u8], complaints: &mut E) {
+pub(crate) fn tell_value<E: Output>(name: &str, option: &str, complaints: &mut E) {
     tell(
-        &[name, b": ", option, b" stands without a value (a2x help)"],
+        &[
+            name.as_bytes(),
+            b": ",
+            option.as_bytes(),
+            b" stands without a value (a2x help)",
+        ],
         complaints,
     )
 }
 
-// Tells that the value of an option is no number up to the most.
-pub(crate) fn tell_number<E: Output>(
-    name: &[u8],
-    option: &[u8],
-    number: &[u8],
-    most: &[u8],
+// Tells that the value of an option is no number from the least to the most.
+pub(crate) fn tell_number<'a, E: Output>(
+    name: &'a str,
+    option: &'a str,
+    number: &'a str,
+    least: u32,
+    most: u32,
     complaints: &mut E,
 ) {
+    let (least, most) = (decimal(u64::from(least)), decimal(u64::from(most)));
     tell(
         &[
-            name,
+            name.as_bytes(),
             b": ",
-            option,
+            option.as_bytes(),
             b" ",
-            number,
-            b" is no number from 0 to ",
-            most,
+            number.as_bytes(),
+            b" is no number from ",
+            least.as_slice(),
+            b" to ",
+            most.as_slice(),
         ],
         complaints,
     )
 }
 
 // Tells what is wrong with the words behind a word.
-fn tell_misfit<E: Output>(name: &[u8], misfit: Misfit, complaints: &mut E) {
+fn tell_misfit<E: Output>(name: &str, misfit: Misfit, complaints: &mut E) {
     match misfit {
-        Misfit::Option(option) => tell_option(name, option.as_bytes(), complaints),
-        Misfit::Value(option) => tell_value(name, option.as_bytes(), complaints),
-        Misfit::Limit(number) => tell_number(
-            name,
-            b"--limit",
-            number.as_bytes(),
-            b"100000000",
-            complaints,
-        ),
+        Misfit::Option(option) => tell_option(name, option, complaints),
+        Misfit::Value(option) => tell_value(name, option, complaints),
+        Misfit::Limit(number) => tell_number(name, "--limit", number, 0, MOST_STEPS, complaints),
         Misfit::Files => tell(
-            &[name, b" takes one file, behind its options (a2x help)"],
+            &[
+                name.as_bytes(),
+                b" takes one file, behind its options (a2x help)",
+            ],
             complaints,
         ),
     }
@@ -187,16 +216,15 @@ pub(crate) fn refused<E: Output>(
 ) -> u8
     ensures { result ≤ 5 }
 {
-    let name = word.name.as_bytes();
     match fault {
         WordsFault::Keys => tell(
             &[
-                name,
+                word.name.as_bytes(),
                 b": keys are blank to ~, and \\r \\b \\f \\x \\\\ (a2x help)",
             ],
             complaints,
         ),
-        WordsFault::Words => tell_misfit(name, misfit_in(words, word.runs), complaints),
+        WordsFault::Words => tell_misfit(word.name, misfit_in(words, word.runs), complaints),
     }
     2
 }
@@ -286,39 +314,7 @@ pub fn tell_lines_come<E: Output>(name: &[u8], complaints: &mut E) -> u8
 }
 
 // The options of `mon`, and what stands before a file whose name begins with `-`.
-static MON_OPTIONS: [Row; 2] = [
-    Row {
-        name: "--plain",
-        kind: Kind::Flag,
-    },
-    Row {
-        name: "--",
-        kind: Kind::End,
-    },
-];
-
-// Answers Monitor lines over what a file holds.
-fn talk_over<S: Shelf, R: Input, W: Output, E: Output>(
-    alloc: Global,
-    name: &str,
-    is_plain: bool,
-    prompts: bool,
-    terminal: Option<Terminal>,
-    shelf: &mut S,
-    input: &mut R,
-    output: &mut W,
-    complaints: &mut E,
-) -> Result<u8, u8>
-    ensures done { IfOk result (λ status. status ≤ 5) }
-    ensures refused { IfErr result (λ status. status ≤ 5) }
-{
-    let text = loaded_text(alloc, name, shelf, complaints)?;
-    let loaded = Loaded {
-        text: Some(text.as_slice()),
-        is_plain,
-    };
-    Ok(mon(alloc, loaded, prompts, terminal, input, output, complaints))
-}
+static MON_OPTIONS: [Row; 2] = [row!(Flag "--plain"), row!(End "--")];
 
 // Answers Monitor lines, over a file where the words name one.
 fn talk_of<S: Shelf, R: Input, W: Output, E: Output>(
@@ -337,19 +333,18 @@ fn talk_of<S: Shelf, R: Input, W: Output, E: Output>(
     let (terminal, words) = terminal_in(words);
     let held = held_in(alloc, word, &MON_OPTIONS, words, complaints)?;
     let is_plain = !held.found.is_empty();
-    match named_file(word, held.others.as_slice(), complaints)? {
-        Some(name) if is_input(name) => Err(tell_lines_come(word.name.as_bytes(), complaints)),
-        Some(name) => talk_over(
-            alloc, name, is_plain, prompts, terminal, shelf, input, output, complaints,
-        ),
-        None => {
-            let loaded = Loaded {
-                text: None,
-                is_plain,
-            };
-            Ok(mon(alloc, loaded, prompts, terminal, input, output, complaints))
+    let text = match named_file(word, held.others.as_slice(), complaints)? {
+        Some(name) if is_input(name) => {
+            return Err(tell_lines_come(word.name.as_bytes(), complaints));
         }
-    }
+        Some(name) => Some(loaded_text(alloc, name, shelf, complaints)?),
+        None => None,
+    };
+    let loaded = Loaded {
+        text: text.as_ref().map(Vec::as_slice),
+        is_plain,
+    };
+    Ok(mon(alloc, loaded, prompts, terminal, input, output, complaints))
 }
 
 // Tells why the words of a film are refused; the status.
@@ -357,14 +352,10 @@ fn refused_film<E: Output>(fault: FilmFault<'_>, complaints: &mut E) -> u8
     ensures { result ≤ 5 }
 {
     match fault {
-        FilmFault::Value(option) => tell_value(b"film", option.as_bytes(), complaints),
-        FilmFault::Number(option, number, most) => tell_number(
-            b"film",
-            option.as_bytes(),
-            number.as_bytes(),
-            most.as_bytes(),
-            complaints,
-        ),
+        FilmFault::Value(option) => tell_value("film", option, complaints),
+        FilmFault::Number(option, number, most) => {
+            tell_number("film", option, number, 0, most, complaints)
+        }
         FilmFault::Memory => return told(RunFault::Memory, complaints),
     }
     2
@@ -376,17 +367,8 @@ fn refused_script<E: Output>(name: &str, fault: ScriptFault, complaints: &mut E)
 {
     match fault {
         ScriptFault::Line(line) => {
-            tell(
-                &[
-                    b"film: ",
-                    name.as_bytes(),
-                    b", line ",
-                    decimal(line as u64).as_slice(),
-                    b": a chapter is 120 TEXT, or line 12 TEXT (a2x help film)",
-                ],
-                complaints,
-            );
-            1
+            let form = "a chapter is 120 TEXT, or line 12 TEXT (a2x help film)";
+            tell_form("film", name, line, form, complaints)
         }
         ScriptFault::Memory => told(RunFault::Memory, complaints),
     }
@@ -520,16 +502,11 @@ fn film_of<S: Shelf, D: Desk, R: Input, W: Output, E: Output>(
         Ok(parts) => parts,
         Err(fault) => return Err(refused_film(fault, complaints)),
     };
-    let others = others.as_slice();
-    match order_of(others) {
-        Ok(order) => {
-            let limit = film_limit(others, &order, complaints)?;
-            film_by(
-                alloc, &asked, &order, limit, shelf, desk, input, output, complaints,
-            )
-        }
-        Err(fault) => Err(refused(word, behind(others), fault, complaints)),
-    }
+    let order = order_in(word, others.as_slice(), complaints)?;
+    let limit = film_limit(others.as_slice(), &order, complaints)?;
+    film_by(
+        alloc, &asked, &order, limit, shelf, desk, input, output, complaints,
+    )
 }
 
 // Lays out the files that words name, or the standard input. The status is the greatest of those of the texts.

@@ -2,18 +2,18 @@
 
 ghost use Rattle.std.specs.Prelude.{◌≤◌, IfOk, IfErr};
 
-use crate::asked::{held_in, named_file, program_in};
+use crate::asked::{held_in, named_file, number_in, program_in, row};
 use crate::failing::{Fallen, fallen_of, film_first};
 use crate::program::{spares_input, tell, text_of};
 use crate::table::Word;
-use crate::tools::told;
+use crate::tools::or_told;
 use a2_asm::Program;
 use a2_class::{Asked, Line, Verdict as RunVerdict, asked_of, cases_of, is_asking, judge_source};
 use a2_desk::Desk;
 use a2_host::Shelf;
 use a2_options::{Found, Kind, Row};
 use a2_promise::{Found as Stated, Promise, promise_in, promises_of};
-use a2_run::{RunFault, step_limit};
+use a2_run::RunFault;
 use a2_stream::{Input, Output, WriteFault, put_all};
 use a2_text::{cut, decimal};
 use a2_trial::{Trials, Verdict, put_refusal, put_verdict, try_promise};
@@ -26,20 +26,7 @@ const TRIALS: Trials = Trials {
 };
 
 // The options of `promise`, and what stands before a file whose name begins with `-`.
-static PROMISE_OPTIONS: [Row; 3] = [
-    Row {
-        name: "--film",
-        kind: Kind::Value,
-    },
-    Row {
-        name: "--states",
-        kind: Kind::Value,
-    },
-    Row {
-        name: "--",
-        kind: Kind::End,
-    },
-];
+static PROMISE_OPTIONS: [Row; 3] = [row!(Value "--film"), row!(Value "--states"), row!(End "--")];
 
 // What is found of the promises of a source.
 #[derive(Drop)]
@@ -58,29 +45,6 @@ struct Wish<'a> {
     page: Option<&'a str>,
 }
 
-// How many states an option says; or the status, where its fault is told.
-fn trials_in<E: Output>(option: &Found<'_>, complaints: &mut E) -> Result<Trials, u8>
-    ensures { IfErr result (λ status. status ≤ 5) }
-{
-    match step_limit(option.value) {
-        Some(states) if states > 0 => Ok(Trials {
-            all: u64::from(states),
-            some: u64::from(states),
-        }),
-        _ => {
-            tell(
-                &[
-                    b"promise: --states ",
-                    option.value.as_bytes(),
-                    b" is no number from 1 to 100000000",
-                ],
-                complaints,
-            );
-            Err(2)
-        }
-    }
-}
-
 // What the options ask for; or the status, where a fault is told.
 fn wish_of<'a, E: Output>(found: &[Found<'a>], complaints: &mut E) -> Result<Wish<'a>, u8>
     ensures { IfErr result (λ status. status ≤ 5) }
@@ -92,7 +56,13 @@ fn wish_of<'a, E: Output>(found: &[Found<'a>], complaints: &mut E) -> Result<Wis
     for option in found {
         match option.name {
             "--film" => wish.page = Some(option.value),
-            _ => wish.trials = trials_in(option, complaints)?,
+            _ => {
+                let states = u64::from(number_in("promise", option, 1, complaints)?);
+                wish.trials = Trials {
+                    all: states,
+                    some: states,
+                };
+            }
         }
     }
     Ok(wish)
@@ -349,10 +319,8 @@ pub fn promise_of<S: Shelf, D: Desk, R: Input, W: Output, E: Output>(
     let text = text_of(alloc, file, shelf, input, complaints)?;
     let source = text.as_slice();
     let program = program_in(alloc, source, complaints)?;
-    let sum = match judge_all(alloc, &program, source, wish.trials, output) {
-        Ok(sum) => sum,
-        Err(fault) => return Err(told(fault, complaints)),
-    };
+    let answer = judge_all(alloc, &program, source, wish.trials, output);
+    let sum = or_told(answer, complaints)?;
     let name = file.unwrap_or("-");
     let (title, first) = (name.as_bytes(), sum.first.as_ref());
     film_first(

@@ -4,7 +4,7 @@ ghost use Rattle.std.specs.Prelude.{◌≤◌, IfOk, IfErr};
 
 use crate::named::is_file;
 use crate::play::{put_stand, status_where};
-use crate::program::{loaded_text, tell, tell_option, tell_value, text_of};
+use crate::program::{loaded_text, tell, tell_form, tell_value, text_of};
 use crate::tools::{told, written};
 use a2_host::Shelf;
 use a2_machine::Cause;
@@ -12,7 +12,6 @@ use a2_page::print;
 use a2_play::{Player, Record, RecordFault, record_of};
 use a2_run::{RunFault, program_of};
 use a2_stream::{Input, Output, WriteFault};
-use a2_text::decimal;
 use std::alloc::Global;
 
 /// Whether the `words` behind `run` ask for a session's run again.
@@ -49,7 +48,7 @@ fn files_in<'a, E: Output>(
             &[b"run takes one file, behind its options (a2x help)"],
             complaints,
         ),
-        _ => tell_value(b"run", b"--replay", complaints),
+        _ => tell_value("run", "--replay", complaints),
     }
     Err(2)
 }
@@ -60,17 +59,8 @@ fn refused_record<E: Output>(name: &str, fault: RecordFault, complaints: &mut E)
 {
     match fault {
         RecordFault::Line(line) => {
-            tell(
-                &[
-                    b"run: ",
-                    name.as_bytes(),
-                    b", line ",
-                    decimal(line as u64).as_slice(),
-                    b": a key is 1200 41, its steps and its code, and the last line 2000 END",
-                ],
-                complaints,
-            );
-            1
+            let form = "a key is 1200 41, its steps and its code, and the last line 2000 END";
+            tell_form("run", name, line, form, complaints)
         }
         RecordFault::Memory => told(RunFault::Memory, complaints),
     }

@@ -3,7 +3,8 @@
 ghost use Rattle.std.specs.Prelude.{◌≤◌, IfOk, IfErr};
 ghost use Rattle.a2x.specs.Saved.{SavesInto};
 
-use crate::asked::{held_in, order_in, program_in, span_in, steps_in, tell_span};
+use crate::asked::{held_in, number_in, order_in, program_in, row, span_in, tell_span};
+use crate::drafts::settled;
 use crate::program::{spares_input, text_of};
 use crate::table::Word;
 use crate::tools::{run, run_status, told};
@@ -24,30 +25,12 @@ use std::alloc::Global;
 
 // The options of `run`, of which those of each run are left.
 static RUN_OPTIONS: [Row; 6] = [
-    Row {
-        name: "--mem",
-        kind: Kind::Value,
-    },
-    Row {
-        name: "--save",
-        kind: Kind::Value,
-    },
-    Row {
-        name: "--last",
-        kind: Kind::Value,
-    },
-    Row {
-        name: "--keys-at",
-        kind: Kind::Value,
-    },
-    Row {
-        name: "--keys",
-        kind: Kind::Left,
-    },
-    Row {
-        name: "--limit",
-        kind: Kind::Left,
-    },
+    row!(Value "--mem"),
+    row!(Value "--save"),
+    row!(Value "--last"),
+    row!(Value "--keys-at"),
+    row!(Left "--keys"),
+    row!(Left "--limit"),
 ];
 
 // The part of RAM that an option has; or the status, where its fault is told.
@@ -58,11 +41,11 @@ fn part_in<E: Output>(
 ) -> Result<Part, u8>
     ensures { IfErr result (λ status. status ≤ 5) }
 {
-    let span = span_in(b"run", program, option, complaints)?;
+    let span = span_in("run", program, option, complaints)?;
     match Part::of(span) {
         Some(part) => Ok(part),
         None => Err(tell_span(
-            b"run",
+            "run",
             option,
             b" is not all in RAM, which ends at $BFFF",
             complaints,
@@ -103,7 +86,7 @@ fn behind_of<'a, E: Output>(
         match option.name {
             "--save" => asked.image = Some(option.value),
             "--keys-at" => add_strokes(&mut asked.strokes, option, complaints)?,
-            "--last" => asked.last = Some(steps_in(b"run", option, complaints)?),
+            "--last" => asked.last = Some(number_in("run", option, 0, complaints)?),
             _ => {
                 let part = part_in(&program, option, complaints)?;
                 if asked.parts.push(part).is_err() {
@@ -130,16 +113,8 @@ pub fn image_into<D: Desk>(
     ensures { SavesInto source.now keys.now limit free image.now (D.files desk.old) (D.files desk.new) result }
 {
     let mut draft = desk.begin(image)?;
-    match image_source(alloc, source, keys, limit, free, &mut draft) {
-        Ok(cause) => {
-            desk.finish(image, draft)?;
-            Ok(cause)
-        }
-        Err(fault) => {
-            desk.give_up(draft);
-            Err(fault)
-        }
-    }
+    let answer = image_source(alloc, source, keys, limit, free, &mut draft);
+    settled(image, draft, answer, desk)
 }
 
 // Writes the last steps of a run, where they are asked for.

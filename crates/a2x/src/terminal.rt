@@ -7,7 +7,7 @@ use crate::tools::told;
 use a2_run::RunFault;
 use a2_stream::{Input, Output};
 use a2_syntax::Fault;
-use a2_talk::TalkFault;
+use a2_talk::{Partner, TalkFault};
 use a2_terminal::{Annotated, Monitor};
 use std::alloc::Global;
 use std::cell::Cell;
@@ -53,11 +53,10 @@ fn keyboard_of(terminal: Option<Terminal>) -> Option<Cell<bool>> {
     }
 }
 
-// Answers lines over a text, with names and lines beside where that is a source.
-fn talk_beside<R: Input, W: Output, E: Output>(
+// Answers lines by a partner, or tells why there is none.
+fn talk_with<P: Partner + Drop, R: Input, W: Output, E: Output>(
     alloc: Global,
-    keyboard: Option<&Cell<bool>>,
-    text: &[u8],
+    partner: Result<P, RunFault>,
     lines: Lines<'_>,
     input: &mut R,
     output: &mut W,
@@ -65,26 +64,8 @@ fn talk_beside<R: Input, W: Output, E: Output>(
 ) -> u8
     ensures { result ≤ 5 }
 {
-    match Annotated::with(alloc, keyboard, text) {
-        Ok(mut monitor) => talked(alloc, &mut monitor, lines, input, output, complaints),
-        Err(fault) => told(fault, complaints),
-    }
-}
-
-// Answers lines over a text, or over nothing.
-fn talk_alone<R: Input, W: Output, E: Output>(
-    alloc: Global,
-    keyboard: Option<&Cell<bool>>,
-    text: Option<&[u8]>,
-    lines: Lines<'_>,
-    input: &mut R,
-    output: &mut W,
-    complaints: &mut E,
-) -> u8
-    ensures { result ≤ 5 }
-{
-    match monitor_with(alloc, keyboard, text) {
-        Ok(mut monitor) => talked(alloc, &mut monitor, lines, input, output, complaints),
+    match partner {
+        Ok(mut partner) => talked(alloc, &mut partner, lines, input, output, complaints),
         Err(fault) => told(fault, complaints),
     }
 }
@@ -120,8 +101,12 @@ pub fn mon<R: Input, W: Output, E: Output>(
     };
     match loaded.text {
         Some(text) if !loaded.is_plain => {
-            talk_beside(alloc, keys, text, lines, input, output, complaints)
+            let monitor = Annotated::with(alloc, keys, text);
+            talk_with(alloc, monitor, lines, input, output, complaints)
         }
-        text => talk_alone(alloc, keys, text, lines, input, output, complaints),
+        text => {
+            let monitor = monitor_with(alloc, keys, text);
+            talk_with(alloc, monitor, lines, input, output, complaints)
+        }
     }
 }

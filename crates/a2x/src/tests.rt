@@ -3,6 +3,7 @@
 ghost use Rattle.std.specs.Prelude.{◌≤◌};
 
 use crate::named::{files_in, is_input, option_at_end};
+use crate::program::tell;
 use crate::tools::told;
 use crate::words::WordsFault;
 use a2_class::{
@@ -11,7 +12,7 @@ use a2_class::{
 };
 use a2_host::Shelf;
 use a2_run::{ReadingFault, RunFault, read_text};
-use a2_stream::{Input, Output, put_all};
+use a2_stream::{Input, Output};
 use a2_text::{cut, decimal};
 use std::alloc::Global;
 
@@ -58,10 +59,9 @@ pub fn exam_in(words: &[String]) -> Result<Exam<'_>, WordsFault> {
 pub fn tell_words<E: Output>(complaints: &mut E) -> u8
     ensures { result ≤ 5 }
 {
-    // Where this fails there is no place left to tell it.
-    let _ = put_all(
+    tell(
         &[
-            b"a2x: test takes a WANT and solutions behind it, and before or behind them --format table, csv, json or junit\n",
+            b"test takes a WANT and solutions behind it, and before or behind them --format table, csv, json or junit",
         ],
         complaints,
     );
@@ -84,16 +84,14 @@ fn tell_unknown<E: Output>(
             count = count.saturating_add(1);
             if count <= MOST_TOLD {
                 let number = decimal(asked.number as u64);
-                // Where this fails there is no place left to tell it.
-                let _ = put_all(
+                tell(
                     &[
-                        b"a2x: test: ",
+                        b"test: ",
                         want.as_bytes(),
                         b":",
                         number.as_slice(),
                         b": no line of tests: ",
                         text,
-                        b"\n",
                     ],
                     complaints,
                 );
@@ -243,11 +241,11 @@ pub fn test<S: Shelf, R: Input, W: Output, E: Output>(
         Ok(want) => want,
         Err(ReadingFault::Memory) => return told(RunFault::Memory, complaints),
         Err(ReadingFault::Read) => {
-            let _ = put_all(
+            tell(
                 &[
-                    b"a2x: test: no file ",
+                    b"test: no file ",
                     exam.want.as_bytes(),
-                    b" can be read here\n",
+                    b" can be read here",
                 ],
                 complaints,
             );

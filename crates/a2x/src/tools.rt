@@ -1,6 +1,6 @@
 //! What each word does with a source. A word answers the exit status, 0 to 5.
 
-ghost use Rattle.std.specs.Prelude.{◌≡◌, ◌≤◌};
+ghost use Rattle.std.specs.Prelude.{◌≡◌, ◌≤◌, IfErr};
 ghost use Rattle.a2_host.specs.Complaints.{TellsLine};
 ghost use Rattle.a2_run.specs.Status.{fault_status as status_of_fault};
 ghost use Rattle.a2_run.specs.Texts.{run_fault_text};
@@ -38,6 +38,18 @@ pub fn told<E: Output>(fault: RunFault, complaints: &mut E) -> u8
 {
     complain(fault, complaints);
     fault_status(&fault)
+}
+
+/// What was answered; or the status of its fault, which is told.
+pub fn or_told<T: Drop, F, E: Output>(answer: Result<T, F>, complaints: &mut E) -> Result<T, u8>
+where
+    RunFault: From<F>,
+    ensures { IfErr result (λ status. status ≤ 5) }
+{
+    match answer {
+        Ok(made) => Ok(made),
+        Err(fault) => Err(told(RunFault::from(fault), complaints)),
+    }
 }
 
 /// The status where something was written, or a write failed.

@@ -2,7 +2,7 @@
 
 ghost use Rattle.std.specs.Prelude.{◌≤◌, IfOk, IfErr};
 
-use crate::asked::{held_in, order_in, program_in, span_in, steps_in};
+use crate::asked::{has, held_in, number_in, order_in, program_in, row, span_in};
 use crate::program::{tell, text_of};
 use crate::table::Word;
 use crate::tools::trace;
@@ -14,34 +14,13 @@ use std::alloc::Global;
 
 // The options of `trace`, of which those of each run are left.
 static TRACE_OPTIONS: [Row; 7] = [
-    Row {
-        name: "--calls",
-        kind: Kind::Flag,
-    },
-    Row {
-        name: "--from",
-        kind: Kind::Value,
-    },
-    Row {
-        name: "--last",
-        kind: Kind::Value,
-    },
-    Row {
-        name: "--only",
-        kind: Kind::Value,
-    },
-    Row {
-        name: "--stores",
-        kind: Kind::Value,
-    },
-    Row {
-        name: "--keys",
-        kind: Kind::Left,
-    },
-    Row {
-        name: "--limit",
-        kind: Kind::Left,
-    },
+    row!(Flag "--calls"),
+    row!(Value "--from"),
+    row!(Value "--last"),
+    row!(Value "--only"),
+    row!(Value "--stores"),
+    row!(Left "--keys"),
+    row!(Left "--limit"),
 ];
 
 /// What a trace shows.
@@ -69,10 +48,10 @@ fn choice_of<E: Output>(
     let program = program_in(alloc, source, complaints)?;
     for option in found {
         match option.name {
-            "--from" => choice.from = steps_in(b"trace", option, complaints)?,
-            "--last" => choice.last = Some(steps_in(b"trace", option, complaints)?),
-            "--only" => choice.only = Some(span_in(b"trace", &program, option, complaints)?),
-            _ => choice.stores = Some(span_in(b"trace", &program, option, complaints)?),
+            "--from" => choice.from = number_in("trace", option, 0, complaints)?,
+            "--last" => choice.last = Some(number_in("trace", option, 0, complaints)?),
+            "--only" => choice.only = Some(span_in("trace", &program, option, complaints)?),
+            _ => choice.stores = Some(span_in("trace", &program, option, complaints)?),
         }
     }
     Ok(choice)
@@ -97,7 +76,7 @@ fn tracing_of<E: Output>(
 ) -> Result<Tracing, u8>
     ensures { IfErr result (λ status. status ≤ 5) }
 {
-    if !found.iter().any(|option| option.name == "--calls") {
+    if !has(found, "--calls") {
         return Ok(Tracing::Steps(choice_of(alloc, source, found, complaints)?));
     }
     match beside_calls(found) {

@@ -7,13 +7,14 @@ ghost use Rattle.a2_memory.specs.Texts.{ram_lines};
 ghost use Rattle.a2x.specs.Saved.{SavesMemory};
 
 use crate::asked::program_in;
+use crate::drafts::settled;
 use crate::program::tell;
 use crate::running::Behind;
-use crate::tools::{complain, explain, told, written};
+use crate::tools::{explain, or_told, told, written};
 use crate::words::Order;
 use a2_desk::Desk;
 use a2_hex::write_lines;
-use a2_machine::{Cause, Machine};
+use a2_machine::Machine;
 use a2_memory::{image_of, write_parts};
 use a2_options::Found;
 use a2_run::{RunFault, status};
@@ -47,10 +48,7 @@ pub fn add_strokes<E: Output>(
         Ok(stroke) => stroke,
         Err(fault) => return Err(told_stroke(option.value, fault, complaints)),
     };
-    match strokes.add(steps, &keys) {
-        Ok(()) => Ok(()),
-        Err(_) => Err(told(RunFault::Memory, complaints)),
-    }
+    or_told(strokes.add(steps, &keys), complaints)
 }
 
 // Tells why a run has no end; the status.
@@ -111,16 +109,8 @@ pub fn machine_into<D: Desk>(
     ensures { SavesMemory (memory_of machine.now.state.bus) image.now (D.files desk.old) (D.files desk.new) result }
 {
     let mut draft = desk.begin(image)?;
-    match put_image(alloc, machine, &mut draft) {
-        Ok(()) => {
-            desk.finish(image, draft)?;
-            Ok(())
-        }
-        Err(fault) => {
-            desk.give_up(draft);
-            Err(fault)
-        }
-    }
+    let answer = put_image(alloc, machine, &mut draft);
+    settled(image, draft, answer, desk)
 }
 
 // Does what is asked for behind a run that left this machine; the greatest status.
@@ -180,9 +170,7 @@ pub fn run_typed<D: Desk, W: Output, E: Output>(
         Ok(end) => end,
         Err(fault) => return Err(told_typed(fault, complaints)),
     };
-    if show(&machine, cause, output).is_err() {
-        return Err(told(RunFault::Write, complaints));
-    }
+    or_told(show(&machine, cause, output), complaints)?;
     explain(alloc, source, order, strokes, complaints);
     tell_untyped(strokes, machine.steps(), complaints);
     let ended = status(&Ok(cause));

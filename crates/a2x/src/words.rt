@@ -108,7 +108,7 @@ pub enum Misfit<'a> {
 }
 
 // What the next word is.
-#[derive(Clone, Copy, PartialEq, Eq)]
+#[derive(Clone, Copy)]
 enum Next {
     Word,
     Keys,
@@ -135,18 +135,14 @@ pub fn misfit_in(words: &[String], runs: bool) -> Misfit<'_> {
     let mut next = Next::Word;
     for word in words {
         let text = word.as_str();
-        if next == Next::Limit && step_limit(text).is_none() {
-            return Misfit::Limit(text);
-        }
-        let is_value = next != Next::Word;
-        next = if is_value {
-            Next::Word
-        } else {
-            next_behind(text, runs)
+        next = match next {
+            Next::Limit if step_limit(text).is_none() => return Misfit::Limit(text),
+            Next::Keys | Next::Limit => Next::Word,
+            Next::Word => match next_behind(text, runs) {
+                Next::Word if is_strange(text, runs) => return Misfit::Option(text),
+                behind => behind,
+            },
         };
-        if !is_value && next == Next::Word && is_strange(text, runs) {
-            return Misfit::Option(text);
-        }
     }
     match next {
         Next::Word => Misfit::Files,
