@@ -182,6 +182,7 @@ fn follow<S: Shelf, R: Input, W: Output, E: Output>(
     ensures unread { NamesFile order.now → input.new ≡ input.old }
 {
     match order {
+        Order::Run(order) => tell_run(&run_file(alloc, shelf, input, order, output), complaints),
         Order::Asm { source } => {
             tell_done(&assemble_file(alloc, shelf, source, output), complaints)
         }
@@ -192,7 +193,6 @@ fn follow<S: Shelf, R: Input, W: Output, E: Output>(
             &debug_files(alloc, shelf, source, script, output),
             complaints,
         ),
-        Order::Run(order) => tell_run(&run_file(alloc, shelf, input, order, output), complaints),
     }
 }
 
