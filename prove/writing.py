@@ -14,7 +14,7 @@ CRATE = "promised"
 # The crates that it stands on.
 BELOW = (
     "a2_rules a2_lessons a2_trial a2_reads a2_uses a2_promise a2_run a2_monitor a2_debug a2_text a2_stream a2_opcode "
-    "a2_syntax a2_hex a2_asm a2_page a2_bus a2_cpu a2_live a2_services a2_machine"
+    "a2_syntax a2_hex a2_asm a2_page a2_bus a2_core a2_cpu a2_live a2_services a2_machine"
 )
 S = 0xFD
 LINE = re.compile(r"[^\n]*\n|[^\n]+")
@@ -42,8 +42,8 @@ use Rattle.promised.specs.Statements.{text}
 PROOF_USES = """use Rattle.std.specs.Prelude.{◌≡◌, ◌≢◌, ◌<◌, ◌≤◌, ◌⊎◌, ℕ, ◌+◌, ◌*◌, ◌/◌, ◌%◌, ◌-◌, ◌&&◌, ◌||◌, ◌==◌, nat_le, nat_lt, min, max, ℤ, pos, ◌+ℤ◌, Bool, true, false, List, [], ◌∷◌, refl}
 use Rattle.std.proofs.Common.{sym, ap, ap₂, ◌∙◌, arith, inl, inr, true≢false}
 use Rattle.std.proofs.lemmas.Bool.Decides.{nat_tests}
-use Rattle.a2_cpu.specs.Arithmetic.{by_digits, differ, overflows, signed}
-use Rattle.a2_cpu.specs.Registers.{one_if}
+use Rattle.a2_core.specs.Arithmetic.{by_digits, differ, overflows, signed}
+use Rattle.a2_core.specs.Registers.{one_if}
 use Rattle.a2_bus.specs.Memory.{Memory, ram_byte}
 use Rattle.a2_services.specs.World.{World}
 use Rattle.a2_machine.proofs.Computing.{computing}

@@ -9,7 +9,7 @@ use Rattle.a2_opcode.specs.declared.Instr.{Instr}
 use Rattle.a2_opcode.specs.declared.Mnemonic.{Mnemonic}
 use Rattle.a2_opcode.specs.Names.{name_of}
 use Rattle.a2_bus.specs.Memory.{Memory, peek}
-use Rattle.a2_cpu.specs.Registers.{Registers, byte_of_flags}
+use Rattle.a2_core.specs.Registers.{Registers, byte_of_flags}
 use Rattle.a2_asm.specs.declared.program.Statement.{Statement}
 use Rattle.a2_asm.specs.Assembled.{Assembled}
 use Rattle.a2_asm.specs.Values.{name_value}

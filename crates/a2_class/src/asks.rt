@@ -3,7 +3,7 @@
 ghost use Rattle.std.specs.Prelude.{◌≡◌, ◌↔◌, true, false, map, MatchOption};
 ghost use Rattle.std.specs.List.{list_all};
 ghost use Rattle.a2_bus.specs.View.{memory_of};
-ghost use Rattle.a2_cpu.specs.View.{registers_of};
+ghost use Rattle.a2_core.specs.View.{registers_of};
 ghost use Rattle.a2_text.specs.Words.{words};
 ghost use Rattle.a2_class.specs.Asks as asked;
 ghost use Rattle.a2_class.specs.Asks.{IsFirstMissed, Meets, MeetsAll, MeetsFirst, end_at};

@@ -2,19 +2,19 @@
 
 ghost use Rattle.std.specs.Prelude.{◌≡◌, ◌+◌, ◌*◌, ◌%◌, ◌<◌, ◌≤◌, ◌&&◌, IfOk, slice_get, option_map};
 ghost use Rattle.a2_bus.specs.BusState.{BusState};
-ghost use Rattle.a2_cpu.specs.Place.{place_of, base_address, crosses_page};
-ghost use Rattle.a2_cpu.specs.Registers.{one_if};
-ghost use Rattle.a2_cpu.specs.Live.{live_registers};
-ghost use Rattle.a2_cpu.specs.Operands.{operand_with};
+ghost use Rattle.a2_core.specs.Place.{place_of, base_address, crosses_page};
+ghost use Rattle.a2_core.specs.Registers.{one_if};
+ghost use Rattle.a2_core.specs.Live.{live_registers};
+ghost use Rattle.a2_core.specs.Operands.{operand_with};
 ghost use Rattle.a2_cpu.specs.Code.{operand_byte_at, word_at, place_for, operand_for, operand_of, operand_at, found_for, found_at};
 
 use crate::GuardedStep;
-use crate::live::{Live, digit};
-use crate::modes::{
+use a2_bus::Bus;
+use a2_core::Live;
+use a2_core::modes::{
     Absolute, AbsoluteX, AbsoluteY, AtAddress, Bytes, IndexedIndirect, IndirectIndexed, Site,
     ZeroPage, ZeroPageX, ZeroPageY, is_elsewhere,
 };
-use a2_bus::Bus;
 use a2_opcode::{Mnemonic, Mode, branch_target, row_of};
 
 /// Where an operand is.
@@ -215,7 +215,7 @@ pub(crate) fn find<B: Bus>(live: &Live, bus: &B) -> Result<Found, GuardedStep>
     Ok(Found {
         mnemonic: row.mnemonic,
         place,
-        cycles: u32::from(row.cycles) + u32::from(digit(crossed)),
+        cycles: u32::from(row.cycles) + u32::from(crossed),
         next: live.pc.wrapping_add(u16::from(row.mode.length())),
     })
 }

@@ -4,14 +4,14 @@ ghost use Rattle.std.specs.Prelude.{◌≡◌, ℕ, Some, None, slice_get};
 ghost use Rattle.std.specs.List.{list_any};
 ghost use Rattle.a2_cpu.specs.GuardedBusStep.{guarded_bus_step};
 ghost use Rattle.a2_cpu.specs.View.{before_step, guarded_answer_of, why_not};
-ghost use Rattle.a2_cpu.specs.Live.{live_registers, before_live_step};
+ghost use Rattle.a2_core.specs.Live.{live_registers, before_live_step};
 ghost use Rattle.a2_cpu.specs.Code.{place_for, acting_stores, refused_at};
 
 use crate::found::{Place, find};
-use crate::live::Live;
 use crate::stores::{Targets, targets_of};
 use crate::{GuardedStep, Protection, Regs};
 use a2_bus::Bus;
+use a2_core::Live;
 use a2_opcode::Mnemonic;
 
 // Whether one of a mnemonic's stores is at a protected address.
@@ -75,8 +75,7 @@ pub fn guarded_refusal<B: Bus, G: Protection>(
     live_refusal(&Live::of(regs), bus, guard)
 }
 
-/// The same as [`guarded_refusal`], of live registers.
-#[doc(hidden)]
+/// The same as [`guarded_refusal`], of registers as they are computed with.
 pub fn live_refusal<B: Bus, G: Protection>(live: &Live, bus: &B, guard: &G) -> Option<GuardedStep>
     ensures { result
         ≡ why_not (guarded_answer_of

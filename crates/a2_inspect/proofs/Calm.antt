@@ -13,10 +13,10 @@ use Rattle.a2_opcode.specs.Encoding.{instruction, fetched}
 use Rattle.a2_opcode.proofs.Lookup.{row-is}
 use Rattle.a2_bus.specs.Memory.{Memory, ram_end, ram_byte, peek, memory_access}
 use Rattle.a2_bus.proofs.Frame.{changed_by_writes}
-use Rattle.a2_cpu.specs.Place.{place_of}
-use Rattle.a2_cpu.specs.Effect.{effect_of}
+use Rattle.a2_core.specs.Place.{place_of}
+use Rattle.a2_core.specs.Effect.{effect_of}
 use Rattle.a2_cpu.specs.Code.{effect_stores}
-use Rattle.a2_cpu.specs.Instruction.{performed}
+use Rattle.a2_core.specs.Instruction.{performed}
 use Rattle.a2_cpu.specs.Stores.{stores_of, IsNotIn}
 use Rattle.a2_cpu.proofs.StoresLemmas.{performed-stores}
 use Rattle.a2_cpu.proofs.EffectStores.{stores_of-is}

@@ -6,8 +6,8 @@ use Rattle.a2_opcode.specs.declared.Row.{Row}
 use Rattle.a2_opcode.specs.Table.{row}
 use Rattle.a2_opcode.specs.Encoding.{fetched, instruction}
 use Rattle.a2_bus.specs.Memory.{Memory, peek, memory_access}
-use Rattle.a2_cpu.specs.Place.{Place, place_of}
-use Rattle.a2_cpu.specs.Effect.{effect_of}
+use Rattle.a2_core.specs.Place.{Place, place_of}
+use Rattle.a2_core.specs.Effect.{effect_of}
 use Rattle.a2_cpu.specs.Code.{place_addresses, effect_stores}
 use Rattle.a2_live.specs.Shown.{Shown}
 use Rattle.a2_services.specs.World.{World}

@@ -2,7 +2,7 @@
 use Rattle.std.specs.Prelude.{ℕ, zero, suc, ◌+◌, ◌-◌, ◌==◌, Bool, true, false, ◌||◌, ◌&&◌, not, nat_lt, List, Option, Some, None, if◌then◌else◌}
 use Rattle.std.specs.List.{list_any}
 use Rattle.a2_bus.specs.Memory.{peek}
-use Rattle.a2_cpu.specs.Registers.{byte_of_flags}
+use Rattle.a2_core.specs.Registers.{byte_of_flags}
 use Rattle.a2_services.specs.World.{World}
 use Rattle.a2_inspect.specs.declared.stops.Register.{Register}
 use Rattle.a2_inspect.specs.declared.stops.Register.TheVariants.{A, X, Y, S, P}

@@ -85,7 +85,7 @@ fn spares_operand(instr: Instr, watches: &[Span]) -> bool
 }
 
 // Whether an instruction stores and pushes at no watched address, whatever registers and memory are.
-#[tactic(auto, unfolding(a2_cpu::specs::Effect::effect_of))]
+#[tactic(auto, unfolding(a2_core::specs::Effect::effect_of))]
 fn spares(instr: Instr, watches: &[Span]) -> bool
     ensures { result ≡ true → alert.Spares watches.now instr }
 {

@@ -8,7 +8,7 @@ use Rattle.a2_opcode.specs.declared.Mode.TheVariants.{IndirectIndexed}
 use Rattle.a2_opcode.specs.Table.{fixed}
 use Rattle.a2_bus.specs.Memory.{Memory, ram_byte, with_ram, ram_end, memory_access}
 use Rattle.a2_bus.proofs.Frame.{ram_byte-with_ram}
-use Rattle.a2_cpu.specs.Place.{zero_page_word}
+use Rattle.a2_core.specs.Place.{zero_page_word}
 use Rattle.a2_services.specs.World.{World}
 use Rattle.a2_machine.specs.Meaning.{Code}
 use Rattle.a2_machine.proofs.Walks.{walked, Leads}

@@ -5,10 +5,10 @@ use Rattle.a2_opcode.specs.declared.Mnemonic.{Mnemonic}
 use Rattle.a2_opcode.specs.declared.Mnemonic.TheVariants.{Bcc, Bcs, Beq, Bmi, Bne, Bpl, Bvc, Bvs}
 use Rattle.a2_opcode.specs.Table.{branch_row}
 use Rattle.a2_cpu.specs.BusStep.{refusal_of}
-use Rattle.a2_cpu.specs.Effect.{effect_of}
-use Rattle.a2_cpu.specs.Instruction.{performed, after_effect}
-use Rattle.a2_cpu.specs.Place.{is_other_page}
-use Rattle.a2_cpu.specs.Registers.{one_if}
+use Rattle.a2_core.specs.Effect.{effect_of}
+use Rattle.a2_core.specs.Instruction.{performed, after_effect}
+use Rattle.a2_core.specs.Place.{is_other_page}
+use Rattle.a2_core.specs.Registers.{one_if}
 use Rattle.a2_cpu.specs.Stores.{stores_of}
 use Rattle.a2_services.specs.World.{World}
 use Rattle.a2_machine.specs.Meaning.{Code}

@@ -12,10 +12,10 @@ use Rattle.a2_opcode.specs.Table.{fixed, paged}
 use Rattle.a2_bus.specs.Devices.{device_byte, after_access}
 use Rattle.a2_bus.specs.Memory.{ram_byte, with_ram, ram_end, memory_access}
 use Rattle.a2_cpu.specs.BusStep.{refusal_of}
-use Rattle.a2_cpu.specs.Effect.{effect_of, to_a}
-use Rattle.a2_cpu.specs.Instruction.{performed, after_effect}
-use Rattle.a2_cpu.specs.Place.{zero_page_word, is_other_page}
-use Rattle.a2_cpu.specs.Registers.{Registers, one_if}
+use Rattle.a2_core.specs.Effect.{effect_of, to_a}
+use Rattle.a2_core.specs.Instruction.{performed, after_effect}
+use Rattle.a2_core.specs.Place.{zero_page_word, is_other_page}
+use Rattle.a2_core.specs.Registers.{Registers, one_if}
 use Rattle.a2_cpu.specs.Stores.{stores_of}
 use Rattle.a2_services.specs.World.{World}
 use Rattle.a2_machine.specs.Meaning.{Code, Decoded}

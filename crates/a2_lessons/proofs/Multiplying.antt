@@ -2,7 +2,7 @@ use Rattle.std.specs.Prelude.{◌≡◌, ◌<◌, ℕ, suc, ◌+◌, ◌*◌, �
 use Rattle.std.proofs.Common.{ap, ◌∙◌, arith}
 use Rattle.a2_text.specs.Bytes.{is_among}
 use Rattle.a2_bus.specs.Memory.{Memory, ram_byte}
-use Rattle.a2_cpu.specs.Registers.{one_if}
+use Rattle.a2_core.specs.Registers.{one_if}
 use Rattle.a2_services.specs.World.{World}
 use Rattle.a2_machine.specs.Meaning.{Code}
 use Rattle.a2_machine.proofs.Walks.{Leads}

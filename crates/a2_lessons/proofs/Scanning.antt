@@ -5,8 +5,8 @@ use Rattle.a2_opcode.specs.declared.Mnemonic.TheVariants.{Lda}
 use Rattle.a2_opcode.specs.declared.Mode.TheVariants.{IndirectIndexed}
 use Rattle.a2_opcode.specs.Table.{paged}
 use Rattle.a2_bus.specs.Memory.{Memory, ram_byte, ram_end, memory_access}
-use Rattle.a2_cpu.specs.Place.{zero_page_word, is_other_page}
-use Rattle.a2_cpu.specs.Registers.{one_if}
+use Rattle.a2_core.specs.Place.{zero_page_word, is_other_page}
+use Rattle.a2_core.specs.Registers.{one_if}
 use Rattle.a2_services.specs.World.{World}
 use Rattle.a2_machine.specs.Meaning.{Code}
 use Rattle.a2_machine.proofs.Walks.{Leads}

@@ -5,7 +5,7 @@ use Rattle.std.proofs.Common.{ap, ◌∙◌}
 use Rattle.a2_text.specs.Bytes.{is_among}
 use Rattle.a2_bus.specs.Memory.{memory_access}
 use Rattle.a2_cpu.specs.BusStep.{refusal_of}
-use Rattle.a2_cpu.specs.Instruction.{performed}
+use Rattle.a2_core.specs.Instruction.{performed}
 use Rattle.a2_cpu.specs.Stores.{stores_of}
 use Rattle.a2_services.specs.declared.Service.{Service}
 use Rattle.a2_services.specs.World.{World}

@@ -6,7 +6,7 @@ use Rattle.a2_opcode.specs.declared.Mode.{Mode}
 use Rattle.a2_opcode.specs.Table.{length_of}
 use Rattle.a2_page.specs.Cells.{numbers_from}
 use Rattle.a2_bus.specs.Memory.{Memory, ram_byte}
-use Rattle.a2_cpu.specs.Registers.{registers_at}
+use Rattle.a2_core.specs.Registers.{registers_at}
 use Rattle.a2_services.specs.World.{World}
 use Rattle.a2_machine.specs.declared.Cause.TheVariants.{Returned}
 use Rattle.a2_machine.specs.Meaning.{Code, IsEnd, statements}

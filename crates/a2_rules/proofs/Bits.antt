@@ -1,8 +1,8 @@
 -- What the machine makes of bytes digit by digit is a byte.
 use Rattle.std.specs.Prelude.{◌<◌, ◌≤◌, ℕ, zero, suc, ◌*◌, ◌/◌, ◌%◌, ◌==◌, Bool, true, false}
 use Rattle.std.proofs.Common.{arith}
-use Rattle.a2_cpu.specs.Arithmetic.{by_digits}
-use Rattle.a2_cpu.specs.Registers.{one_if}
+use Rattle.a2_core.specs.Arithmetic.{by_digits}
+use Rattle.a2_core.specs.Registers.{one_if}
 
 pub bit_small : (b : Bool) → one_if b ≤ 1
 bit_small true = omega arith

@@ -8,7 +8,7 @@ use Rattle.a2_opcode.specs.Encoding.{fetched}
 use Rattle.a2_asm.specs.Assembled.{Assembled}
 use Rattle.a2_asm.specs.Programs.{instr_at, IsSound}
 use Rattle.a2_cpu.specs.BusStep.{Refusal, refusal_of}
-use Rattle.a2_cpu.specs.Instruction.{performed}
+use Rattle.a2_core.specs.Instruction.{performed}
 use Rattle.a2_cpu.specs.Stores.{stores_of}
 use Rattle.a2_services.specs.declared.Service.{Service}
 use Rattle.a2_services.specs.World.{World}

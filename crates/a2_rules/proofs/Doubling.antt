@@ -4,7 +4,7 @@ use Rattle.std.proofs.Common.{arith, true≢false}
 use Rattle.a2_opcode.specs.declared.Mnemonic.TheVariants.{Asl, Rts}
 use Rattle.a2_opcode.specs.declared.Mode.TheVariants.{Accumulator, Implied}
 use Rattle.a2_asm.specs.declared.program.Statement.{Statement}
-use Rattle.a2_cpu.specs.Registers.{registers_at}
+use Rattle.a2_core.specs.Registers.{registers_at}
 use Rattle.a2_machine.proofs.Computing.{computing}
 use Rattle.a2_lessons.specs.Routines.{op}
 use Rattle.a2_lessons.proofs.Reading.{reading}

@@ -24,7 +24,7 @@ use Rattle.a2_bus.specs.Memory.{Memory, ram_byte, ram_end}
 use Rattle.a2_bus.specs.PowerOn.{first_byte, first_devices, start_memory}
 use Rattle.a2_bus.specs.View.{memory_from}
 use Rattle.a2_bus.proofs.FirstBytes.{ram_byte-from, ram_byte-start}
-use Rattle.a2_cpu.specs.Registers.{Registers, registers_at}
+use Rattle.a2_core.specs.Registers.{Registers, registers_at}
 use Rattle.a2_services.specs.World.{World}
 use Rattle.a2_uses.specs.declared.Part.{Part}
 use Rattle.a2_uses.specs.declared.Part.TheVariants.{A as part_a, X as part_x, Y as part_y, N as part_n, V as part_v, D as part_d, I as part_i, Z as part_z, C as part_c}

@@ -16,7 +16,7 @@ use Rattle.a2_asm.specs.Values.{Names}
 use Rattle.a2_asm.specs.declared.program.Statement.{Statement}
 use Rattle.a2_asm.proofs.MadeLaws.{IsMade, made-of}
 use Rattle.a2_asm.proofs.RunLaws.{program-sound}
-use Rattle.a2_cpu.specs.Registers.{Registers}
+use Rattle.a2_core.specs.Registers.{Registers}
 use Rattle.a2_services.specs.World.{World}
 use Rattle.a2_machine.specs.Guarded.{HoldsCode}
 use Rattle.a2_machine.specs.Meaning.{Code, statements, world_at}

@@ -3,8 +3,8 @@ use Rattle.std.specs.Prelude.{◌≡◌, ◌<◌, ◌≤◌, ◌⊎◌, ℕ, ◌
 use Rattle.std.proofs.Common.{ap, ap₂, ◌∙◌, arith, inl, inr}
 use Rattle.std.proofs.lemmas.Bool.Decides.{nat_tests}
 use Rattle.std.proofs.lemmas.Int.{ints}
-use Rattle.a2_cpu.specs.Arithmetic.{overflows, signed}
-use Rattle.a2_cpu.specs.Registers.{one_if}
+use Rattle.a2_core.specs.Arithmetic.{overflows, signed}
+use Rattle.a2_core.specs.Registers.{one_if}
 use Rattle.a2_rules.proofs.Valuing.{Is, at_least_is, less_is}
 
 -- a sum that no signed byte is, of two that are not below 0, or of two that are

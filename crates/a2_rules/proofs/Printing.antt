@@ -14,7 +14,7 @@ use Rattle.a2_page.proofs.Parts.{spliced-length, spliced-before, spliced-in, spl
 use Rattle.a2_bus.specs.Memory.{Memory, grid, ram_byte, with_ram}
 use Rattle.a2_bus.proofs.Frame.{ram_byte-with_ram}
 use Rattle.a2_bus.proofs.Viewing.{plain_written}
-use Rattle.a2_cpu.specs.Arithmetic.{by_digits}
+use Rattle.a2_core.specs.Arithmetic.{by_digits}
 use Rattle.a2_lessons.specs.Routines.{HasBytes}
 use Rattle.a2_services.specs.Fits.{LineFits, CursorFits}
 use Rattle.a2_services.specs.Put.{window_of, cursor_row, cursor_column, with_cursor_row, with_cursor_column, screen_column, with_page1, inverse_mask, after_line_feed, after_return, after_backspace, after_character, after_put_unmasked, after_put, with_base_address}

@@ -9,10 +9,10 @@ use Rattle.a2_opcode.specs.Table.{length_of}
 use Rattle.a2_bus.specs.Devices.{device_byte, after_access}
 use Rattle.a2_bus.specs.Memory.{Memory, ram_byte, with_ram, ram_end, memory_access}
 use Rattle.a2_cpu.specs.BusStep.{refusal_of}
-use Rattle.a2_cpu.specs.Effect.{Effect, Replacement, takes, replaces, stores, effect_of}
-use Rattle.a2_cpu.specs.Instruction.{performed}
-use Rattle.a2_cpu.specs.Place.{base_address, is_other_page}
-use Rattle.a2_cpu.specs.Registers.{Registers, StatusFlags, one_if}
+use Rattle.a2_core.specs.Effect.{Effect, Replacement, takes, replaces, stores, effect_of}
+use Rattle.a2_core.specs.Instruction.{performed}
+use Rattle.a2_core.specs.Place.{base_address, is_other_page}
+use Rattle.a2_core.specs.Registers.{Registers, StatusFlags, one_if}
 use Rattle.a2_cpu.specs.Stores.{stores_of}
 use Rattle.a2_services.specs.World.{World}
 use Rattle.a2_machine.specs.Meaning.{Code}

@@ -1,8 +1,8 @@
 -- What a phrase says of two worlds, in sums and comparisons of naturals: by this proofs speak of it.
 use Rattle.std.specs.Prelude.{◌≡◌, ◌≢◌, ◌⊎◌, ◌<◌, ◌≤◌, ℕ, zero, suc, ◌+◌, ◌-◌, ◌*◌, ◌/◌, ◌%◌, ◌^◌, ◌==◌, pos, Bool, true, false, ◌&&◌, ◌||◌, not, nat_le, nat_lt, min, max, List, [], ◌∷◌, Option, Some, None, if◌then◌else◌}
 use Rattle.a2_bus.specs.Memory.{ram_byte}
-use Rattle.a2_cpu.specs.Arithmetic.{by_digits, differ}
-use Rattle.a2_cpu.specs.Registers.{one_if}
+use Rattle.a2_core.specs.Arithmetic.{by_digits, differ}
+use Rattle.a2_core.specs.Registers.{one_if}
 use Rattle.a2_services.specs.World.{World}
 use Rattle.a2_promise.specs.declared.expr.Atom.{Atom}
 use Rattle.a2_promise.specs.declared.expr.Atom.TheVariants as atom

@@ -3,7 +3,7 @@ use Rattle.std.specs.Prelude.{◌≡◌, ℕ, zero, suc, ◌+◌, ◌%◌, ℤ, 
 use Rattle.std.specs.List.{list_all}
 use Rattle.std.proofs.Common.{ap, ap₂, ◌∙◌}
 use Rattle.std.proofs.lemmas.Bool.{false≢true}
-use Rattle.a2_cpu.specs.Registers.{Registers}
+use Rattle.a2_core.specs.Registers.{Registers}
 use Rattle.a2_promise.specs.declared.expr.Atom.{Atom}
 use Rattle.a2_promise.specs.declared.expr.Atom.TheVariants as atom
 use Rattle.a2_promise.specs.declared.expr.Expr.{Expr}

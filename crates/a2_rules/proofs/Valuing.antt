@@ -10,9 +10,9 @@ use Rattle.std.proofs.lemmas.List.{length-set, get_or-set_same, get_or-set_other
 use Rattle.std.proofs.lemmas.List.FromFn.{length-map-range_with_len, get_or-map-range_with_len}
 use Rattle.std.proofs.lemmas.Option.{slice_get-get_or}
 use Rattle.a2_bus.specs.Memory.{Memory, ram_byte, ram_end}
-use Rattle.a2_cpu.specs.Arithmetic.{by_digits, differ}
-use Rattle.a2_cpu.specs.Registers.{one_if}
-use Rattle.a2_cpu.proofs.Digits.{and_is, or_is, xor_is}
+use Rattle.a2_core.specs.Arithmetic.{by_digits, differ}
+use Rattle.a2_core.specs.Registers.{one_if}
+use Rattle.a2_core.proofs.Digits.{and_is, or_is, xor_is}
 use Rattle.a2_services.specs.World.{World}
 use Rattle.a2_promise.specs.declared.expr.Atom.{Atom}
 use Rattle.a2_promise.specs.declared.expr.Atom.TheVariants as atom

@@ -12,7 +12,7 @@ use Rattle.a2_page.specs.Text.{row_line, lines_of, blocks_of, text_lines, block_
 use Rattle.a2_page.specs.Picture as page
 use Rattle.a2_bus.specs.BusState.{BusState}
 use Rattle.a2_bus.specs.View.{memory_of}
-use Rattle.a2_cpu.specs.Registers.{Registers}
+use Rattle.a2_core.specs.Registers.{Registers}
 use Rattle.a2_machine.specs.declared.Cause.{Cause}
 use Rattle.a2_machine.specs.declared.Cause.TheVariants.{Returned, CodeWrite, Window, Keys, OffStatement, Rom, Opcode, Brk, Decimal, Limit}
 use Rattle.a2_machine.specs.Output.{line_of_digits, register_line, cause_line}

@@ -8,8 +8,8 @@ use Rattle.a2_bus.specs.Devices.{after_access, device_byte}
 use Rattle.a2_bus.specs.BusState.{BusState}
 use Rattle.a2_bus.specs.Memory.{Memory, ram_byte, with_ram, ram_end, memory_access}
 use Rattle.a2_bus.specs.View.{memory_of}
-use Rattle.a2_cpu.specs.Instruction.{with_pc, with_s, pulled, after_pull, returned}
-use Rattle.a2_cpu.specs.Registers.{Registers}
+use Rattle.a2_core.specs.Instruction.{with_pc, with_s, pulled, after_pull, returned}
+use Rattle.a2_core.specs.Registers.{Registers}
 use Rattle.a2_services.specs.declared.Service.{Service}
 use Rattle.a2_services.specs.declared.rows.Needs.TheVariants as need
 use Rattle.a2_services.specs.declared.rows.Takes.TheVariants as span

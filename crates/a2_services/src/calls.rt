@@ -4,8 +4,8 @@ ghost use Rattle.std.specs.Prelude.{◌≡◌, ◌<◌, ◌≤◌, ◌+◌, ℕ,
 ghost use Rattle.a2_page.specs.Window.{IsWindow};
 ghost use Rattle.a2_bus.specs.Memory.{memory_access, ram_end};
 ghost use Rattle.a2_bus.specs.View.{memory_of};
-ghost use Rattle.a2_cpu.specs.Instruction.{returned};
-ghost use Rattle.a2_cpu.specs.Live.{live_registers};
+ghost use Rattle.a2_core.specs.Instruction.{returned};
+ghost use Rattle.a2_core.specs.Live.{live_registers};
 ghost use Rattle.a2_services.specs.declared.Service.TheVariants.{Cout1, Home, Prbyte, Prhex, Keyin, Wait, Getln};
 ghost use Rattle.a2_services.specs.World.{world_of};
 ghost use Rattle.a2_services.specs.Put.{window_of, with_base_address};
@@ -26,7 +26,7 @@ use crate::screen::{clear, load, store, window};
 use crate::{Served, Service};
 use a2_bus::AddressSpace;
 use a2_bus::locations::{CH, CV, PROMPT};
-use a2_cpu::live::Live;
+use a2_core::Live;
 use std::alloc::Allocator;
 
 // How long a hook takes.

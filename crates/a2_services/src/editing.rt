@@ -3,7 +3,7 @@
 ghost use Rattle.std.specs.Prelude.{◌≡◌, ℕ, length};
 ghost use Rattle.a2_bus.specs.Memory.{with_ram, ram_end};
 ghost use Rattle.a2_bus.specs.View.{memory_of};
-ghost use Rattle.a2_cpu.specs.Live.{live_registers};
+ghost use Rattle.a2_core.specs.Live.{live_registers};
 ghost use Rattle.a2_services.specs.declared.Service.TheVariants.{Setinv, Setnorm, Vtab, Clreol, Clreop};
 ghost use Rattle.a2_services.specs.Called.{IsLeft};
 ghost use Rattle.a2_services.specs.Fits.{CursorFits};
@@ -14,7 +14,7 @@ use crate::line::clear_to_end;
 use crate::screen::{Edges, clear, load, store, window};
 use a2_bus::AddressSpace;
 use a2_bus::locations::{CV, INVFLG};
-use a2_cpu::live::Live;
+use a2_core::Live;
 use std::alloc::Allocator;
 
 /// The mask that makes characters inverse.

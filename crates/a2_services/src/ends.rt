@@ -3,8 +3,8 @@
 ghost use Rattle.std.specs.Prelude.{◌≡◌, ℕ, length};
 ghost use Rattle.a2_bus.specs.Memory.{memory_access, ram_end};
 ghost use Rattle.a2_bus.specs.View.{memory_of};
-ghost use Rattle.a2_cpu.specs.Instruction.{returned};
-ghost use Rattle.a2_cpu.specs.Live.{live_registers};
+ghost use Rattle.a2_core.specs.Instruction.{returned};
+ghost use Rattle.a2_core.specs.Live.{live_registers};
 ghost use Rattle.a2_services.specs.World.{world_of};
 ghost use Rattle.a2_services.specs.Put.{with_base_address};
 ghost use Rattle.a2_services.specs.Services.{with_memory};
@@ -13,7 +13,7 @@ ghost use Rattle.a2_services.specs.Fits.{LineFits};
 use crate::put::set_base;
 use crate::screen::load;
 use a2_bus::AddressSpace;
-use a2_cpu::live::Live;
+use a2_core::Live;
 use std::alloc::Allocator;
 
 /// The end of an output service.

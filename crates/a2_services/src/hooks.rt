@@ -2,7 +2,7 @@
 
 ghost use Rattle.std.specs.Prelude.{◌≡◌, ◌+◌, ◌<◌, ℕ, length};
 ghost use Rattle.a2_bus.specs.Memory.{ram_end};
-ghost use Rattle.a2_cpu.specs.Live.{live_registers};
+ghost use Rattle.a2_core.specs.Live.{live_registers};
 ghost use Rattle.a2_services.specs.declared.Service.TheVariants.{Cout, Crout, Rdkey};
 ghost use Rattle.a2_services.specs.World.{world_of};
 ghost use Rattle.a2_services.specs.Called.{IsLeft};
@@ -12,7 +12,7 @@ use crate::bytes::RETURN;
 use crate::screen::load;
 use a2_bus::AddressSpace;
 use a2_bus::locations::{CSW, KSW};
-use a2_cpu::live::Live;
+use a2_core::Live;
 use std::alloc::Allocator;
 
 #[inline(always)]

@@ -1,7 +1,7 @@
 //! Putting a byte: a character, a return, a line feed or a backspace.
 
 ghost use Rattle.std.specs.Prelude.{◌≡◌, ◌<◌, ◌≤◌, ◌+◌, ◌&&◌};
-ghost use Rattle.a2_cpu.specs.Arithmetic.{by_digits};
+ghost use Rattle.a2_core.specs.Arithmetic.{by_digits};
 ghost use Rattle.a2_bus.specs.Memory.{ram_byte, with_ram};
 ghost use Rattle.a2_bus.specs.View.{memory_of};
 ghost use Rattle.a2_services.specs.Put.{after_line_feed, after_return, after_backspace, after_character, after_put_unmasked, after_put, masked_by, with_base_address};

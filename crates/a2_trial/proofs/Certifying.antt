@@ -11,8 +11,9 @@ use Rattle.a2_bus.specs.Memory.{ram_byte, ram_end}
 use Rattle.a2_bus.specs.View.{memory_of}
 use Rattle.a2_bus.proofs.Viewing.{byte_seen, memory_of-agrees}
 use Rattle.a2_cpu.specs.GuardedBusStep.{guarded_bus_step}
-use Rattle.a2_cpu.specs.Registers.{Registers}
-use Rattle.a2_cpu.specs.View.{guarded_answer_of, left_by, state_of}
+use Rattle.a2_core.specs.Registers.{Registers}
+use Rattle.a2_cpu.specs.View.{guarded_answer_of, left_by}
+use Rattle.a2_core.specs.Instruction.{state_of}
 use Rattle.a2_cpu.specs.declared.GuardedStep.TheVariants as answer
 use Rattle.a2_services.specs.World.{World, world_of}
 use Rattle.a2_machine.specs.Meaning.{next, world_at}

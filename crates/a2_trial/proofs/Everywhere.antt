@@ -7,10 +7,10 @@ use Rattle.a2_opcode.specs.declared.Mode.TheVariants.{Implied}
 use Rattle.a2_opcode.specs.declared.Mnemonic.TheVariants.{Rts}
 use Rattle.a2_opcode.specs.declared.Row.{Row}
 use Rattle.a2_bus.specs.Memory.{memory_access, ram_byte, ram_end}
-use Rattle.a2_cpu.specs.Effect.{effect_of}
-use Rattle.a2_cpu.specs.Instruction.{branch_cycles, next_address, performed}
-use Rattle.a2_cpu.specs.Place.{base_address, crosses_page, place_of}
-use Rattle.a2_cpu.specs.Registers.{Registers, one_if}
+use Rattle.a2_core.specs.Effect.{effect_of}
+use Rattle.a2_core.specs.Instruction.{branch_cycles, next_address, performed}
+use Rattle.a2_core.specs.Place.{base_address, crosses_page, place_of}
+use Rattle.a2_core.specs.Registers.{Registers, one_if}
 use Rattle.a2_cpu.specs.Stores.{IsNotIn}
 use Rattle.a2_services.specs.World.{World}
 use Rattle.a2_services.specs.Services.{service_at}

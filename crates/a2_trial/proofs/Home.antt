@@ -8,7 +8,7 @@ use Rattle.a2_opcode.specs.declared.Instr.{Instr}
 use Rattle.a2_opcode.specs.declared.Mnemonic.TheVariants.{Rts}
 use Rattle.a2_bus.specs.BusState.{BusState}
 use Rattle.a2_bus.specs.Memory.{Memory, ram_end}
-use Rattle.a2_cpu.specs.Registers.{Registers}
+use Rattle.a2_core.specs.Registers.{Registers}
 use Rattle.a2_cpu.specs.Stores.{IsNotIn}
 use Rattle.a2_services.specs.World.{World, world_of}
 use Rattle.a2_services.specs.Services.{service_at}

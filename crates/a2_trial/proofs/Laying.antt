@@ -2,8 +2,8 @@
 use Rattle.std.specs.Prelude.{◌≡◌, ℕ, refl}
 use Rattle.std.proofs.Common.{sym, ap, ◌∙◌}
 use Rattle.a2_bus.specs.View.{memory_of}
-use Rattle.a2_cpu.specs.Registers.{Registers}
-use Rattle.a2_cpu.specs.View.{registers_of}
+use Rattle.a2_core.specs.Registers.{Registers}
+use Rattle.a2_core.specs.View.{registers_of}
 use Rattle.a2_services.specs.World.{World}
 use Rattle.a2_machine.specs.State.{Device, world_of_state}
 use Rattle.a2_trial.specs.Failing.{IsFresh}

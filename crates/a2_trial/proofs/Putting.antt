@@ -8,7 +8,7 @@ use Rattle.a2_bus.specs.Devices.{after_access}
 use Rattle.a2_bus.specs.Memory.{Memory, memory_access, ram_end, with_ram}
 use Rattle.a2_bus.specs.View.{memory_of}
 use Rattle.a2_bus.proofs.Holding.{each_board_acts_as_its_memory}
-use Rattle.a2_cpu.specs.Registers.{Registers}
+use Rattle.a2_core.specs.Registers.{Registers}
 use Rattle.a2_services.specs.World.{world_of}
 use Rattle.a2_reads.specs.Counting.{states_of}
 use Rattle.a2_trial.specs.declared.inputs.Input.{Input}

@@ -5,7 +5,7 @@ use Rattle.std.proofs.lemmas.Bool.Decides.{nat_tests}
 use Rattle.a2_page.proofs.GridLemmas.{same_or_not}
 use Rattle.a2_bus.specs.Memory.{Memory, ram_byte, with_ram}
 use Rattle.a2_bus.proofs.Frame.{ram_byte-with_ram}
-use Rattle.a2_cpu.specs.Registers.{one_if}
+use Rattle.a2_core.specs.Registers.{one_if}
 use Rattle.a2_services.specs.World.{World}
 use Rattle.a2_uses.specs.declared.Part.{Part}
 use Rattle.a2_uses.specs.declared.Part.TheVariants.{A as part_a, X as part_x, Y as part_y, N as part_n, V as part_v, I as part_i, Z as part_z, C as part_c, D as part_d}

@@ -10,7 +10,7 @@ use Rattle.a2_bus.specs.Memory.{Memory, ram_byte, ram_end}
 use Rattle.a2_bus.specs.PowerOn.{start_memory}
 use Rattle.a2_bus.specs.View.{memory_of}
 use Rattle.a2_bus.proofs.Viewing.{byte_seen, memory_of-agrees}
-use Rattle.a2_cpu.specs.Registers.{Registers, registers_at}
+use Rattle.a2_core.specs.Registers.{Registers, registers_at}
 use Rattle.a2_services.specs.World.{World, world_of}
 use Rattle.a2_promise.specs.declared.promises.Promise.{Promise}
 use Rattle.a2_uses.specs.declared.Part.{Part}

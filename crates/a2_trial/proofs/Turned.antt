@@ -3,7 +3,7 @@ use Rattle.std.specs.Prelude.{◌≡◌, ◌<◌, ◌≤◌, ◌==◌, ◌&&◌,
 use Rattle.std.proofs.Common.{sym, ap, ap₂, ◌∙◌, subst, arith, true≢false}
 use Rattle.std.proofs.lemmas.Bool.Decides.{nat_tests}
 use Rattle.a2_bus.specs.Memory.{ram_byte}
-use Rattle.a2_cpu.specs.Registers.{Registers}
+use Rattle.a2_core.specs.Registers.{Registers}
 use Rattle.a2_services.specs.World.{World}
 use Rattle.a2_uses.specs.Reads.{pull_address}
 use Rattle.a2_uses.specs.declared.Part.{Part}

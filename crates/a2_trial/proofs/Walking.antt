@@ -12,13 +12,14 @@ use Rattle.a2_bus.specs.BusState.{BusState, board_access}
 use Rattle.a2_bus.specs.Memory.{memory_access, peek, ram_end}
 use Rattle.a2_bus.specs.View.{memory_of}
 use Rattle.a2_cpu.specs.BusStep.{Refusal, refusal_of}
-use Rattle.a2_cpu.specs.Effect.{effect_of}
-use Rattle.a2_cpu.specs.Place.{place_of}
-use Rattle.a2_cpu.specs.Registers.{Registers}
+use Rattle.a2_core.specs.Effect.{effect_of}
+use Rattle.a2_core.specs.Place.{place_of}
+use Rattle.a2_core.specs.Registers.{Registers}
 use Rattle.a2_cpu.specs.Stores.{stores_of}
 use Rattle.a2_cpu.specs.StepStores.{none_if, stores_at}
 use Rattle.a2_cpu.specs.GuardedBusStep.{guarded_bus_step}
-use Rattle.a2_cpu.specs.View.{guarded_answer_of, left_by, state_of}
+use Rattle.a2_cpu.specs.View.{guarded_answer_of, left_by}
+use Rattle.a2_core.specs.Instruction.{state_of}
 use Rattle.a2_cpu.specs.declared.GuardedStep.TheVariants as answer
 use Rattle.a2_services.specs.Services.{service_at}
 use Rattle.a2_services.specs.World.{World, world_of}

@@ -2,8 +2,8 @@
 use Rattle.std.specs.Prelude.{◌≡◌, ◌⊎◌, ◌<◌, ◌≤◌, ℕ, Bool, true, false, IsTrue, not, ◌&&◌, nat_lt, List, length, map}
 use Rattle.a2_bus.specs.BusState.{BusState}
 use Rattle.a2_bus.specs.Memory.{ram_end}
-use Rattle.a2_cpu.specs.Registers.{Registers, registers_at}
-use Rattle.a2_cpu.specs.View.{registers_of}
+use Rattle.a2_core.specs.Registers.{Registers, registers_at}
+use Rattle.a2_core.specs.View.{registers_of}
 use Rattle.a2_services.specs.World.{World, world_of}
 use Rattle.a2_promise.specs.declared.promises.Changes.{Changes}
 use Rattle.a2_promise.specs.declared.promises.Promise.{Promise}

@@ -1,7 +1,7 @@
 -- The states in which a routine of a program is entered, and a promise that is kept in every one. This project's own.
 use Rattle.std.specs.Prelude.{ℕ, ◌<◌, ◌&&◌, not, List, [], Option, is_some}
 use Rattle.a2_bus.specs.PowerOn.{start_memory}
-use Rattle.a2_cpu.specs.Registers.{registers_at}
+use Rattle.a2_core.specs.Registers.{registers_at}
 use Rattle.a2_services.specs.World.{World}
 use Rattle.a2_promise.specs.declared.promises.Promise.{Promise}
 use Rattle.a2_trial.specs.declared.inputs.Input.{Input}

@@ -3,7 +3,7 @@
 use Rattle.std.specs.Prelude.{◌≡◌, ◌==◌, [], ◌∷◌}
 use Rattle.a2_page.specs.Grid.{IsGrid}
 use Rattle.a2_bus.specs.Memory.{Memory, ram_byte}
-use Rattle.a2_cpu.specs.Registers.{registers_at}
+use Rattle.a2_core.specs.Registers.{registers_at}
 use Rattle.a2_promise.specs.declared.promises.Promise.{Promise}
 use Rattle.a2_trial.specs.declared.inputs.Input.TheVariants.{A}
 use Rattle.a2_trial.specs.Everywhere.{HoldsInEveryState}

@@ -2,7 +2,7 @@
 use Rattle.std.specs.Prelude.{◌≡◌, ℕ, ◌%◌, ◌==◌, ◌||◌, Bool, true, false, IsTrue, List, [], ◌∷◌, map}
 use Rattle.a2_page.specs.Grid.{IsGrid}
 use Rattle.a2_bus.specs.Memory.{ram_byte, with_ram}
-use Rattle.a2_cpu.specs.Registers.{StatusFlags, one_if}
+use Rattle.a2_core.specs.Registers.{StatusFlags, one_if}
 use Rattle.a2_services.specs.World.{World}
 use Rattle.a2_uses.specs.declared.Part.{Part}
 use Rattle.a2_uses.specs.declared.Part.TheVariants.{A as part_a, X as part_x, Y as part_y, N as part_n, V as part_v, D as part_d, I as part_i, Z as part_z, C as part_c}

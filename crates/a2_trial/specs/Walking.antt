@@ -11,8 +11,8 @@ use Rattle.a2_opcode.specs.declared.Instr.{Instr}
 use Rattle.a2_opcode.specs.declared.Row.{Row}
 use Rattle.a2_bus.specs.BusState.{BusState}
 use Rattle.a2_bus.specs.Memory.{ram_end}
-use Rattle.a2_cpu.specs.Registers.{Registers}
-use Rattle.a2_cpu.specs.View.{registers_of}
+use Rattle.a2_core.specs.Registers.{Registers}
+use Rattle.a2_core.specs.View.{registers_of}
 use Rattle.a2_services.specs.World.{world_of}
 use Rattle.a2_machine.specs.Meaning.{next, world_at}
 use Rattle.a2_promise.specs.declared.promises.Changes.{Changes}

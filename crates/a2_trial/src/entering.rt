@@ -13,7 +13,7 @@ use crate::fill::filled;
 use crate::inputs::Input;
 use crate::trial::Failure;
 use a2_asm::Program;
-use a2_cpu::live::Live;
+use a2_core::Live;
 use a2_hex::RAM_END;
 use a2_machine::Machine;
 use std::alloc::{AllocError, Global};

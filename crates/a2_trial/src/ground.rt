@@ -11,7 +11,7 @@ use crate::walk::is_set;
 use a2_asm::Program;
 use a2_bus::locations::{KBD, KBDSTRB, LAST_RETURN, RETURN_ADDRESS};
 use a2_bus::{AddressSpace, Bus, Keys};
-use a2_cpu::live::Live;
+use a2_core::Live;
 use a2_cpu::run::step;
 use a2_cpu::{Regs, Step, writes};
 use a2_hex::{Image, RAM_END};

@@ -3,7 +3,7 @@
 ghost use Rattle.std.specs.Prelude.{◌≡◌, ◌↔◌, true, length, IfOk};
 ghost use Rattle.a2_bus.specs.Memory.{ram_end};
 ghost use Rattle.a2_bus.specs.View.{memory_of};
-ghost use Rattle.a2_cpu.specs.View.{registers_of};
+ghost use Rattle.a2_core.specs.View.{registers_of};
 ghost use Rattle.a2_promise.specs.Values.{moment_of};
 ghost use Rattle.a2_trial.specs.Judging as judging;
 ghost use Rattle.a2_trial.specs.Kept.{bytes_of as ram_bytes_of};

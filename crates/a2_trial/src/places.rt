@@ -7,7 +7,7 @@ ghost use Rattle.std.specs.Prelude.{◌<◌, ◌≤◌, ◌+◌, ℕ, [], ◌∷
 ghost use Rattle.a2_page.specs.Cells.{numbers_from};
 ghost use Rattle.a2_bus.specs.Memory.{Memory};
 ghost use Rattle.a2_bus.specs.View.{memory_of};
-ghost use Rattle.a2_cpu.specs.View.{registers_of};
+ghost use Rattle.a2_core.specs.View.{registers_of};
 ghost use Rattle.a2_services.specs.Blocks.{span_of};
 ghost use Rattle.a2_services.specs.Put.{after_put, window_of};
 ghost use Rattle.a2_services.specs.World.{world_of};

@@ -3,7 +3,7 @@
 ghost use Rattle.std.specs.Prelude.{◌≡◌, ◌+◌, ◌%◌, ◌++◌, map, OnOk, IfOk};
 ghost use Rattle.std.specs.List.{flat_map};
 ghost use Rattle.a2_bus.specs.View.{memory_of};
-ghost use Rattle.a2_cpu.specs.View.{registers_of};
+ghost use Rattle.a2_core.specs.View.{registers_of};
 ghost use Rattle.a2_trial.specs.Printing as said;
 
 use a2_bus::AddressSpace;

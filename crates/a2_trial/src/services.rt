@@ -6,7 +6,7 @@ ghost use Rattle.a2_page.specs.Cells.{numbers_from};
 ghost use Rattle.a2_bus.specs.Locations as at;
 ghost use Rattle.a2_bus.specs.Memory.{Memory};
 ghost use Rattle.a2_bus.specs.View.{memory_of};
-ghost use Rattle.a2_cpu.specs.View.{registers_of};
+ghost use Rattle.a2_core.specs.View.{registers_of};
 ghost use Rattle.a2_services.specs.Blocks.{span_of};
 ghost use Rattle.a2_services.specs.Put.{after_put};
 ghost use Rattle.a2_services.specs.Rows.{service_row};

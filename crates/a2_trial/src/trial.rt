@@ -16,8 +16,8 @@ use crate::judge::{Broken, all_hold, broken_by, sight_of};
 use crate::within::{Tally, broken_within};
 use a2_asm::Program;
 use a2_bus::Keys;
+use a2_core::Live;
 use a2_cpu::Regs;
-use a2_cpu::live::Live;
 use a2_promise::{Found, Promise, Texts};
 use std::alloc::{AllocError, Global};
 

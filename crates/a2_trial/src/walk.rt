@@ -6,9 +6,9 @@ ghost use Rattle.a2_opcode.specs.Table.{length_of};
 ghost use Rattle.a2_reads.specs.Reads.{Knows};
 ghost use Rattle.a2_reads.specs.Fetches.{addresses_from};
 ghost use Rattle.a2_bus.specs.BusState.{board_access};
-ghost use Rattle.a2_cpu.specs.Effect.{effect_of};
-ghost use Rattle.a2_cpu.specs.Place.{Place, place_of};
-ghost use Rattle.a2_cpu.specs.View.{registers_of};
+ghost use Rattle.a2_core.specs.Effect.{effect_of};
+ghost use Rattle.a2_core.specs.Place.{Place, place_of};
+ghost use Rattle.a2_core.specs.View.{registers_of};
 ghost use Rattle.a2_uses.specs.Parts.{needs as parts_needed, mode_needs as parts_of_mode};
 ghost use Rattle.a2_uses.specs.Reads.{effect_reads, pointer_reads};
 ghost use Rattle.a2_reads.specs.Turned.{in_stack, moves_s, operand_uses};
@@ -24,7 +24,7 @@ use crate::services::{given_by, is_all_known, is_keyless, taken_by};
 use crate::stored::Stored;
 use a2_bus::locations::LAST_RETURN;
 use a2_bus::{AddressSpace, Bus};
-use a2_cpu::live::Live;
+use a2_core::Live;
 use a2_cpu::run::guarded_step;
 use a2_cpu::{GuardedStep, NoProtection, Regs, writes};
 use a2_opcode::{Instr, Mnemonic, Mode, decode};
@@ -155,7 +155,7 @@ fn is_code_off_stack(pc: u16) -> bool
 }
 
 // A mnemonic that reads where this one reads or stores by its operand, and pulls nothing.
-#[tactic(auto, unfolding(a2_cpu::specs::Effect::effect_of))]
+#[tactic(auto, unfolding(a2_core::specs::Effect::effect_of))]
 fn as_read(mnemonic: Mnemonic) -> Mnemonic
     ensures { (place : Place) (s : ℕ) → effect_reads (effect_of result) place s ≡ operand_uses (effect_of mnemonic) place }
 {

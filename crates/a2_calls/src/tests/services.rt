@@ -1,8 +1,8 @@
 //! Worked calls on a board as it starts: what they leave on the screen, in the registers and in the line.
 
 use a2_bus::{Board, Bus, Keys};
+use a2_core::Live;
 use a2_cpu::Regs;
-use a2_cpu::live::Live;
 use a2_services::live::refusal;
 use a2_services::{Served, Service, call, reach, service_at};
 

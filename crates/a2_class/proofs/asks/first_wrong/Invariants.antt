@@ -1,6 +1,6 @@
 use Rattle.std.proofs.Common.{◌≡◌, length}
 use Rattle.std.specs.List.{list_all}
-use Rattle.a2_cpu.specs.View.{registers_of}
+use Rattle.a2_core.specs.View.{registers_of}
 use Rattle.a2_text.specs.Words.{words}
 use Rattle.a2_class.specs.Asks.{is_held}
 use Rattle.a2_class.proofs.asks.first_wrong.Given as goal

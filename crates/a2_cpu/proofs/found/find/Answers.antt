@@ -1,11 +1,12 @@
 use Rattle.std.proofs.Common.{sym, ap, ap₂, ◌∙◌, ℕ, Bool}
 use Rattle.std.specs.Prelude.{slice_get, Some, None, Result, Ok, ◌≡◌, ◌+◌, ◌%◌, ◌&&◌}
-use Rattle.a2_cpu.specs.Registers.{one_if}
-use Rattle.a2_cpu.specs.Place.{Place, crosses_page}
-use Rattle.a2_cpu.specs.Live.{live_registers}
+use Rattle.a2_core.specs.Registers.{one_if}
+use Rattle.a2_core.specs.Place.{Place, crosses_page}
+use Rattle.a2_core.specs.Live.{live_registers}
 use Rattle.a2_cpu.specs.Code.{place_for, operand_for, Found}
 use Rattle.a2_opcode.specs.declared.Mnemonic.{Mnemonic}
 use Rattle.a2_cpu.specs.declared.GuardedStep.{GuardedStep}
+use Rattle.a2_core.proofs.Words.{digit}
 use Rattle.a2_cpu.proofs.Finding.{found-no_byte, found-no_row, found-operand}
 use Rattle.a2_cpu.proofs.found.find.Goals.{then-row, else-row}
 use Rattle.a2_cpu.proofs.found.find.Goals as goal
@@ -40,7 +41,7 @@ returns-clause-found g c =
       | else-row w ↦ w.crossed-is ∙ w.if-row.false ∙ ap (λ (b : Bool). b && crosses_page at.base (place_for at.place)) (sym w.if-row.false)
     ] in
     ap₂ (λ (cycles next : ℕ). found_with_site row.mnemonic (place_for at.place) cycles next)
-    (ap₂ (λ (m n : ℕ). m + n) c.from.ensures (c.from-2.ensures ∙ c.digit.ensures ∙ ap one_if crossed))
+    (ap₂ (λ (m n : ℕ). m + n) c.from.ensures (c.from-2.ensures ∙ digit c.if-row.crossed ∙ ap one_if crossed))
     (ap (λ (n : ℕ). (c.args.live.now.pc + n) % 65536) (c.from-3.ensures ∙ c.length.ensures))
     ∙ sym (found-operand g.B.Bus.access bus (slice_get bus.bytes) (live_registers c.args.live.now) c.in-Some.opcode row (operand_for (Some at))
     (sym c.in-Some.ensures.value) (sym c.in-Some-row_of.ensures.value) c.in-Some-locate.ensures)

@@ -1,9 +1,9 @@
 use Rattle.std.proofs.Common.{sym, ap, ◌∙◌, subst, refl}
 use Rattle.std.specs.Prelude.{slice_get, Ok, Err}
 use Rattle.a2_bus.specs.BusState.{BusState}
-use Rattle.a2_cpu.specs.Instruction.{State}
+use Rattle.a2_core.specs.Instruction.{State}
 use Rattle.a2_cpu.specs.View.{why_not}
-use Rattle.a2_cpu.specs.Live.{live_registers, before_live_step}
+use Rattle.a2_core.specs.Live.{live_registers, before_live_step}
 use Rattle.a2_cpu.specs.Code.{site_for}
 use Rattle.a2_cpu.proofs.Finding.{told-found}
 use Rattle.a2_cpu.proofs.Looking.{IsFault, found-fault, why_not-acting}

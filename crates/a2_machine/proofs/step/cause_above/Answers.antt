@@ -1,7 +1,7 @@
 use Rattle.std.specs.Prelude.{Option, Some, None}
 use Rattle.std.proofs.Common.{sym, ap, ◌∙◌}
 use Rattle.a2_services.specs.declared.Served.{Served}
-use Rattle.a2_cpu.specs.Live.{live_registers}
+use Rattle.a2_core.specs.Live.{live_registers}
 use Rattle.a2_machine.specs.declared.Cause.{Cause}
 use Rattle.a2_machine.specs.Outcome.{cause_in, outcome_of_call}
 use Rattle.a2_machine.proofs.Calls.{IsCallAt, call_is, stuck-free, no_call}

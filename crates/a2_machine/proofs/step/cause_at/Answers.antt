@@ -3,10 +3,11 @@ use Rattle.std.specs.Prelude.{Option, Some, None}
 use Rattle.a2_text.specs.Bytes.{is_among}
 use Rattle.a2_bus.specs.BusState.{board_access}
 use Rattle.a2_bus.specs.Memory.{ram_end}
-use Rattle.a2_cpu.specs.View.{guarded_answer_of, state_of}
+use Rattle.a2_cpu.specs.View.{guarded_answer_of}
+use Rattle.a2_core.specs.Instruction.{state_of}
 use Rattle.a2_cpu.specs.GuardedBusStep.{guarded_bus_step}
 use Rattle.a2_cpu.specs.declared.GuardedStep.{GuardedStep}
-use Rattle.a2_cpu.specs.Live.{live_registers}
+use Rattle.a2_core.specs.Live.{live_registers}
 use Rattle.a2_services.specs.World.{world_of}
 use Rattle.a2_machine.specs.declared.Cause.{Cause}
 use Rattle.a2_machine.specs.Outcome.{protected_by, cause_in}

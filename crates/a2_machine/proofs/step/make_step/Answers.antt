@@ -2,8 +2,8 @@ use Rattle.std.proofs.Common.{sym, ◌∙◌, refl, ◌≤◌, subst, ◌<◌}
 use Rattle.a2_text.specs.Bytes.{is_among}
 use Rattle.a2_bus.specs.BusState.{board_access}
 use Rattle.a2_bus.specs.Memory.{ram_end}
-use Rattle.a2_cpu.specs.View.{state_of}
-use Rattle.a2_cpu.specs.Live.{live_registers}
+use Rattle.a2_core.specs.Instruction.{state_of}
+use Rattle.a2_core.specs.Live.{live_registers}
 use Rattle.a2_services.specs.World.{world_of}
 use Rattle.a2_machine.specs.Outcome.{cost_of, most_cost, protected_by, IsOutcome}
 use Rattle.a2_machine.proofs.Calls.{refused, found-off}

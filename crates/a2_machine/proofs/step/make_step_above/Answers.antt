@@ -1,5 +1,5 @@
 use Rattle.std.proofs.Common.{sym, ◌∙◌, ◌≤◌, refl, subst}
-use Rattle.a2_cpu.specs.Live.{live_registers}
+use Rattle.a2_core.specs.Live.{live_registers}
 use Rattle.a2_machine.specs.Outcome.{cost_of, most_cost, IsOutcome}
 use Rattle.a2_machine.proofs.Calls.{IsCallAt, call_is, call_turn, no_call}
 use Rattle.a2_machine.proofs.Costs.{called-cost}

@@ -2,7 +2,7 @@ use Rattle.std.proofs.Common.{◌∙◌, ap, arith}
 use Rattle.a2_bus.specs.Memory.{with_ram}
 use Rattle.a2_bus.specs.View.{memory_of}
 use Rattle.a2_bus.proofs.Viewing.{page1_is_grid}
-use Rattle.a2_cpu.specs.Live.{live_registers}
+use Rattle.a2_core.specs.Live.{live_registers}
 use Rattle.a2_services.specs.Blocks.{black}
 use Rattle.a2_services.specs.Services.{effect}
 use Rattle.a2_services.proofs.Returning.{made_is}

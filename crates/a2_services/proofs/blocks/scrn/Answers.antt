@@ -2,8 +2,8 @@ use Rattle.std.proofs.Common.{sym, ◌∙◌, ap, ap₂}
 use Rattle.a2_page.specs.Text.{block}
 use Rattle.a2_bus.specs.Memory.{memory_access}
 use Rattle.a2_bus.specs.View.{memory_of}
-use Rattle.a2_cpu.specs.Instruction.{returned}
-use Rattle.a2_cpu.specs.Live.{live_registers}
+use Rattle.a2_core.specs.Instruction.{returned}
+use Rattle.a2_core.specs.Live.{live_registers}
 use Rattle.a2_services.specs.World.{world_of}
 use Rattle.a2_services.specs.Services.{effect, with_a}
 use Rattle.a2_services.proofs.Painting.{block_shown}

@@ -1,4 +1,4 @@
-use Rattle.a2_cpu.specs.Live.{live_registers}
+use Rattle.a2_core.specs.Live.{live_registers}
 use Rattle.a2_services.specs.Services.{effect}
 use Rattle.a2_services.proofs.Returning.{made_is}
 use Rattle.a2_services.proofs.blocks.setcol.Goals as goal

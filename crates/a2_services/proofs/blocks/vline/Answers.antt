@@ -2,7 +2,7 @@ use Rattle.std.proofs.Common.{◌≡◌, ◌+◌, ◌-◌, arith}
 use Rattle.std.proofs.lemmas.Grind.{common_steps}
 use Rattle.a2_bus.specs.Memory.{ram_byte}
 use Rattle.a2_bus.specs.View.{memory_of}
-use Rattle.a2_cpu.specs.Live.{live_registers}
+use Rattle.a2_core.specs.Live.{live_registers}
 use Rattle.a2_services.specs.Blocks.{painted}
 use Rattle.a2_services.specs.Services.{effect}
 use Rattle.a2_services.proofs.Painting.{stepped_more, stepped_all}

@@ -1,8 +1,8 @@
 use Rattle.std.proofs.Common.{◌∙◌, ap}
 use Rattle.a2_bus.specs.Memory.{memory_access}
 use Rattle.a2_bus.specs.View.{memory_of}
-use Rattle.a2_cpu.specs.Instruction.{returned}
-use Rattle.a2_cpu.specs.Live.{live_registers}
+use Rattle.a2_core.specs.Instruction.{returned}
+use Rattle.a2_core.specs.Live.{live_registers}
 use Rattle.a2_services.specs.World.{world_of}
 use Rattle.a2_services.specs.Put.{with_base_address}
 use Rattle.a2_services.specs.Services.{effect, with_x, with_memory, Reading}

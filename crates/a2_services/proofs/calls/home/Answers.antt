@@ -1,6 +1,6 @@
 use Rattle.std.proofs.Common.{ap, sym, subst}
 use Rattle.a2_bus.specs.View.{memory_of}
-use Rattle.a2_cpu.specs.Live.{live_registers}
+use Rattle.a2_core.specs.Live.{live_registers}
 use Rattle.a2_services.specs.Fits.{LineFits}
 use Rattle.a2_services.specs.Put.{with_base_address}
 use Rattle.a2_services.specs.Services.{effect}

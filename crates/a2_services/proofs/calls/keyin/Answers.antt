@@ -1,5 +1,5 @@
 use Rattle.std.proofs.Common.{◌∙◌, sym}
-use Rattle.a2_cpu.specs.Live.{live_registers}
+use Rattle.a2_core.specs.Live.{live_registers}
 use Rattle.a2_services.specs.World.{world_of}
 use Rattle.a2_services.proofs.Returning.{made_keyin}
 use Rattle.a2_services.proofs.Lines.{effect_key, some_key, key_there}

@@ -1,5 +1,5 @@
 use Rattle.std.proofs.Common.{◌∙◌, ap}
-use Rattle.a2_cpu.specs.Live.{live_registers}
+use Rattle.a2_core.specs.Live.{live_registers}
 use Rattle.a2_services.specs.declared.rows.Row.{Row}
 use Rattle.a2_services.specs.Services.{cycles_of}
 use Rattle.a2_services.proofs.Returning.{served_is}

@@ -1,7 +1,7 @@
 use Rattle.std.proofs.Common.{◌≡◌, ◌∙◌, ◌+◌, ◌*◌, ◌%◌, ap, arith}
 use Rattle.a2_bus.specs.View.{memory_of}
 use Rattle.a2_bus.specs.Memory.{ram_byte}
-use Rattle.a2_cpu.specs.Live.{live_registers}
+use Rattle.a2_core.specs.Live.{live_registers}
 use Rattle.a2_services.proofs.Returning.{return_made}
 use Rattle.a2_services.proofs.ends.return_from.Goals as goal
 

@@ -1,8 +1,8 @@
 use Rattle.std.proofs.Common.{◌≡◌, ◌+◌, ◌*◌, ap, arith}
 use Rattle.a2_bus.specs.Memory.{ram_byte}
 use Rattle.a2_bus.specs.View.{memory_of}
-use Rattle.a2_cpu.specs.Instruction.{with_pc}
-use Rattle.a2_cpu.specs.Live.{live_registers}
+use Rattle.a2_core.specs.Instruction.{with_pc}
+use Rattle.a2_core.specs.Live.{live_registers}
 use Rattle.a2_services.specs.World.{world_of}
 use Rattle.a2_services.proofs.hooks.go_through.Goals as goal
 

@@ -1,4 +1,4 @@
-use Rattle.a2_cpu.proofs.Digits.{and_is}
+use Rattle.a2_core.proofs.Digits.{and_is}
 use Rattle.std.proofs.Common.{arith}
 use Rattle.a2_services.proofs.put.both.Goals as goal
 

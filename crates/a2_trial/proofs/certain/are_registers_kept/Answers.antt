@@ -1,4 +1,4 @@
-use Rattle.a2_cpu.specs.View.{registers_of}
+use Rattle.a2_core.specs.View.{registers_of}
 use Rattle.a2_trial.proofs.Certifying.{registers_kept}
 use Rattle.a2_trial.proofs.certain.are_registers_kept.Goals as goal
 

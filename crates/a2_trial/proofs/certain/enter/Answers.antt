@@ -1,6 +1,6 @@
 use Rattle.std.specs.Prelude.{◌≡◌, map, refl}
 use Rattle.std.proofs.Common.{ap, sym, subst, ◌∙◌}
-use Rattle.a2_cpu.specs.View.{registers_of}
+use Rattle.a2_core.specs.View.{registers_of}
 use Rattle.a2_services.specs.World.{world_of}
 use Rattle.a2_reads.specs.Counting.{state_at}
 use Rattle.a2_trial.specs.But.{IsBut}

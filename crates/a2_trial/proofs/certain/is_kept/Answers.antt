@@ -1,7 +1,7 @@
 use Rattle.std.specs.Prelude.{List, Bool, length}
 use Rattle.std.proofs.Common.{ap, subst, sym, ◌∙◌}
 use Rattle.a2_bus.specs.BusState.{BusState}
-use Rattle.a2_cpu.specs.View.{registers_of}
+use Rattle.a2_core.specs.View.{registers_of}
 use Rattle.a2_promise.specs.Values.{moment_of}
 use Rattle.a2_trial.specs.But.{IsBut}
 use Rattle.a2_trial.specs.Kept.{LookAtKnown, known_by}

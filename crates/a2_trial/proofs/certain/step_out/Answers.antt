@@ -1,6 +1,6 @@
 use Rattle.std.specs.Prelude.{◌≡◌, ℕ}
 use Rattle.std.proofs.Common.{sym, ◌∙◌, subst}
-use Rattle.a2_cpu.specs.View.{registers_of}
+use Rattle.a2_core.specs.View.{registers_of}
 use Rattle.a2_services.specs.World.{world_of}
 use Rattle.a2_machine.specs.Meaning.{next}
 use Rattle.a2_trial.specs.Kept.{code}

@@ -1,7 +1,7 @@
 use Rattle.std.proofs.Common.{ap, ◌∙◌}
 use Rattle.a2_bus.specs.View.{memory_of}
-use Rattle.a2_cpu.specs.Registers.{Registers}
-use Rattle.a2_cpu.specs.View.{registers_of}
+use Rattle.a2_core.specs.Registers.{Registers}
+use Rattle.a2_core.specs.View.{registers_of}
 use Rattle.a2_trial.specs.States.{with_value}
 use Rattle.a2_trial.proofs.Laying.{fresh_kept, register_laid}
 use Rattle.a2_trial.proofs.entering.lay_value.Goals as goal

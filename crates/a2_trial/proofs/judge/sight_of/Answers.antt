@@ -1,4 +1,4 @@
-use Rattle.a2_cpu.specs.View.{registers_of}
+use Rattle.a2_core.specs.View.{registers_of}
 use Rattle.a2_trial.proofs.Certifying.{board_bytes}
 use Rattle.a2_trial.proofs.judge.sight_of.Goals as goal
 

@@ -1,7 +1,7 @@
 use Rattle.std.specs.Prelude.{[], ◌∷◌}
 use Rattle.std.proofs.Common.{sym, subst}
 use Rattle.a2_bus.specs.Locations as at
-use Rattle.a2_cpu.specs.View.{registers_of}
+use Rattle.a2_core.specs.View.{registers_of}
 use Rattle.a2_services.specs.World.{world_of}
 use Rattle.a2_reads.specs.Services.{service_stores, window_cells}
 use Rattle.a2_trial.specs.Walking.{AreMarked}

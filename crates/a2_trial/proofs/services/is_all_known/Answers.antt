@@ -2,7 +2,7 @@ use Rattle.std.specs.Prelude.{ℕ, Bool, List, ◌++◌}
 use Rattle.std.specs.List.{list_all}
 use Rattle.std.proofs.Common.{sym, ap, ◌∙◌}
 use Rattle.a2_bus.specs.View.{memory_of}
-use Rattle.a2_cpu.specs.View.{registers_of}
+use Rattle.a2_core.specs.View.{registers_of}
 use Rattle.a2_services.specs.Rows.{service_row}
 use Rattle.a2_reads.specs.Services.{bytes_used, fit_bytes, service_reads, way_bytes}
 use Rattle.a2_trial.specs.Walking.{known_now}

@@ -1,6 +1,6 @@
 use Rattle.std.specs.Prelude.{refl}
 use Rattle.std.proofs.Common.{sym, ap, ◌∙◌}
-use Rattle.a2_cpu.specs.View.{registers_of}
+use Rattle.a2_core.specs.View.{registers_of}
 use Rattle.a2_reads.specs.Parts.{with_parts}
 use Rattle.a2_trial.specs.Walking.{knows_part}
 use Rattle.a2_trial.proofs.Walking.{is_step}

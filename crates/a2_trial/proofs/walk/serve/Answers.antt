@@ -1,7 +1,7 @@
 use Rattle.std.specs.Prelude.{refl}
 use Rattle.std.specs.List.{list_all}
 use Rattle.std.proofs.Common.{sym, ap, ◌∙◌, subst₂}
-use Rattle.a2_cpu.specs.View.{registers_of}
+use Rattle.a2_core.specs.View.{registers_of}
 use Rattle.a2_services.specs.Called.{IsCallMade}
 use Rattle.a2_reads.specs.Parts.{with_parts}
 use Rattle.a2_trial.specs.Walking.{knows_part}

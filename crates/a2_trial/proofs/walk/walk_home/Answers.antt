@@ -1,6 +1,6 @@
 use Rattle.std.specs.Prelude.{◌≡◌, ℕ, suc, ◌+◌}
 use Rattle.std.proofs.Common.{ap, sym, subst, ◌∙◌, arith}
-use Rattle.a2_cpu.specs.View.{registers_of}
+use Rattle.a2_core.specs.View.{registers_of}
 use Rattle.a2_trial.specs.Walking.{IsWalk}
 use Rattle.a2_trial.proofs.Home.{home, none, one_more}
 use Rattle.a2_trial.proofs.walk.walk_home.Goals as goal

@@ -1,4 +1,4 @@
-use Rattle.a2_cpu.specs.View.{registers_of}
+use Rattle.a2_core.specs.View.{registers_of}
 use Rattle.a2_trial.specs.Walking.{IsWalk}
 use Rattle.a2_trial.proofs.walk.walk_home.Given as goal
 

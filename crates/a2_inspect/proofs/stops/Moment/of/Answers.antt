@@ -1,9 +1,9 @@
 use Rattle.std.specs.Prelude.{ℕ, Option}
 use Rattle.std.proofs.Common.{ap, ap₂, ◌∙◌}
 use Rattle.a2_bus.specs.Memory.{peek}
-use Rattle.a2_cpu.specs.declared.Regs.{Regs}
-use Rattle.a2_cpu.specs.Registers.{byte_of_flags}
-use Rattle.a2_cpu.specs.View.{flags_of}
+use Rattle.a2_core.specs.declared.Regs.{Regs}
+use Rattle.a2_core.specs.Registers.{byte_of_flags}
+use Rattle.a2_core.specs.View.{flags_of}
 use Rattle.a2_machine.specs.State.{world_of_state}
 use Rattle.a2_inspect.specs.Stops.{Moment}
 use Rattle.a2_inspect.proofs.stops.Moment.of.Goals as goal

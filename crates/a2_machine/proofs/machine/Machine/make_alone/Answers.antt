@@ -1,7 +1,7 @@
 use Rattle.std.specs.Prelude.{◌≡◌, false, refl}
 use Rattle.std.proofs.Common.{sym, ap, subst, ◌∙◌}
 use Rattle.a2_bus.specs.BusState.{BusState}
-use Rattle.a2_cpu.specs.View.{registers_of}
+use Rattle.a2_core.specs.View.{registers_of}
 use Rattle.a2_machine.specs.StepsMade.{AreStepsMade}
 use Rattle.a2_machine.specs.State.{IsMaking, Device, steps_left, raised_by}
 use Rattle.a2_machine.proofs.Making.{making, after_steps}

@@ -1,0 +1,4 @@
+pub mod FlagBits
+pub mod Digits
+pub mod Signs
+pub mod Words
