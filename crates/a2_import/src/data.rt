@@ -1,9 +1,10 @@
 //! Lines of data, and the columns of a line.
 
 use crate::dialect::Dialect;
-use crate::locals::Locals;
-use crate::operand::{put_expression, put_low, put_tokens};
+use crate::operand::{Spelling, put_tokens};
 use crate::parts::{Marked, text_in};
+use crate::pieces::{append, put_quoted};
+use crate::reading::Reading;
 use crate::rules::List;
 use crate::token::span;
 use a2_text::{capital, decimal};
@@ -20,8 +21,7 @@ pub(crate) fn put_operation<A: Allocator>(
 ) -> Result<(), AllocError> {
     let count = BLANKS.len().saturating_sub(label.len()).max(1);
     let (blanks, _) = BLANKS.split_at(count.min(BLANKS.len()));
-    out.extend_from_slice(label)?;
-    out.extend_from_slice(blanks)?;
+    append(out, &[label, blanks])?;
     for c in operation {
         out.push(capital(*c))?;
     }
@@ -40,7 +40,7 @@ pub(crate) fn put_front<A: Allocator>(
 }
 
 // How an item of a list is written.
-#[derive(Clone, Copy, PartialEq, Eq)]
+#[derive(Clone, Copy)]
 enum Item {
     Byte,
     Word,
@@ -65,50 +65,29 @@ fn item_of(list: List, dialect: Dialect, text: &[u8]) -> Item {
     }
 }
 
-// Appends the text between the marks of an item, with bit 7 clear.
-fn put_quoted<A: Allocator>(out: &mut Vec<u8, A>, text: &[u8]) -> Result<(), AllocError> {
-    out.push(b'\'')?;
-    out.extend_from_slice(text_in(text).text)?;
-    out.push(b'\'')?;
-    Ok(())
-}
-
-// Appends a byte, whose mark is that of an immediate operand where it has one.
-fn put_byte<A: Allocator + Copy>(
-    out: &mut Vec<u8, A>,
-    list: List,
-    dialect: Dialect,
-    locals: &Locals<A>,
-    text: &[u8],
-) -> Result<(), AllocError> {
+// How a byte is spelt, whose mark is that of an immediate operand where it has one.
+fn byte_of(list: List, dialect: Dialect, text: &[u8]) -> Spelling<'_> {
     match (list, text) {
-        (List::High, _) => {
-            out.push(b'>')?;
-            put_tokens(out, dialect, locals, text)
-        }
-        (List::Marked, [b'/', rest @ ..]) => {
-            out.push(b'>')?;
-            put_tokens(out, dialect, locals, rest)
-        }
-        (List::Marked, [b'#', rest @ ..]) => put_low(out, dialect, locals, rest),
-        (List::Low, _) => put_low(out, dialect, locals, text),
-        _ => put_expression(out, dialect, locals, text),
+        (List::High, _) => Spelling::high(text),
+        (List::Marked, [b'/', rest @ ..]) => Spelling::high(rest),
+        (List::Marked, [b'#', rest @ ..]) => Spelling::low(dialect, rest),
+        (List::Low, _) => Spelling::low(dialect, text),
+        _ => Spelling::byte(dialect, text),
     }
 }
 
-// Appends an item.
+// Appends an item; a text has bit 7 clear.
 fn put_item<A: Allocator + Copy>(
     out: &mut Vec<u8, A>,
     item: Item,
     list: List,
-    dialect: Dialect,
-    locals: &Locals<A>,
+    reading: &Reading<A>,
     text: &[u8],
 ) -> Result<(), AllocError> {
     match item {
-        Item::Byte => put_byte(out, list, dialect, locals, text),
-        Item::Word => put_tokens(out, dialect, locals, text),
-        Item::Text => put_quoted(out, text),
+        Item::Byte => byte_of(list, reading.dialect, text).put(out, reading),
+        Item::Word => put_tokens(out, reading, text),
+        Item::Text => put_quoted(out, b'\'', text_in(text).text),
     }
 }
 
@@ -119,16 +98,10 @@ fn put_before<A: Allocator>(
     item: Item,
     label: &[u8],
 ) -> Result<(), AllocError> {
-    match last {
-        Some(same) if same == item && item != Item::Text => {
-            out.push(b',')?;
-            Ok(())
-        }
-        Some(_) => {
-            out.push(b'\n')?;
-            put_front(out, b"", operation_of(item))
-        }
-        None => put_front(out, label, operation_of(item)),
+    match (last, item) {
+        (Some(Item::Byte), Item::Byte) | (Some(Item::Word), Item::Word) => append(out, &[b","]),
+        (Some(_), _) => append(out, &[b"\n", BLANKS, operation_of(item), b" "]),
+        (None, _) => put_front(out, label, operation_of(item)),
     }
 }
 
@@ -136,19 +109,18 @@ fn put_before<A: Allocator>(
 pub(crate) fn put_list<A: Allocator + Copy>(
     out: &mut Vec<u8, A>,
     list: List,
-    dialect: Dialect,
-    locals: &Locals<A>,
+    reading: &Reading<A>,
     label: &[u8],
     operand: &[u8],
 ) -> Result<(), AllocError> {
     let mut last = None;
     let mut rest = operand;
     while !rest.is_empty() {
-        let (text, behind) = rest.split_at(span(dialect, rest, |c| c == b','));
+        let (text, behind) = rest.split_at(span(reading.dialect, rest, b","));
         let text = text.trim_ascii();
-        let item = item_of(list, dialect, text);
+        let item = item_of(list, reading.dialect, text);
         put_before(out, last, item, label)?;
-        put_item(out, item, list, dialect, locals, text)?;
+        put_item(out, item, list, reading, text)?;
         last = Some(item);
         rest = match behind {
             [_, others @ ..] => others,
@@ -181,49 +153,36 @@ pub(crate) fn put_hex<A: Allocator>(
     Ok(())
 }
 
-// Whether bit 7 of a text is set, where it is not said before.
-fn is_high(dialect: Dialect, high: bool, text: &Marked<'_>) -> bool {
-    match dialect {
+// Whether bit 7 of a text is set.
+fn is_high<A: Allocator>(reading: &Reading<A>, text: &Marked<'_>) -> bool {
+    match reading.dialect {
         Dialect::Sc => text.minus,
-        Dialect::Edasm => high,
+        Dialect::Edasm => reading.high,
         _ => text.mark < b'\'',
     }
 }
 
-// Appends a line of a text.
+// Appends a line of a text, whose bit 7 is set or clear.
 fn put_characters<A: Allocator>(
     out: &mut Vec<u8, A>,
     label: &[u8],
-    quote: u8,
+    high: bool,
     text: &[u8],
 ) -> Result<(), AllocError> {
     put_front(out, label, b"ASC")?;
-    out.push(quote)?;
-    out.extend_from_slice(text)?;
-    out.push(quote)?;
-    Ok(())
+    put_quoted(out, if high { b'"' } else { b'\'' }, text)
 }
 
-// The quote of a text, by which bit 7 is set or clear.
-fn quote_of(high: bool) -> u8 {
-    if high { b'"' } else { b'\'' }
-}
-
-/// Appends a line of a text between marks, and one of the bytes behind it. `high` says whether bit 7 is set in EDASM.
+/// Appends a line of a text between marks, and one of the bytes behind it.
 pub(crate) fn put_text<A: Allocator>(
     out: &mut Vec<u8, A>,
-    dialect: Dialect,
-    high: bool,
+    reading: &Reading<A>,
     label: &[u8],
     operand: &[u8],
 ) -> Result<(), AllocError> {
     let found = text_in(operand);
-    let high = is_high(dialect, high, &found);
-    put_characters(out, label, quote_of(high), found.text)?;
-    let behind = match found.behind {
-        [b',', behind @ ..] => behind,
-        behind => behind,
-    };
+    put_characters(out, label, is_high(reading, &found), found.text)?;
+    let behind = found.behind.strip_prefix(b",").unwrap_or(found.behind);
     if behind.is_empty() {
         return Ok(());
     }
@@ -234,32 +193,35 @@ pub(crate) fn put_text<A: Allocator>(
 /// Appends lines of a text whose last character has the other bit 7.
 pub(crate) fn put_ended<A: Allocator>(
     out: &mut Vec<u8, A>,
-    dialect: Dialect,
-    high: bool,
+    reading: &Reading<A>,
     label: &[u8],
     operand: &[u8],
 ) -> Result<(), AllocError> {
     let found = text_in(operand);
-    let high = is_high(dialect, high, &found);
+    let high = is_high(reading, &found);
     let (front, last) = found.text.split_at(found.text.len().saturating_sub(1));
     if front.is_empty() {
-        return put_characters(out, label, quote_of(!high), last);
+        return put_characters(out, label, !high, last);
     }
-    put_characters(out, label, quote_of(high), front)?;
+    put_characters(out, label, high, front)?;
     out.push(b'\n')?;
-    put_characters(out, b"", quote_of(!high), last)
+    put_characters(out, b"", !high, last)
 }
 
-/// Appends a line of the length of a text, and the text. `high` says whether bit 7 is set in EDASM.
+/// Appends a line of the length of a text, and the text.
 pub(crate) fn put_counted<A: Allocator>(
     out: &mut Vec<u8, A>,
-    dialect: Dialect,
-    high: bool,
+    reading: &Reading<A>,
     label: &[u8],
     operand: &[u8],
 ) -> Result<(), AllocError> {
     put_front(out, label, b"DFB")?;
-    out.extend_from_slice(decimal(text_in(operand).text.len() as u64).as_slice())?;
-    out.push(b'\n')?;
-    put_text(out, dialect, high, b"", operand)
+    append(
+        out,
+        &[
+            decimal(text_in(operand).text.len() as u64).as_slice(),
+            b"\n",
+        ],
+    )?;
+    put_text(out, reading, b"", operand)
 }

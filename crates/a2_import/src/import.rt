@@ -6,10 +6,11 @@ ghost use Rattle.a2_import.specs.Imported.{IsSomeSource};
 use crate::data::put_front;
 use crate::dialect::Dialect;
 use crate::fault::ImportFault;
-use crate::locals::Locals;
 use crate::parts::{Parts, parts_of};
+use crate::pieces::append;
 use crate::print::{behind_number, behind_print, column_of, is_bytes};
-use crate::statement::{Outcome, is_equate, put_label, put_statement};
+use crate::reading::Reading;
+use crate::statement::{is_equate, put_label, put_statement};
 use a2_asm::refused;
 use a2_syntax::{Fault, parse};
 use a2_text::cut;
@@ -48,17 +49,6 @@ impl<A: Allocator> Drop for Imported<A> {
     }
 }
 
-// What was brought over so far.
-#[derive(Drop)]
-struct Writer<A: Allocator> {
-    dialect: Dialect,
-    // Whether texts have bit 7 set in EDASM.
-    high: bool,
-    locals: Locals<A>,
-    text: Vec<u8, A>,
-    notes: Vec<Note, A>,
-}
-
 // Whether all lines of a text are in the grammar.
 fn is_source<A: Allocator + Copy>(alloc: A, text: &[u8]) -> Result<bool, AllocError> {
     match parse(alloc, text) {
@@ -70,79 +60,44 @@ fn is_source<A: Allocator + Copy>(alloc: A, text: &[u8]) -> Result<bool, AllocEr
     }
 }
 
-// Appends a comment behind what stands there, where there is one.
-fn put_comment<A: Allocator>(out: &mut Vec<u8, A>, comment: &[u8]) -> Result<(), AllocError> {
-    match comment {
-        [] => Ok(()),
-        [b';', ..] => {
-            out.extend_from_slice(if out.is_empty() { b"        " } else { b" " })?;
-            out.extend_from_slice(comment)
-        }
-        _ => {
-            out.extend_from_slice(if out.is_empty() {
-                b"        ; "
-            } else {
-                b" ; "
-            })?;
-            out.extend_from_slice(comment)
-        }
+// Appends a comment behind a line, where there is one; where the line is empty, behind blanks.
+fn put_comment<A: Allocator>(
+    out: &mut Vec<u8, A>,
+    is_empty: bool,
+    comment: &[u8],
+) -> Result<(), AllocError> {
+    if comment.is_empty() {
+        return Ok(());
     }
+    let blanks: &[u8] = if is_empty { b"        " } else { b" " };
+    let mark: &[u8] = if comment.starts_with(b";") {
+        b""
+    } else {
+        b"; "
+    };
+    append(out, &[blanks, mark, comment])
 }
 
-// The lines of a statement with its comment, and how it comes over.
-fn said<A: Allocator + Copy>(
-    alloc: A,
-    writer: &Writer<A>,
+// Appends a label by itself, with all that stands behind it as a comment.
+fn put_alone<A: Allocator>(
+    out: &mut Vec<u8, A>,
     label: &[u8],
     parts: &Parts<'_>,
-) -> Result<(Vec<u8, A>, Outcome), AllocError> {
-    let mut lines = Vec::new(alloc);
-    let outcome = put_statement(
-        &mut lines,
-        writer.dialect,
-        writer.high,
-        &writer.locals,
-        label,
-        parts,
-    )?;
-    put_comment(&mut lines, parts.comment)?;
-    Ok((lines, outcome))
-}
-
-// A label by itself, with all that stands behind it as a comment.
-fn label_alone<A: Allocator + Copy>(
-    alloc: A,
-    label: &[u8],
-    parts: &Parts<'_>,
-) -> Result<Vec<u8, A>, AllocError> {
-    let mut line = Vec::new(alloc);
-    put_front(&mut line, label, b";")?;
-    line.extend_from_slice(parts.operation)?;
+) -> Result<(), AllocError> {
+    put_front(out, label, b";")?;
+    out.extend_from_slice(parts.operation)?;
     for part in [parts.operand, parts.comment] {
         if !part.is_empty() {
-            line.push(b' ')?;
-            line.extend_from_slice(part)?;
+            append(out, &[b" ", part])?;
         }
     }
-    Ok(line)
+    Ok(())
 }
 
-impl<A: Allocator + Copy> Writer<A> {
-    fn new(alloc: A, dialect: Dialect) -> Writer<A> {
-        Writer {
-            dialect,
-            high: true,
-            locals: Locals::new(alloc),
-            text: Vec::new(alloc),
-            notes: Vec::new(alloc),
-        }
-    }
-
+impl<A: Allocator + Copy> Imported<A> {
     // Appends a line.
     fn put_line(&mut self, line: &[u8]) -> Result<(), AllocError> {
-        self.text.extend_from_slice(line)?;
-        self.text.push(b'\n')?;
-        Ok(())
+        append(&mut self.text, &[line, b"\n"])
     }
 
     // Notes how a line came over.
@@ -153,115 +108,136 @@ impl<A: Allocator + Copy> Writer<A> {
 
     // Appends a line as a comment.
     fn put_aside(&mut self, line: &[u8]) -> Result<(), AllocError> {
-        self.text.extend_from_slice(b"; ")?;
-        self.put_line(line.trim_ascii())
+        append(&mut self.text, &[b"; ", line.trim_ascii(), b"\n"])
+    }
+
+    // Ends the lines from a place on, where they are in the grammar, and says whether they are.
+    fn end_lines(&mut self, alloc: A, start: usize) -> Result<bool, AllocError> {
+        let (_, lines) = self.text.as_slice().split_at(start.min(self.text.len()));
+        let is_source = is_source(alloc, lines)?;
+        if is_source {
+            self.text.push(b'\n')?;
+        }
+        Ok(is_source)
     }
 
     // Appends a line as a comment; its label stays one, where that says the same.
     fn keep(
         &mut self,
         alloc: A,
+        dialect: Dialect,
         line: &[u8],
         label: &[u8],
         parts: &Parts<'_>,
     ) -> Result<(), AllocError> {
-        if !label.is_empty() && !is_equate(self.dialect, parts.operation) {
-            let alone = label_alone(alloc, label, parts)?;
-            if is_source(alloc, alone.as_slice())? {
-                return self.put_line(alone.as_slice());
+        if !label.is_empty() && !is_equate(dialect, parts.operation) {
+            let start = self.text.len();
+            put_alone(&mut self.text, label, parts)?;
+            if self.end_lines(alloc, start)? {
+                return Ok(());
             }
+            self.text.truncate(start);
         }
         self.put_aside(line)
     }
 
-    // Takes up whether texts have bit 7 set, and says whether the statement does that.
-    fn hears(&mut self, parts: &Parts<'_>) -> bool {
-        let heard = self.dialect == Dialect::Edasm && parts.operation.eq_ignore_ascii_case(b"MSB");
-        if heard {
-            self.high = !parts.operand.eq_ignore_ascii_case(b"OFF");
+    // Brings a statement over whose label is spelt so here, and says whether that can be said; notes what is told of it.
+    fn put_said(
+        &mut self,
+        alloc: A,
+        reading: &Reading<A>,
+        number: usize,
+        label: &[u8],
+        parts: &Parts<'_>,
+    ) -> Result<bool, AllocError> {
+        let start = self.text.len();
+        let told = put_statement(&mut self.text, reading, label, parts)?;
+        let is_empty = self.text.len() == start;
+        put_comment(&mut self.text, is_empty, parts.comment)?;
+        let may_be_said = matches!(told, None | Some(NoteKind::Differs));
+        if may_be_said && self.end_lines(alloc, start)? {
+            if let Some(kind) = told {
+                self.note(number, kind)?;
+            }
+            return Ok(true);
         }
-        heard
+        self.text.truncate(start);
+        let is_nothing = matches!(told, Some(NoteKind::Nothing));
+        self.note(
+            number,
+            if is_nothing {
+                NoteKind::Nothing
+            } else {
+                NoteKind::Unknown
+            },
+        )?;
+        Ok(false)
     }
 
     // Brings a statement over.
-    fn put_statement(&mut self, alloc: A, number: usize, line: &[u8]) -> Result<(), AllocError> {
-        let parts = parts_of(self.dialect, line);
+    fn put_statement(
+        &mut self,
+        alloc: A,
+        reading: &mut Reading<A>,
+        number: usize,
+        line: &[u8],
+    ) -> Result<(), AllocError> {
+        let parts = parts_of(reading.dialect, line);
+        let equates = is_equate(reading.dialect, parts.operation);
         let mut label = Vec::new(alloc);
-        let equates = is_equate(self.dialect, parts.operation);
-        put_label(
-            &mut label,
-            self.dialect,
-            &mut self.locals,
-            parts.label,
-            equates,
-        )?;
+        put_label(&mut label, reading, parts.label, equates)?;
         let label = label.as_slice();
-        if self.hears(&parts) {
-            return self.keep(alloc, line, label, &parts);
+        if !reading.hears(&parts) && self.put_said(alloc, reading, number, label, &parts)? {
+            return Ok(());
         }
-        let (lines, outcome) = said(alloc, self, label, &parts)?;
-        match outcome {
-            Outcome::Nothing => {
-                self.note(number, NoteKind::Nothing)?;
-                self.keep(alloc, line, label, &parts)
-            }
-            Outcome::Same | Outcome::Differs if is_source(alloc, lines.as_slice())? => {
-                if outcome == Outcome::Differs {
-                    self.note(number, NoteKind::Differs)?;
-                }
-                self.put_line(lines.as_slice())
-            }
-            _ => {
-                self.note(number, NoteKind::Unknown)?;
-                self.keep(alloc, line, label, &parts)
-            }
-        }
+        self.keep(alloc, reading.dialect, line, label, &parts)
     }
 
     // Brings a line over that nothing is printed before.
-    fn put_source(&mut self, alloc: A, number: usize, line: &[u8]) -> Result<(), AllocError> {
+    fn put_source(
+        &mut self,
+        alloc: A,
+        reading: &mut Reading<A>,
+        number: usize,
+        line: &[u8],
+    ) -> Result<(), AllocError> {
         match line.first() {
             Some(b'*' | b';') => self.put_line(line),
             _ if line.trim_ascii().is_empty() => self.put_line(b""),
-            _ => self.put_statement(alloc, number, line),
+            _ => self.put_statement(alloc, reading, number, line),
         }
     }
+}
 
-    // Brings a line over before which something is printed, and whose source begins in this column.
-    fn put_printed(
-        &mut self,
-        alloc: A,
-        number: usize,
-        column: usize,
-        line: &[u8],
-    ) -> Result<(), AllocError> {
-        if behind_print(line).is_some() {
+// The source in a line, which begins in a column where something is printed before it; none where nothing is.
+fn source_in(dialect: Dialect, column: Option<usize>, line: &[u8]) -> Option<&[u8]> {
+    match column {
+        Some(column) => {
+            behind_print(line)?;
             let (_, source) = line.split_at(column.min(line.len()));
-            return self.put_source(alloc, number, source);
+            Some(source)
         }
-        if is_bytes(line) || line.trim_ascii().is_empty() {
-            return Ok(());
-        }
-        self.note(number, NoteKind::Unknown)?;
-        self.put_aside(line)
+        None if dialect == Dialect::Sc => Some(behind_number(line).unwrap_or(line)),
+        None => Some(line),
     }
 }
 
 // Brings lines over.
 fn put_lines<A: Allocator + Copy>(
     alloc: A,
-    writer: &mut Writer<A>,
+    dialect: Dialect,
     lines: &[&[u8]],
+    made: &mut Imported<A>,
 ) -> Result<(), AllocError> {
     let column = column_of(lines);
+    let mut reading = Reading::new(alloc, dialect);
     for (i, line) in lines.iter().enumerate() {
         let number = i.saturating_add(1);
-        match column {
-            Some(column) => writer.put_printed(alloc, number, column, line)?,
-            None if writer.dialect == Dialect::Sc => {
-                writer.put_source(alloc, number, behind_number(line).unwrap_or(line))?;
-            }
-            None => writer.put_source(alloc, number, line)?,
+        if let Some(source) = source_in(dialect, column, line) {
+            made.put_source(alloc, &mut reading, number, source)?;
+        } else if !is_bytes(line) && !line.trim_ascii().is_empty() {
+            made.note(number, NoteKind::Unknown)?;
+            made.put_aside(line)?;
         }
     }
     Ok(())
@@ -281,17 +257,13 @@ pub fn import_source<A: Allocator + Copy>(
     ensures { IfOk result (λ made. IsSomeSource made.text.items) }
 {
     let lines = cut(alloc, text)?;
-    let mut writer = Writer::new(alloc, dialect);
-    put_lines(alloc, &mut writer, lines.as_slice())?;
-    let Writer {
-        text,
-        notes,
-        dialect: _,
-        high: _,
-        locals: _,
-    } = writer;
-    match parse(alloc, text.as_slice()) {
-        Ok(_) => Ok(Imported { text, notes }),
+    let mut made = Imported {
+        text: Vec::new(alloc),
+        notes: Vec::new(alloc),
+    };
+    put_lines(alloc, dialect, lines.as_slice(), &mut made)?;
+    match parse(alloc, made.text.as_slice()) {
+        Ok(_) => Ok(made),
         Err(Fault::Memory) => Err(ImportFault::Memory),
         Err(fault) => Err(ImportFault::Refused(fault)),
     }

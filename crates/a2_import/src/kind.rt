@@ -30,17 +30,22 @@ fn is_listing(lines: &[&[u8]]) -> bool {
     false
 }
 
+// What the text of these lines is.
+fn told_by_lines(lines: &[&[u8]]) -> Old {
+    if is_listing(lines) {
+        return Old::Listing;
+    }
+    for line in lines {
+        if let Some(dialect) = told_by_line(line) {
+            return Old::Source(dialect);
+        }
+    }
+    Old::Source(Dialect::Merlin)
+}
+
 /// What a text is, as its first line tells that has a word or a mark of one assembler alone: a listing of the Monitor where its
 /// first line is one, and a source of Merlin where no line tells. Refused only for want of memory.
 pub fn guess<A: Allocator>(alloc: A, text: &[u8]) -> Result<Old, AllocError> {
     let lines = cut(alloc, text)?;
-    if is_listing(lines.as_slice()) {
-        return Ok(Old::Listing);
-    }
-    for line in lines.as_slice() {
-        if let Some(dialect) = told_by_line(line) {
-            return Ok(Old::Source(dialect));
-        }
-    }
-    Ok(Old::Source(Dialect::Merlin))
+    Ok(told_by_lines(lines.as_slice()))
 }

@@ -50,17 +50,26 @@ fn put_store<A: Allocator + Copy>(
     Ok(address_behind(address, bytes.len()))
 }
 
+// Appends the lines of a source that has the bytes of object lines.
+fn put_lines<A: Allocator + Copy>(
+    alloc: A,
+    draft: &mut Draft<A>,
+    lines: &[&[u8]],
+) -> Result<(), AllocError> {
+    let mut next = None;
+    for (i, line) in lines.iter().enumerate() {
+        if let Some(store) = store_line(line) {
+            next = put_store(alloc, draft, next, i.saturating_add(1), &store)?;
+        }
+    }
+    draft.put_names(lines.len())
+}
+
 // The lines of a source that has the bytes of object lines.
 fn draft_of<A: Allocator + Copy>(alloc: A, object: &[u8]) -> Result<Draft<A>, AllocError> {
     let lines = cut(alloc, object)?;
     let mut draft = Draft::new(alloc);
-    let mut next = None;
-    for (i, line) in lines.iter().enumerate() {
-        if let Some(store) = store_line(line) {
-            next = put_store(alloc, &mut draft, next, i.saturating_add(1), &store)?;
-        }
-    }
-    draft.put_names(lines.len())?;
+    put_lines(alloc, &mut draft, lines.as_slice())?;
     Ok(draft)
 }
 
@@ -71,12 +80,6 @@ fn says<A: Allocator + Copy>(alloc: A, text: &[u8], image: &Image<A>) -> Result<
     let source = parse(alloc, text)?;
     let program = assemble(alloc, &source)?;
     Ok(are_same(program.image(), image))
-}
-
-// The line of a listing that a line of its source is of; 0 where that is none.
-fn origin(origins: &[usize], line: u16) -> usize {
-    let index = usize::from(line).checked_sub(1);
-    index.and_then(|i| origins.get(i).copied()).unwrap_or(0)
 }
 
 /// A source that assembles to the bytes of a listing, and to no others, for a listing as the Monitor writes it: a line has an
@@ -103,11 +106,11 @@ pub fn import_listing<A: Allocator + Copy>(
         Err(HexFault::Memory) => return Err(ListingFault::Memory),
         Err(fault) => return Err(ListingFault::Row(fault)),
     };
-    let (source, origins) = draft_of(alloc, object.as_slice())?.into_parts();
-    match says(alloc, source.as_slice(), &image) {
-        Ok(true) => Ok(source),
+    let draft = draft_of(alloc, object.as_slice())?;
+    match says(alloc, draft.text(), &image) {
+        Ok(true) => Ok(draft.into_text()),
         Ok(false) => Err(ListingFault::Unlike),
         Err(Fault::Memory) => Err(ListingFault::Memory),
-        Err(fault) => Err(ListingFault::Refused(origin(origins.as_slice(), fault.line()), fault)),
+        Err(fault) => Err(ListingFault::Refused(draft.origin(fault.line()), fault)),
     }
 }

@@ -3,7 +3,8 @@
 ghost use Rattle.std.specs.Prelude.{◌≤◌, length};
 
 use crate::dialect::Dialect;
-use crate::locals::Locals;
+use crate::pieces::{append, put_quoted};
+use crate::reading::Reading;
 use crate::token::{Token, first_token};
 use std::alloc::{AllocError, Allocator};
 
@@ -15,18 +16,10 @@ pub(crate) fn put_name<A: Allocator>(out: &mut Vec<u8, A>, name: &[u8]) -> Resul
     Ok(())
 }
 
-// Appends a character between quotes.
-fn put_character<A: Allocator>(out: &mut Vec<u8, A>, quote: u8, c: u8) -> Result<(), AllocError> {
-    out.push(quote)?;
-    out.push(c)?;
-    out.push(quote)?;
-    Ok(())
-}
-
 // Appends a piece.
 fn put_token<A: Allocator + Copy>(
     out: &mut Vec<u8, A>,
-    locals: &Locals<A>,
+    reading: &Reading<A>,
     found: Token<'_>,
 ) -> Result<(), AllocError> {
     match found {
@@ -34,33 +27,22 @@ fn put_token<A: Allocator + Copy>(
             out.push(first)?;
             put_name(out, name)
         }
-        Token::Local(name) => locals.put_local(out, name),
-        Token::Behind(digit) => locals.put_digit(out, digit, 0),
-        Token::Ahead(digit) => locals.put_digit(out, digit, 1),
-        Token::Character(quote, c) => put_character(out, quote, c),
-        Token::Text(text) => {
-            out.push(b'"')?;
-            out.extend_from_slice(text)?;
-            out.push(b'"')?;
-            Ok(())
-        }
-        Token::Byte(c) => {
-            out.push(c)?;
-            Ok(())
-        }
+        Token::Local(name) => reading.put_local(out, name),
+        Token::Digit(digit, further) => reading.put_digit(out, digit, further),
+        Token::Quoted(quote, text) => put_quoted(out, quote, text),
+        Token::Byte(c) => append(out, &[&[c]]),
     }
 }
 
 /// Appends an expression piece by piece.
 pub(crate) fn put_tokens<A: Allocator + Copy>(
     out: &mut Vec<u8, A>,
-    dialect: Dialect,
-    locals: &Locals<A>,
+    reading: &Reading<A>,
     text: &[u8],
 ) -> Result<(), AllocError> {
     let mut rest = text;
-    while let Some((found, behind)) = first_token(dialect, rest) {
-        put_token(out, locals, found)?;
+    while let Some((found, behind)) = first_token(reading.dialect, rest) {
+        put_token(out, reading, found)?;
         rest = behind;
     }
     Ok(())
@@ -82,64 +64,84 @@ fn may_be_large(first: Option<&u8>) -> bool {
     }
 }
 
-// What stands before the low byte of an expression: `#NAME` is the low byte in S-C and LISA.
-fn low_mark(dialect: Dialect, text: &[u8]) -> &'static [u8] {
-    let is_low = matches!(dialect, Dialect::Sc | Dialect::Lisa) && may_be_large(text.first());
-    if is_low { b"<" } else { b"" }
+// Whether an expression stands for its low byte: `#NAME` does in S-C and LISA.
+fn is_low(dialect: Dialect, text: &[u8]) -> bool {
+    matches!(dialect, Dialect::Sc | Dialect::Lisa) && may_be_large(text.first())
 }
 
-/// Appends an expression of which a byte may be meant: `<` and `>` before it say so, in EDASM the other way round.
-pub(crate) fn put_expression<A: Allocator + Copy>(
-    out: &mut Vec<u8, A>,
-    dialect: Dialect,
-    locals: &Locals<A>,
-    text: &[u8],
-) -> Result<(), AllocError> {
-    let swaps = dialect == Dialect::Edasm;
-    let (mark, rest): (&[u8], &[u8]) = match text {
-        [b'<' | b'>', b'0'..=b'9', ..] if dialect == Dialect::Lisa => (b"", text),
-        [b'<', rest @ ..] => (if swaps { b">" } else { b"<" }, rest),
-        [b'>', rest @ ..] => (if swaps { b"<" } else { b">" }, rest),
-        [b'-', ..] => (b"<0", text),
-        _ => (b"", text),
-    };
-    out.extend_from_slice(mark)?;
-    let inner = if mark.is_empty() {
-        rest
-    } else {
-        unbracketed(dialect, rest)
-    };
-    put_tokens(out, dialect, locals, inner)
+/// How an expression is spelt.
+#[derive(Clone, Copy)]
+pub(crate) struct Spelling<'a> {
+    // What is put in front of it.
+    front: &'static [u8],
+    // Which byte of it is meant.
+    mark: &'static [u8],
+    // What is spelt piece by piece.
+    rest: &'a [u8],
 }
 
-/// Appends the low byte of an expression, where it may have two.
-pub(crate) fn put_low<A: Allocator + Copy>(
-    out: &mut Vec<u8, A>,
-    dialect: Dialect,
-    locals: &Locals<A>,
-    text: &[u8],
-) -> Result<(), AllocError> {
-    out.extend_from_slice(low_mark(dialect, text))?;
-    put_expression(out, dialect, locals, text)
-}
-
-/// Appends the operand of an instruction.
-pub(crate) fn put_operand<A: Allocator + Copy>(
-    out: &mut Vec<u8, A>,
-    dialect: Dialect,
-    locals: &Locals<A>,
-    text: &[u8],
-) -> Result<(), AllocError> {
-    match text {
-        [b'#', rest @ ..] => {
-            out.push(b'#')?;
-            put_low(out, dialect, locals, rest)
+impl<'a> Spelling<'a> {
+    // As it stands, behind what is put in front.
+    fn behind(front: &'static [u8], rest: &'a [u8]) -> Spelling<'a> {
+        Spelling {
+            front,
+            mark: b"",
+            rest,
         }
-        [b'/', rest @ ..] if matches!(dialect, Dialect::Sc | Dialect::Lisa) => {
-            out.extend_from_slice(b"#>")?;
-            put_tokens(out, dialect, locals, rest)
+    }
+
+    /// The high byte of an expression.
+    pub(crate) fn high(text: &'a [u8]) -> Spelling<'a> {
+        Spelling::behind(b">", text)
+    }
+
+    /// An expression of which a byte may be meant: `<` and `>` before it say so, in EDASM the other way round.
+    pub(crate) fn byte(dialect: Dialect, text: &'a [u8]) -> Spelling<'a> {
+        let swaps = dialect == Dialect::Edasm;
+        let (mark, rest): (&'static [u8], &'a [u8]) = match text {
+            [b'<' | b'>', c, ..] if dialect == Dialect::Lisa && c.is_ascii_digit() => (b"", text),
+            [b'<', rest @ ..] => (if swaps { b">" } else { b"<" }, unbracketed(dialect, rest)),
+            [b'>', rest @ ..] => (if swaps { b"<" } else { b">" }, unbracketed(dialect, rest)),
+            [b'-', ..] => (b"<0", text),
+            _ => (b"", text),
+        };
+        Spelling {
+            front: b"",
+            mark,
+            rest,
         }
-        _ => put_tokens(out, dialect, locals, text),
+    }
+
+    /// The low byte of an expression, where it may have two.
+    pub(crate) fn low(dialect: Dialect, text: &'a [u8]) -> Spelling<'a> {
+        Spelling {
+            front: if is_low(dialect, text) { b"<" } else { b"" },
+            ..Spelling::byte(dialect, text)
+        }
+    }
+
+    /// The operand of an instruction.
+    pub(crate) fn operand(dialect: Dialect, text: &'a [u8]) -> Spelling<'a> {
+        match text {
+            [b'#', rest @ ..] => Spelling {
+                front: if is_low(dialect, rest) { b"#<" } else { b"#" },
+                ..Spelling::byte(dialect, rest)
+            },
+            [b'/', rest @ ..] if matches!(dialect, Dialect::Sc | Dialect::Lisa) => {
+                Spelling::behind(b"#>", rest)
+            }
+            _ => Spelling::behind(b"", text),
+        }
+    }
+
+    /// Appends it.
+    pub(crate) fn put<A: Allocator + Copy>(
+        self,
+        out: &mut Vec<u8, A>,
+        reading: &Reading<A>,
+    ) -> Result<(), AllocError> {
+        append(out, &[self.front, self.mark])?;
+        put_tokens(out, reading, self.rest)
     }
 }
 
@@ -159,5 +161,5 @@ fn is_unbracketed(text: &[u8]) -> bool {
 pub(crate) fn differs(dialect: Dialect, text: &[u8]) -> bool {
     dialect == Dialect::Ca65
         && is_unbracketed(text)
-        && text.iter().any(|c| *c == b'+' || *c == b'-')
+        && (text.contains(&b'+') || text.contains(&b'-'))
 }

@@ -3,10 +3,11 @@
 ghost use Rattle.std.specs.Prelude.{◌≤◌, length};
 
 use crate::dialect::Dialect;
+use crate::pieces::before;
 use crate::rules::{Turn, turn_of};
 use crate::token::span;
 use a2_opcode::{Mnemonic, Mode, row_for};
-use a2_text::{behind_blanks, first_word, front_len, is_blank};
+use a2_text::{behind_blanks, first_word};
 
 /// The parts of a line, each empty where it is not there.
 #[derive(Clone, Copy)]
@@ -19,10 +20,8 @@ pub(crate) struct Parts<'a> {
     pub comment: &'a [u8],
 }
 
-// The word at the front of a text, up to a blank or a comment, and what stands behind it.
-fn word_and_rest(text: &[u8]) -> (&[u8], &[u8]) {
-    text.split_at(front_len(text, |c| !is_blank(c) && c != b';'))
-}
+// What ends a word: a blank, or a comment.
+const WORD_ENDS: &[u8] = b" \t;";
 
 // Whether an instruction has this mode.
 fn has(operation: &[u8], mode: Mode) -> bool {
@@ -52,7 +51,7 @@ pub(crate) fn text_in(operand: &[u8]) -> Marked<'_>
     match rest {
         [mark, inner @ ..] => {
             let mark = *mark;
-            let (text, behind) = inner.split_at(front_len(inner, |c| c != mark));
+            let (text, behind) = before(inner, &[mark]);
             let behind = match behind {
                 [_, behind @ ..] => behind,
                 [] => behind,
@@ -77,7 +76,7 @@ pub(crate) fn text_in(operand: &[u8]) -> Marked<'_>
 fn text_len(there: &[u8]) -> usize
     ensures { result ≤ length there.now }
 {
-    let (_, rest) = word_and_rest(text_in(there).behind);
+    let (_, rest) = before(text_in(there).behind, WORD_ENDS);
     there.len().saturating_sub(rest.len())
 }
 
@@ -93,14 +92,14 @@ fn operand_len(dialect: Dialect, operation: &[u8], gap: usize, there: &[u8]) -> 
     }
     match turn_of(dialect, operation) {
         Some(Turn::Text | Turn::Counted | Turn::LastTurned) => text_len(there),
-        _ => span(dialect, there, |c| is_blank(c) || c == b';'),
+        _ => span(dialect, there, WORD_ENDS),
     }
 }
 
 // The parts of a line whose label begins in column 1, and whose operand ends before a blank.
 fn in_columns(dialect: Dialect, line: &[u8]) -> Parts<'_> {
-    let (label, rest) = word_and_rest(line);
-    let (operation, rest) = word_and_rest(behind_blanks(rest));
+    let (label, rest) = before(line, WORD_ENDS);
+    let (operation, rest) = before(behind_blanks(rest), WORD_ENDS);
     let there = behind_blanks(rest);
     let gap = rest.len().saturating_sub(there.len());
     let (operand, comment) = there.split_at(operand_len(dialect, operation, gap, there));
@@ -127,7 +126,7 @@ fn is_equals(word: &[u8]) -> bool {
 
 // The parts of a line whose label ends with a colon, or stands before `=`, and whose comment begins with `;`.
 fn with_colons(line: &[u8]) -> Parts<'_> {
-    let (code, comment) = line.split_at(span(Dialect::Ca65, line, |c| c == b';'));
+    let (code, comment) = line.split_at(span(Dialect::Ca65, line, b";"));
     let (word, rest) = front_word(code);
     let (next, behind) = front_word(rest);
     let (label, operation, operand): (&[u8], &[u8], &[u8]) = match word {

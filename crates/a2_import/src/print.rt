@@ -2,7 +2,7 @@
 
 ghost use Rattle.std.specs.Prelude.{◌≤◌, length};
 
-use a2_text::{behind_blanks, first_word, front_len, is_blank};
+use a2_text::{behind_blanks, first_word, front_len, is_blank, number_in};
 
 // The most bytes that are printed before a line.
 const BYTES: usize = 3;
@@ -31,8 +31,11 @@ fn address(word: &[u8]) -> Option<bool> {
         [digits @ .., b':' | b'-'] => (digits, true),
         _ => (word, false),
     };
-    let is_address = digits.len() == 4 && digits.iter().all(|c| c.is_ascii_hexdigit());
-    if is_address { Some(is_marked) } else { None }
+    if digits.len() == 4 && number_in(16, 4, digits).is_some() {
+        Some(is_marked)
+    } else {
+        None
+    }
 }
 
 /// What stands behind the address at the front of a line and the bytes behind it.

@@ -1,7 +1,8 @@
 //! A row of a listing, as lines of a source.
 
-ghost use Rattle.std.specs.Prelude.{◌<◌, length, IfSome};
+ghost use Rattle.std.specs.Prelude.{◌≡◌, ◌<◌, length, IfSome};
 
+use crate::pieces::append;
 use a2_opcode::{Instr, Mode, decode, list_line, row_for};
 use a2_text::{hex_pair, hex_word};
 use std::alloc::{AllocError, Allocator};
@@ -77,9 +78,7 @@ impl<A: Allocator + Copy> Draft<A> {
 
     // A line of these pieces.
     fn put_line(&mut self, number: usize, pieces: &[&[u8]]) -> Result<(), AllocError> {
-        for piece in pieces {
-            self.text.extend_from_slice(piece)?;
-        }
+        append(&mut self.text, pieces)?;
         self.end_line(number)
     }
 
@@ -101,36 +100,24 @@ impl<A: Allocator + Copy> Draft<A> {
         let listed = list_line(bytes, address);
         let line = listed.text.as_str().as_bytes();
         let (_, operand) = line.split_at(OPERAND.min(line.len()));
-        let gap: &[u8] = if operand.is_empty() { b"" } else { b" " };
+        let name = instr.mnemonic.name().as_bytes();
         if is_long(instr) {
             let word = hex_word(instr.value);
             let (_, index) = operand.split_at(word.len().saturating_add(1).min(operand.len()));
             self.named.push((instr.value % 256) as u8)?;
-            return self.put_line(
-                number,
-                &[
-                    BLANKS,
-                    instr.mnemonic.name().as_bytes(),
-                    b" W",
-                    &word,
-                    index,
-                ],
-            );
+            return self.put_line(number, &[BLANKS, name, b" W", &word, index]);
         }
-        self.put_line(
-            number,
-            &[BLANKS, instr.mnemonic.name().as_bytes(), gap, operand],
-        )
+        let gap: &[u8] = if operand.is_empty() { b"" } else { b" " };
+        self.put_line(number, &[BLANKS, name, gap, operand])
     }
 
     // The line of some bytes that are data.
     fn put_data(&mut self, number: usize, bytes: &[u8]) -> Result<(), AllocError> {
-        self.text.extend_from_slice(BLANKS)?;
-        self.text.extend_from_slice(b"DFB ")?;
-        for (i, byte) in bytes.iter().enumerate() {
-            self.text
-                .extend_from_slice(if i == 0 { b"$" } else { b",$" })?;
+        let mut front: &[u8] = b"        DFB $";
+        for byte in bytes {
+            self.text.extend_from_slice(front)?;
             self.text.extend_from_slice(&hex_pair(*byte))?;
+            front = b",$";
         }
         self.end_line(number)
     }
@@ -162,13 +149,28 @@ impl<A: Allocator + Copy> Draft<A> {
         Ok(())
     }
 
-    /// The text of the lines, and the line of the listing that each is of.
-    pub(crate) fn into_parts(self) -> (Vec<u8, A>, Vec<usize, A>) {
+    /// The text of the lines.
+    pub(crate) fn text(&self) -> &[u8]
+        ensures { result.now ≡ self.now.text.items }
+    {
+        self.text.as_slice()
+    }
+
+    /// The line of the listing that a line of the text is of; 0 where that is none.
+    pub(crate) fn origin(&self, line: u16) -> usize {
+        let index = usize::from(line).wrapping_sub(1);
+        self.origins.as_slice().get(index).copied().unwrap_or(0)
+    }
+
+    /// The text of the lines, and no more.
+    pub(crate) fn into_text(self) -> Vec<u8, A>
+        ensures { result.items ≡ self.text.items }
+    {
         let Draft {
             text,
-            origins,
+            origins: _,
             named: _,
         } = self;
-        (text, origins)
+        text
     }
 }

@@ -1,9 +1,10 @@
 //! What the operations of old assemblers become.
 
 use crate::dialect::Dialect;
+use a2_text::first_word;
 
 /// How the items of a list are meant.
-#[derive(Clone, Copy, Debug, PartialEq, Eq)]
+#[derive(Clone, Copy)]
 pub(crate) enum List {
     /// Bytes, and in ca65 texts.
     Bytes,
@@ -38,407 +39,217 @@ pub(crate) enum Turn {
     Nothing,
 }
 
+// Operations that become the same.
 #[derive(Clone, Copy)]
 struct Rule {
-    word: &'static [u8],
+    // The words, in capitals, with blanks between them.
+    words: &'static [u8],
     turn: Turn,
 }
 
-static SC: [Rule; 17] = [
+static SC: [Rule; 10] = [
     Rule {
-        word: b".OR",
+        words: b".OR",
         turn: Turn::As(b"ORG"),
     },
     Rule {
-        word: b".EQ",
+        words: b".EQ",
         turn: Turn::As(b"EQU"),
     },
     Rule {
-        word: b".DA",
+        words: b".DA",
         turn: Turn::List(List::Marked),
     },
     Rule {
-        word: b".AS",
+        words: b".AS",
         turn: Turn::Text,
     },
     Rule {
-        word: b".AT",
+        words: b".AT",
         turn: Turn::LastTurned,
     },
     Rule {
-        word: b".HS",
+        words: b".HS",
         turn: Turn::Hex,
     },
     Rule {
-        word: b".BS",
+        words: b".BS",
         turn: Turn::As(b"DS"),
     },
     Rule {
-        word: b".TF",
+        words: b".TF .TA .EN .LI .LIST .TI .TITLE .PG",
         turn: Turn::Nothing,
     },
     Rule {
-        word: b".TA",
-        turn: Turn::Nothing,
-    },
-    Rule {
-        word: b".EN",
-        turn: Turn::Nothing,
-    },
-    Rule {
-        word: b".LI",
-        turn: Turn::Nothing,
-    },
-    Rule {
-        word: b".LIST",
-        turn: Turn::Nothing,
-    },
-    Rule {
-        word: b".TI",
-        turn: Turn::Nothing,
-    },
-    Rule {
-        word: b".TITLE",
-        turn: Turn::Nothing,
-    },
-    Rule {
-        word: b".PG",
-        turn: Turn::Nothing,
-    },
-    Rule {
-        word: b"BLT",
+        words: b"BLT",
         turn: Turn::As(b"BCC"),
     },
     Rule {
-        word: b"BGE",
+        words: b"BGE",
         turn: Turn::As(b"BCS"),
     },
 ];
 
-static LISA: [Rule; 23] = [
+static LISA: [Rule; 15] = [
     Rule {
-        word: b"EPZ",
+        words: b"EPZ =",
         turn: Turn::As(b"EQU"),
     },
     Rule {
-        word: b"=",
-        turn: Turn::As(b"EQU"),
-    },
-    Rule {
-        word: b"BYT",
+        words: b"BYT",
         turn: Turn::List(List::Low),
     },
     Rule {
-        word: b"HBY",
+        words: b"HBY",
         turn: Turn::List(List::High),
     },
     Rule {
-        word: b"ADR",
+        words: b"ADR",
         turn: Turn::List(List::Words),
     },
     Rule {
-        word: b"DFS",
+        words: b"DFS",
         turn: Turn::As(b"DS"),
     },
     Rule {
-        word: b"HEX",
+        words: b"HEX",
         turn: Turn::Hex,
     },
     Rule {
-        word: b"ASC",
+        words: b"ASC",
         turn: Turn::Text,
     },
     Rule {
-        word: b"DCI",
+        words: b"DCI",
         turn: Turn::LastTurned,
     },
     Rule {
-        word: b"STR",
+        words: b"STR",
         turn: Turn::Counted,
     },
     Rule {
-        word: b"OBJ",
+        words: b"OBJ END LST NLS TTL PAG PAU DCM",
         turn: Turn::Nothing,
     },
     Rule {
-        word: b"END",
-        turn: Turn::Nothing,
-    },
-    Rule {
-        word: b"LST",
-        turn: Turn::Nothing,
-    },
-    Rule {
-        word: b"NLS",
-        turn: Turn::Nothing,
-    },
-    Rule {
-        word: b"TTL",
-        turn: Turn::Nothing,
-    },
-    Rule {
-        word: b"PAG",
-        turn: Turn::Nothing,
-    },
-    Rule {
-        word: b"PAU",
-        turn: Turn::Nothing,
-    },
-    Rule {
-        word: b"DCM",
-        turn: Turn::Nothing,
-    },
-    Rule {
-        word: b"BTR",
+        words: b"BTR",
         turn: Turn::As(b"BNE"),
     },
     Rule {
-        word: b"BFL",
+        words: b"BFL",
         turn: Turn::As(b"BEQ"),
     },
     Rule {
-        word: b"XOR",
+        words: b"XOR",
         turn: Turn::As(b"EOR"),
     },
     Rule {
-        word: b"BLT",
+        words: b"BLT",
         turn: Turn::As(b"BCC"),
     },
     Rule {
-        word: b"BGE",
+        words: b"BGE",
         turn: Turn::As(b"BCS"),
     },
 ];
 
-static MERLIN: [Rule; 25] = [
+static MERLIN: [Rule; 10] = [
     Rule {
-        word: b"=",
+        words: b"=",
         turn: Turn::As(b"EQU"),
     },
     Rule {
-        word: b"DFB",
+        words: b"DFB DB",
         turn: Turn::List(List::Bytes),
     },
     Rule {
-        word: b"DB",
-        turn: Turn::List(List::Bytes),
-    },
-    Rule {
-        word: b"DA",
+        words: b"DA DW",
         turn: Turn::List(List::Words),
     },
     Rule {
-        word: b"DW",
-        turn: Turn::List(List::Words),
-    },
-    Rule {
-        word: b"HEX",
+        words: b"HEX",
         turn: Turn::Hex,
     },
     Rule {
-        word: b"ASC",
+        words: b"ASC",
         turn: Turn::Text,
     },
     Rule {
-        word: b"DCI",
+        words: b"DCI",
         turn: Turn::LastTurned,
     },
     Rule {
-        word: b"STR",
+        words: b"STR",
         turn: Turn::Counted,
     },
     Rule {
-        word: b"OBJ",
+        words: b"OBJ END LST LSTDO EXP PAG PAU TTL SKP TR AST SAV DSK TYP",
         turn: Turn::Nothing,
     },
     Rule {
-        word: b"END",
-        turn: Turn::Nothing,
-    },
-    Rule {
-        word: b"LST",
-        turn: Turn::Nothing,
-    },
-    Rule {
-        word: b"LSTDO",
-        turn: Turn::Nothing,
-    },
-    Rule {
-        word: b"EXP",
-        turn: Turn::Nothing,
-    },
-    Rule {
-        word: b"PAG",
-        turn: Turn::Nothing,
-    },
-    Rule {
-        word: b"PAU",
-        turn: Turn::Nothing,
-    },
-    Rule {
-        word: b"TTL",
-        turn: Turn::Nothing,
-    },
-    Rule {
-        word: b"SKP",
-        turn: Turn::Nothing,
-    },
-    Rule {
-        word: b"TR",
-        turn: Turn::Nothing,
-    },
-    Rule {
-        word: b"AST",
-        turn: Turn::Nothing,
-    },
-    Rule {
-        word: b"SAV",
-        turn: Turn::Nothing,
-    },
-    Rule {
-        word: b"DSK",
-        turn: Turn::Nothing,
-    },
-    Rule {
-        word: b"TYP",
-        turn: Turn::Nothing,
-    },
-    Rule {
-        word: b"BLT",
+        words: b"BLT",
         turn: Turn::As(b"BCC"),
     },
     Rule {
-        word: b"BGE",
+        words: b"BGE",
         turn: Turn::As(b"BCS"),
     },
 ];
 
-static EDASM: [Rule; 14] = [
+static EDASM: [Rule; 6] = [
     Rule {
-        word: b"DFB",
+        words: b"DFB DB",
         turn: Turn::List(List::Bytes),
     },
     Rule {
-        word: b"DB",
-        turn: Turn::List(List::Bytes),
-    },
-    Rule {
-        word: b"DW",
+        words: b"DW",
         turn: Turn::List(List::Words),
     },
     Rule {
-        word: b"ASC",
+        words: b"ASC",
         turn: Turn::Text,
     },
     Rule {
-        word: b"DCI",
+        words: b"DCI",
         turn: Turn::LastTurned,
     },
     Rule {
-        word: b"MSB",
+        words: b"MSB",
         turn: Turn::Msb,
     },
     Rule {
-        word: b"OBJ",
-        turn: Turn::Nothing,
-    },
-    Rule {
-        word: b"END",
-        turn: Turn::Nothing,
-    },
-    Rule {
-        word: b"LST",
-        turn: Turn::Nothing,
-    },
-    Rule {
-        word: b"SBTL",
-        turn: Turn::Nothing,
-    },
-    Rule {
-        word: b"PAGE",
-        turn: Turn::Nothing,
-    },
-    Rule {
-        word: b"SKP",
-        turn: Turn::Nothing,
-    },
-    Rule {
-        word: b"REP",
-        turn: Turn::Nothing,
-    },
-    Rule {
-        word: b"CHR",
+        words: b"OBJ END LST SBTL PAGE SKP REP CHR",
         turn: Turn::Nothing,
     },
 ];
 
-static CA65: [Rule; 17] = [
+static CA65: [Rule; 7] = [
     Rule {
-        word: b"=",
+        words: b"= :=",
         turn: Turn::As(b"EQU"),
     },
     Rule {
-        word: b":=",
-        turn: Turn::As(b"EQU"),
-    },
-    Rule {
-        word: b".ORG",
+        words: b".ORG",
         turn: Turn::As(b"ORG"),
     },
     Rule {
-        word: b".BYTE",
+        words: b".BYTE .BYT",
         turn: Turn::List(List::Bytes),
     },
     Rule {
-        word: b".BYT",
-        turn: Turn::List(List::Bytes),
-    },
-    Rule {
-        word: b".ASCIIZ",
+        words: b".ASCIIZ",
         turn: Turn::Ended(List::Bytes),
     },
     Rule {
-        word: b".WORD",
+        words: b".WORD .ADDR",
         turn: Turn::List(List::Words),
     },
     Rule {
-        word: b".ADDR",
-        turn: Turn::List(List::Words),
-    },
-    Rule {
-        word: b".RES",
+        words: b".RES",
         turn: Turn::As(b"DS"),
     },
     Rule {
-        word: b".SEGMENT",
-        turn: Turn::Nothing,
-    },
-    Rule {
-        word: b".CODE",
-        turn: Turn::Nothing,
-    },
-    Rule {
-        word: b".DATA",
-        turn: Turn::Nothing,
-    },
-    Rule {
-        word: b".RODATA",
-        turn: Turn::Nothing,
-    },
-    Rule {
-        word: b".SETCPU",
-        turn: Turn::Nothing,
-    },
-    Rule {
-        word: b".P02",
-        turn: Turn::Nothing,
-    },
-    Rule {
-        word: b".EXPORT",
-        turn: Turn::Nothing,
-    },
-    Rule {
-        word: b".LIST",
+        words: b".SEGMENT .CODE .DATA .RODATA .SETCPU .P02 .EXPORT .LIST",
         turn: Turn::Nothing,
     },
 ];
@@ -446,23 +257,35 @@ static CA65: [Rule; 17] = [
 // What all assemblers have alike.
 static ALIKE: [Rule; 3] = [
     Rule {
-        word: b"ORG",
+        words: b"ORG",
         turn: Turn::As(b"ORG"),
     },
     Rule {
-        word: b"EQU",
+        words: b"EQU",
         turn: Turn::As(b"EQU"),
     },
     Rule {
-        word: b"DS",
+        words: b"DS",
         turn: Turn::As(b"DS"),
     },
 ];
 
-// The rule for a word, in either case.
+// Whether a word is one of these, in either case; blanks stand between them.
+fn is_among(word: &[u8], words: &[u8]) -> bool {
+    let mut rest = words;
+    while let Some((first, behind)) = first_word(rest) {
+        if word.eq_ignore_ascii_case(first) {
+            return true;
+        }
+        rest = behind;
+    }
+    false
+}
+
+// What a word becomes by these rules.
 fn found(rules: &[Rule], word: &[u8]) -> Option<Turn> {
     for rule in rules {
-        if word.eq_ignore_ascii_case(rule.word) {
+        if is_among(word, rule.words) {
             return Some(rule.turn);
         }
     }
@@ -471,166 +294,42 @@ fn found(rules: &[Rule], word: &[u8]) -> Option<Turn> {
 
 /// What an operation becomes, where it is not one of the processor.
 pub(crate) fn turn_of(dialect: Dialect, word: &[u8]) -> Option<Turn> {
-    let own = match dialect {
-        Dialect::Sc => found(&SC, word),
-        Dialect::Lisa => found(&LISA, word),
-        Dialect::Merlin => found(&MERLIN, word),
-        Dialect::Edasm => found(&EDASM, word),
-        Dialect::Ca65 => found(&CA65, word),
+    let own: &[Rule] = match dialect {
+        Dialect::Sc => &SC,
+        Dialect::Lisa => &LISA,
+        Dialect::Merlin => &MERLIN,
+        Dialect::Edasm => &EDASM,
+        Dialect::Ca65 => &CA65,
     };
-    own.or(found(&ALIKE, word))
+    found(own, word).or(found(&ALIKE, word))
 }
 
-// A word that one assembler alone has.
+// The words that one assembler alone has.
 #[derive(Clone, Copy)]
-struct Sign {
-    word: &'static [u8],
+struct Signs {
+    words: &'static [u8],
     dialect: Dialect,
 }
 
-static SIGNS: [Sign; 36] = [
-    Sign {
-        word: b".OR",
+static SIGNS: [Signs; 5] = [
+    Signs {
+        words: b".OR .EQ .DA .AS .AT .HS .BS .TF .EN",
         dialect: Dialect::Sc,
     },
-    Sign {
-        word: b".EQ",
-        dialect: Dialect::Sc,
-    },
-    Sign {
-        word: b".DA",
-        dialect: Dialect::Sc,
-    },
-    Sign {
-        word: b".AS",
-        dialect: Dialect::Sc,
-    },
-    Sign {
-        word: b".AT",
-        dialect: Dialect::Sc,
-    },
-    Sign {
-        word: b".HS",
-        dialect: Dialect::Sc,
-    },
-    Sign {
-        word: b".BS",
-        dialect: Dialect::Sc,
-    },
-    Sign {
-        word: b".TF",
-        dialect: Dialect::Sc,
-    },
-    Sign {
-        word: b".EN",
-        dialect: Dialect::Sc,
-    },
-    Sign {
-        word: b"EPZ",
+    Signs {
+        words: b"EPZ BYT ADR HBY DFS BTR BFL XOR NLS",
         dialect: Dialect::Lisa,
     },
-    Sign {
-        word: b"BYT",
-        dialect: Dialect::Lisa,
-    },
-    Sign {
-        word: b"ADR",
-        dialect: Dialect::Lisa,
-    },
-    Sign {
-        word: b"HBY",
-        dialect: Dialect::Lisa,
-    },
-    Sign {
-        word: b"DFS",
-        dialect: Dialect::Lisa,
-    },
-    Sign {
-        word: b"BTR",
-        dialect: Dialect::Lisa,
-    },
-    Sign {
-        word: b"BFL",
-        dialect: Dialect::Lisa,
-    },
-    Sign {
-        word: b"XOR",
-        dialect: Dialect::Lisa,
-    },
-    Sign {
-        word: b"NLS",
-        dialect: Dialect::Lisa,
-    },
-    Sign {
-        word: b"DA",
+    Signs {
+        words: b"DA LUP DSK BLT BGE",
         dialect: Dialect::Merlin,
     },
-    Sign {
-        word: b"LUP",
-        dialect: Dialect::Merlin,
-    },
-    Sign {
-        word: b"DSK",
-        dialect: Dialect::Merlin,
-    },
-    Sign {
-        word: b"BLT",
-        dialect: Dialect::Merlin,
-    },
-    Sign {
-        word: b"BGE",
-        dialect: Dialect::Merlin,
-    },
-    Sign {
-        word: b"MSB",
+    Signs {
+        words: b"MSB SBTL CHN",
         dialect: Dialect::Edasm,
     },
-    Sign {
-        word: b"SBTL",
-        dialect: Dialect::Edasm,
-    },
-    Sign {
-        word: b"CHN",
-        dialect: Dialect::Edasm,
-    },
-    Sign {
-        word: b".ORG",
-        dialect: Dialect::Ca65,
-    },
-    Sign {
-        word: b".BYTE",
-        dialect: Dialect::Ca65,
-    },
-    Sign {
-        word: b".BYT",
-        dialect: Dialect::Ca65,
-    },
-    Sign {
-        word: b".ASCIIZ",
-        dialect: Dialect::Ca65,
-    },
-    Sign {
-        word: b".WORD",
-        dialect: Dialect::Ca65,
-    },
-    Sign {
-        word: b".ADDR",
-        dialect: Dialect::Ca65,
-    },
-    Sign {
-        word: b".RES",
-        dialect: Dialect::Ca65,
-    },
-    Sign {
-        word: b".SEGMENT",
-        dialect: Dialect::Ca65,
-    },
-    Sign {
-        word: b".PROC",
-        dialect: Dialect::Ca65,
-    },
-    Sign {
-        word: b".SETCPU",
+    Signs {
+        words: b".ORG .BYTE .BYT .ASCIIZ .WORD .ADDR .RES .SEGMENT .PROC .SETCPU",
         dialect: Dialect::Ca65,
     },
 ];
@@ -638,15 +337,15 @@ static SIGNS: [Sign; 36] = [
 /// The assembler that a word tells of.
 pub(crate) fn told_by(word: &[u8]) -> Option<Dialect> {
     match word {
-        [b':', b'A'..=b'Z' | b'a'..=b'z', ..] => return Some(Dialect::Merlin),
-        [b'^', b'0'..=b'9'] => return Some(Dialect::Lisa),
-        [b'@', b'A'..=b'Z' | b'a'..=b'z', ..] => return Some(Dialect::Ca65),
-        [b'A'..=b'Z' | b'a'..=b'z' | b'_', .., b':'] => return Some(Dialect::Ca65),
+        [b':', c, ..] if c.is_ascii_alphabetic() => return Some(Dialect::Merlin),
+        [b'^', c] if c.is_ascii_digit() => return Some(Dialect::Lisa),
+        [b'@', c, ..] if c.is_ascii_alphabetic() => return Some(Dialect::Ca65),
+        [c, .., b':'] if c.is_ascii_alphabetic() || *c == b'_' => return Some(Dialect::Ca65),
         _ => {}
     }
-    for sign in SIGNS.iter() {
-        if word.eq_ignore_ascii_case(sign.word) {
-            return Some(sign.dialect);
+    for signs in &SIGNS {
+        if is_among(word, signs.words) {
+            return Some(signs.dialect);
         }
     }
     None

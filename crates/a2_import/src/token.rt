@@ -3,6 +3,7 @@
 ghost use Rattle.std.specs.Prelude.{◌≤◌, ◌<◌, length, IfSome};
 
 use crate::dialect::Dialect;
+use crate::pieces::before;
 use a2_text::front_len;
 
 /// A piece of an operand.
@@ -12,13 +13,10 @@ pub(crate) enum Token<'a> {
     Name(u8, &'a [u8]),
     /// The name of a local label, without its mark.
     Local(&'a [u8]),
-    /// The last label of this digit, as `<1` of LISA, or the next one.
-    Behind(u8),
-    Ahead(u8),
-    /// A character behind its quote.
-    Character(u8, u8),
-    /// A text between quotes.
-    Text(&'a [u8]),
+    /// The last label of this digit, as `<1` of LISA, or so many further on, a later one.
+    Digit(u8, u16),
+    /// A text, or a character, and the quotes that it stands between here.
+    Quoted(u8, &'a [u8]),
     Byte(u8),
 }
 
@@ -48,10 +46,10 @@ pub(crate) fn local_mark(dialect: Dialect) -> u8 {
 // A label of a digit, or of no name, that stands behind or ahead.
 fn turned(dialect: Dialect, first: u8, rest: &[u8]) -> Option<Token<'_>> {
     match (dialect, first, rest.first().copied()) {
-        (Dialect::Lisa, b'<', Some(digit @ b'0'..=b'9')) => Some(Token::Behind(digit)),
-        (Dialect::Lisa, b'>', Some(digit @ b'0'..=b'9')) => Some(Token::Ahead(digit)),
-        (Dialect::Ca65, b':', Some(b'-')) => Some(Token::Behind(b'0')),
-        (Dialect::Ca65, b':', Some(b'+')) => Some(Token::Ahead(b'0')),
+        (Dialect::Lisa, b'<', Some(digit @ b'0'..=b'9')) => Some(Token::Digit(digit, 0)),
+        (Dialect::Lisa, b'>', Some(digit @ b'0'..=b'9')) => Some(Token::Digit(digit, 1)),
+        (Dialect::Ca65, b':', Some(b'-')) => Some(Token::Digit(b'0', 0)),
+        (Dialect::Ca65, b':', Some(b'+')) => Some(Token::Digit(b'0', 1)),
         _ => None,
     }
 }
@@ -71,16 +69,17 @@ fn raised(rest: &[u8]) -> Option<&[u8]>
 fn character(quote: u8, text: &[u8]) -> (Token<'_>, &[u8])
     ensures { length result.1.now ≤ length text.now }
 {
-    let Some((c, rest)) = text.split_first() else {
+    let (c, rest) = text.split_at(text.len().min(1));
+    if c.is_empty() {
         return (Token::Byte(quote), text);
-    };
+    }
     let rest = match rest {
         [other, behind @ ..] if *other == quote => behind,
         _ => rest,
     };
     match raised(rest) {
-        Some(behind) => (Token::Character(b'"', *c), behind),
-        None => (Token::Character(quote, *c), rest),
+        Some(behind) => (Token::Quoted(b'"', c), behind),
+        None => (Token::Quoted(quote, c), rest),
     }
 }
 
@@ -88,9 +87,9 @@ fn character(quote: u8, text: &[u8]) -> (Token<'_>, &[u8])
 fn text_up_to(quote: u8, text: &[u8]) -> (Token<'_>, &[u8])
     ensures { length result.1.now ≤ length text.now }
 {
-    let (found, rest) = text.split_at(front_len(text, |c| c != quote));
+    let (found, rest) = before(text, &[quote]);
     match rest {
-        [_, behind @ ..] => (Token::Text(found), behind),
+        [_, behind @ ..] => (Token::Quoted(quote, found), behind),
         [] => (Token::Byte(quote), text),
     }
 }
@@ -125,17 +124,14 @@ pub(crate) fn first_token(dialect: Dialect, text: &[u8]) -> Option<(Token<'_>, &
     Some(piece(dialect, *first, rest))
 }
 
-/// How many bytes stand before the first that stops, outside quotes.
-pub(crate) fn span<P: Fn(u8) -> bool>(dialect: Dialect, text: &[u8], stops: P) -> usize
-    requires { P.IsAlwaysCallable stops }
+/// How many bytes stand before the first of these, outside quotes.
+pub(crate) fn span(dialect: Dialect, text: &[u8], stops: &[u8]) -> usize
     ensures { result ≤ length text.now }
 {
     let mut rest = text;
     while let Some((found, behind)) = first_token(dialect, rest) {
-        if let Token::Byte(c) = found {
-            if stops(c) {
-                break;
-            }
+        if matches!(found, Token::Byte(c) if stops.contains(&c)) {
+            break;
         }
         rest = behind;
     }

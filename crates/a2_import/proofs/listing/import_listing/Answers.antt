@@ -8,5 +8,5 @@ pub returns-in-Ok-true-clause-same : goal.returns-in-Ok-true-clause-same
 returns-in-Ok-true-clause-same g c = (
   held c.in-Ok.image,
   ap image_of (sym (c.as_slice.ensures.value ∙ c.in_ok-object.ensures)) ∙ c.in-Ok.ensures.loaded,
-  subst (AssemblesTo (held c.in-Ok.image)) c.as_slice-3.ensures.value (c.in-Ok-true.ensures (search rules)),
+  subst (AssemblesTo (held c.in-Ok.image)) (c.text.ensures ∙ sym c.into_text.ensures) (c.in-Ok-true.ensures (search rules)),
 )

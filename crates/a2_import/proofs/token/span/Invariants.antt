@@ -3,4 +3,4 @@ use Rattle.a2_import.proofs.token.span.Given as goal
 
 -- less is left
 abbrev pub decreases-loop-found : goal.decreases-loop-found
-decreases-loop-found g l = length l.rest
+decreases-loop-found l = length l.rest

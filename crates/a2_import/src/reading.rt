@@ -1,17 +1,23 @@
-//! Local labels, which get names of their own.
+//! How an old text is read: its assembler, and what its lines said so far.
 
+use crate::dialect::Dialect;
+use crate::parts::Parts;
+use crate::pieces::append;
 use a2_text::decimal;
 use std::alloc::{AllocError, Allocator};
 
 // What stands for the label before the first one.
 const NO_LABEL: &[u8] = b"TOP";
 
-/// What the labels so far say of local ones.
+/// The assembler of a text, and what its lines said so far.
 #[derive(Drop)]
-pub(crate) struct Locals<A: Allocator> {
-    // The last label that is none of them.
+pub(crate) struct Reading<A: Allocator> {
+    pub dialect: Dialect,
+    /// Whether texts have bit 7 set in EDASM.
+    pub high: bool,
+    // The last label that is no local one.
     label: Vec<u8, A>,
-    // How often each digit was one.
+    // How often each digit was a label.
     counts: [u16; 10],
 }
 
@@ -20,12 +26,23 @@ fn place(digit: u8) -> usize {
     usize::from(digit.saturating_sub(b'0'))
 }
 
-impl<A: Allocator + Copy> Locals<A> {
-    pub(crate) fn new(alloc: A) -> Locals<A> {
-        Locals {
+impl<A: Allocator + Copy> Reading<A> {
+    pub(crate) fn new(alloc: A, dialect: Dialect) -> Reading<A> {
+        Reading {
+            dialect,
+            high: true,
             label: Vec::new(alloc),
             counts: [0; 10],
         }
+    }
+
+    /// Takes up whether texts have bit 7 set, and says whether the statement does that.
+    pub(crate) fn hears(&mut self, parts: &Parts<'_>) -> bool {
+        let heard = self.dialect == Dialect::Edasm && parts.operation.eq_ignore_ascii_case(b"MSB");
+        if heard {
+            self.high = !parts.operand.eq_ignore_ascii_case(b"OFF");
+        }
+        heard
     }
 
     /// Takes up a label that is not local.
@@ -43,12 +60,11 @@ impl<A: Allocator + Copy> Locals<A> {
 
     /// Appends the name of a local label of the last label.
     pub(crate) fn put_local(&self, out: &mut Vec<u8, A>, name: &[u8]) -> Result<(), AllocError> {
-        if self.label.is_empty() {
-            out.extend_from_slice(NO_LABEL)?;
-        }
-        out.extend_from_slice(self.label.as_slice())?;
-        out.push(b'_')?;
-        out.extend_from_slice(name)
+        let label = self.label.as_slice();
+        append(
+            out,
+            &[if label.is_empty() { NO_LABEL } else { label }, b"_", name],
+        )
     }
 
     /// Appends the name of the last label of a digit, or, so many further on, of a later one.
@@ -60,9 +76,6 @@ impl<A: Allocator + Copy> Locals<A> {
     ) -> Result<(), AllocError> {
         let count = self.counts.get(place(digit)).copied().unwrap_or(0);
         let number = decimal(u64::from(count.saturating_add(further)));
-        out.extend_from_slice(b"L")?;
-        out.push(digit)?;
-        out.push(b'_')?;
-        out.extend_from_slice(number.as_slice())
+        append(out, &[b"L", &[digit], b"_", number.as_slice()])
     }
 }
