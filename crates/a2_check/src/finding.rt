@@ -52,13 +52,14 @@ fn in_bytes<'a>(text: &'a [u8], parts: &Parts<'a>) -> Option<Finding<'a>> {
     if at >= end {
         return None;
     }
-    let (_, word) = text.split_at(at);
-    if is_curly(word) {
-        let (quote, _) = word.split_at(word.len().min(3));
-        return found(Mistake::CurlyQuote, at, quote);
-    }
-    let (byte, _) = word.split_at(word.len().min(1));
-    found(Mistake::HighByte, at, byte)
+    let (_, here) = text.split_at(at);
+    let (mistake, len) = if is_curly(here) {
+        (Mistake::CurlyQuote, 3)
+    } else {
+        (Mistake::HighByte, 1)
+    };
+    let (word, _) = here.split_at(len.min(here.len()));
+    found(mistake, at, word)
 }
 
 // Whether a word is a hexadecimal address with a mark behind it.

@@ -3,8 +3,10 @@
 //! How it is called is shown in CALLING.md.
 #![tactic(auto)]
 
+mod checked;
 mod elsewhere;
 mod finding;
+mod forms;
 mod laws;
 mod layout;
 mod line;

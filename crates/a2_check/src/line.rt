@@ -57,9 +57,16 @@ fn quote_behind(open: Option<u8>, c: u8) -> Option<u8> {
     }
 }
 
+/// How many bytes at the front of a text are among those of a set; or are none of them, where `inside` is false.
+pub(crate) fn run_len(text: &[u8], set: &[u8], inside: bool) -> usize
+    ensures { result ≤ length text.now }
+{
+    front_len(text, |c| set.contains(&c) == inside)
+}
+
 // A word at the front of a text, up to a blank or a comment, and what stands behind it.
 fn word_and_rest(text: &[u8]) -> (&[u8], &[u8]) {
-    text.split_at(front_len(text, |c| !is_blank(c) && c != b';'))
+    text.split_at(run_len(text, b" \t;", false))
 }
 
 /// The parts of a line.
@@ -79,13 +86,13 @@ pub(crate) fn parts_of(text: &[u8]) -> Parts<'_> {
 
 /// What stands in a text in front of the first such byte: all of it, where it has none.
 pub(crate) fn before(text: &[u8], byte: u8) -> &[u8] {
-    let (front, _) = text.split_at(front_len(text, |c| c != byte));
+    let (front, _) = text.split_at(run_len(text, &[byte], false));
     front
 }
 
 /// The hexadecimal digits at the front of a text, and what stands behind them.
 pub(crate) fn hex_and_rest(text: &[u8]) -> (&[u8], &[u8]) {
-    text.split_at(front_len(text, |c| c.is_ascii_hexdigit()))
+    text.split_at(run_len(text, b"0123456789ABCDEFabcdef", true))
 }
 
 /// Whether a word is one of these, in either case; blanks stand between them.
@@ -98,4 +105,9 @@ pub(crate) fn is_among(word: &[u8], words: &[u8]) -> bool {
         rest = behind;
     }
     false
+}
+
+/// The number of the line at an index; there are at most 4,096.
+pub(crate) fn number_of(index: usize) -> u16 {
+    u16::try_from(index).unwrap_or(0).saturating_add(1)
 }

@@ -154,7 +154,7 @@ impl Mistake {
         }
     }
 
-    /// The mend, in words; `@` stands for `first`, `~` for `second` and `^` for `here`.
+    /// The mend, in words; `@` stands for `first` and `~` for `second`.
     pub(crate) fn mend(self, parts: Parts) -> Sentence {
         match self {
             Mistake::ByteOrderMark => b"save the text without a byte-order mark",
@@ -168,9 +168,8 @@ impl Mistake {
             Mistake::Listing => b"keep what stands behind the address and the bytes",
             Mistake::ObjectLine => b"write  ORG $@ and a line  DFB with the bytes",
             Mistake::OperationInFirstColumn => moved(parts.operation),
-            Mistake::OtherInFirstColumn(_) | Mistake::Other(_) => b"write ^~",
-            Mistake::Colon | Mistake::Forced => b"write  @",
-            Mistake::NearMnemonic(_) => b"write  ^",
+            Mistake::OtherInFirstColumn(_) | Mistake::Other(_) => b"write @~",
+            Mistake::Colon | Mistake::Forced | Mistake::NearMnemonic(_) => b"write  @",
             Mistake::LocalLabel => b"give it a name of its own, as L_@",
             Mistake::LongName => b"write a shorter name",
             Mistake::RegisterName | Mistake::Accumulator => b"write another name, as ACC",
@@ -206,6 +205,8 @@ impl Mistake {
     /// The word that stands for `@` in the mend.
     pub(crate) fn first<'a>(self, parts: Parts<'a>, word: &'a [u8]) -> &'a [u8] {
         match self {
+            Mistake::OtherInFirstColumn(other) | Mistake::Other(other) => other.here,
+            Mistake::NearMnemonic(name) => name.as_bytes(),
             Mistake::ObjectLine => unended(word),
             Mistake::Colon | Mistake::LocalLabel => unmarked(word),
             Mistake::Equals => parts.label,
@@ -213,15 +214,6 @@ impl Mistake {
             Mistake::ForcedForm | Mistake::Forced => unforced(word),
             Mistake::HexPrefix | Mistake::HexSuffix => digits_of(word),
             _ => word,
-        }
-    }
-
-    /// What stands for `^` in the mend: what another assembler's word is here, or the mnemonic that is near.
-    pub(crate) fn here(self) -> &'static [u8] {
-        match self {
-            Mistake::OtherInFirstColumn(other) | Mistake::Other(other) => other.here,
-            Mistake::NearMnemonic(name) => name.as_bytes(),
-            _ => b"",
         }
     }
 

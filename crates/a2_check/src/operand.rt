@@ -2,20 +2,18 @@
 
 ghost use Rattle.std.specs.Prelude.{◌<◌, ◌≤◌, length};
 
-use crate::line::before;
+use crate::line::{before, run_len};
 use crate::mistake::Mistake;
-use a2_text::{front_len, is_blank, number_in};
+use a2_text::{is_blank, number_in};
 
-// A byte that may stand in a name.
-fn is_name_byte(c: u8) -> bool {
-    c.is_ascii_alphanumeric() || c == b'_'
-}
+// The bytes that may stand in a name.
+const NAME: &[u8] = b"ABCDEFGHIJKLMNOPQRSTUVWXYZabcdefghijklmnopqrstuvwxyz0123456789_";
 
 /// How many bytes at the front of a text may stand in a name.
 pub(crate) fn name_len(text: &[u8]) -> usize
     ensures { result ≤ length text.now }
 {
-    front_len(text, |c| is_name_byte(c))
+    run_len(text, NAME, true)
 }
 
 // How long the quoted text at the front is: with its closing quote, or to the end where there is none.
@@ -129,7 +127,7 @@ fn is_term(reader: Reader, word: &[u8]) -> bool {
     match word {
         [b'*'] => reader.wants_term,
         [b'"' | b'\'' | b'$' | b'%', ..] => true,
-        [first, ..] => is_name_byte(*first),
+        [first, ..] => NAME.contains(first),
         [] => false,
     }
 }
@@ -206,19 +204,15 @@ fn shown_len(mistake: Mistake, word: &[u8], rest: &[u8]) -> usize {
 
 // What is wrong with the form of an operand whose terms are in order.
 fn in_form(operand: &[u8]) -> Option<(Mistake, usize, usize)> {
-    match operand {
-        [b'(', .., b')', b',', b'X' | b'x'] => Some((
-            Mistake::OutsideX,
-            operand.len().saturating_sub(2),
-            2,
-        )),
-        [b'(', .., b',', b'Y' | b'y', b')'] => Some((
-            Mistake::InsideY,
-            operand.len().saturating_sub(3),
-            2,
-        )),
-        [b'A' | b'a', b'+' | b'-', ..] => Some((Mistake::Accumulator, 0, 1)),
-        _ => None,
+    let (front, end) = operand.split_at(operand.len().saturating_sub(3));
+    if front.starts_with(b"(") && end.eq_ignore_ascii_case(b"),X") {
+        Some((Mistake::OutsideX, front.len().saturating_add(1), 2))
+    } else if front.starts_with(b"(") && end.eq_ignore_ascii_case(b",Y)") {
+        Some((Mistake::InsideY, front.len(), 2))
+    } else if matches!(operand, [b'A' | b'a', b'+' | b'-', ..]) {
+        Some((Mistake::Accumulator, 0, 1))
+    } else {
+        None
     }
 }
 

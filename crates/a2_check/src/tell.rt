@@ -1,15 +1,12 @@
 //! How refusals are told.
 
-use crate::finding::finding;
-use crate::layout::Place;
-use crate::line::parts_of;
-use crate::mistake::Sentence;
-use crate::names::Labels;
+use crate::checked::{Checked, line_at};
+use crate::forms::put_forms;
 use crate::probe::with_values;
-use crate::told::{Telling, Told, filled, shown};
-use a2_asm::{Program, refused};
-use a2_stream::{Output, WriteFault, put, put_all};
-use a2_syntax::{Fault, Line, Source, parse};
+use crate::told::{Told, shown};
+use a2_asm::refused;
+use a2_stream::{Output, WriteFault, put};
+use a2_syntax::{Fault, Line, parse};
 use a2_text::{cut, decimal, json_escape};
 use std::alloc::{AllocError, Allocator};
 use thiserror::Error;
@@ -70,86 +67,6 @@ fn code(fault: Fault) -> &'static [u8] {
     }
 }
 
-// What is told of a text that is too large.
-fn too_large<'a>(line: u16) -> Telling<'a> {
-    let (what, mend): (Sentence, Sentence) = match line {
-        0 => (b"the text has more than 65536 bytes", b"split it"),
-        4097 => (b"the text has more than 4096 lines", b"split it"),
-        _ => (
-            b"the line has more than 255 bytes",
-            b"cut it; a comment goes on in the next line behind a ; of its own",
-        ),
-    };
-    Telling::new(0, 1, what, mend)
-}
-
-// A source whose refusals are told.
-#[derive(Drop)]
-struct Checked<'a, A: Allocator> {
-    name: &'a str,
-    source: &'a [u8],
-    // Its lines as they were written.
-    texts: &'a [&'a [u8]],
-    // What they say, where all of them are in the grammar; else none.
-    lines: &'a [Line<A>],
-    // The labels of these.
-    labels: &'a Labels<A>,
-    // The program of the source with refused values as words, where that is accepted.
-    values: Option<&'a Program<A>>,
-}
-
-impl<'a, A: Allocator + Copy> Checked<'a, A> {
-    // The line of a number, counted from 1; empty where there is none.
-    fn line(&self, number: u16) -> &'a [u8] {
-        match usize::from(number) {
-            0 => b"",
-            number => self.texts.get(number - 1).copied().unwrap_or(b""),
-        }
-    }
-
-    // What is told of a line that is not in the grammar.
-    fn told_of_line(&self, number: u16) -> Telling<'a> {
-        let text = self.line(number);
-        let whole = if number == 1 { self.source } else { b"" };
-        Telling::of_finding(finding(text, whole), parts_of(text))
-    }
-
-    // What is told of a refusal by the layout.
-    fn told_of_layout(&self, alloc: A, fault: Fault) -> Result<Told<A>, AllocError> {
-        match Place::of(
-            self.texts,
-            self.lines,
-            self.labels,
-            self.values,
-            fault.line(),
-        ) {
-            Some(place) => place.told(alloc, fault),
-            None => filled(
-                alloc,
-                Telling::new(0, 1, b"the line is refused", b"look at the line"),
-            ),
-        }
-    }
-
-    // What is told of a refusal.
-    fn told(&self, alloc: A, fault: Fault) -> Result<Told<A>, AllocError> {
-        match fault {
-            Fault::TooLarge(line) => filled(alloc, too_large(line)),
-            Fault::Syntax(line) => filled(alloc, self.told_of_line(line)),
-            Fault::NoCode | Fault::Memory => filled(
-                alloc,
-                Telling::new(
-                    0,
-                    1,
-                    b"the text has no instruction",
-                    b"write one; a line that begins with an operation begins with a blank",
-                ),
-            ),
-            _ => self.told_of_layout(alloc, fault),
-        }
-    }
-}
-
 // A piece of what is written.
 #[derive(Clone, Copy)]
 enum Piece<'a> {
@@ -162,6 +79,8 @@ enum Piece<'a> {
     Number(usize),
     // So many of the same byte.
     Times(usize, u8),
+    // A sentence, which is as in a string of JSON or is not.
+    Told(Told<'a>, bool),
 }
 
 // Writes so many of the same byte.
@@ -172,26 +91,79 @@ fn put_times<W: Output>(byte: u8, count: usize, writer: &mut W) -> Result<(), Wr
     Ok(())
 }
 
-// Writes a line of the source as it is shown.
-fn put_shown<W: Output>(text: &[u8], writer: &mut W) -> Result<(), WriteFault> {
+// Writes bytes as they are shown, in a string of JSON or elsewhere.
+fn put_shown<W: Output>(text: &[u8], in_json: bool, writer: &mut W) -> Result<(), WriteFault> {
     for c in text {
-        put(&[shown(*c)], writer)?;
+        let c = shown(*c);
+        if in_json {
+            put(json_escape(c).as_slice(), writer)?;
+        } else {
+            put(&[c], writer)?;
+        }
     }
     Ok(())
 }
 
-// Writes a byte of a string of JSON. What is above ASCII stands as it is: names of files are in the host's coding.
-fn put_quoted<W: Output>(c: u8, writer: &mut W) -> Result<(), WriteFault> {
-    match c {
-        0x7F..=0xFF => put(&[c], writer),
-        _ => put(json_escape(c).as_slice(), writer),
+// What stands for the marks of a sentence.
+#[derive(Clone, Copy)]
+struct Words<'a> {
+    first: &'a [u8],
+    second: &'a [u8],
+    number: &'a [u8],
+}
+
+impl<'a> Words<'a> {
+    // What stands for a byte of a sentence.
+    fn of(self, byte: &'a u8) -> &'a [u8] {
+        match *byte {
+            b'@' => self.first,
+            b'~' => self.second,
+            b'#' => self.number,
+            _ => std::slice::from_ref(byte),
+        }
     }
 }
 
-// Writes bytes of a string of JSON.
+// Writes a sentence with the words for its marks.
+fn put_words<'a, W: Output>(
+    sentence: &'a [u8],
+    words: Words<'a>,
+    in_json: bool,
+    writer: &mut W,
+) -> Result<(), WriteFault> {
+    for c in sentence {
+        put_shown(words.of(c), in_json, writer)?;
+    }
+    Ok(())
+}
+
+// Writes what is told, its words in their places.
+fn put_told<W: Output>(told: Told<'_>, in_json: bool, writer: &mut W) -> Result<(), WriteFault> {
+    let number = decimal(u64::from(told.number));
+    let words = Words {
+        first: told.first,
+        second: told.second,
+        number: number.as_slice(),
+    };
+    put_words(told.sentence, words, in_json, writer)?;
+    match told.forms {
+        Some(mnemonic) => put_forms(mnemonic, writer),
+        None => Ok(()),
+    }
+}
+
+// Writes bytes of a string of JSON. What is above ASCII stands as it is: names of files are in the host's coding.
 fn put_string<W: Output>(text: &[u8], writer: &mut W) -> Result<(), WriteFault> {
     for c in text {
-        put_quoted(*c, writer)?;
+        let escape = json_escape(*c);
+        put(
+            if *c < 0x7F {
+                escape.as_slice()
+            } else {
+                std::slice::from_ref(c)
+            },
+            writer,
+        )?;
     }
     Ok(())
 }
@@ -200,10 +172,11 @@ fn put_string<W: Output>(text: &[u8], writer: &mut W) -> Result<(), WriteFault> 
 fn put_piece<W: Output>(piece: Piece<'_>, writer: &mut W) -> Result<(), WriteFault> {
     match piece {
         Piece::Plain(text) => put(text, writer),
-        Piece::Shown(text) => put_shown(text, writer),
+        Piece::Shown(text) => put_shown(text, false, writer),
         Piece::Quoted(text) => put_string(text, writer),
         Piece::Number(number) => put(decimal(number as u64).as_slice(), writer),
         Piece::Times(count, byte) => put_times(byte, count, writer),
+        Piece::Told(told, in_json) => put_told(told, in_json, writer),
     }
 }
 
@@ -222,21 +195,21 @@ struct Report<'a> {
     line: usize,
     column: usize,
     width: usize,
-    what: &'a [u8],
-    mend: &'a [u8],
+    what: Told<'a>,
+    mend: Told<'a>,
 }
 
 // Writes a refusal of no line at length.
 fn put_whole<W: Output>(report: Report<'_>, writer: &mut W) -> Result<(), WriteFault> {
-    put_all(
+    put_pieces(
         &[
-            b"error[",
-            report.code,
-            b"]: ",
-            report.what,
-            b"\n     = ",
-            report.mend,
-            b"\n",
+            Piece::Plain(b"error["),
+            Piece::Plain(report.code),
+            Piece::Plain(b"]: "),
+            Piece::Told(report.what, false),
+            Piece::Plain(b"\n     = "),
+            Piece::Told(report.mend, false),
+            Piece::Plain(b"\n"),
         ],
         writer,
     )
@@ -249,7 +222,14 @@ fn put_place<'a, W: Output>(
     writer: &mut W,
 ) -> Result<(), WriteFault> {
     if text.len() > 255 {
-        return put_all(&[b"     = ", report.mend, b"\n"], writer);
+        return put_pieces(
+            &[
+                Piece::Plain(b"     = "),
+                Piece::Told(report.mend, false),
+                Piece::Plain(b"\n"),
+            ],
+            writer,
+        );
     }
     let digits = decimal(report.line as u64).len();
     put_pieces(
@@ -262,7 +242,7 @@ fn put_place<'a, W: Output>(
             Piece::Times(report.column.saturating_sub(1), b' '),
             Piece::Times(report.width, b'^'),
             Piece::Plain(b" "),
-            Piece::Plain(report.mend),
+            Piece::Told(report.mend, false),
             Piece::Plain(b"\n"),
         ],
         writer,
@@ -280,7 +260,7 @@ fn put_long<W: Output>(text: &[u8], report: Report<'_>, writer: &mut W) -> Resul
             Piece::Plain(b", column "),
             Piece::Number(report.column),
             Piece::Plain(b": "),
-            Piece::Plain(report.what),
+            Piece::Told(report.what, false),
             Piece::Plain(b"\n"),
         ],
         writer,
@@ -308,15 +288,15 @@ fn put_where<W: Output>(report: Report<'_>, writer: &mut W) -> Result<(), WriteF
 fn put_short<W: Output>(name: &str, report: Report<'_>, writer: &mut W) -> Result<(), WriteFault> {
     put(name.as_bytes(), writer)?;
     put_where(report, writer)?;
-    put_all(
+    put_pieces(
         &[
-            b": error: ",
-            report.code,
-            b": ",
-            report.what,
-            b"; ",
-            report.mend,
-            b"\n",
+            Piece::Plain(b": error: "),
+            Piece::Plain(report.code),
+            Piece::Plain(b": "),
+            Piece::Told(report.what, false),
+            Piece::Plain(b"; "),
+            Piece::Told(report.mend, false),
+            Piece::Plain(b"\n"),
         ],
         writer,
     )
@@ -343,9 +323,9 @@ fn put_object<'a, W: Output>(
             Piece::Plain(b",\"code\":\""),
             Piece::Plain(report.code),
             Piece::Plain(b"\",\"text\":\""),
-            Piece::Quoted(report.what),
+            Piece::Told(report.what, true),
             Piece::Plain(b"\",\"mend\":\""),
-            Piece::Quoted(report.mend),
+            Piece::Told(report.mend, true),
             Piece::Plain(b"\"}"),
         ],
         writer,
@@ -404,24 +384,18 @@ fn put_refusal<A: Allocator + Copy, W: Output>(
     format: Format,
     writer: &mut W,
 ) -> Result<(), TellFault> {
-    let told = checked.told(alloc, fault)?;
+    let telling = checked.telling(alloc, fault)?;
+    let line = fault.line();
     let report = Report {
         code: code(fault),
-        line: usize::from(fault.line()),
-        column: told.at.saturating_add(1),
-        width: told.width,
-        what: told.what.as_slice(),
-        mend: told.mend.as_slice(),
+        line: usize::from(line),
+        column: telling.at.saturating_add(1),
+        width: telling.width.max(1),
+        what: telling.told(),
+        mend: telling.told_mend(),
     };
-    put_report(
-        checked.name,
-        checked.line(fault.line()),
-        front,
-        report,
-        format,
-        writer,
-    )?;
-    Ok(())
+    let text = line_at(checked.texts, line);
+    Ok(put_report(checked.name, text, front, report, format, writer)?)
 }
 
 // Writes what stands behind so many refusals.
@@ -454,23 +428,26 @@ fn put_each<A: Allocator + Copy, W: Output>(
     Ok(())
 }
 
-// What the lines of a source say, where all of them are in the grammar.
-fn parsed<A: Allocator + Copy>(alloc: A, source: &[u8]) -> Result<Option<Source<A>>, AllocError> {
-    match parse(alloc, source) {
-        Ok(parsed) => Ok(Some(parsed)),
-        Err(fault) => {
-            refused(fault)?;
-            Ok(None)
-        }
-    }
-}
-
-// These lines; none where there are none.
-fn lines_in<A: Allocator>(parsed: &Option<Source<A>>) -> &[Line<A>] {
-    match parsed {
-        Some(parsed) => parsed.lines(),
-        None => &[],
-    }
+// Writes what is told of refusals of a source with these lines; where one of them is not in the grammar, `lines` is empty.
+fn put_of_lines<'a, A: Allocator + Copy, W: Output>(
+    alloc: A,
+    name: &'a str,
+    source: &'a [u8],
+    lines: &'a [Line<A>],
+    refusals: &[Fault],
+    format: Format,
+    writer: &mut W,
+) -> Result<(), TellFault> {
+    let texts = cut(alloc, source)?;
+    let values = with_values(alloc, texts.as_slice(), lines, refusals)?;
+    let checked = Checked {
+        name,
+        source,
+        texts: texts.as_slice(),
+        lines,
+        values: values.as_ref(),
+    };
+    put_each(alloc, &checked, refusals, format, writer)
 }
 
 /// Writes what is told of each refusal of `source`, which is called `name`: its place, what is wrong and the mend, in this
@@ -486,18 +463,21 @@ pub fn put_refusals<A: Allocator + Copy, W: Output>(
     if refusals.is_empty() {
         return Ok(put_end(format, 0, writer)?);
     }
-    let texts = cut(alloc, source)?;
-    let parsed = parsed(alloc, source)?;
-    let lines = lines_in(&parsed);
-    let labels = Labels::of(alloc, lines)?;
-    let program = with_values(alloc, texts.as_slice(), lines, refusals)?;
-    let checked = Checked {
-        name,
-        source,
-        texts: texts.as_slice(),
-        lines,
-        labels: &labels,
-        values: program.as_ref(),
-    };
-    put_each(alloc, &checked, refusals, format, writer)
+    match parse(alloc, source) {
+        Ok(parsed) => {
+            put_of_lines(
+                alloc,
+                name,
+                source,
+                parsed.lines(),
+                refusals,
+                format,
+                writer,
+            )
+        }
+        Err(fault) => {
+            refused(fault)?;
+            put_of_lines(alloc, name, source, &[], refusals, format, writer)
+        }
+    }
 }

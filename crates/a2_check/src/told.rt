@@ -2,8 +2,7 @@
 
 use crate::line::Parts;
 use crate::mistake::{Finding, Sentence};
-use a2_text::decimal;
-use std::alloc::{AllocError, Allocator};
+use a2_opcode::Mnemonic;
 
 /// What is told of a refusal: where it stands in its line, what is wrong and the mend, with the words that stand for the marks of
 /// these two sentences.
@@ -21,10 +20,10 @@ pub(crate) struct Telling<'a> {
     pub first: &'a [u8],
     /// What stands for `~`.
     pub second: &'a [u8],
-    /// What stands for `^`.
-    pub here: &'a [u8],
     /// What stands for `#`.
     pub number: u16,
+    /// The mnemonic whose forms stand behind the mend.
+    pub forms: Option<Mnemonic>,
 }
 
 impl<'a> Telling<'a> {
@@ -38,8 +37,8 @@ impl<'a> Telling<'a> {
             shown: b"",
             first: b"",
             second: b"",
-            here: b"",
             number: 0,
+            forms: None,
         }
     }
 
@@ -56,39 +55,47 @@ impl<'a> Telling<'a> {
     pub(crate) fn of_finding(finding: Finding<'a>, parts: Parts<'a>) -> Telling<'a> {
         let Finding { mistake, at, word } = finding;
         Telling {
-            at,
-            width: word.len(),
-            what: mistake.what(),
-            mend: mistake.mend(parts),
             shown: mistake.shown(parts, word),
             first: mistake.first(parts, word),
             second: mistake.second(parts),
-            here: mistake.here(),
-            number: 0,
+            ..Telling::new(at, word.len(), mistake.what(), mistake.mend(parts))
+        }
+    }
+
+    /// What is wrong.
+    pub(crate) fn told(self) -> Told<'a> {
+        Told {
+            sentence: self.what,
+            first: self.shown,
+            second: self.second,
+            number: self.number,
+            forms: None,
+        }
+    }
+
+    /// The mend.
+    pub(crate) fn told_mend(self) -> Told<'a> {
+        Told {
+            sentence: self.mend,
+            first: self.first,
+            forms: self.forms,
+            ..self.told()
         }
     }
 }
 
-/// What is told of a refusal, in characters that print.
-pub(crate) struct Told<A: Allocator> {
-    /// Where the place begins, counted from 0.
-    pub at: usize,
-    /// How many characters it has, at least 1.
-    pub width: usize,
-    pub what: Vec<u8, A>,
-    pub mend: Vec<u8, A>,
-}
-
-// Not derived, for the prover alone: it follows this as one call, and a derived one field by field.
-impl<A: Allocator> Drop for Told<A> {
-    fn drop(self) {
-        let Told {
-            at: _,
-            width: _,
-            what: _,
-            mend: _,
-        } = self;
-    }
+/// A sentence, and the words that stand for its marks.
+#[derive(Clone, Copy)]
+pub(crate) struct Told<'a> {
+    pub sentence: Sentence,
+    /// What stands for `@`.
+    pub first: &'a [u8],
+    /// What stands for `~`.
+    pub second: &'a [u8],
+    /// What stands for `#`.
+    pub number: u16,
+    /// The mnemonic whose forms stand behind it.
+    pub forms: Option<Mnemonic>,
 }
 
 /// A character that prints, in place of a byte: `?` for one that does not, and a blank for a tab.
@@ -98,73 +105,4 @@ pub(crate) fn shown(c: u8) -> u8 {
         b'\t' => b' ',
         _ => b'?',
     }
-}
-
-// Appends a text as it is shown.
-fn show<A: Allocator>(text: &mut Vec<u8, A>, word: &[u8]) -> Result<(), AllocError> {
-    for c in word {
-        text.push(shown(*c))?;
-    }
-    Ok(())
-}
-
-// What stands for the marks of a sentence.
-#[derive(Clone, Copy)]
-struct Words<'a> {
-    first: &'a [u8],
-    second: &'a [u8],
-    here: &'a [u8],
-    number: &'a [u8],
-}
-
-impl<'a> Words<'a> {
-    // What stands for a byte of a sentence.
-    fn of(self, byte: &'a u8) -> &'a [u8] {
-        match *byte {
-            b'@' => self.first,
-            b'~' => self.second,
-            b'^' => self.here,
-            b'#' => self.number,
-            _ => std::slice::from_ref(byte),
-        }
-    }
-}
-
-// Appends a sentence with the words for its marks.
-fn fill<'a, A: Allocator>(
-    text: &mut Vec<u8, A>,
-    sentence: &'a [u8],
-    words: Words<'a>,
-) -> Result<(), AllocError> {
-    for c in sentence {
-        show(text, words.of(c))?;
-    }
-    Ok(())
-}
-
-/// What is told, its words in their places.
-pub(crate) fn filled<A: Allocator + Copy>(
-    alloc: A,
-    telling: Telling<'_>,
-) -> Result<Told<A>, AllocError> {
-    let mut told = Told {
-        at: telling.at,
-        width: telling.width.max(1),
-        what: Vec::new(alloc),
-        mend: Vec::new(alloc),
-    };
-    let number = decimal(u64::from(telling.number));
-    let words = Words {
-        first: telling.first,
-        second: telling.second,
-        here: telling.here,
-        number: number.as_slice(),
-    };
-    let shown = Words {
-        first: telling.shown,
-        ..words
-    };
-    fill(&mut told.what, telling.what, shown)?;
-    fill(&mut told.mend, telling.mend, words)?;
-    Ok(told)
 }
