@@ -10,7 +10,7 @@ use crate::parts::{Parts, parts_of};
 use crate::pieces::append;
 use crate::print::{behind_number, behind_print, column_of, is_bytes};
 use crate::reading::Reading;
-use crate::statement::{is_equate, put_label, put_statement};
+use crate::statement::{is_equate, put_label, put_statement, told_of};
 use a2_asm::refused;
 use a2_syntax::{Fault, parse};
 use a2_text::cut;
@@ -150,18 +150,20 @@ impl<A: Allocator + Copy> Imported<A> {
         label: &[u8],
         parts: &Parts<'_>,
     ) -> Result<bool, AllocError> {
-        let start = self.text.len();
-        let told = put_statement(&mut self.text, reading, label, parts)?;
-        let is_empty = self.text.len() == start;
-        put_comment(&mut self.text, is_empty, parts.comment)?;
-        let may_be_said = matches!(told, None | Some(NoteKind::Differs));
-        if may_be_said && self.end_lines(alloc, start)? {
-            if let Some(kind) = told {
-                self.note(number, kind)?;
+        let told = told_of(reading.dialect, parts);
+        if matches!(told, None | Some(NoteKind::Differs)) {
+            let start = self.text.len();
+            put_statement(&mut self.text, reading, label, parts)?;
+            let is_empty = self.text.len() == start;
+            put_comment(&mut self.text, is_empty, parts.comment)?;
+            if self.end_lines(alloc, start)? {
+                if let Some(kind) = told {
+                    self.note(number, kind)?;
+                }
+                return Ok(true);
             }
-            return Ok(true);
+            self.text.truncate(start);
         }
-        self.text.truncate(start);
         let is_nothing = matches!(told, Some(NoteKind::Nothing));
         self.note(
             number,

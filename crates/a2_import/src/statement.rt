@@ -52,12 +52,17 @@ pub(crate) fn is_equate(dialect: Dialect, operation: &[u8]) -> bool {
     }
 }
 
-// What is told of an operand that is said.
-fn same_or_not(dialect: Dialect, operand: &[u8]) -> Option<NoteKind> {
-    if differs(dialect, operand) {
-        Some(NoteKind::Differs)
-    } else {
-        None
+/// What is told of a statement: nothing, where it says the same.
+pub(crate) fn told_of(dialect: Dialect, parts: &Parts<'_>) -> Option<NoteKind> {
+    match turn_of(dialect, parts.operation) {
+        Some(Turn::Msb | Turn::Nothing) => Some(NoteKind::Nothing),
+        None if !parts.operation.is_empty() && Mnemonic::named(parts.operation).is_none() => Some(
+            NoteKind::Unknown,
+        ),
+        Some(Turn::As(_) | Turn::List(_)) | None if differs(dialect, parts.operand) => Some(
+            NoteKind::Differs,
+        ),
+        _ => None,
     }
 }
 
@@ -68,59 +73,37 @@ fn put_plain<A: Allocator + Copy>(
     label: &[u8],
     operation: &[u8],
     operand: &[u8],
-) -> Result<Option<NoteKind>, AllocError> {
+) -> Result<(), AllocError> {
     put_operation(out, label, operation)?;
     if !operand.is_empty() {
         out.push(b' ')?;
     }
-    Spelling::operand(reading.dialect, operand).put(out, reading)?;
-    Ok(same_or_not(reading.dialect, operand))
+    Spelling::operand(reading.dialect, operand).put(out, reading)
 }
 
-// Appends the lines of an operation that is none of the processor.
-fn put_turned<A: Allocator + Copy>(
-    out: &mut Vec<u8, A>,
-    reading: &Reading<A>,
-    label: &[u8],
-    turn: Turn,
-    operand: &[u8],
-) -> Result<Option<NoteKind>, AllocError> {
-    match turn {
-        Turn::As(operation) => return put_plain(out, reading, label, operation, operand),
-        Turn::List(list) => {
-            put_list(out, list, reading, label, operand)?;
-            return Ok(same_or_not(reading.dialect, operand));
-        }
-        Turn::Ended(list) => {
-            put_list(out, list, reading, label, operand)?;
-            out.extend_from_slice(b"\n        DFB 0")?;
-        }
-        Turn::Hex => put_hex(out, label, operand)?,
-        Turn::Text => put_text(out, reading, label, operand)?,
-        Turn::LastTurned => put_ended(out, reading, label, operand)?,
-        Turn::Counted => put_counted(out, reading, label, operand)?,
-        Turn::Msb | Turn::Nothing => return Ok(Some(NoteKind::Nothing)),
-    }
-    Ok(None)
-}
-
-/// Appends the lines of a statement, whose label is spelt so here, without a line feed behind the last; and says what is told of
-/// it.
+/// Appends the lines of a statement that says something, whose label is spelt so here, without a line feed behind the last.
 pub(crate) fn put_statement<A: Allocator + Copy>(
     out: &mut Vec<u8, A>,
     reading: &Reading<A>,
     label: &[u8],
     parts: &Parts<'_>,
-) -> Result<Option<NoteKind>, AllocError> {
+) -> Result<(), AllocError> {
     if parts.operation.is_empty() {
-        out.extend_from_slice(label)?;
-        return Ok(None);
+        return out.extend_from_slice(label);
     }
-    if let Some(turn) = turn_of(reading.dialect, parts.operation) {
-        return put_turned(out, reading, label, turn, parts.operand);
+    let operand = parts.operand;
+    match turn_of(reading.dialect, parts.operation) {
+        None => put_plain(out, reading, label, parts.operation, operand),
+        Some(Turn::As(operation)) => put_plain(out, reading, label, operation, operand),
+        Some(Turn::List(list)) => put_list(out, list, reading, label, operand),
+        Some(Turn::Ended(list)) => {
+            put_list(out, list, reading, label, operand)?;
+            out.extend_from_slice(b"\n        DFB 0")
+        }
+        Some(Turn::Hex) => put_hex(out, label, operand),
+        Some(Turn::Text) => put_text(out, reading, label, operand),
+        Some(Turn::LastTurned) => put_ended(out, reading, label, operand),
+        Some(Turn::Counted) => put_counted(out, reading, label, operand),
+        Some(Turn::Msb | Turn::Nothing) => Ok(()),
     }
-    if Mnemonic::named(parts.operation).is_some() {
-        return put_plain(out, reading, label, parts.operation, parts.operand);
-    }
-    Ok(Some(NoteKind::Unknown))
 }
