@@ -40,6 +40,7 @@ use Rattle.a2_promise.specs.declared.reading.Class.{Class}
 use Rattle.a2_promise.specs.declared.reading.Class.TheVariants as classes
 use Rattle.a2_promise.specs.Reading.{token_of}
 use Rattle.a2_promise.proofs.Formers.{free_other, free_name}
+use Rattle.a2_promise.proofs.Names.{word_class}
 
 goes_same : (taken tokens : List Token) (put : List Part) (a b : State) → taken ≡ tokens → Goes taken put a b → Goes tokens put a b
 goes_same taken tokens put a b e g = let P : List Token → Type 0 = λ tokens. Goes tokens put a b in subst P e g
@@ -446,15 +447,6 @@ none_by (Some x) h = absurd (h x refl)
 
 pub limit_of : (r n : ℕ) (join : Infix) → n ≡ infix_rank join → infix_rank join < tightest → r ≡ min (n + 1) 255 → min r tightest ≡ suc (infix_rank join)
 limit_of r n join h below e = omega (arith, h, below, e)
-
-pub word_class : (class : Class) (bytes name : List ℕ) → token_of class bytes ≡ Some (word name) → (class ≡ classes.Word) × (bytes ≡ name)
-word_class classes.End bytes name e = absurd (let no : ⊥ = cc in no)
-word_class classes.Word bytes name e = (refl, (let same : bytes ≡ name = cc in same))
-word_class classes.Decimal bytes name e = absurd (let no : ⊥ = cc in no)
-word_class classes.Place bytes name e = absurd (let no : ⊥ = cc in no)
-word_class classes.Single bytes name e = absurd (let no : ⊥ = cc in no)
-word_class classes.Double bytes name e = absurd (let no : ⊥ = cc in no)
-word_class classes.Sign bytes name e = absurd (let no : ⊥ = cc in no)
 
 pub of_none : {X : Type 0} (found : Option X) (P : Type 0) → ((x : X) → found ≡ Some x → ⊥) → IfNone found P → P
 of_none None P h p = p

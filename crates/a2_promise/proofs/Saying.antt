@@ -1,5 +1,6 @@
 -- What a line says behind its verb.
-use Rattle.std.specs.Prelude.{◌≡◌, ℕ, Bool, true, false, ◌&&◌, ◌||◌, IsTrue, List, [], ◌∷◌, ◌++◌, codes, Option, Some, refl}
+use Rattle.std.specs.Prelude.{◌≡◌, ℕ, Bool, true, false, ◌&&◌, ◌||◌, IsTrue, List, [], ◌∷◌, ◌++◌, codes, map, Option, Some, refl}
+use Rattle.std.specs.List.{Contains}
 use Rattle.std.proofs.Common.{ap, sym, subst, ◌∙◌}
 use Rattle.std.proofs.lemmas.List.{append-nil}
 use Rattle.a2_text.specs.Words.{behind_blanks}
@@ -7,13 +8,27 @@ use Rattle.a2_asm.specs.Values.{Names}
 use Rattle.a2_promise.specs.declared.promises.Block.{Block}
 use Rattle.a2_promise.specs.declared.promises.Changes.{Changes}
 use Rattle.a2_promise.specs.declared.promises.Clause.{Clause}
+use Rattle.a2_promise.specs.declared.promises.TheConstants.{VERBS}
+use Rattle.a2_promise.specs.declared.promises.Verb.{Verb}
+use Rattle.a2_promise.specs.declared.reading.Class.{Class}
 use Rattle.a2_promise.specs.declared.texts.Text.{Text}
 use Rattle.a2_promise.specs.Tokens.{Token, word, token_from, tokens}
 use Rattle.a2_promise.specs.Grammar.{Scope, fits, is_fact, is_name_among}
 use Rattle.a2_promise.specs.Told.{AreChanges, requires, ensures, changes, prints, takes, underway, IsFact, IsSpelt}
-use Rattle.a2_promise.specs.Reading.{State, AddsFact, AddsText, AddsLine, IsChanges, LetAllChange, ranges_of, said_by, characters_of, with_rest}
+use Rattle.a2_promise.specs.Reading.{State, AddsFact, AddsText, AddsLine, IsChanges, LetAllChange, ranges_of, said_by, characters_of, token_of, verb_name, with_rest}
+use Rattle.a2_promise.proofs.Names.{token_by}
 use Rattle.a2_promise.proofs.States.{first_is, rest_is}
 use Rattle.a2_promise.proofs.TakenChanges.{or_false}
+
+abbrev verbs : List (Class × List ℕ × Verb)
+verbs = map (λ row. (row.0, row.1.now, row.2)) VERBS
+
+abbrev IsVerb : Verb → Option Token → Type 0
+IsVerb it token = token ≡ Some (word (verb_name it))
+
+pub verb_found : (class : Class) (text : List ℕ) (it : Verb) → Contains verbs (class, text, it) → IsVerb it (token_of class text)
+verb_found class text it listed =
+    token_by IsVerb verbs class text it (refl, (refl, (refl, (refl, (refl, (refl, (refl, (refl, tt)))))))) listed
 
 -- a verb was taken, and what stands behind it
 pub record Begins (verb line rest : List ℕ) : Type 0 where

@@ -16,20 +16,9 @@ use Rattle.a2_promise.specs.Written.{atom_name}
 use Rattle.a2_promise.specs.Grammar.{Scope, address_of, is_just, is_name_among}
 use Rattle.a2_promise.specs.Told.{Change, byte, bytes, change_names, is_other_name, change_fits, change_spelled, is_a, is_x, is_y, ranges_in}
 use Rattle.a2_promise.specs.Reading.{State, Takes, Goes, LetsChange, IsUpTo, AddsChange, AddsChanges, ranges_of, first, token_of}
-use Rattle.a2_promise.proofs.Names.{differs, two}
+use Rattle.a2_promise.proofs.Names.{word_class}
 use Rattle.a2_promise.proofs.Goings.{all2, goes_take, take_last}
 use Rattle.a2_promise.proofs.Formers.{just}
-use Rattle.a2_promise.proofs.Countings.{word_class}
-
-pub no_change : (text : List ℕ) → ((it : Atom) → atom_name it ≡ text → ⊥) → is_name_among change_names text ≡ false
-no_change text h =
-    let is : (it : Atom) → bytes_eq text (atom_name it) ≡ false = λ it. differs text (atom_name it) (h it) in
-    two _ _ (is atom.A) (two _ _ (is atom.X) (two _ _ (is atom.Y) (two _ _ (is atom.S) (two _ _ (is atom.Carry) (two _ _ (is atom.Zero)
-    (two _ _ (is atom.Negative) (two _ _ (is atom.Overflow) (two _ _ (is atom.Decimal) (two _ _ (is atom.Interrupt) refl)))))))))
-
-pub if_none : {X : Type 0} (found : Option X) (P Q : Type 0) → (P → Q) → IfNone found P → IfNone found Q
-if_none None P Q f h = f h
-if_none (Some x) P Q f h = tt
 
 not_false : (b : Bool) → b ≡ false → IsTrue (not b)
 not_false true e = cc

@@ -1,6 +1,7 @@
 -- How a line of a promise is read, for the clauses of private functions. This project's own.
 use Rattle.std.specs.Prelude.{◌≡◌, pos, not, ◌&&◌, ◌||◌, ◌⊎◌, ◌<◌, ◌≤◌, ℕ, zero, suc, ◌+◌, nat_le, min, Bool, true, false, IsTrue, List, [], ◌∷◌, ◌++◌, length, take, map, reverse, codes, Option, Some, None, if◌then◌else◌}
 use Rattle.std.specs.List.{fold, flat_map, list_any, list_all, slice_range}
+use Rattle.std.specs.Borrow.{Bor}
 use Rattle.std.specs.Str.{bytes_eq}
 use Rattle.a2_text.specs.Signs.{sign as code}
 use Rattle.a2_syntax.specs.Numbers.{is_quotable, code_in}
@@ -101,11 +102,9 @@ opening_token opening.Sum = word (codes "sum")
 opening_token opening.Group = sign (codes "(")
 opening_token (opening.Make it) = making_token it
 
--- it is what the processor holds, or makes a number of others
-abbrev pub IsOther : Opening → Type 0
-IsOther (opening.Held it) = Unit {0}
-IsOther (opening.Make it) = Unit {0}
-IsOther _ = ⊥
+-- the rows of a table: a class, a text, and what a token means that is of these
+abbrev pub listed : {T : Type 0} → List (Class × Bor (List ℕ) × T) → List (Class × List ℕ × T)
+listed rows = map (λ row. (row.0, row.1.now, row.2)) rows
 
 -- a token is there, of which this holds
 abbrev pub IsJust : Option Token → (Token → Type 0) → Type 0

@@ -15,7 +15,7 @@ use crate::parsing::expression;
 use crate::reader::{NO_LABEL, Named, Reader};
 use crate::reading::{Class, Token, token_in};
 use crate::texts::{Texts, push_text};
-use crate::words::{LOOSEST, held_by};
+use crate::words::{LOOSEST, Row, held_by, meaning};
 use a2_asm::Program;
 use a2_text::{behind_blanks, front_len, is_blank};
 use std::alloc::{AllocError, Global};
@@ -274,34 +274,26 @@ enum Verb {
     Note,
 }
 
-// The verb of this name.
-fn verb_named(word: &[u8]) -> Option<Verb>
-    ensures { IfSome result (λ verb. verb_name verb ≡ word.now) }
-{
-    match word {
-        b"requires" => Some(Verb::Requires),
-        b"ensures" => Some(Verb::Ensures),
-        b"changes" => Some(Verb::Changes),
-        b"prints" => Some(Verb::Prints),
-        b"takes" => Some(Verb::Takes),
-        b"invariant" => Some(Verb::Invariant),
-        b"decreases" => Some(Verb::Decreases),
-        b"note" => Some(Verb::Note),
-        _ => None,
-    }
-}
+// The verbs, and how each is written.
+static VERBS: [Row<Verb>; 8] = [
+    (Class::Word, b"requires", Verb::Requires),
+    (Class::Word, b"ensures", Verb::Ensures),
+    (Class::Word, b"changes", Verb::Changes),
+    (Class::Word, b"prints", Verb::Prints),
+    (Class::Word, b"takes", Verb::Takes),
+    (Class::Word, b"invariant", Verb::Invariant),
+    (Class::Word, b"decreases", Verb::Decreases),
+    (Class::Word, b"note", Verb::Note),
+];
 
 // The verb that a token is.
 fn verb_of(token: Token) -> Option<Verb>
     ensures { IfSome result (λ verb. token_of token.entry.class token.entry.text.now ≡ Some (word (verb_name verb))) }
 {
-    match token.class {
-        Class::Word => verb_named(token.text),
-        _ => None,
-    }
+    meaning(&VERBS, token)
 }
 
-const VERBS: &str =
+const NO_VERB: &str =
     "a line of a promise begins with requires, ensures, changes, prints, takes, invariant, decreases or note";
 
 impl<'a> Block<'a> {
@@ -312,7 +304,7 @@ impl<'a> Block<'a> {
     {
         let (token, rest) = token_in(reader.rest);
         let Some(verb) = verb_of(token) else {
-            return reader.refuse(VERBS);
+            return reader.refuse(NO_VERB);
         };
         reader.rest = rest;
         reader.is_within = is_within(verb);

@@ -141,9 +141,7 @@ impl<'a, 'p> Reader<'a, 'p> {
     {
         match token.class {
             Class::Decimal => decimal_of(token.text),
-            Class::Place => address_of(token.text).map(u32::from),
-            Class::Word => self.value_of(token.text).map(u32::from),
-            _ => None,
+            _ => self.address_at(token).map(u32::from),
         }
     }
 
@@ -226,7 +224,7 @@ impl<'a, 'p> Reader<'a, 'p> {
         match self.label_at(self.next()) {
             Some(address) => {
                 let at = self.rest;
-                push_label(&mut self.labels, Named { address, at })?;
+                self.labels.extend_from_slice(&[Named { address, at }])?;
                 self.take();
                 Ok(address)
             }
@@ -308,16 +306,14 @@ impl<'a, 'p> Reader<'a, 'p> {
             → OnOk result (Puts (slice_range self.old.parts.items span.begun span.ended) (state_of self.old) (state_of self.new)) }
     {
         let copied = copied(self.alloc, self.parts.as_slice(), span)?;
-        push_parts(&mut self.parts, copied.as_slice())?;
-        Ok(())
+        Ok(self.parts.extend_from_slice(copied.as_slice())?)
     }
 
     /// Puts a part behind those of the expression.
     pub fn part(&mut self, part: Part) -> Result<(), ReadFault<'a>>
         ensures { OnOk result (Puts (part ∷ []) (state_of self.old) (state_of self.new)) }
     {
-        push_part(&mut self.parts, part)?;
-        Ok(())
+        Ok(self.parts.extend_from_slice(&[part])?)
     }
 
     /// The expression that was read.
@@ -358,23 +354,4 @@ fn copied(alloc: Global, parts: &[Part], span: Span) -> Result<Vec<Part>, AllocE
         Some(some) => Vec::from_slice(alloc, some),
         None => Ok(Vec::new(alloc)),
     }
-}
-
-// Parts more.
-fn push_parts(parts: &mut Vec<Part>, more: &[Part]) -> Result<(), AllocError>
-    ensures { OnOk result (parts.new.items ≡ parts.old.items ++ more.now) }
-{
-    parts.extend_from_slice(more)
-}
-
-// One label more.
-fn push_label<'a>(labels: &mut Vec<Named<'a>>, label: Named<'a>) -> Result<(), AllocError> {
-    Ok(labels.push(label)?)
-}
-
-// One part more.
-fn push_part(parts: &mut Vec<Part>, part: Part) -> Result<(), AllocError>
-    ensures { OnOk result (parts.new.items ≡ parts.old.items ++ part ∷ []) }
-{
-    Ok(parts.push(part)?)
 }

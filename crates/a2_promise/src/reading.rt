@@ -135,7 +135,7 @@ pub(crate) fn token_in(line: &[u8]) -> (Token<'_>, &[u8])
         [b'$', digits @ ..] => cut_off(
             Class::Place,
             digits,
-            front_len(digits, |c| is_hex_digit(c)),
+            front_len(digits, is_hex_digit),
         ),
         [b'\'', rest @ ..] => match up_to(b'\'', rest) {
             Some((text, behind)) => (
@@ -157,11 +157,11 @@ pub(crate) fn token_in(line: &[u8]) -> (Token<'_>, &[u8])
             ),
             None => cut_off(Class::Sign, here, 1),
         },
-        [c, ..] if is_digit(*c) => cut_off(Class::Decimal, here, front_len(here, |c| is_digit(c))),
+        [c, ..] if is_digit(*c) => cut_off(Class::Decimal, here, front_len(here, is_digit)),
         [c, ..] if is_letter(*c) => cut_off(
             Class::Word,
             here,
-            front_len(here, |c| is_word_byte(c)),
+            front_len(here, is_word_byte),
         ),
         _ => cut_off(Class::Sign, here, sign_length(here)),
     }

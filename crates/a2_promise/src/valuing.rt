@@ -3,7 +3,6 @@
 ghost use Rattle.std.specs.Prelude.{◌≡◌, pos, slice_set, bit_and, bit_or, bit_xor, MatchOption, Some, None};
 ghost use Rattle.a2_promise.specs.Values as values;
 ghost use Rattle.a2_promise.specs.Values.{moment_of, value_of};
-ghost use Rattle.a2_promise.specs.declared.expr.Operation.TheVariants.{Over, Modulo};
 
 use crate::expr::{Atom, Expr, Function, Operation};
 use a2_bus::{AddressSpace, Bus};
@@ -184,28 +183,6 @@ fn bit_of(place: Option<u16>, number: Option<u16>) -> Option<i64>
     }
 }
 
-// A quotient, downwards.
-fn quotient(number: i64, divisor: i64) -> Option<i64>
-    ensures { result ≡ values.operated Over number divisor }
-{
-    if 0 < divisor {
-        Some(number.div_euclid(divisor))
-    } else {
-        None
-    }
-}
-
-// What is left of it.
-fn remainder(number: i64, divisor: i64) -> Option<i64>
-    ensures { result ≡ values.operated Modulo number divisor }
-{
-    if 0 < divisor {
-        Some(number.rem_euclid(divisor))
-    } else {
-        None
-    }
-}
-
 // What an operation makes of two numbers.
 fn operated(operation: Operation, left: i64, right: i64) -> Option<i64>
     ensures { result ≡ values.operated operation left right }
@@ -214,8 +191,8 @@ fn operated(operation: Operation, left: i64, right: i64) -> Option<i64>
         Operation::Plus => left.checked_add(right),
         Operation::Minus => left.checked_sub(right),
         Operation::Times => left.checked_mul(right),
-        Operation::Over => quotient(left, right),
-        Operation::Modulo => remainder(left, right),
+        Operation::Over => if 0 < right { Some(left.div_euclid(right)) } else { None },
+        Operation::Modulo => if 0 < right { Some(left.rem_euclid(right)) } else { None },
         Operation::BitAnd => bit_and(word_in(left), word_in(right)),
         Operation::BitOr => bit_or(word_in(left), word_in(right)),
         Operation::BitXor => bit_xor(word_in(left), word_in(right)),

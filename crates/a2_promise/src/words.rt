@@ -1,19 +1,33 @@
 //! The words and signs that join, begin and are expressions.
 
-ghost use Rattle.std.specs.Prelude.{◌≡◌, ◌<◌, false, IsTrue, IfSome, IfNone};
-ghost use Rattle.a2_promise.specs.declared.expr.Atom.{Atom as DeclaredAtom};
+ghost use Rattle.std.specs.Prelude.{◌≡◌, ◌<◌, false, IsTrue, Some, IfSome, IfNone};
+ghost use Rattle.std.specs.List.{Contains};
 ghost use Rattle.a2_promise.specs.declared.reading.Class.TheVariants as class;
 ghost use Rattle.a2_promise.specs.declared.words.Infix.{Infix as DeclaredInfix};
-ghost use Rattle.a2_promise.specs.declared.words.Making.{Making as DeclaredMaking};
-ghost use Rattle.a2_promise.specs.declared.words.Opening.{Opening as DeclaredOpening};
 ghost use Rattle.a2_promise.specs.Grammar.{atom_kind, infix_rank, is_name_among, may_count, openings, tightest};
-ghost use Rattle.a2_promise.specs.Reading.{IsOther, is_listed, making_token, opening_token, token_of};
+ghost use Rattle.a2_promise.specs.Reading.{is_listed, listed, opening_token, token_of};
 ghost use Rattle.a2_promise.specs.Told.{change_names};
-ghost use Rattle.a2_promise.specs.Tokens.{sign, word};
+ghost use Rattle.a2_promise.specs.Tokens.{word};
 ghost use Rattle.a2_promise.specs.Written.{atom_name, infix_token};
 
 use crate::expr::{Atom, Operation};
 use crate::reading::{Class, Token};
+
+/// The class and the text of a word or a sign, and what it means.
+pub(crate) type Row<T> = (Class, &'static [u8], T);
+
+/// What a token means by the rows of a table.
+pub(crate) fn meaning<T: Copy>(rows: &[Row<T>], token: Token) -> Option<T>
+    ensures found { IfSome result (λ it. Contains (listed rows.now) (token.entry.class, token.entry.text.now, it)) }
+    ensures none { IfNone result ((it : T) → Contains (listed rows.now) (token.entry.class, token.entry.text.now, it) → ⊥) }
+{
+    for (class, text, means) in rows {
+        if *class == token.class && *text == token.text {
+            return Some(*means);
+        }
+    }
+    None
+}
 
 /// What an expression says: a number; that something holds; or a flag, which is both.
 #[derive(Clone, Copy, PartialEq, Eq)]
@@ -70,42 +84,26 @@ pub(crate) fn rank_of(join: Infix) -> u8
     }
 }
 
-// The joint that is this word.
-fn infix_word(text: &[u8]) -> Option<Infix>
-    ensures found { IfSome result (λ join. (infix_token join ≡ word text.now) × (infix_rank join < tightest)) }
-    ensures none { IfNone result ((join : DeclaredInfix) → infix_token join ≡ word text.now → ⊥) }
-{
-    match text {
-        b"iff" => Some(Infix::Iff),
-        b"or" => Some(Infix::Or),
-        b"and" => Some(Infix::And),
-        _ => None,
-    }
-}
-
-// The joint that is this sign.
-fn infix_sign(text: &[u8]) -> Option<Infix>
-    ensures found { IfSome result (λ join. (infix_token join ≡ sign text.now) × (infix_rank join < tightest)) }
-    ensures none { IfNone result ((join : DeclaredInfix) → infix_token join ≡ sign text.now → infix_rank join < tightest → ⊥) }
-{
-    match text {
-        b"=" => Some(Infix::Compare(Relation::Equal)),
-        b"<>" => Some(Infix::Compare(Relation::Other)),
-        b"<" => Some(Infix::Compare(Relation::Less)),
-        b"<=" => Some(Infix::Compare(Relation::AtMost)),
-        b">" => Some(Infix::Compare(Relation::More)),
-        b">=" => Some(Infix::Compare(Relation::AtLeast)),
-        b"|" => Some(Infix::Apply(Operation::BitOr)),
-        b"^" => Some(Infix::Apply(Operation::BitXor)),
-        b"&" => Some(Infix::Apply(Operation::BitAnd)),
-        b"+" => Some(Infix::Apply(Operation::Plus)),
-        b"-" => Some(Infix::Apply(Operation::Minus)),
-        b"*" => Some(Infix::Apply(Operation::Times)),
-        b"/" => Some(Infix::Apply(Operation::Over)),
-        b"%" => Some(Infix::Apply(Operation::Modulo)),
-        _ => None,
-    }
-}
+// The joints, and how each is written.
+static INFIXES: [Row<Infix>; 17] = [
+    (Class::Word, b"iff", Infix::Iff),
+    (Class::Word, b"or", Infix::Or),
+    (Class::Word, b"and", Infix::And),
+    (Class::Sign, b"=", Infix::Compare(Relation::Equal)),
+    (Class::Sign, b"<>", Infix::Compare(Relation::Other)),
+    (Class::Sign, b"<", Infix::Compare(Relation::Less)),
+    (Class::Sign, b"<=", Infix::Compare(Relation::AtMost)),
+    (Class::Sign, b">", Infix::Compare(Relation::More)),
+    (Class::Sign, b">=", Infix::Compare(Relation::AtLeast)),
+    (Class::Sign, b"|", Infix::Apply(Operation::BitOr)),
+    (Class::Sign, b"^", Infix::Apply(Operation::BitXor)),
+    (Class::Sign, b"&", Infix::Apply(Operation::BitAnd)),
+    (Class::Sign, b"+", Infix::Apply(Operation::Plus)),
+    (Class::Sign, b"-", Infix::Apply(Operation::Minus)),
+    (Class::Sign, b"*", Infix::Apply(Operation::Times)),
+    (Class::Sign, b"/", Infix::Apply(Operation::Over)),
+    (Class::Sign, b"%", Infix::Apply(Operation::Modulo)),
+];
 
 /// What a token joins.
 pub(crate) fn infix_of(token: Token) -> Option<Infix>
@@ -114,11 +112,7 @@ pub(crate) fn infix_of(token: Token) -> Option<Infix>
     ensures none { IfNone result ((join : DeclaredInfix)
         → token_of token.entry.class token.entry.text.now ≡ Some (infix_token join) → infix_rank join < tightest → ⊥) }
 {
-    match token.class {
-        Class::Word => infix_word(token.text),
-        Class::Sign => infix_sign(token.text),
-        _ => None,
-    }
+    meaning(&INFIXES, token)
 }
 
 /// What an expression begins with.
@@ -169,27 +163,19 @@ pub(crate) fn kind_of(atom: Atom) -> Kind
     }
 }
 
-// What the processor holds by this name.
-fn atom_named(text: &[u8]) -> Option<Atom>
-    ensures found { IfSome result (λ atom. atom_name atom ≡ text.now) }
-    ensures none { IfNone result ((atom : DeclaredAtom) → atom_name atom ≡ text.now → ⊥) }
-{
-    match text {
-        b"A" => Some(Atom::A),
-        b"X" => Some(Atom::X),
-        b"Y" => Some(Atom::Y),
-        b"S" => Some(Atom::S),
-        b"C" => Some(Atom::Carry),
-        b"Z" => Some(Atom::Zero),
-        b"N" => Some(Atom::Negative),
-        b"V" => Some(Atom::Overflow),
-        b"D" => Some(Atom::Decimal),
-        b"I" => Some(Atom::Interrupt),
-        b"cycles" => Some(Atom::Cycles),
-        b"steps" => Some(Atom::Steps),
-        _ => None,
-    }
-}
+// The registers and flags by their names.
+static HELD: [Row<Atom>; 10] = [
+    (Class::Word, b"A", Atom::A),
+    (Class::Word, b"X", Atom::X),
+    (Class::Word, b"Y", Atom::Y),
+    (Class::Word, b"S", Atom::S),
+    (Class::Word, b"C", Atom::Carry),
+    (Class::Word, b"Z", Atom::Zero),
+    (Class::Word, b"N", Atom::Negative),
+    (Class::Word, b"V", Atom::Overflow),
+    (Class::Word, b"D", Atom::Decimal),
+    (Class::Word, b"I", Atom::Interrupt),
+];
 
 /// The register or the flag of this name; none of what a run takes.
 pub(crate) fn held_by(token: Token) -> Option<Atom>
@@ -197,92 +183,40 @@ pub(crate) fn held_by(token: Token) -> Option<Atom>
         × IsTrue (is_listed it)) }
     ensures none { IfNone result (token.entry.class ≡ class.Word → is_name_among change_names token.entry.text.now ≡ false) }
 {
-    match token.class {
-        Class::Word => register_or_flag(token.text),
-        _ => None,
-    }
+    meaning(&HELD, token)
 }
 
-// The register or the flag of this name.
-fn register_or_flag(text: &[u8]) -> Option<Atom>
-    ensures found { IfSome result (λ it. (atom_name it ≡ text.now) × IsTrue (is_listed it)) }
-    ensures none { IfNone result (is_name_among change_names text.now ≡ false) }
-{
-    match atom_named(text) {
-        Some(Atom::Cycles | Atom::Steps) => None,
-        found => found,
-    }
-}
-
-// What makes a number of others and begins with this word.
-fn making_word(text: &[u8]) -> Option<Making>
-    ensures found { IfSome result (λ making. making_token making ≡ word text.now) }
-    ensures none { IfNone result ((making : DeclaredMaking) → making_token making ≡ word text.now → ⊥) }
-{
-    match text {
-        b"min" => Some(Making::Least),
-        b"max" => Some(Making::Greatest),
-        b"abs" => Some(Making::Abs),
-        b"bit" => Some(Making::Bit),
-        b"signed" => Some(Making::Signed),
-        b"word" => Some(Making::Word),
-        _ => None,
-    }
-}
-
-// What else begins with this word, which is no name of what the processor holds.
-fn word_opening(text: &[u8]) -> Option<Opening>
-    ensures found { IfSome result (λ opening. opening_token opening ≡ word text.now) }
-    ensures none { IfNone result ((opening : DeclaredOpening) → opening_token opening ≡ word text.now → IsOther opening) }
-{
-    match text {
-        b"old" => Some(Opening::Old),
-        b"at" => Some(Opening::At),
-        b"text" => Some(Opening::Text),
-        b"not" => Some(Opening::Not),
-        b"if" => Some(Opening::If),
-        b"for" => Some(Opening::Each),
-        b"sum" => Some(Opening::Sum),
-        _ => None,
-    }
-}
-
-// What begins with this sign.
-fn sign_opening(text: &[u8]) -> Option<Opening>
-    ensures { IfSome result (λ opening. opening_token opening ≡ sign text.now) }
-{
-    match text {
-        b"(" => Some(Opening::Group),
-        b"[" => Some(Opening::Make(Making::Byte)),
-        b"#" => Some(Opening::Make(Making::Literal)),
-        b"-" => Some(Opening::Make(Making::Minus)),
-        _ => None,
-    }
-}
-
-// What begins with this word.
-fn opening_word(text: &[u8]) -> Option<Opening>
-    ensures found { IfSome result (λ opening. opening_token opening ≡ word text.now) }
-    ensures none { IfNone result (is_name_among openings text.now ≡ false) }
-{
-    if let Some(atom) = atom_named(text) {
-        return Some(Opening::Held(atom));
-    }
-    match making_word(text) {
-        Some(making) => Some(Opening::Make(making)),
-        None => word_opening(text),
-    }
-}
+// What else an expression begins with, the words first.
+static OPENINGS: [Row<Opening>; 19] = [
+    (Class::Word, b"cycles", Opening::Held(Atom::Cycles)),
+    (Class::Word, b"steps", Opening::Held(Atom::Steps)),
+    (Class::Word, b"old", Opening::Old),
+    (Class::Word, b"at", Opening::At),
+    (Class::Word, b"text", Opening::Text),
+    (Class::Word, b"not", Opening::Not),
+    (Class::Word, b"if", Opening::If),
+    (Class::Word, b"for", Opening::Each),
+    (Class::Word, b"sum", Opening::Sum),
+    (Class::Word, b"min", Opening::Make(Making::Least)),
+    (Class::Word, b"max", Opening::Make(Making::Greatest)),
+    (Class::Word, b"abs", Opening::Make(Making::Abs)),
+    (Class::Word, b"bit", Opening::Make(Making::Bit)),
+    (Class::Word, b"signed", Opening::Make(Making::Signed)),
+    (Class::Word, b"word", Opening::Make(Making::Word)),
+    (Class::Sign, b"(", Opening::Group),
+    (Class::Sign, b"[", Opening::Make(Making::Byte)),
+    (Class::Sign, b"#", Opening::Make(Making::Literal)),
+    (Class::Sign, b"-", Opening::Make(Making::Minus)),
+];
 
 /// What begins with a token.
 pub(crate) fn opening_of(token: Token) -> Option<Opening>
     ensures found { IfSome result (λ opening. token_of token.entry.class token.entry.text.now ≡ Some (opening_token opening)) }
     ensures none { IfNone result (token.entry.class ≡ class.Word → is_name_among openings token.entry.text.now ≡ false) }
 {
-    match token.class {
-        Class::Word => opening_word(token.text),
-        Class::Sign => sign_opening(token.text),
-        _ => None,
+    match held_by(token) {
+        Some(atom) => Some(Opening::Held(atom)),
+        None => meaning(&OPENINGS, token),
     }
 }
 
@@ -291,7 +225,7 @@ pub(crate) fn may_name(token: Token) -> bool
     ensures { IsTrue result → (token.entry.class ≡ class.Word) × IsTrue (may_count token.entry.text.now) }
 {
     match token.class {
-        Class::Word => opening_word(token.text).is_none() && infix_word(token.text).is_none(),
+        Class::Word => opening_of(token).is_none() && infix_of(token).is_none(),
         _ => false,
     }
 }
