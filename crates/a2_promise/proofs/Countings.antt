@@ -1,5 +1,5 @@
 -- What is read where something is counted, laid or closed.
-use Rattle.std.specs.Prelude.{◌≡◌, ◌<◌, ◌≤◌, ℕ, suc, ◌+◌, pos, min, nat_le, nat_lt, ◌==◌, false, ◌&&◌, ◌||◌, IsTrue, List, [], ◌∷◌, ◌++◌, length, codes, Option, Some, None, Result, Ok, Err, OnOk, IfOk, IfNone, refl, if◌then◌else◌}
+use Rattle.std.specs.Prelude.{◌≡◌, ◌<◌, ◌≤◌, ℕ, ℤ, suc, ◌+◌, pos, min, nat_le, nat_lt, ◌==◌, false, ◌&&◌, ◌||◌, IsTrue, List, [], ◌∷◌, ◌++◌, length, codes, Option, Some, None, Result, Ok, Err, OnOk, IfOk, IfNone, refl, if◌then◌else◌}
 use Rattle.std.proofs.Common.{ap, ap₂, sym, subst, ◌∙◌, arith, append_assoc}
 use Rattle.std.proofs.lemmas.Bool.Decides.{Decides-eqb}
 use Rattle.std.proofs.lemmas.Bool.{leb-true, le-leb, lt-ltb}
@@ -153,16 +153,16 @@ word_in_read z a m n b w t r p =
       kind = refl;
     }
 
-pub word_of_read : (token : Token) (address : ℕ) (z a m n b : State) → Takes (word (codes "word")) z a → Takes token a m
-    → address_of a.scope.names token ≡ Some address → Puts (part.Number (pos address) ∷ []) m n → Puts (part.Of function.Word ∷ []) n b → ReadsKind kinds.Number z b
+pub word_of_read : (token : Token) (address : ℕ) (number : ℤ) (z a m b : State) → Takes (word (codes "word")) z a → Takes token a m
+    → address_of a.scope.names token ≡ Some address → number ≡ pos address → Puts (part.Number number ∷ part.Of function.Word ∷ []) m b → ReadsKind kinds.Number z b
 unfolding spelled meant fits made
-word_of_read token address z a m n b w t h p q =
+word_of_read token address number z a m b w t h e p =
     let put = part.Number (pos address) ∷ part.Of function.Word ∷ [] in
-    let both = puts_both (part.Number (pos address) ∷ []) (part.Of function.Word ∷ []) m n b p q in
+    let P : ℤ → Type 0 = λ number. Puts (part.Number number ∷ part.Of function.Word ∷ []) m b in
     record {
       e = word_of token address;
       reads = reads_it (word_of token address) put z b
-          (goes_take (word (codes "word")) (token ∷ []) put z a b w (goes_take token [] put a m b t (put_last put m b both)))
+          (goes_take (word (codes "word")) (token ∷ []) put z a b w (goes_take token [] put a m b t (put_last put m b (subst P e p))))
           (λ phrases. refl) (just address _ (ap (λ scope. address_of scope.names token) (sym w.scope) ∙ h)) (stops_any b.left) (no_else_any b.left);
       rank = refl;
       kind = refl;

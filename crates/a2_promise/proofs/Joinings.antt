@@ -1,6 +1,6 @@
 -- What is read where two expressions and more belong together.
-use Rattle.std.specs.Prelude.{◌≡◌, ◌<◌, ◌≤◌, ℕ, zero, suc, pos, nat_le, nat_lt, Bool, true, false, not, ◌&&◌, ◌||◌, IsTrue, List, [], ◌∷◌, ◌++◌, length, codes, Option, Some, None, refl, if◌then◌else◌}
-use Rattle.std.proofs.Common.{ap, sym, subst, ◌∙◌, arith}
+use Rattle.std.specs.Prelude.{◌≡◌, ◌⊎◌, ◌<◌, ◌≤◌, ℕ, zero, suc, pos, nat_le, nat_lt, Bool, true, false, not, ◌&&◌, ◌||◌, IsTrue, List, [], ◌∷◌, ◌++◌, length, codes, Option, Some, None, refl, if◌then◌else◌}
+use Rattle.std.proofs.Common.{ap, sym, subst, ◌∙◌, arith, inl, inr}
 use Rattle.std.proofs.lemmas.Bool.{leb-true, le-leb, lt-ltb}
 use Rattle.a2_promise.specs.declared.expr.Operation.{Operation}
 use Rattle.a2_promise.specs.declared.expr.Operation.TheVariants as operation
@@ -27,7 +27,7 @@ use Rattle.a2_promise.specs.declared.words.Relation.{Relation}
 use Rattle.a2_promise.specs.declared.words.Relation.TheVariants as relations
 use Rattle.a2_promise.specs.Written.{Meant, comparison, compared, both}
 use Rattle.a2_promise.specs.Grammar.{joins, infix_kind, is_comparison}
-use Rattle.a2_promise.specs.Reading.{ReadsJoined, ReadsLast, comparing, joining}
+use Rattle.a2_promise.specs.Reading.{ReadsJoined, ReadsLast, comparing, joining, parts_before, parts_behind}
 use Rattle.a2_promise.proofs.Goings.{puts_both, takes_rank}
 use Rattle.a2_promise.proofs.Making.{made_both}
 
@@ -229,6 +229,25 @@ iff_read left piece e a m n o q b r l t u h s p k last = record {
   reads = joined_read Iff [] (part.Pair operation.Equal ∷ []) e s.e a m n o q b r u h s.reads s.rank s.stops p (omega arith) (all2 (is_fact e) (is_fact s.e) t s.is) (λ phrases. refl);
   piece_is = record { kind = sym k; last = no_last_at b piece (joined Iff e s.e) last refl };
 }
+
+-- a joint of two that hold
+abbrev pub IsLogic : Infix → Type 0
+IsLogic join = (join ≡ Or) ⊎ ((join ≡ And) ⊎ (join ≡ Iff))
+
+pub logic_read : (join : Infix) → IsLogic join → JoinedBy join is_fact (parts_before join) (parts_behind join)
+logic_read join is =
+    let P : Infix → Type 0 = λ join. JoinedBy join is_fact (parts_before join) (parts_behind join) in
+    elim is [
+      | inl e ↦ subst P (sym e) or_read
+      | inr more ↦ elim more [ inl e ↦ subst P (sym e) and_read | inr e ↦ subst P (sym e) iff_read ]
+    ]
+
+pub logic_kind : (join : Infix) → IsLogic join → kinds.Fact ≡ infix_kind join
+logic_kind join is =
+    elim is [
+      | inl e ↦ ap infix_kind (sym e)
+      | inr more ↦ elim more [ inl e ↦ ap infix_kind (sym e) | inr e ↦ ap infix_kind (sym e) ]
+    ]
 
 -- Comparisons
 

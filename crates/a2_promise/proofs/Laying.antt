@@ -75,47 +75,41 @@ put_then top e f put a m b p q h = record {
   makes = λ phrases. made_both p.parts put (top ++ phrases) ∙ ap (λ stack. made put stack) (p.makes phrases) ∙ h phrases;
 }
 
-pub plus_makes : (e : Phrase) (n : ℕ) (phrases : List Phrase)
-    → made (part.Number (pos n) ∷ part.Pair operation.Plus ∷ []) (e ∷ phrases) ≡ pair operation.Plus e (number (pos n)) ∷ phrases
-unfolding made
-plus_makes e n phrases = refl
-
-pub byte_makes : (e : Phrase) (phrases : List Phrase) → made (part.Of function.Byte ∷ []) (e ∷ phrases) ≡ of function.Byte e ∷ phrases
-unfolding made
-byte_makes e phrases = refl
-
-pub equal_makes : (e : Phrase) (n : ℕ) (phrases : List Phrase)
-    → made (part.Number (pos n) ∷ part.Pair operation.Equal ∷ []) (e ∷ phrases) ≡ pair operation.Equal e (number (pos n)) ∷ phrases
-unfolding made
-equal_makes e n phrases = refl
-
 no_top : (n : ℕ) (top : List Phrase) → top ≡ [] → pushed n top ≡ []
 no_top zero top e = e
 no_top (suc n) top e = refl
 
-pub fixed_of : (address : ℕ) (phrase : ℕ → Phrase) (top : List Phrase) (n : ℕ) (z : ℤ) (parts : List Part) (a m b : State)
-    → IsPlaced (Fixed address) phrase top parts → z ≡ pos (address + n) → Puts (part.Number z ∷ []) a m → Puts (part.Of function.Byte ∷ []) m b
-    → PutsOf (pushed n top) (of function.Byte (phrase n)) a b
+pub laid_fixed : (address : ℕ) (phrase : ℕ → Phrase) (top : List Phrase) (n code : ℕ) (z w : ℤ) (parts : List Part) (a b : State)
+    → IsPlaced (Fixed address) phrase top parts → z ≡ pos (address + n) → w ≡ pos code
+    → Puts (part.Number z ∷ part.Of function.Byte ∷ part.Number w ∷ part.Pair operation.Equal ∷ []) a b
+    → PutsOf (pushed n top) (pair operation.Equal (of function.Byte (phrase n)) (number (pos code))) a b
 unfolding made
-fixed_of address phrase top n z parts a m b p e h k =
-    let none : pushed n top ≡ [] = no_top n top p.1 in
+laid_fixed address phrase top n code z w parts a b p e f h =
+    let put = part.Number z ∷ part.Of function.Byte ∷ part.Number w ∷ part.Pair operation.Equal ∷ [] in
+    let is : Phrase → ℤ → Phrase = λ e w. pair operation.Equal (of function.Byte e) (number w) in
     record {
-      parts = part.Number z ∷ part.Of function.Byte ∷ [];
-      puts = puts_both (part.Number z ∷ []) (part.Of function.Byte ∷ []) a m b h k;
+      parts = put;
+      puts = h;
       makes = λ phrases.
-          ap (λ top. made (part.Number z ∷ part.Of function.Byte ∷ []) (top ++ phrases)) none
-          ∙ ap (λ z. of function.Byte (number z) ∷ phrases) e ∙ ap (λ e. of function.Byte e ∷ phrases) (sym (p.0 n));
+          ap (λ top. made put (top ++ phrases)) (no_top n top p.1)
+          ∙ ap₂ (λ z w. is (number z) w ∷ phrases) e f ∙ ap (λ e. is e (pos code) ∷ phrases) (sym (p.0 n));
     }
 
-pub made_of : (span : Span) (phrase : ℕ → Phrase) (top : List Phrase) (n : ℕ) (a m b : State)
-    → (placed : IsPlaced (Made span) phrase top a.parts) → PutsOf (pushed n (placed.0 ∷ [])) (pair operation.Plus placed.0 (number (pos n))) a m
-    → Puts (part.Of function.Byte ∷ []) m b → PutsOf (pushed n top) (of function.Byte (phrase n)) a b
-made_of span phrase top n a m b p h k =
-    let it = put_then (pushed n (p.0 ∷ [])) (pair operation.Plus p.0 (number (pos n))) (of function.Byte (pair operation.Plus p.0 (number (pos n)))) (part.Of function.Byte ∷ [])
-    a m b h k (byte_makes (pair operation.Plus p.0 (number (pos n)))) in
-    let P : List Phrase → Phrase → Type 0 = λ top e. PutsOf (pushed n top) (of function.Byte e) a b in
-    let Q : List Phrase → Type 0 = λ top. P top (phrase n) in
-    let R : Phrase → Type 0 = λ e. P (p.0 ∷ []) e in
+pub laid_made : (span : Span) (phrase : ℕ → Phrase) (top : List Phrase) (n code : ℕ) (z w : ℤ) (a m b : State)
+    → (placed : IsPlaced (Made span) phrase top a.parts) → PutsOf (pushed n (placed.0 ∷ [])) placed.0 a m → z ≡ pos n → w ≡ pos code
+    → Puts (part.Number z ∷ part.Pair operation.Plus ∷ part.Of function.Byte ∷ part.Number w ∷ part.Pair operation.Equal ∷ []) m b
+    → PutsOf (pushed n top) (pair operation.Equal (of function.Byte (phrase n)) (number (pos code))) a b
+unfolding made
+laid_made span phrase top n code z w a m b p h e f k =
+    let put = part.Number (pos n) ∷ part.Pair operation.Plus ∷ part.Of function.Byte ∷ part.Number (pos code) ∷ part.Pair operation.Equal ∷ [] in
+    let is : Phrase → Phrase = λ e. pair operation.Equal (of function.Byte e) (number (pos code)) in
+    let S : ℤ → ℤ → Type 0 = λ z w.
+    Puts (part.Number z ∷ part.Pair operation.Plus ∷ part.Of function.Byte ∷ part.Number w ∷ part.Pair operation.Equal ∷ []) m b in
+    let there : S (pos n) w = (let T : ℤ → Type 0 = λ z. S z w in subst T e k) in
+    let all : S (pos n) (pos code) = subst (S (pos n)) f there in
+    let it = put_then (pushed n (p.0 ∷ [])) p.0 (is (pair operation.Plus p.0 (number (pos n)))) put a m b h all (λ phrases. refl) in
+    let Q : List Phrase → Type 0 = λ top. PutsOf (pushed n top) (is (phrase n)) a b in
+    let R : Phrase → Type 0 = λ e. PutsOf (pushed n (p.0 ∷ [])) (is e) a b in
     subst Q (sym p.2) (subst R (sym (p.1 n)) it)
 
 behind_more : (quote : ℕ) (place : ℕ → Phrase) (said : Phrase) (k : ℕ) (text : List ℕ) (c : ℕ)

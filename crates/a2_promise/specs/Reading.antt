@@ -24,6 +24,7 @@ use Rattle.a2_promise.specs.declared.promises.Verb.TheVariants as verb
 use Rattle.a2_promise.specs.declared.reader.Reader.{Reader}
 use Rattle.a2_promise.specs.declared.reader.Span.{Span}
 use Rattle.a2_promise.specs.declared.words.Infix.{Infix}
+use Rattle.a2_promise.specs.declared.words.Infix.TheVariants as joint
 use Rattle.a2_promise.specs.declared.parsing.Place.{Place}
 use Rattle.a2_promise.specs.declared.parsing.Place.TheVariants.{Fixed, Made}
 use Rattle.a2_promise.specs.declared.words.Kind.{Kind}
@@ -320,6 +321,16 @@ comparing relation.Less = part.Pair operation.Less ∷ []
 comparing relation.AtMost = part.Pair operation.AtMost ∷ []
 comparing relation.More = part.Turned operation.Less ∷ []
 comparing relation.AtLeast = part.Turned operation.AtMost ∷ []
+
+-- and those that stand before the second of two that hold and are joined, and behind it
+abbrev pub parts_before : Infix → List Part
+parts_before joint.Or = part.Number (pos 1) ∷ []
+parts_before _ = []
+
+abbrev pub parts_behind : Infix → List Part
+parts_behind joint.Or = part.Choice ∷ []
+parts_behind joint.And = joining
+parts_behind _ = part.Pair operation.Equal ∷ []
 
 abbrev pub byte_parts : ℕ → List Part
 byte_parts a = part.Number (pos a) ∷ part.Of function.Byte ∷ []

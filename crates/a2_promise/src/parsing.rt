@@ -11,8 +11,8 @@ ghost use Rattle.a2_promise.specs.declared.expr.Function.TheVariants as function
 ghost use Rattle.a2_promise.specs.declared.expr.Operation.TheVariants as operation;
 ghost use Rattle.a2_promise.specs.Reading.{IsEither, IsMade, IsPiece, IsPlaced, IsTop, Puts, PutsOf, pushed, Reads, ReadsClosed};
 ghost use Rattle.a2_promise.specs.Reading.{ReadsCounted, ReadsJoined, ReadsKind, ReadsLast, ReadsOne, ReadsPiece, ReadsPlace};
-ghost use Rattle.a2_promise.specs.Reading.{ReadsToken, ReadsTwo, State, Takes, byte_parts, comparing, first, joining, made};
-ghost use Rattle.a2_promise.specs.Reading.{making_token, negating, number_parts, opening_token, state_of};
+ghost use Rattle.a2_promise.specs.Reading.{ReadsToken, ReadsTwo, State, Takes, byte_parts, comparing as parts_comparing, first, made};
+ghost use Rattle.a2_promise.specs.Reading.{making_token, number_parts, opening_token, parts_before, parts_behind, state_of};
 ghost use Rattle.a2_promise.specs.Tokens.{Token, sign, tokens, word};
 ghost use Rattle.a2_promise.specs.Written.{Written, are_laid as laid_of, infix_token};
 
@@ -101,38 +101,41 @@ fn deeper<'a>(rest: &'a [u8], depth: u8) -> Result<u8, ReadFault<'a>>
     }
 }
 
-// How two numbers compare.
-fn compare<'a>(reader: &mut Reader<'a, '_>, relation: Relation) -> Result<(), ReadFault<'a>>
-    ensures { OnOk result (Puts (comparing relation) (state_of reader.old) (state_of reader.new)) }
+// What makes of something that holds what does not.
+const NEGATED: [Part; 3] = [Part::Number(0), Part::Number(1), Part::Choice];
+
+// What makes of two that hold both.
+const BOTH: [Part; 2] = [Part::Number(0), Part::Choice];
+
+// What compares two numbers.
+fn comparing(relation: Relation) -> &'static [Part]
+    ensures { result.now ≡ parts_comparing relation }
 {
     match relation {
-        Relation::Equal => reader.part(Part::Pair(Operation::Equal)),
-        Relation::Less => reader.part(Part::Pair(Operation::Less)),
-        Relation::AtMost => reader.part(Part::Pair(Operation::AtMost)),
-        Relation::More => reader.part(Part::Turned(Operation::Less)),
-        Relation::AtLeast => reader.part(Part::Turned(Operation::AtMost)),
-        Relation::Other => {
-            reader.part(Part::Pair(Operation::Equal))?;
-            negate(reader)
-        }
+        Relation::Equal => &[Part::Pair(Operation::Equal)],
+        Relation::Less => &[Part::Pair(Operation::Less)],
+        Relation::AtMost => &[Part::Pair(Operation::AtMost)],
+        Relation::More => &[Part::Turned(Operation::Less)],
+        Relation::AtLeast => &[Part::Turned(Operation::AtMost)],
+        Relation::Other => &[
+            Part::Pair(Operation::Equal),
+            Part::Number(0),
+            Part::Number(1),
+            Part::Choice,
+        ],
     }
 }
 
-// What does not hold.
-fn negate<'a>(reader: &mut Reader<'a, '_>) -> Result<(), ReadFault<'a>>
-    ensures { OnOk result (Puts negating (state_of reader.old) (state_of reader.new)) }
+// What joins two that hold: what stands before the second, and what behind it.
+fn joining(join: Infix) -> (&'static [Part], &'static [Part])
+    ensures before { result.0.now ≡ parts_before join }
+    ensures behind { result.1.now ≡ parts_behind join }
 {
-    reader.part(Part::Number(0))?;
-    reader.part(Part::Number(1))?;
-    reader.part(Part::Choice)
-}
-
-// Both of two that hold.
-fn join_both<'a>(reader: &mut Reader<'a, '_>) -> Result<(), ReadFault<'a>>
-    ensures { OnOk result (Puts joining (state_of reader.old) (state_of reader.new)) }
-{
-    reader.part(Part::Number(0))?;
-    reader.part(Part::Choice)
+    match join {
+        Infix::Or => (&[Part::Number(1)], &[Part::Choice]),
+        Infix::And => (&[], &BOTH),
+        _ => (&[], &[Part::Pair(Operation::Equal)]),
+    }
 }
 
 // The byte at an address that stands next.
@@ -140,8 +143,10 @@ fn byte_here<'a>(reader: &mut Reader<'a, '_>) -> Result<(), ReadFault<'a>>
     ensures { OnOk result (ReadsToken address_of byte_parts (state_of reader.old) (state_of reader.new)) }
 {
     let address = reader.address()?;
-    reader.part(Part::Number(i64::from(address)))?;
-    reader.part(Part::Of(Function::Byte))
+    reader.puts(&[
+        Part::Number(i64::from(address)),
+        Part::Of(Function::Byte),
+    ])
 }
 
 // A number that stands next.
@@ -149,7 +154,7 @@ fn number_here<'a>(reader: &mut Reader<'a, '_>) -> Result<(), ReadFault<'a>>
     ensures { OnOk result (ReadsToken number_of number_parts (state_of reader.old) (state_of reader.new)) }
 {
     let number = reader.number()?;
-    reader.part(Part::Number(i64::from(number)))
+    reader.puts(&[Part::Number(i64::from(number))])
 }
 
 /// An expression in which nothing binds looser than this rank, as far as it goes. Of what stands in it nothing is deeper than this.
@@ -177,7 +182,7 @@ pub(crate) fn expression<'a>(
 fn number_in<'a>(reader: &mut Reader<'a, '_>, rank: u8, depth: u8) -> Result<(), ReadFault<'a>>
     ensures { OnOk result (ReadsOne (min rank tightest) is_number (state_of reader.old) (state_of reader.new)) }
 {
-    let less = deeper(reader.rest, depth)?;
+    let less = depth.saturating_sub(1);
     expression(reader, rank, less)?.number()
 }
 
@@ -186,7 +191,7 @@ fn number_in<'a>(reader: &mut Reader<'a, '_>, rank: u8, depth: u8) -> Result<(),
 fn fact_in<'a>(reader: &mut Reader<'a, '_>, rank: u8, depth: u8) -> Result<(), ReadFault<'a>>
     ensures { OnOk result (ReadsOne (min rank tightest) is_fact (state_of reader.old) (state_of reader.new)) }
 {
-    let less = deeper(reader.rest, depth)?;
+    let less = depth.saturating_sub(1);
     expression(reader, rank, less)?.fact()
 }
 
@@ -195,7 +200,7 @@ fn fact_in<'a>(reader: &mut Reader<'a, '_>, rank: u8, depth: u8) -> Result<(), R
 fn next_number<'a>(reader: &mut Reader<'a, '_>, depth: u8) -> Result<(), ReadFault<'a>>
     ensures { OnOk result (ReadsOne tightest is_number (state_of reader.old) (state_of reader.new)) }
 {
-    let less = deeper(reader.rest, depth)?;
+    let less = depth.saturating_sub(1);
     beginning(reader, less)?.number()
 }
 
@@ -219,26 +224,15 @@ fn joined<'a>(
         Infix::Apply(operation) => {
             left.number()?;
             number_in(reader, rank, less)?;
-            reader.part(Part::Pair(operation))?;
+            reader.puts(&[Part::Pair(operation)])?;
             Ok(Piece::at(left.at, Kind::Number))
         }
-        Infix::Or => {
+        Infix::Or | Infix::And | Infix::Iff => {
             left.fact()?;
-            reader.part(Part::Number(1))?;
+            let (before, behind) = joining(join);
+            reader.puts(before)?;
             fact_in(reader, rank, less)?;
-            reader.part(Part::Choice)?;
-            Ok(Piece::at(left.at, Kind::Fact))
-        }
-        Infix::And => {
-            left.fact()?;
-            fact_in(reader, rank, less)?;
-            join_both(reader)?;
-            Ok(Piece::at(left.at, Kind::Fact))
-        }
-        Infix::Iff => {
-            left.fact()?;
-            fact_in(reader, rank, less)?;
-            reader.part(Part::Pair(Operation::Equal))?;
+            reader.puts(behind)?;
             Ok(Piece::at(left.at, Kind::Fact))
         }
     }
@@ -249,7 +243,7 @@ fn joined<'a>(
 fn last_number<'a>(reader: &mut Reader<'a, '_>, depth: u8) -> Result<Span, ReadFault<'a>>
     ensures { IfOk result (λ span. ReadsLast span (state_of reader.old) (state_of reader.new)) }
 {
-    let less = deeper(reader.rest, depth)?;
+    let less = depth.saturating_sub(1);
     let begun = reader.count();
     number_in(reader, BEHIND_COMPARISON, less)?;
     let ended = reader.count();
@@ -272,13 +266,13 @@ fn comparison<'a>(
     let Some(chained) = left.last else {
         left.number()?;
         let last = last_number(reader, less)?;
-        compare(reader, relation)?;
+        reader.puts(comparing(relation))?;
         return Ok(Piece::compared(left.at, last));
     };
     reader.again(chained)?;
     let last = last_number(reader, less)?;
-    compare(reader, relation)?;
-    join_both(reader)?;
+    reader.puts(comparing(relation))?;
+    reader.puts(&BOTH)?;
     Ok(Piece::compared(left.at, last))
 }
 
@@ -296,7 +290,7 @@ fn beginning<'a>(reader: &mut Reader<'a, '_>, depth: u8) -> Result<Piece<'a>, Re
     }
     if let Some(name) = reader.bound(token) {
         reader.take();
-        reader.part(Part::Bound(name))?;
+        reader.puts(&[Part::Bound(name)])?;
         return Ok(Piece::at(at, Kind::Number));
     }
     match token.class {
@@ -325,7 +319,7 @@ fn opened<'a>(
     let less = deeper(reader.rest, depth)?;
     match opening {
         Opening::Held(atom) => {
-            reader.part(Part::Held(atom))?;
+            reader.puts(&[Part::Held(atom)])?;
             Ok(Piece::at(at, kind_of(atom)))
         }
         Opening::Group => {
@@ -335,13 +329,13 @@ fn opened<'a>(
         }
         Opening::Old => {
             let within = beginning(reader, less)?;
-            reader.part(Part::Old)?;
+            reader.puts(&[Part::Old])?;
             Ok(Piece::at(at, within.kind))
         }
         Opening::At => {
             let address = reader.label(at)?;
             let within = beginning(reader, less)?;
-            reader.part(Part::At(address))?;
+            reader.puts(&[Part::At(address)])?;
             Ok(Piece::at(at, within.kind))
         }
         Opening::Sum => {
@@ -358,7 +352,7 @@ fn opened<'a>(
         }
         Opening::Not => {
             fact_in(reader, BEHIND_AND, less)?;
-            negate(reader)?;
+            reader.puts(&NEGATED)?;
             Ok(Piece::at(at, Kind::Fact))
         }
         Opening::If => {
@@ -382,36 +376,36 @@ fn make<'a>(reader: &mut Reader<'a, '_>, making: Making, depth: u8) -> Result<()
     match making {
         Making::Least => {
             two_numbers(reader, less)?;
-            reader.part(Part::Pair(Operation::Min))
+            reader.puts(&[Part::Pair(Operation::Min)])
         }
         Making::Greatest => {
             two_numbers(reader, less)?;
-            reader.part(Part::Pair(Operation::Max))
+            reader.puts(&[Part::Pair(Operation::Max)])
         }
         Making::Abs => {
             next_number(reader, less)?;
-            reader.part(Part::Of(Function::Abs))
+            reader.puts(&[Part::Of(Function::Abs)])
         }
         Making::Bit => {
             next_number(reader, less)?;
             reader.expect(b"of", "of is wanted here, as in bit 3 of A")?;
             next_number(reader, less)?;
-            reader.part(Part::Pair(Operation::Bit))
+            reader.puts(&[Part::Pair(Operation::Bit)])
         }
         Making::Signed => {
             next_number(reader, less)?;
-            reader.part(Part::Of(Function::Signed))
+            reader.puts(&[Part::Of(Function::Signed)])
         }
         Making::Word => word_at(reader, less),
         Making::Byte => {
             bracketed(reader, less)?;
-            reader.part(Part::Of(Function::Byte))
+            reader.puts(&[Part::Of(Function::Byte)])
         }
         Making::Literal => number_here(reader),
         Making::Minus => {
-            reader.part(Part::Number(0))?;
+            reader.puts(&[Part::Number(0)])?;
             next_number(reader, less)?;
-            reader.part(Part::Pair(Operation::Minus))
+            reader.puts(&[Part::Pair(Operation::Minus)])
         }
     }
 }
@@ -434,7 +428,7 @@ fn two_numbers<'a>(reader: &mut Reader<'a, '_>, depth: u8) -> Result<(), ReadFau
 fn bracketed<'a>(reader: &mut Reader<'a, '_>, depth: u8) -> Result<(), ReadFault<'a>>
     ensures { OnOk result (ReadsClosed (sign (codes "]")) is_number (state_of reader.old) (state_of reader.new)) }
 {
-    let less = deeper(reader.rest, depth)?;
+    let less = depth.saturating_sub(1);
     number_in(reader, LOOSEST, less)?;
     reader.expect(b"]", "a ] is wanted here, as in [#$2000 + X]")
 }
@@ -448,11 +442,13 @@ fn word_at<'a>(reader: &mut Reader<'a, '_>, depth: u8) -> Result<(), ReadFault<'
     let less = deeper(reader.rest, depth)?;
     if reader.took(b"[") {
         bracketed(reader, less)?;
-        return reader.part(Part::Of(Function::Word));
+        return reader.puts(&[Part::Of(Function::Word)]);
     }
     let address = reader.address()?;
-    reader.part(Part::Number(i64::from(address)))?;
-    reader.part(Part::Of(Function::Word))
+    reader.puts(&[
+        Part::Number(i64::from(address)),
+        Part::Of(Function::Word),
+    ])
 }
 
 // Where a text stands in memory: from an address on, or from one that was made.
@@ -488,42 +484,6 @@ fn put_place<'a>(reader: &mut Reader<'a, '_>, span: Span, further: u16) -> Resul
     reader.again(span)
 }
 
-// The address so far behind one that was made.
-fn place_behind<'a>(
-    reader: &mut Reader<'a, '_>,
-    span: Span,
-    further: u16,
-) -> Result<(), ReadFault<'a>>
-    ensures { (e : Phrase) → IsMade span e reader.old.parts.items
-        → OnOk result (PutsOf (pushed further (e ∷ [])) (pair operation.Plus e (number (pos further)))
-        (state_of reader.old) (state_of reader.new)) }
-{
-    put_place(reader, span, further)?;
-    reader.part(Part::Number(i64::from(further)))?;
-    reader.part(Part::Pair(Operation::Plus))
-}
-
-// The byte so far behind a place.
-fn byte_behind<'a>(
-    reader: &mut Reader<'a, '_>,
-    place: Place,
-    further: u16,
-) -> Result<(), ReadFault<'a>>
-    ensures { (phrase : ℕ → Phrase) (top : List Phrase) → IsPlaced place phrase top reader.old.parts.items
-        → OnOk result (PutsOf (pushed further top) (of function.Byte (phrase further)) (state_of reader.old) (state_of reader.new)) }
-{
-    match place {
-        Place::Fixed(address) => {
-            reader.part(Part::Number(i64::from(address) + i64::from(further)))?;
-            reader.part(Part::Of(Function::Byte))
-        }
-        Place::Made(span) => {
-            place_behind(reader, span, further)?;
-            reader.part(Part::Of(Function::Byte))
-        }
-    }
-}
-
 // That the byte so far behind a place is this one.
 fn is_laid<'a>(
     reader: &mut Reader<'a, '_>,
@@ -535,9 +495,24 @@ fn is_laid<'a>(
         → OnOk result (PutsOf (pushed further top) (pair operation.Equal (of function.Byte (phrase further)) (number (pos code)))
         (state_of reader.old) (state_of reader.new)) }
 {
-    byte_behind(reader, place, further)?;
-    reader.part(Part::Number(i64::from(code)))?;
-    reader.part(Part::Pair(Operation::Equal))
+    match place {
+        Place::Fixed(address) => reader.puts(&[
+            Part::Number(i64::from(address) + i64::from(further)),
+            Part::Of(Function::Byte),
+            Part::Number(i64::from(code)),
+            Part::Pair(Operation::Equal),
+        ]),
+        Place::Made(span) => {
+            put_place(reader, span, further)?;
+            reader.puts(&[
+                Part::Number(i64::from(further)),
+                Part::Pair(Operation::Plus),
+                Part::Of(Function::Byte),
+                Part::Number(i64::from(code)),
+                Part::Pair(Operation::Equal),
+            ])
+        }
+    }
 }
 
 // That the bytes from a place on are those of a text, one after another.
@@ -557,7 +532,7 @@ fn are_laid<'a>(
         };
         is_laid(reader, place, further, character.wrapping_add(top))?;
         if further > 0 {
-            join_both(reader)?;
+            reader.puts(&BOTH)?;
         }
     }
     Ok(())
@@ -569,7 +544,7 @@ fn text_at<'a>(reader: &mut Reader<'a, '_>, depth: u8) -> Result<(), ReadFault<'
     ensures { (before : State) → Takes (word (codes "text")) before (state_of reader.old)
         → OnOk result (ReadsKind kinds.Fact before (state_of reader.new)) }
 {
-    let less = deeper(reader.rest, depth)?;
+    let less = depth.saturating_sub(1);
     let place = place_next(reader, less)?;
     reader.expect(b"=", TEXT_WANTED)?;
     let (text, top) = reader.laid_text()?;
@@ -596,7 +571,7 @@ fn conditional<'a>(reader: &mut Reader<'a, '_>, depth: u8) -> Result<Kind, ReadF
     ensures { (before : State) → Takes (word (codes "if")) before (state_of reader.old)
         → IfOk result (λ kind. ReadsKind kind before (state_of reader.new)) }
 {
-    let less = deeper(reader.rest, depth)?;
+    let less = depth.saturating_sub(1);
     fact_in(reader, LOOSEST, less)?;
     reader.expect(
         b"then",
@@ -605,12 +580,11 @@ fn conditional<'a>(reader: &mut Reader<'a, '_>, depth: u8) -> Result<Kind, ReadF
     let one = expression(reader, LOOSEST, less)?;
     if !reader.took(b"else") {
         one.fact()?;
-        reader.part(Part::Number(1))?;
-        reader.part(Part::Choice)?;
+        reader.puts(&[Part::Number(1), Part::Choice])?;
         return Ok(Kind::Fact);
     }
     let other = expression(reader, LOOSEST, less)?;
-    reader.part(Part::Choice)?;
+    reader.puts(&[Part::Choice])?;
     either(one, other)
 }
 
@@ -648,7 +622,7 @@ fn for_all<'a>(reader: &mut Reader<'a, '_>, depth: u8) -> Result<(), ReadFault<'
     let name = counted(reader, less)?;
     fact_in(reader, LOOSEST, less)?;
     reader.unbind(name);
-    reader.part(Part::Each(name))
+    reader.puts(&[Part::Each(name)])
 }
 
 // The sum of what is for each number below one.
@@ -657,9 +631,9 @@ fn sum_of<'a>(reader: &mut Reader<'a, '_>, depth: u8) -> Result<(), ReadFault<'a
     ensures { (before : State) → Takes (word (codes "sum")) before (state_of reader.old)
         → OnOk result (ReadsKind kinds.Number before (state_of reader.new)) }
 {
-    let less = deeper(reader.rest, depth)?;
+    let less = depth.saturating_sub(1);
     let name = counted(reader, less)?;
     number_in(reader, BEHIND_COMPARISON, less)?;
     reader.unbind(name);
-    reader.part(Part::Sum(name))
+    reader.puts(&[Part::Sum(name)])
 }

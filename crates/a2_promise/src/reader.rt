@@ -309,11 +309,11 @@ impl<'a, 'p> Reader<'a, 'p> {
         Ok(self.parts.extend_from_slice(copied.as_slice())?)
     }
 
-    /// Puts a part behind those of the expression.
-    pub fn part(&mut self, part: Part) -> Result<(), ReadFault<'a>>
-        ensures { OnOk result (Puts (part ∷ []) (state_of self.old) (state_of self.new)) }
+    /// Puts parts behind those of the expression.
+    pub fn puts(&mut self, parts: &[Part]) -> Result<(), ReadFault<'a>>
+        ensures { OnOk result (Puts parts.now (state_of self.old) (state_of self.new)) }
     {
-        Ok(self.parts.extend_from_slice(&[part])?)
+        Ok(self.parts.extend_from_slice(parts)?)
     }
 
     /// The expression that was read.

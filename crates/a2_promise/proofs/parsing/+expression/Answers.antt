@@ -13,7 +13,7 @@ use Rattle.a2_promise.specs.Grammar.{atom_kind, address_of, infix_rank, tightest
 use Rattle.a2_promise.specs.Reading.{State, Stops, ReadsJoined, token_of, Puts, Takes, ReadsOne, ReadsPiece, first, state_of, opening_token, making_token}
 use Rattle.a2_promise.proofs.Goings.{puts_both}
 use Rattle.a2_promise.proofs.Formers.{literal_read, decimal_read, byte_read, counted_read, atom_read, group_read, before_read, there_read, magnitude_read, signed_read, negated_read, minus_read}
-use Rattle.a2_promise.proofs.Joinings.{bit_read, provided_read, apply_read, or_read, and_read, iff_read, comparison_read, chain_read, last_read, nothing_put, number_by, fact_by}
+use Rattle.a2_promise.proofs.Joinings.{bit_read, provided_read, apply_read, logic_read, logic_kind, comparison_read, chain_read, last_read, nothing_put, number_by, fact_by}
 use Rattle.a2_promise.proofs.Countings.{two_read, least_read, greatest_read, closed_read, byte_in_read, word_in_read, word_of_read, counted_head, for_all_read, sum_read, place_made, number_one, fact_one, kind_piece, either_read, stops_of, stops_under, shorter_joined, rank_min, rank_joined, if_ok, text_result, none_by, limit_of, of_none, byte_free}
 use Rattle.a2_promise.proofs.Laying.{on_ok}
 use Rattle.a2_promise.proofs.parsing.+expression.Goals as goal
@@ -47,15 +47,15 @@ two_numbers-returns t c =
 
 pub for_all-returns : goal.for_all-returns
 for_all-returns t c = λ before h.
-    on_ok c.part.result _ _ (λ p. for_all_read c.in_ok-name.name before (state_of c.args.reader.now) (state_of c.expect.new.self) (state_of c.counted.new.reader)
-    (state_of c.fact_in.new.reader) (state_of c.unbind.new.self) (state_of c.part.new.self) h c.in_ok-expect.ensures c.in_ok-name.ensures c.in_ok-fact_in.ensures
-    c.unbind.ensures p) c.part.ensures
+    on_ok c.puts.result _ _ (λ p. for_all_read c.in_ok-name.name before (state_of c.args.reader.now) (state_of c.expect.new.self) (state_of c.counted.new.reader)
+    (state_of c.fact_in.new.reader) (state_of c.unbind.new.self) (state_of c.puts.new.self) h c.in_ok-expect.ensures c.in_ok-name.ensures c.in_ok-fact_in.ensures
+    c.unbind.ensures p) c.puts.ensures
 
 pub sum_of-returns : goal.sum_of-returns
 sum_of-returns t c = λ before h.
-    on_ok c.part.result _ _ (λ p. sum_read c.in_ok-name.name before (state_of c.args.reader.now) (state_of c.counted.new.reader)
-    (state_of c.number_in.new.reader) (state_of c.unbind.new.self) (state_of c.part.new.self) h c.in_ok-name.ensures c.in_ok-number_in.ensures
-    c.unbind.ensures p) c.part.ensures
+    on_ok c.puts.result _ _ (λ p. sum_read c.in_ok-name.name before (state_of c.args.reader.now) (state_of c.counted.new.reader)
+    (state_of c.number_in.new.reader) (state_of c.unbind.new.self) (state_of c.puts.new.self) h c.in_ok-name.ensures c.in_ok-number_in.ensures
+    c.unbind.ensures p) c.puts.ensures
 
 pub counted-returns : goal.counted-returns
 counted-returns t c =
@@ -90,44 +90,42 @@ word_at-returns t c = λ before h.
     let same = c.took.ensures.same c.if-took.false in
     let P : State → Type 0 = λ s. Takes (word (codes "word")) before s in
     let it = c.in_ok-address.ensures in
-    let y : Puts (part.Number (pos c.in_ok-address.address) ∷ []) (state_of c.address.new.self) (state_of c.part-2.new.self) = search (rules, c.in_ok-part.ensures) in
-    on_ok c.part-3.result _ _ (λ p. word_of_read it.0 c.in_ok-address.address before (state_of c.took.new.self) (state_of c.address.new.self) (state_of c.part-2.new.self)
-    (state_of c.part-3.new.self) (subst P (sym same) h) it.1 it.2 y p) c.part-3.ensures
+    on_ok c.puts-2.result _ _ (λ p. word_of_read it.0 c.in_ok-address.address _ before (state_of c.took.new.self) (state_of c.address.new.self)
+    (state_of c.puts-2.new.self) (subst P (sym same) h) it.1 it.2 (search rules) p) c.puts-2.ensures
 
 pub word_at-returns-then-took : goal.word_at-returns-then-took
 word_at-returns-then-took t c = λ before h.
-    on_ok c.part.result _ _ (λ p. word_in_read before (state_of c.args.reader.now) (state_of c.took.new.self) (state_of c.bracketed.new.reader) (state_of c.part.new.self)
-    h (c.took.ensures.took c.if-took.true) c.in_ok-bracketed.ensures p) c.part.ensures
+    on_ok c.puts.result _ _ (λ p. word_in_read before (state_of c.args.reader.now) (state_of c.took.new.self) (state_of c.bracketed.new.reader) (state_of c.puts.new.self)
+    h (c.took.ensures.took c.if-took.true) c.in_ok-bracketed.ensures p) c.puts.ensures
 
 pub conditional-returns : goal.conditional-returns
 conditional-returns t c = λ before h.
     if_ok c.either.result _ _ (λ k is. either_read c.in_ok-one.one c.in_ok-other.other k before (state_of c.args.reader.now) (state_of c.fact_in.new.reader)
-    (state_of c.expect.new.self) (state_of c.expression.new.reader) (state_of c.took.new.self) (state_of c.expression-2.new.reader) (state_of c.part-2.new.self)
-    h c.in_ok-fact_in.ensures c.in_ok-expect.ensures c.in_ok-one.ensures (c.took.ensures.took c.if-not-took.false) c.in_ok-other.ensures c.in_ok-part-3.ensures is)
+    (state_of c.expect.new.self) (state_of c.expression.new.reader) (state_of c.took.new.self) (state_of c.expression-2.new.reader) (state_of c.puts-2.new.self)
+    h c.in_ok-fact_in.ensures c.in_ok-expect.ensures c.in_ok-one.ensures (c.took.ensures.took c.if-not-took.false) c.in_ok-other.ensures c.in_ok-puts-2.ensures is)
     c.either.ensures
 
 pub conditional-returns-then-not-took : goal.conditional-returns-then-not-took
 conditional-returns-then-not-took t c = λ before h.
     let same = c.took.ensures.same c.if-not-took.true in
     let none = c.took.ensures.none c.if-not-took.true in
-    let last = state_of c.part-then-not-took.new.self in
+    let last = state_of c.puts.new.self in
     let P : State → Type 0 = λ s. Puts (part.Number (pos 1) ∷ part.Choice ∷ []) s last in
-    let put = puts_both (part.Number (pos 1) ∷ []) (part.Choice ∷ []) (state_of c.took.new.self) (state_of c.part.new.self) last c.in_ok-part.ensures c.in_ok-part-2.ensures in
     provided_read before (state_of c.args.reader.now) (state_of c.fact_in.new.reader) (state_of c.expect.new.self) (state_of c.expression.new.reader) last
     h c.in_ok-fact_in.ensures c.in_ok-expect.ensures
-    (fact_one 1 c.in_ok-one.one (state_of c.expect.new.self) (state_of c.expression.new.reader) c.in_ok-one.ensures c.in_ok-fact.ensures) none (subst P same put)
+    (fact_one 1 c.in_ok-one.one (state_of c.expect.new.self) (state_of c.expression.new.reader) c.in_ok-one.ensures c.in_ok-fact.ensures) none (subst P same c.in_ok-puts.ensures)
 
 pub comparison-returns : goal.comparison-returns
 comparison-returns t c = λ before middle e r l u.
     chain_read c.args.relation c.args.left c.compared-2.result e c.in-Some.chained c.in_ok-last-2.last before middle (state_of c.args.reader.now) (state_of c.again.new.self)
-    (state_of c.last_number-2.new.reader) (state_of c.compare-2.new.reader) (state_of c.join_both.new.reader) r l c.in-Some.is u c.in_ok-again.ensures
-    c.in_ok-last-2.ensures c.in_ok-compare-2.ensures c.in_ok-join_both.ensures c.compared-2.ensures.kind c.compared-2.ensures.last
+    (state_of c.last_number-2.new.reader) (state_of c.puts-2.new.self) (state_of c.puts-3.new.self) r l c.in-Some.is u c.in_ok-again.ensures
+    c.in_ok-last-2.ensures (rw c.comparing-2.ensures at c.in_ok-puts-2.ensures) c.in_ok-puts-3.ensures c.compared-2.ensures.kind c.compared-2.ensures.last
 
 pub comparison-returns-in_default : goal.comparison-returns-in_default
 comparison-returns-in_default t c = λ before middle e r l u.
     comparison_read c.args.relation c.args.left c.compared.result e c.in_ok-last.last before middle (state_of c.args.reader.now) (state_of c.last_number.new.reader)
-    (state_of c.compare.new.reader) r l (none_by c.args.left.last c.in_default.not-Some) c.in_ok-number.ensures u
-    c.in_ok-last.ensures c.in_ok-compare.ensures c.compared.ensures.kind c.compared.ensures.last
+    (state_of c.puts.new.self) r l (none_by c.args.left.last c.in_default.not-Some) c.in_ok-number.ensures u
+    c.in_ok-last.ensures (rw c.comparing.ensures at c.in_ok-puts.ensures) c.compared.ensures.kind c.compared.ensures.last
 
 pub joined-returns-in-Compare : goal.joined-returns-in-Compare
 joined-returns-in-Compare t c = λ before e r l f below.
@@ -135,14 +133,14 @@ joined-returns-in-Compare t c = λ before e r l f below.
     subst P (sym c.in-Compare.is) (c.comparison.ensures before (state_of c.args.reader.now) e r l
     (c.take.ensures (infix_token (infixes.Compare c.in-Compare.relation)) (f ∙ ap (λ join. Some (infix_token join)) c.in-Compare.is)))
 
-pub joined-returns-in_ok-part-in-Apply : goal.joined-returns-in_ok-part-in-Apply
-joined-returns-in_ok-part-in-Apply t c = λ before e r l f below.
+pub joined-returns-in_ok-puts-in-Apply : goal.joined-returns-in_ok-puts-in-Apply
+joined-returns-in_ok-puts-in-Apply t c = λ before e r l f below.
     let op = c.in-Apply.operation in
     let is = c.in-Apply.is in
     let a = state_of c.args.reader.now in
     let m = state_of c.take.new.self in
     let n = state_of c.number_in.new.reader in
-    let b = state_of c.part.new.self in
+    let b = state_of c.puts.new.self in
     let P : Infix → Type 0 = λ join. ReadsJoined join e c.at.result before b in
     let Q : ℕ → Type 0 = λ k. ReadsOne k is_number m n in
     let limit = limit_of c.saturating_add-rank.result c.rank_of.result c.args.join c.rank_of.ensures below c.saturating_add-rank.ensures
@@ -150,53 +148,21 @@ joined-returns-in_ok-part-in-Apply t c = λ before e r l f below.
     let under : infix_rank (infixes.Apply op) < tightest = (let R : Infix → Type 0 = λ join. infix_rank join < tightest in subst R is below) in
     subst P (sym is) (apply_read op under c.args.left c.at.result e before a m m n b r l (number_by e c.args.left.kind l.kind c.in_ok-number-in-Apply.ensures)
     (c.take.ensures (infix_token (infixes.Apply op)) (f ∙ ap (λ join. Some (infix_token join)) is)) (nothing_put m)
-    (subst Q limit c.in_ok-number_in-in-Apply.ensures) c.in_ok-part-in-Apply.ensures c.at.ensures.kind c.at.ensures.last)
+    (subst Q limit c.in_ok-number_in-in-Apply.ensures) c.in_ok-puts-in-Apply.ensures c.at.ensures.kind c.at.ensures.last)
 
-pub joined-returns-in_ok-part-in-Or-2 : goal.joined-returns-in_ok-part-in-Or-2
-joined-returns-in_ok-part-in-Or-2 t c = λ before e r l f below.
-    let is = c.in-Or.is in
-    let a = state_of c.args.reader.now in
+pub joined-returns-in_ok-puts-in-Or-2 : goal.joined-returns-in_ok-puts-in-Or-2
+joined-returns-in_ok-puts-in-Or-2 t c = λ before e r l f below.
+    let join = c.args.join in
     let m = state_of c.take.new.self in
-    let k = state_of c.part-in-Or.new.self in
+    let k = state_of c.puts-in-Or.new.self in
     let n = state_of c.fact_in.new.reader in
-    let b = state_of c.part-in-Or-2.new.self in
-    let P : Infix → Type 0 = λ join. ReadsJoined join e c.at-in-Or.result before b in
+    let b = state_of c.puts-in-Or-2.new.self in
     let Q : ℕ → Type 0 = λ limit. ReadsOne limit is_fact k n in
-    let limit = limit_of c.saturating_add-rank.result c.rank_of.result c.args.join c.rank_of.ensures below c.saturating_add-rank.ensures
-    ∙ ap (λ join. suc (infix_rank join)) is in
-    subst P (sym is) (or_read c.args.left c.at-in-Or.result e before a m k n b r l (fact_by e c.args.left.kind l.kind c.in_ok-fact-in-Or.ensures)
-    (c.take.ensures (infix_token infixes.Or) (f ∙ ap (λ join. Some (infix_token join)) is)) c.in_ok-part-in-Or.ensures
-    (subst Q limit c.in_ok-fact_in-in-Or.ensures) c.in_ok-part-in-Or-2.ensures c.at-in-Or.ensures.kind c.at-in-Or.ensures.last)
-
-pub joined-returns-in_ok-join_both-in-And : goal.joined-returns-in_ok-join_both-in-And
-joined-returns-in_ok-join_both-in-And t c = λ before e r l f below.
-    let is = c.in-And.is in
-    let a = state_of c.args.reader.now in
-    let m = state_of c.take.new.self in
-    let n = state_of c.fact_in-in-And.new.reader in
-    let b = state_of c.join_both.new.reader in
-    let P : Infix → Type 0 = λ join. ReadsJoined join e c.at-in-And.result before b in
-    let Q : ℕ → Type 0 = λ limit. ReadsOne limit is_fact m n in
-    let limit = limit_of c.saturating_add-rank.result c.rank_of.result c.args.join c.rank_of.ensures below c.saturating_add-rank.ensures
-    ∙ ap (λ join. suc (infix_rank join)) is in
-    subst P (sym is) (and_read c.args.left c.at-in-And.result e before a m m n b r l (fact_by e c.args.left.kind l.kind c.in_ok-fact-in-And.ensures)
-    (c.take.ensures (infix_token infixes.And) (f ∙ ap (λ join. Some (infix_token join)) is)) (nothing_put m)
-    (subst Q limit c.in_ok-fact_in-in-And.ensures) c.in_ok-join_both-in-And.ensures c.at-in-And.ensures.kind c.at-in-And.ensures.last)
-
-pub joined-returns-in_ok-part-in-Iff : goal.joined-returns-in_ok-part-in-Iff
-joined-returns-in_ok-part-in-Iff t c = λ before e r l f below.
-    let is = c.in-Iff.is in
-    let a = state_of c.args.reader.now in
-    let m = state_of c.take.new.self in
-    let n = state_of c.fact_in-in-Iff.new.reader in
-    let b = state_of c.part-in-Iff.new.self in
-    let P : Infix → Type 0 = λ join. ReadsJoined join e c.at-in-Iff.result before b in
-    let Q : ℕ → Type 0 = λ limit. ReadsOne limit is_fact m n in
-    let limit = limit_of c.saturating_add-rank.result c.rank_of.result c.args.join c.rank_of.ensures below c.saturating_add-rank.ensures
-    ∙ ap (λ join. suc (infix_rank join)) is in
-    subst P (sym is) (iff_read c.args.left c.at-in-Iff.result e before a m m n b r l (fact_by e c.args.left.kind l.kind c.in_ok-fact-in-Iff.ensures)
-    (c.take.ensures (infix_token infixes.Iff) (f ∙ ap (λ join. Some (infix_token join)) is)) (nothing_put m)
-    (subst Q limit c.in_ok-fact_in-in-Iff.ensures) c.in_ok-part-in-Iff.ensures c.at-in-Iff.ensures.kind c.at-in-Iff.ensures.last)
+    let limit = limit_of c.saturating_add-rank.result c.rank_of.result join c.rank_of.ensures below c.saturating_add-rank.ensures in
+    logic_read join c.in-Or.is c.args.left c.at-in-Or.result e before (state_of c.args.reader.now) m k n b r l
+    (fact_by e c.args.left.kind l.kind c.in_ok-fact-in-Or.ensures) (c.take.ensures (infix_token join) f)
+    (rw c.joining.ensures.before at c.in_ok-puts-in-Or.ensures) (subst Q limit c.in_ok-fact_in-in-Or.ensures)
+    (rw c.joining.ensures.behind at c.in_ok-puts-in-Or-2.ensures) (c.at-in-Or.ensures.kind ∙ logic_kind join c.in-Or.is) c.at-in-Or.ensures.last
 
 pub expression-loop-join-init : goal.expression-loop-join-init
 expression-loop-join-init t c =
@@ -241,15 +207,15 @@ made_by_token making other a b e h = let P : Making → Type 0 = λ m. Takes (ma
 
 pub make-returns-in_ok-two_numbers-in-Least : goal.make-returns-in_ok-two_numbers-in-Least
 make-returns-in_ok-two_numbers-in-Least t c = λ before h.
-    on_ok c.part.result _ _ (λ p. least_read before (state_of c.args.reader.now) (state_of c.two_numbers.new.reader) (state_of c.part.new.self)
-    (made_by_token c.args.making makings.Least before (state_of c.args.reader.now) c.in-Least.is h) c.in_ok-two_numbers-in-Least.ensures p) c.part.ensures
+    on_ok c.puts.result _ _ (λ p. least_read before (state_of c.args.reader.now) (state_of c.two_numbers.new.reader) (state_of c.puts.new.self)
+    (made_by_token c.args.making makings.Least before (state_of c.args.reader.now) c.in-Least.is h) c.in_ok-two_numbers-in-Least.ensures p) c.puts.ensures
 
 pub make-returns-in_ok-next_number-in-Bit-2 : goal.make-returns-in_ok-next_number-in-Bit-2
 make-returns-in_ok-next_number-in-Bit-2 t c = λ before h.
-    on_ok c.part-in-Bit.result _ _ (λ p. bit_read before (state_of c.args.reader.now) (state_of c.next_number-in-Bit.new.reader) (state_of c.expect.new.self)
-    (state_of c.next_number-in-Bit-2.new.reader) (state_of c.part-in-Bit.new.self)
+    on_ok c.puts-in-Bit.result _ _ (λ p. bit_read before (state_of c.args.reader.now) (state_of c.next_number-in-Bit.new.reader) (state_of c.expect.new.self)
+    (state_of c.next_number-in-Bit-2.new.reader) (state_of c.puts-in-Bit.new.self)
     (made_by_token c.args.making makings.Bit before (state_of c.args.reader.now) c.in-Bit.is h) c.in_ok-next_number-in-Bit.ensures
-    c.in_ok-expect-in-Bit.ensures c.in_ok-next_number-in-Bit-2.ensures p) c.part-in-Bit.ensures
+    c.in_ok-expect-in-Bit.ensures c.in_ok-next_number-in-Bit-2.ensures p) c.puts-in-Bit.ensures
 
 pub make-returns-in-Word : goal.make-returns-in-Word
 make-returns-in-Word t c = λ before h.
@@ -262,42 +228,42 @@ make-returns-in-Literal t c = λ before h.
 
 pub make-returns-in_ok-next_number-in-Minus : goal.make-returns-in_ok-next_number-in-Minus
 make-returns-in_ok-next_number-in-Minus t c = λ before h.
-    on_ok c.part-in-Minus-2.result _ _ (λ p. minus_read before (state_of c.args.reader.now) (state_of c.part-in-Minus.new.self) (state_of c.next_number-in-Minus.new.reader)
-    (state_of c.part-in-Minus-2.new.self) (made_by_token c.args.making makings.Minus before (state_of c.args.reader.now) c.in-Minus.is h)
-    c.in_ok-part-in-Minus.ensures c.in_ok-next_number-in-Minus.ensures p) c.part-in-Minus-2.ensures
+    on_ok c.puts-in-Minus-2.result _ _ (λ p. minus_read before (state_of c.args.reader.now) (state_of c.puts-in-Minus.new.self) (state_of c.next_number-in-Minus.new.reader)
+    (state_of c.puts-in-Minus-2.new.self) (made_by_token c.args.making makings.Minus before (state_of c.args.reader.now) c.in-Minus.is h)
+    c.in_ok-puts-in-Minus.ensures c.in_ok-next_number-in-Minus.ensures p) c.puts-in-Minus-2.ensures
 
 pub make-returns-in_ok-two_numbers-in-Greatest : goal.make-returns-in_ok-two_numbers-in-Greatest
 make-returns-in_ok-two_numbers-in-Greatest t c = λ before h.
-    on_ok c.part-in-Greatest.result _ _ (λ p. greatest_read before (state_of c.args.reader.now) (state_of c.two_numbers-in-Greatest.new.reader) (state_of c.part-in-Greatest.new.self)
+    on_ok c.puts-in-Greatest.result _ _ (λ p. greatest_read before (state_of c.args.reader.now) (state_of c.two_numbers-in-Greatest.new.reader) (state_of c.puts-in-Greatest.new.self)
     (made_by_token c.args.making makings.Greatest before (state_of c.args.reader.now) c.in-Greatest.is h) c.in_ok-two_numbers-in-Greatest.ensures p)
-    c.part-in-Greatest.ensures
+    c.puts-in-Greatest.ensures
 
 pub make-returns-in_ok-next_number-in-Abs : goal.make-returns-in_ok-next_number-in-Abs
 make-returns-in_ok-next_number-in-Abs t c = λ before h.
-    on_ok c.part-in-Abs.result _ _ (λ p. magnitude_read before (state_of c.args.reader.now) (state_of c.next_number.new.reader) (state_of c.part-in-Abs.new.self)
-    (made_by_token c.args.making makings.Abs before (state_of c.args.reader.now) c.in-Abs.is h) c.in_ok-next_number-in-Abs.ensures p) c.part-in-Abs.ensures
+    on_ok c.puts-in-Abs.result _ _ (λ p. magnitude_read before (state_of c.args.reader.now) (state_of c.next_number.new.reader) (state_of c.puts-in-Abs.new.self)
+    (made_by_token c.args.making makings.Abs before (state_of c.args.reader.now) c.in-Abs.is h) c.in_ok-next_number-in-Abs.ensures p) c.puts-in-Abs.ensures
 
 pub make-returns-in_ok-next_number-in-Signed : goal.make-returns-in_ok-next_number-in-Signed
 make-returns-in_ok-next_number-in-Signed t c = λ before h.
-    on_ok c.part-in-Signed.result _ _ (λ p. signed_read before (state_of c.args.reader.now) (state_of c.next_number-in-Signed.new.reader) (state_of c.part-in-Signed.new.self)
+    on_ok c.puts-in-Signed.result _ _ (λ p. signed_read before (state_of c.args.reader.now) (state_of c.next_number-in-Signed.new.reader) (state_of c.puts-in-Signed.new.self)
     (made_by_token c.args.making makings.Signed before (state_of c.args.reader.now) c.in-Signed.is h) c.in_ok-next_number-in-Signed.ensures p)
-    c.part-in-Signed.ensures
+    c.puts-in-Signed.ensures
 
 pub make-returns-in_ok-bracketed-in-Byte : goal.make-returns-in_ok-bracketed-in-Byte
 make-returns-in_ok-bracketed-in-Byte t c = λ before h.
-    on_ok c.part-in-Byte.result _ _ (λ p. byte_in_read before (state_of c.args.reader.now) (state_of c.bracketed.new.reader) (state_of c.part-in-Byte.new.self)
+    on_ok c.puts-in-Byte.result _ _ (λ p. byte_in_read before (state_of c.args.reader.now) (state_of c.bracketed.new.reader) (state_of c.puts-in-Byte.new.self)
     (made_by_token c.args.making makings.Byte before (state_of c.args.reader.now) c.in-Byte.is h) c.in_ok-bracketed-in-Byte.ensures p)
-    c.part-in-Byte.ensures
+    c.puts-in-Byte.ensures
 
 opened_by : (opening other : Opening) (a b : State) → opening ≡ other → Takes (opening_token opening) a b → Takes (opening_token other) a b
 opened_by opening other a b e h = let P : Opening → Type 0 = λ m. Takes (opening_token m) a b in subst P e h
 
-pub opened-returns-in_ok-part-in-Held : goal.opened-returns-in_ok-part-in-Held
-opened-returns-in_ok-part-in-Held t c = λ before h.
+pub opened-returns-in_ok-puts-in-Held : goal.opened-returns-in_ok-puts-in-Held
+opened-returns-in_ok-puts-in-Held t c = λ before h.
     let it = c.in-Held.atom in
-    kind_piece (atom_kind it) c.at.result before (state_of c.part.new.self)
-    (atom_read it before (state_of c.args.reader.now) (state_of c.part.new.self) (opened_by c.args.opening (openings.Held it) before (state_of c.args.reader.now) c.in-Held.is h)
-    c.in_ok-part-in-Held.ensures)
+    kind_piece (atom_kind it) c.at.result before (state_of c.puts.new.self)
+    (atom_read it before (state_of c.args.reader.now) (state_of c.puts.new.self) (opened_by c.args.opening (openings.Held it) before (state_of c.args.reader.now) c.in-Held.is h)
+    c.in_ok-puts-in-Held.ensures)
     (c.at.ensures.kind ∙ c.kind_of.ensures) c.at.ensures.last
 
 pub opened-returns-in_ok-expect-in-Group : goal.opened-returns-in_ok-expect-in-Group
@@ -308,22 +274,22 @@ opened-returns-in_ok-expect-in-Group t c = λ before h.
     (opened_by c.args.opening openings.Group before (state_of c.args.reader.now) c.in-Group.is h) c.in_ok-within-in-Group.ensures c.in_ok-expect-in-Group.ensures)
     c.at-in-Group.ensures.kind c.at-in-Group.ensures.last
 
-pub opened-returns-in_ok-part-in-Old : goal.opened-returns-in_ok-part-in-Old
-opened-returns-in_ok-part-in-Old t c = λ before h.
+pub opened-returns-in_ok-puts-in-Old : goal.opened-returns-in_ok-puts-in-Old
+opened-returns-in_ok-puts-in-Old t c = λ before h.
     let piece = c.in_ok-within-in-Old.within in
-    kind_piece piece.kind c.at-in-Old.result before (state_of c.part-in-Old.new.self)
-    (before_read piece before (state_of c.args.reader.now) (state_of c.beginning.new.reader) (state_of c.part-in-Old.new.self)
-    (opened_by c.args.opening openings.Old before (state_of c.args.reader.now) c.in-Old.is h) c.in_ok-within-in-Old.ensures c.in_ok-part-in-Old.ensures)
+    kind_piece piece.kind c.at-in-Old.result before (state_of c.puts-in-Old.new.self)
+    (before_read piece before (state_of c.args.reader.now) (state_of c.beginning.new.reader) (state_of c.puts-in-Old.new.self)
+    (opened_by c.args.opening openings.Old before (state_of c.args.reader.now) c.in-Old.is h) c.in_ok-within-in-Old.ensures c.in_ok-puts-in-Old.ensures)
     c.at-in-Old.ensures.kind c.at-in-Old.ensures.last
 
-pub opened-returns-in_ok-part-in-At : goal.opened-returns-in_ok-part-in-At
-opened-returns-in_ok-part-in-At t c = λ before h.
+pub opened-returns-in_ok-puts-in-At : goal.opened-returns-in_ok-puts-in-At
+opened-returns-in_ok-puts-in-At t c = λ before h.
     let piece = c.in_ok-within-in-At.within in
     let it = c.in_ok-address-in-At.ensures in
-    kind_piece piece.kind c.at-in-At.result before (state_of c.part-in-At.new.self)
+    kind_piece piece.kind c.at-in-At.result before (state_of c.puts-in-At.new.self)
     (there_read piece it.0 c.in_ok-address-in-At.address before (state_of c.args.reader.now) (state_of c.label.new.self) (state_of c.beginning-in-At.new.reader)
-    (state_of c.part-in-At.new.self) (opened_by c.args.opening openings.At before (state_of c.args.reader.now) c.in-At.is h) it.1 it.2 it.3
-    c.in_ok-within-in-At.ensures c.in_ok-part-in-At.ensures)
+    (state_of c.puts-in-At.new.self) (opened_by c.args.opening openings.At before (state_of c.args.reader.now) c.in-At.is h) it.1 it.2 it.3
+    c.in_ok-within-in-At.ensures c.in_ok-puts-in-At.ensures)
     c.at-in-At.ensures.kind c.at-in-At.ensures.last
 
 pub opened-returns-in_ok-text_at-in-Text : goal.opened-returns-in_ok-text_at-in-Text
@@ -332,11 +298,11 @@ opened-returns-in_ok-text_at-in-Text t c = λ before h.
     (c.in_ok-text_at-in-Text.ensures before (opened_by c.args.opening openings.Text before (state_of c.args.reader.now) c.in-Text.is h))
     c.at-in-Text.ensures.kind c.at-in-Text.ensures.last
 
-pub opened-returns-in_ok-negate-in-Not : goal.opened-returns-in_ok-negate-in-Not
-opened-returns-in_ok-negate-in-Not t c = λ before h.
-    kind_piece kinds.Fact c.at-in-Not.result before (state_of c.negate.new.reader)
-    (negated_read before (state_of c.args.reader.now) (state_of c.fact_in.new.reader) (state_of c.negate.new.reader)
-    (opened_by c.args.opening openings.Not before (state_of c.args.reader.now) c.in-Not.is h) c.in_ok-fact_in-in-Not.ensures c.in_ok-negate-in-Not.ensures)
+pub opened-returns-in_ok-puts-in-Not : goal.opened-returns-in_ok-puts-in-Not
+opened-returns-in_ok-puts-in-Not t c = λ before h.
+    kind_piece kinds.Fact c.at-in-Not.result before (state_of c.puts-in-Not.new.self)
+    (negated_read before (state_of c.args.reader.now) (state_of c.fact_in.new.reader) (state_of c.puts-in-Not.new.self)
+    (opened_by c.args.opening openings.Not before (state_of c.args.reader.now) c.in-Not.is h) c.in_ok-fact_in-in-Not.ensures c.in_ok-puts-in-Not.ensures)
     c.at-in-Not.ensures.kind c.at-in-Not.ensures.last
 
 pub opened-returns-in_ok-kind-in-If : goal.opened-returns-in_ok-kind-in-If
@@ -367,9 +333,9 @@ pub beginning-returns-in-Some-bound : goal.beginning-returns-in-Some-bound
 beginning-returns-in-Some-bound t c =
     let found = c.in-Some-bound.ensures.found in
     let name = c.next-token.result.text.now in
-    kind_piece kinds.Number c.at.result (state_of c.args.reader.now) (state_of c.part.new.self)
-    (counted_read name c.in-Some-bound.name (state_of c.args.reader.now) (state_of c.take-in-Some-bound.new.self) (state_of c.part.new.self)
-    (c.take-in-Some-bound.ensures (word name) (sym c.next-token.ensures.first ∙ found.0)) found.1 c.in_ok-part.ensures)
+    kind_piece kinds.Number c.at.result (state_of c.args.reader.now) (state_of c.puts.new.self)
+    (counted_read name c.in-Some-bound.name (state_of c.args.reader.now) (state_of c.take-in-Some-bound.new.self) (state_of c.puts.new.self)
+    (c.take-in-Some-bound.ensures (word name) (sym c.next-token.ensures.first ∙ found.0)) found.1 c.in_ok-puts.ensures)
     c.at.ensures.kind c.at.ensures.last
 
 pub beginning-returns-in_ok-number_here-in-Decimal : goal.beginning-returns-in_ok-number_here-in-Decimal

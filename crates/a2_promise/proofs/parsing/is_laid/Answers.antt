@@ -1,21 +1,21 @@
-use Rattle.std.proofs.Common.{◌∷◌, [], pos, rules}
-use Rattle.a2_promise.specs.declared.expr.Function.TheVariants.{Byte}
-use Rattle.a2_promise.specs.declared.expr.Operation.TheVariants.{Equal}
-use Rattle.a2_promise.specs.declared.parts.Part.TheVariants as part
-use Rattle.a2_promise.specs.Phrases.{of, pair, number}
-use Rattle.a2_promise.specs.Reading.{Puts, pushed, state_of}
-use Rattle.a2_promise.proofs.Goings.{puts_both}
-use Rattle.a2_promise.proofs.Laying.{on_ok, put_then, equal_makes}
+use Rattle.std.proofs.Common.{◌+◌, pos, rules, subst, refl}
+use Rattle.a2_promise.specs.declared.parsing.Place.{Place}
+use Rattle.a2_promise.specs.declared.parsing.Place.TheVariants.{Fixed, Made}
+use Rattle.a2_promise.specs.Reading.{IsPlaced, state_of}
+use Rattle.a2_promise.proofs.Laying.{on_ok, laid_fixed, laid_made}
 use Rattle.a2_promise.proofs.parsing.is_laid.Goals as goal
 
-pub returns : goal.returns
-returns c = λ phrase top p.
-    let n = c.args.code in
-    let e = of Byte (phrase c.args.further) in
-    let a = state_of c.args.reader.now in
-    let b = state_of c.byte_behind.new.reader in
-    let d = state_of c.part.new.self in
-    let f = state_of c.part-2.new.self in
-    let y : Puts (part.Number (pos n) ∷ []) b d = search (rules, c.in_ok-part.ensures) in
-    on_ok c.part-2.result _ _ (λ q. put_then (pushed c.args.further top) e (pair Equal e (number (pos n))) (part.Number (pos n) ∷ part.Pair Equal ∷ []) a b f
-    (c.in_ok-byte_behind.ensures phrase top p) (puts_both (part.Number (pos n) ∷ []) (part.Pair Equal ∷ []) b d f y q) (equal_makes e n)) c.part-2.ensures
+pub returns-in-Fixed : goal.returns-in-Fixed
+returns-in-Fixed c = λ phrase top p.
+    let P : Place → Type 0 = λ place. IsPlaced place phrase top c.args.reader.now.parts.items in
+    let placed : IsPlaced (Fixed c.in-Fixed.address) phrase top c.args.reader.now.parts.items = subst P c.in-Fixed.is p in
+    on_ok c.puts.result _ _ (λ q. laid_fixed c.in-Fixed.address phrase top c.args.further c.args.code _ _ c.args.reader.now.parts.items
+    (state_of c.args.reader.now) (state_of c.puts.new.self) placed (search rules) (search rules) q) c.puts.ensures
+
+pub returns-in_ok-put_place-in-Made : goal.returns-in_ok-put_place-in-Made
+returns-in_ok-put_place-in-Made c = λ phrase top p.
+    let P : Place → Type 0 = λ place. IsPlaced place phrase top c.args.reader.now.parts.items in
+    let placed : IsPlaced (Made c.in-Made.span) phrase top c.args.reader.now.parts.items = subst P c.in-Made.is p in
+    on_ok c.puts-in-Made.result _ _ (λ q. laid_made c.in-Made.span phrase top c.args.further c.args.code _ _
+    (state_of c.args.reader.now) (state_of c.put_place.new.reader) (state_of c.puts-in-Made.new.self) placed
+    (c.in_ok-put_place-in-Made.ensures placed.0 placed.3) (search rules) (search rules) q) c.puts-in-Made.ensures
