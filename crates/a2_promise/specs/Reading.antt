@@ -364,16 +364,17 @@ IsEither one other it =
     IsTrue ((may_be_number one && may_be_number other) || (may_be_fact one && may_be_fact other))
     × ((if may_be_fact one && may_be_fact other then kinds.Fact else kinds.Number) ≡ it)
 
--- an expression was read that passes a test, and nothing stands behind it
-pub record ReadsWhole (test : Written → Bool) (before after : State) : Type 0 where
-  pub e : Written
-  pub reads : Reads e before after
-  pub is : IsTrue (test e)
-  pub ended : after.left ≡ []
-
 -- what clauses say
 abbrev pub said_by : List Clause → List Phrase
 said_by clauses = map (λ clause. phrase_of clause.expr) clauses
+
+-- nothing stands behind what was read, and a clause more says what its parts make
+pub record AddsWhole (after : State) (clauses others : List Clause) : Type 0 where
+  pub ended : after.left ≡ []
+  pub clause : Clause
+  pub more : List Phrase
+  pub made_of : made after.parts [] ≡ phrase_of clause.expr ∷ more
+  pub adds : others ≡ clauses ++ clause ∷ []
 
 -- all that stood there was read as a clause more: it is how a fact is written that fits there, and the clause says what the fact says
 pub record AddsFact (before : State) (clauses others : List Clause) : Type 0 where

@@ -1,9 +1,8 @@
 //! The promises of a source text.
 
 ghost use Rattle.std.specs.Prelude.{◌≡◌, ℕ, List, [], ◌∷◌, ◌++◌, IsTrue, IfOk, IfSome, Some, ◌&&◌, MatchOption, OnOk};
-ghost use Rattle.a2_promise.specs.Grammar.{is_fact};
-ghost use Rattle.a2_promise.specs.Reading.{AddsChange, AddsChanges, AddsFact, AddsLine, around_of, says_within, token_of, verb_name};
-ghost use Rattle.a2_promise.specs.Reading.{IsChanges, IsUpTo, LetsChange, ReadsWhole, is_listed, state_of};
+ghost use Rattle.a2_promise.specs.Reading.{AddsChange, AddsChanges, AddsFact, AddsLine, AddsWhole, around_of, says_within, token_of, verb_name};
+ghost use Rattle.a2_promise.specs.Reading.{IsChanges, IsUpTo, LetsChange, is_listed, state_of};
 ghost use Rattle.a2_promise.specs.Told as change;
 ghost use Rattle.a2_promise.specs.Told.{may_change};
 ghost use Rattle.a2_promise.specs.Tokens.{tokens, word};
@@ -129,8 +128,8 @@ struct Block<'a> {
     promised: Vec<Clause<'a>>,
     changes: Changes,
     texts: Texts<'a>,
-    invariants: Vec<Clause<'a>>,
-    measures: Vec<Clause<'a>>,
+    /// What is said at the label, of which the line and the address come with it.
+    said: Within<'a>,
     labels: Vec<Label>,
     refused: Option<Refusal>,
     /// Whether a line says what holds within a routine, and none what it promises.
@@ -153,20 +152,17 @@ fn new_block<'a>(alloc: Global) -> Block<'a> {
             prints: Vec::new(alloc),
             takes: Vec::new(alloc),
         },
-        invariants: Vec::new(alloc),
-        measures: Vec::new(alloc),
+        said: Within {
+            line: 0,
+            address: 0,
+            invariants: Vec::new(alloc),
+            measures: Vec::new(alloc),
+            is_named: false,
+        },
         labels: Vec::new(alloc),
         refused: None,
         is_within: true,
     }
-}
-
-// What a piece of a line says that holds, and nothing behind it.
-fn whole_fact<'a>(reader: &mut Reader<'a, '_>) -> Result<(), ReadFault<'a>>
-    ensures { OnOk result (ReadsWhole is_fact (state_of reader.old) (state_of reader.new)) }
-{
-    expression(reader, LOOSEST, MOST_LEVELS)?.fact()?;
-    ended(reader)
 }
 
 // Nothing stands behind what was read.
@@ -316,8 +312,8 @@ impl<'a> Block<'a> {
             Verb::Changes => take_changes(reader, &mut self.changes),
             Verb::Prints => push_text(reader, &mut self.texts.prints, line),
             Verb::Takes => push_text(reader, &mut self.texts.takes, line),
-            Verb::Decreases => push_measure(reader, &mut self.measures, line, text),
-            Verb::Invariant | Verb::Note => push_fact(reader, &mut self.invariants, line, text),
+            Verb::Decreases => push_measure(reader, &mut self.said.measures, line, text),
+            Verb::Invariant | Verb::Note => push_fact(reader, &mut self.said.invariants, line, text),
         }
     }
 }
@@ -345,10 +341,8 @@ fn push_fact<'a>(
 ) -> Result<(), ReadFault<'a>>
     ensures { reader.old.parts.items ≡ [] → OnOk result (AddsFact (state_of reader.old) clauses.old.items clauses.new.items) }
 {
-    whole_fact(reader)?;
-    let expr = reader.expr()?;
-    push_clause(clauses, Clause { line, text, expr })?;
-    Ok(())
+    expression(reader, LOOSEST, MOST_LEVELS)?.fact()?;
+    push_whole(reader, clauses, line, text)
 }
 
 // Reads a number as a clause more.
@@ -359,6 +353,18 @@ fn push_measure<'a>(
     text: &'a [u8],
 ) -> Result<(), ReadFault<'a>> {
     expression(reader, LOOSEST, MOST_LEVELS)?.number()?;
+    push_whole(reader, clauses, line, text)
+}
+
+// Adds a clause of what was read, behind which nothing stands.
+fn push_whole<'a>(
+    reader: &Reader<'a, '_>,
+    clauses: &mut Vec<Clause<'a>>,
+    line: usize,
+    text: &'a [u8],
+) -> Result<(), ReadFault<'a>>
+    ensures { OnOk result (AddsWhole (state_of reader.now) clauses.old.items clauses.new.items) }
+{
     ended(reader)?;
     let expr = reader.expr()?;
     push_clause(clauses, Clause { line, text, expr })?;
@@ -450,33 +456,37 @@ fn take_line<'a>(
     }
 }
 
-// The address of a label at which an instruction begins, or why there is none.
-fn entry_of(program: &Program<Global>, label: &[u8]) -> Result<u16, &'static str> {
+// The address of the label that lines stand before, at which an instruction begins, or why they are no promise.
+fn entry_of(program: &Program<Global>, block: &Block, label: &[u8]) -> Result<u16, Refusal> {
+    if let Some(refusal) = block.refused {
+        return Err(refusal);
+    }
     let named = match std::str::from_utf8(label) {
         Ok(name) => program.name(name),
         Err(_) => None,
     };
     match named {
-        None => Err("a promise stands before the line of a label"),
+        None => Err(at_line(
+            block.first,
+            "a promise stands before the line of a label",
+        )),
         Some(address) => match program.instr_at(address) {
             Some(_) => Ok(address),
-            None => Err(
+            None => Err(at_line(
+                block.first,
                 "a promise stands before a routine, and no instruction begins at this label",
-            ),
+            )),
         },
     }
 }
 
 // Why lines from this one on are no promise.
-fn refused_at<'a>(line: usize, says: &'static str, name: &'a [u8]) -> Found<'a> {
-    Found::Refused(
-        Refusal {
-            line,
-            column: 1,
-            says,
-        },
-        name,
-    )
+fn at_line(line: usize, says: &'static str) -> Refusal {
+    Refusal {
+        line,
+        column: 1,
+        says,
+    }
 }
 
 // Adds what is said at a label.
@@ -487,24 +497,16 @@ fn push_within<'a>(within: &mut Vec<Within<'a>>, said: Within<'a>) -> Result<(),
     Ok(within.push(said)?)
 }
 
-// Adds what lines before the label of a line of this number promise.
+// Adds what lines before a label promise.
 fn push_promise<'a>(
     alloc: Global,
     found: &mut Vec<Found<'a>>,
     block: Block<'a>,
     name: &'a [u8],
-    line: usize,
-    address: u16,
 ) -> Result<(), AllocError> {
+    let (line, address) = (block.said.line, block.said.address);
     let mut within = Vec::new(alloc);
-    let said = Within {
-        line,
-        address,
-        invariants: block.invariants,
-        measures: block.measures,
-        is_named: false,
-    };
-    push_within(&mut within, said)?;
+    push_within(&mut within, block.said)?;
     Ok(found.push(Found::Promise(Promise {
         name,
         line,
@@ -517,30 +519,21 @@ fn push_promise<'a>(
     }))?)
 }
 
+const OUTSIDE: &str =
+    "this stands in no routine: lines with requires, ensures, changes, prints or takes before a label begin one";
+
 // Adds what is said at a label within a routine to what the last one promises; where that is refused, nothing.
 fn attach<'a>(
     found: &mut Vec<Found<'a>>,
     block: Block<'a>,
     name: &'a [u8],
-    line: usize,
-    address: u16,
 ) -> Result<(), AllocError> {
-    let said = Within {
-        line,
-        address,
-        invariants: block.invariants,
-        measures: block.measures,
-        is_named: false,
-    };
     match found.as_mut_slice().last_mut() {
-        Some(Found::Promise(promise)) => push_within(&mut promise.within, said),
+        Some(Found::Promise(promise)) => push_within(&mut promise.within, block.said),
         Some(Found::Refused(_, _)) => Ok(()),
-        None => Ok(found.push(refused_at(block.first, OUTSIDE, name))?),
+        None => Ok(found.push(Found::Refused(at_line(block.first, OUTSIDE), name))?),
     }
 }
-
-const OUTSIDE: &str =
-    "this stands in no routine: lines with requires, ensures, changes, prints or takes before a label begin one";
 
 // Adds what lines before a line are: a promise, what is said within the last one's routine, or why they are none. Labels that they
 // name behind `at` are noted, each with the place of what they belong to.
@@ -549,32 +542,26 @@ fn close<'a>(
     found: &mut Vec<Found<'a>>,
     labels: &mut Vec<(usize, Label)>,
     program: &Program<Global>,
-    block: Block<'a>,
+    mut block: Block<'a>,
     name: &'a [u8],
     line: usize,
 ) -> Result<(), AllocError> {
     if block.first == 0 {
         return Ok(());
     }
-    if let Some(refusal) = block.refused {
-        return Ok(found.push(Found::Refused(refusal, name))?);
-    }
-    let address = match entry_of(program, name) {
-        Err(says) => return Ok(found.push(refused_at(block.first, says, name))?),
+    block.said.line = line;
+    block.said.address = match entry_of(program, &block, name) {
+        Err(refusal) => return Ok(found.push(Found::Refused(refusal, name))?),
         Ok(address) => address,
     };
-    let place = if block.is_within {
-        found.len().saturating_sub(1)
-    } else {
-        found.len()
-    };
+    let place = found.len().saturating_sub(usize::from(block.is_within));
     for label in &block.labels {
         labels.push((place, *label))?;
     }
     if block.is_within {
-        attach(found, block, name, line, address)
+        attach(found, block, name)
     } else {
-        push_promise(alloc, found, block, name, line, address)
+        push_promise(alloc, found, block, name)
     }
 }
 
