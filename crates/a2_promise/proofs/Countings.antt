@@ -24,7 +24,6 @@ use Rattle.std.specs.List.{slice_range}
 use Rattle.std.proofs.lemmas.List.{drop_at, take_all}
 use Rattle.a2_promise.specs.Grammar.{inside, may_count, counts}
 use Rattle.a2_promise.specs.Reading.{ReadsCounted, Binds, Unbinds}
-use Rattle.a2_promise.proofs.Goings.{puts_both}
 use Rattle.a2_promise.proofs.Formers.{just}
 use Rattle.a2_promise.proofs.Making.{made_both}
 use Rattle.a2_promise.specs.Grammar.{is_text}

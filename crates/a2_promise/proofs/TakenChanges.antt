@@ -1,18 +1,14 @@
 -- What may change, as it is read.
-use Rattle.std.specs.Prelude.{◌≡◌, ◌≤◌, ℕ, nat_le, Bool, true, false, not, ◌&&◌, ◌||◌, IsTrue, List, [], ◌∷◌, ◌++◌, map, codes, Option, Some, None, IfNone, refl}
+use Rattle.std.specs.Prelude.{◌≡◌, ◌≤◌, ℕ, nat_le, Bool, true, false, not, ◌&&◌, ◌||◌, IsTrue, List, [], ◌∷◌, ◌++◌, map, codes, Some, refl}
 use Rattle.std.specs.List.{list_any, list_all, flat_map}
-use Rattle.std.specs.Str.{bytes_eq}
 use Rattle.std.proofs.Common.{ap, ap₂, sym, subst, ◌∙◌, inl, inr, append_assoc}
 use Rattle.std.proofs.lemmas.List.{map-append}
 use Rattle.std.proofs.lemmas.Bool.{le-leb}
-use Rattle.a2_promise.specs.declared.expr.Atom.{Atom}
-use Rattle.a2_promise.specs.declared.expr.Atom.TheVariants as atom
 use Rattle.a2_promise.specs.declared.promises.Changes.{Changes}
 use Rattle.a2_promise.specs.declared.promises.Range.{Range}
 use Rattle.a2_promise.specs.declared.reading.Class.{Class}
 use Rattle.a2_promise.specs.declared.reading.Class.TheVariants as classes
 use Rattle.a2_promise.specs.Tokens.{Token, word, sign}
-use Rattle.a2_promise.specs.Written.{atom_name}
 use Rattle.a2_promise.specs.Grammar.{Scope, address_of, is_just, is_name_among}
 use Rattle.a2_promise.specs.Told.{Change, byte, bytes, change_names, is_other_name, change_fits, change_spelled, is_a, is_x, is_y, ranges_in}
 use Rattle.a2_promise.specs.Reading.{State, Takes, Goes, LetsChange, IsUpTo, AddsChange, AddsChanges, ranges_of, first, token_of}

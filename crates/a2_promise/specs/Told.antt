@@ -1,5 +1,5 @@
 -- What a source promises before the line of a label. This project's profile; docs/manual/promises.md.
-use Rattle.std.specs.Prelude.{◌≡◌, ℕ, Bool, true, false, not, ◌&&◌, ◌||◌, ◌==◌, nat_le, IsTrue, List, [], ◌∷◌, ◌++◌, length, take, map, slice_get, codes, Option, Some, None, if◌then◌else◌}
+use Rattle.std.specs.Prelude.{◌≡◌, ℕ, Bool, true, false, not, ◌&&◌, ◌||◌, ◌==◌, nat_le, IsTrue, List, [], ◌∷◌, ◌++◌, length, take, map, slice_get, codes, Some, if◌then◌else◌}
 use Rattle.std.specs.List.{list_all, list_any, flat_map}
 use Rattle.a2_text.specs.Bytes.{is_blank}
 use Rattle.a2_text.specs.Signs.{sign as code}
@@ -12,7 +12,7 @@ use Rattle.a2_promise.specs.declared.promises.Promise.{Promise}
 use Rattle.a2_promise.specs.Phrases.{Phrase, phrase_of}
 use Rattle.a2_promise.specs.Tokens.{Token, word, sign, front, token_from, tokens}
 use Rattle.a2_promise.specs.Written.{Written, atom_name, spelled, said}
-use Rattle.a2_promise.specs.Grammar.{Scope, address_of, fits, is_fact, is_just, is_name_among}
+use Rattle.a2_promise.specs.Grammar.{address_of, fits, is_fact, is_just, is_name_among}
 
 -- What a line says
 

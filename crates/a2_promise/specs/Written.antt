@@ -1,6 +1,6 @@
 -- An expression of a promise as it is written: its words and signs, and what it says. This project's profile; docs/manual/promises.md has
 -- each form.
-use Rattle.std.specs.Prelude.{ℕ, suc, ◌+◌, ℤ, pos, List, [], ◌∷◌, ◌++◌, codes, Option, Some, None}
+use Rattle.std.specs.Prelude.{ℕ, suc, ◌+◌, pos, List, [], ◌∷◌, ◌++◌, codes, Option, Some, None}
 use Rattle.a2_syntax.specs.Numbers.{code_in}
 use Rattle.a2_promise.specs.declared.expr.Atom.{Atom}
 use Rattle.a2_promise.specs.declared.expr.Atom.TheVariants.{A, X, Y, S, Carry, Zero, Negative, Overflow, Decimal, Interrupt, Cycles, Steps}

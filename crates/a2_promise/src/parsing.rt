@@ -143,10 +143,7 @@ fn byte_here<'a>(reader: &mut Reader<'a, '_>) -> Result<(), ReadFault<'a>>
     ensures { OnOk result (ReadsToken address_of byte_parts (state_of reader.old) (state_of reader.new)) }
 {
     let address = reader.address()?;
-    reader.puts(&[
-        Part::Number(i64::from(address)),
-        Part::Of(Function::Byte),
-    ])
+    reader.puts(&[Part::Number(i64::from(address)), Part::Of(Function::Byte)])
 }
 
 // A number that stands next.
@@ -445,10 +442,7 @@ fn word_at<'a>(reader: &mut Reader<'a, '_>, depth: u8) -> Result<(), ReadFault<'
         return reader.puts(&[Part::Of(Function::Word)]);
     }
     let address = reader.address()?;
-    reader.puts(&[
-        Part::Number(i64::from(address)),
-        Part::Of(Function::Word),
-    ])
+    reader.puts(&[Part::Number(i64::from(address)), Part::Of(Function::Word)])
 }
 
 // Where a text stands in memory: from an address on, or from one that was made.

@@ -16,7 +16,7 @@ use crate::reading::{Class, Token, token_in};
 use crate::texts::{Texts, push_text};
 use crate::words::{LOOSEST, Row, held_by, meaning};
 use a2_asm::Program;
-use a2_text::{behind_blanks, front_len, is_blank};
+use a2_text::{behind_blanks, is_blank, split_word};
 use std::alloc::{AllocError, Global};
 
 /// The most levels of an expression.
@@ -313,7 +313,12 @@ impl<'a> Block<'a> {
             Verb::Prints => push_text(reader, &mut self.texts.prints, line),
             Verb::Takes => push_text(reader, &mut self.texts.takes, line),
             Verb::Decreases => push_measure(reader, &mut self.said.measures, line, text),
-            Verb::Invariant | Verb::Note => push_fact(reader, &mut self.said.invariants, line, text),
+            Verb::Invariant | Verb::Note => push_fact(
+                reader,
+                &mut self.said.invariants,
+                line,
+                text,
+            ),
         }
     }
 }
@@ -395,8 +400,10 @@ fn is_silent(line: &[u8]) -> bool {
 
 // The label of a line, empty where it has none.
 fn label_of(line: &[u8]) -> &[u8] {
-    let (label, _) = line.split_at(front_len(line, |c| !is_blank(c)));
-    label
+    match line {
+        [c, ..] if is_blank(*c) => b"",
+        _ => split_word(line).0,
+    }
 }
 
 // The column, from 1, of a part of a line that goes up to its end.
@@ -466,10 +473,7 @@ fn entry_of(program: &Program<Global>, block: &Block, label: &[u8]) -> Result<u1
         Err(_) => None,
     };
     match named {
-        None => Err(at_line(
-            block.first,
-            "a promise stands before the line of a label",
-        )),
+        None => Err(at_line(block.first, "a promise stands before the line of a label")),
         Some(address) => match program.instr_at(address) {
             Some(_) => Ok(address),
             None => Err(at_line(

@@ -13,7 +13,7 @@ ghost use Rattle.a2_promise.specs.Reading.{IsWritten, is_named, token_of, up_to 
 use a2_text::{behind_blanks, front_len, number_in};
 
 /// What kind of text stands next in a line.
-#[derive(Clone, Copy, PartialEq, Eq)]
+#[derive(Clone, Copy, PartialEq)]
 pub(crate) enum Class {
     End,
     /// Letters, digits and `_`, a letter first.
@@ -132,11 +132,7 @@ pub(crate) fn token_in(line: &[u8]) -> (Token<'_>, &[u8])
     let here = behind_blanks(line);
     match here {
         [] => cut_off(Class::End, here, 0),
-        [b'$', digits @ ..] => cut_off(
-            Class::Place,
-            digits,
-            front_len(digits, is_hex_digit),
-        ),
+        [b'$', digits @ ..] => cut_off(Class::Place, digits, front_len(digits, is_hex_digit)),
         [b'\'', rest @ ..] => match up_to(b'\'', rest) {
             Some((text, behind)) => (
                 Token {
@@ -158,11 +154,7 @@ pub(crate) fn token_in(line: &[u8]) -> (Token<'_>, &[u8])
             None => cut_off(Class::Sign, here, 1),
         },
         [c, ..] if is_digit(*c) => cut_off(Class::Decimal, here, front_len(here, is_digit)),
-        [c, ..] if is_letter(*c) => cut_off(
-            Class::Word,
-            here,
-            front_len(here, is_word_byte),
-        ),
+        [c, ..] if is_letter(*c) => cut_off(Class::Word, here, front_len(here, is_word_byte)),
         _ => cut_off(Class::Sign, here, sign_length(here)),
     }
 }

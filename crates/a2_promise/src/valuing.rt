@@ -191,8 +191,16 @@ fn operated(operation: Operation, left: i64, right: i64) -> Option<i64>
         Operation::Plus => left.checked_add(right),
         Operation::Minus => left.checked_sub(right),
         Operation::Times => left.checked_mul(right),
-        Operation::Over => if 0 < right { Some(left.div_euclid(right)) } else { None },
-        Operation::Modulo => if 0 < right { Some(left.rem_euclid(right)) } else { None },
+        Operation::Over => if 0 < right {
+            Some(left.div_euclid(right))
+        } else {
+            None
+        },
+        Operation::Modulo => if 0 < right {
+            Some(left.rem_euclid(right))
+        } else {
+            None
+        },
         Operation::BitAnd => bit_and(word_in(left), word_in(right)),
         Operation::BitOr => bit_or(word_in(left), word_in(right)),
         Operation::BitXor => bit_xor(word_in(left), word_in(right)),

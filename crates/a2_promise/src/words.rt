@@ -30,7 +30,7 @@ pub(crate) fn meaning<T: Copy>(rows: &[Row<T>], token: Token) -> Option<T>
 }
 
 /// What an expression says: a number; that something holds; or a flag, which is both.
-#[derive(Clone, Copy, PartialEq, Eq)]
+#[derive(Clone, Copy)]
 pub(crate) enum Kind {
     Number,
     Fact,

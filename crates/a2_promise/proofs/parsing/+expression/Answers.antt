@@ -11,7 +11,6 @@ use Rattle.a2_promise.specs.Tokens.{Token, word, tokens}
 use Rattle.a2_promise.specs.Written.{joined, infix_token}
 use Rattle.a2_promise.specs.Grammar.{atom_kind, address_of, infix_rank, tightest, is_number, is_fact}
 use Rattle.a2_promise.specs.Reading.{State, Stops, ReadsJoined, token_of, Puts, Takes, ReadsOne, ReadsPiece, first, state_of, opening_token, making_token}
-use Rattle.a2_promise.proofs.Goings.{puts_both}
 use Rattle.a2_promise.proofs.Formers.{literal_read, decimal_read, byte_read, counted_read, atom_read, group_read, before_read, there_read, magnitude_read, signed_read, negated_read, minus_read}
 use Rattle.a2_promise.proofs.Joinings.{bit_read, provided_read, apply_read, logic_read, logic_kind, comparison_read, chain_read, last_read, nothing_put, number_by, fact_by}
 use Rattle.a2_promise.proofs.Countings.{two_read, least_read, greatest_read, closed_read, byte_in_read, word_in_read, word_of_read, counted_head, for_all_read, sum_read, place_made, number_one, fact_one, kind_piece, either_read, stops_of, stops_under, shorter_joined, rank_min, rank_joined, if_ok, text_result, none_by, limit_of, of_none, byte_free}

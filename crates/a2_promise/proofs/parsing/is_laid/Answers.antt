@@ -1,4 +1,4 @@
-use Rattle.std.proofs.Common.{◌+◌, pos, rules, subst, refl}
+use Rattle.std.proofs.Common.{rules, subst}
 use Rattle.a2_promise.specs.declared.parsing.Place.{Place}
 use Rattle.a2_promise.specs.declared.parsing.Place.TheVariants.{Fixed, Made}
 use Rattle.a2_promise.specs.Reading.{IsPlaced, state_of}

@@ -1,4 +1,4 @@
-use Rattle.std.proofs.Common.{◌≡◌, false, not, is_some, Option, Some, None, ap, ◌∙◌, rules}
+use Rattle.std.proofs.Common.{◌≡◌, false, not, is_some, Option, Some, None, ap, ◌∙◌}
 use Rattle.std.specs.Option.{IfNone}
 use Rattle.a2_promise.specs.Reading.{token_of}
 use Rattle.a2_promise.proofs.Names.{may}
