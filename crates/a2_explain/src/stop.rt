@@ -4,7 +4,7 @@ use crate::course::{Course, run_to};
 use crate::pushes::Pushes;
 use crate::rounds::tell_round;
 use crate::scene::{Scene, put_address, put_number, put_place};
-use crate::window::tell_window;
+use crate::window::{WATCHED, tell_window};
 use a2_asm::Program;
 use a2_cpu::Regs;
 use a2_hex::RAM_END;
@@ -26,9 +26,6 @@ const CODE_STORES: &[u8] =
 
 const SERVICE_STORES: &[u8] =
     b"a2x: that service stores at $24 to $29 and on the screen, $0400 to $07FF, GETLN at $0200 too: keep code away\n";
-
-// How many steps before the stop are gone through for what was pushed.
-const WATCHED: u32 = 100_000;
 
 /// What a cause means at the place where PC stands, in words.
 pub fn meaning(cause: Cause) -> &'static [u8] {

@@ -2,6 +2,7 @@
 
 use crate::course::{Course, run_to};
 use crate::scene::{Scene, put_place};
+use a2_bus::locations::{CH, CV, WNDBTM, WNDLFT, WNDTOP, WNDWDTH};
 use a2_machine::Machine;
 use a2_places::statement_at;
 use a2_run::RunFault;
@@ -10,8 +11,8 @@ use a2_stream::{Output, WriteFault, put};
 use a2_text::hex_pair;
 use std::alloc::Allocator;
 
-// How many steps before the stop are gone through for what was stored.
-const WATCHED: u32 = 100_000;
+/// How many steps before the stop are gone through for what was stored or pushed.
+pub(crate) const WATCHED: u32 = 100_000;
 
 // The columns and the rows of the screen.
 const COLUMNS: u16 = 40;
@@ -28,27 +29,27 @@ struct Location {
 
 static LOCATIONS: [Location; 6] = [
     Location {
-        address: 0x20,
+        address: WNDLFT,
         says: b"the window's left edge: with its width, $21, 40 at most, and with the cursor's column, $24, below 40",
     },
     Location {
-        address: 0x21,
+        address: WNDWDTH,
         says: b"the window's width: 1 at least, and with its left edge, $20, 40 at most",
     },
     Location {
-        address: 0x22,
+        address: WNDTOP,
         says: b"the window's top: below its bottom, $23",
     },
     Location {
-        address: 0x23,
+        address: WNDBTM,
         says: b"the window's bottom: above its top, $22, and 24 at most",
     },
     Location {
-        address: 0x24,
+        address: CH,
         says: b"the cursor's column: with the window's left edge, $20, below 40",
     },
     Location {
-        address: 0x25,
+        address: CV,
         says: b"the cursor's row: below 24",
     },
 ];
@@ -60,18 +61,18 @@ fn byte_at<A: Allocator>(machine: &Machine<A>, address: u16) -> u8 {
 
 // Whether a location holds what it may not.
 fn is_amiss<A: Allocator>(machine: &Machine<A>, address: u16) -> bool {
-    let left = u16::from(byte_at(machine, 0x20));
-    let width = u16::from(byte_at(machine, 0x21));
-    let top = u16::from(byte_at(machine, 0x22));
-    let bottom = u16::from(byte_at(machine, 0x23));
-    let column = u16::from(byte_at(machine, 0x24));
-    let row = u16::from(byte_at(machine, 0x25));
+    let left = u16::from(byte_at(machine, WNDLFT));
+    let width = u16::from(byte_at(machine, WNDWDTH));
+    let top = u16::from(byte_at(machine, WNDTOP));
+    let bottom = u16::from(byte_at(machine, WNDBTM));
+    let column = u16::from(byte_at(machine, CH));
+    let row = u16::from(byte_at(machine, CV));
     match address {
-        0x20 => left + width > COLUMNS || left + column >= COLUMNS,
-        0x21 => left + width > COLUMNS || width == 0,
-        0x22 => top >= bottom,
-        0x23 => top >= bottom || bottom > ROWS,
-        0x24 => left + column >= COLUMNS,
+        WNDLFT => left + width > COLUMNS || left + column >= COLUMNS,
+        WNDWDTH => left + width > COLUMNS || width == 0,
+        WNDTOP => top >= bottom,
+        WNDBTM => top >= bottom || bottom > ROWS,
+        CH => left + column >= COLUMNS,
         _ => row >= ROWS,
     }
 }

@@ -8,14 +8,12 @@ ghost use Rattle.a2_typed.specs.Typed.{keys_at, with_keys};
 ghost use Rattle.a2_play.specs.Played.{machine_after, start, world_with_keys};
 ghost use Rattle.a2_play.specs.Agains.{IsAgain, HasRoom, IsSlower, IsSought};
 
+use crate::player::MOST_STEPS;
 use a2_asm::Program;
 use a2_bus::Keys;
 use a2_machine::Machine;
 use a2_typed::Typed;
 use std::alloc::Allocator;
-
-/// The most steps of one run.
-const MOST_STEPS: u64 = 1_000_000;
 
 /// Types a key where there is room: whether there was.
 pub(crate) fn type_at<A: Allocator>(machine: &mut Machine<A>, key: u8) -> bool

@@ -14,9 +14,10 @@ const FASTEST: u32 = 1_000_000_000;
 /// The cycles made before the clock is looked at again, at `Max`.
 const STRETCH: u64 = 1_000_000;
 
-/// A second, and the most of one that is made up for at once, in microseconds.
-const SECOND: u64 = 1_000_000;
+/// A second, in microseconds.
+pub(crate) const SECOND: u64 = 1_000_000;
 
+/// The most of one that is made up for at once.
 const MOST_LATE: u64 = 250_000;
 
 /// How fast a machine goes.

@@ -20,7 +20,7 @@ const MOST_RUNS: u32 = 100_000;
 const MOST_CYCLES: u64 = 7;
 
 /// The most steps of one run.
-const MOST_STEPS: u64 = 1_000_000;
+pub(crate) const MOST_STEPS: u64 = 1_000_000;
 
 /// The service that takes as many cycles as A says.
 const WAIT: u16 = 0xFCA8;

@@ -4,7 +4,7 @@ ghost use Rattle.std.specs.Prelude.{◌≡◌, ◌<◌};
 ghost use Rattle.a2_play.specs.Played.{IsPlayed};
 
 use crate::Clock;
-use crate::pace::{Pace, due, second};
+use crate::pace::{Pace, SECOND, due, second};
 use crate::panel::{Face, Room, State, put_counts, put_panel};
 use crate::player::Player;
 use a2_ansi::{Colours, Shot, put_changes};
@@ -24,7 +24,7 @@ const FRAME: u64 = 33_333;
 const BLINK: u64 = 500_000;
 
 /// The time over which the speed is told.
-const SECOND: u64 = 1_000_000;
+const TOLD_OVER: u64 = SECOND;
 
 /// The most stretches of cycles between two looks for keys at `Pace::Max`.
 const MOST_STRETCHES: u32 = 10_000;
@@ -298,7 +298,7 @@ impl<'a> Session<'a> {
 
     // Reckons the speed, once a second.
     fn reckon_speed(&mut self, now: u64) {
-        if now.saturating_sub(self.mark.micros) < SECOND {
+        if now.saturating_sub(self.mark.micros) < TOLD_OVER {
             return;
         }
         let cycles = self.player.machine().cycles();
