@@ -51,7 +51,9 @@ class Toolchain:
         for it in source.functions:
             it.path = [*it.module, it.name]
             if it.block:
+                # (an impl for every type of a bound is of any)
                 owner = named(it.block.ty)
+                owner = "Any" if owner in it.block.generics else owner
                 module = it.module if it.block.trait or not source.declared[owner] else source.declared[owner][0][0]
                 # (of a path its last word counts)
                 words = [a for a, b in zip(it.block.trait, [*it.block.trait[1:], ""]) if a.isidentifier() and b != ":" and a not in it.block.generics]
