@@ -1,7 +1,7 @@
 -- One word that opens every definition that a step computes by: under `unfolding computing` a part of a run whose
 -- addresses are known is one `refl`.
-use Rattle.std.specs.Prelude.{◌≡◌, ◌==◌, Option, Some, None, Ok, Err, if◌then◌else◌}
-use Rattle.std.proofs.Common.{ap}
+use Rattle.std.specs.Prelude.{◌≡◌, Some}
+use Rattle.std.proofs.Common.{arith}
 use Rattle.a2_opcode.specs.Table.{table, row}
 use Rattle.a2_page.specs.Cells.{cell_at}
 use Rattle.a2_bus.specs.Memory.{ram_byte, with_ram, memory_access}
@@ -11,9 +11,8 @@ use Rattle.a2_core.specs.Instruction.{performed, after_effect, returned, called}
 use Rattle.a2_cpu.specs.Stores.{stores_of}
 use Rattle.a2_services.specs.World.{World}
 use Rattle.a2_services.specs.Services.{service_at, reach, effect, served}
-use Rattle.a2_machine.specs.declared.Cause.{Cause}
 use Rattle.a2_machine.specs.declared.Cause.TheVariants.{Returned}
-use Rattle.a2_machine.specs.Meaning.{Code, service_cause, instruction_cause, found_at_pc, stuck, next, stuck_at, next_at, statements}
+use Rattle.a2_machine.specs.Meaning.{Code, stuck, next, stuck_at, next_at, statements}
 use Rattle.a2_machine.proofs.Walks.{walked}
 
 unfoldable pub computing : Type 1
@@ -23,8 +22,4 @@ computing = Type 0
 -- where a last RTS goes, a run returns
 pub returns_there : (code : Code) (w : World) → w.registers.pc ≡ 0xFF69 → stuck code w ≡ Some Returned
 unfolding stuck stuck_at
-returns_there code w at =
-    ap (λ b. let r : Option Cause = if b then Some Returned else elim (service_at w.registers.pc) [
-      | Some service ↦ service_cause code.protected service w
-      | None ↦ elim (found_at_pc code w) [ Err cause ↦ Some cause | Ok decoded ↦ instruction_cause code.protected decoded w ]
-    ] in r) (ap (λ n. n == 0xFF69) at)
+returns_there code w at = grind (arith, at)

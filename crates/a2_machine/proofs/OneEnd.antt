@@ -1,9 +1,8 @@
 -- A run to a breakpoint has one end.
-use Rattle.std.specs.Prelude.{◌≡◌, ◌⊎◌, ℕ, ◌-◌, ◌<◌, ◌≤◌, Bool, true, false, Some, None, refl, is_some}
-use Rattle.std.proofs.Common.{sym, ap, ◌∙◌, arith, inl, inr, true≢false}
+use Rattle.std.specs.Prelude.{◌≡◌, ℕ, ◌-◌, ◌<◌, ◌≤◌, Bool, None, refl}
+use Rattle.std.proofs.Common.{sym, ap, ◌∙◌, arith, true≢false}
 use Rattle.a2_services.specs.World.{World}
 use Rattle.a2_machine.specs.declared.Cause.{Cause}
-use Rattle.a2_machine.specs.declared.Cause.TheVariants.{Limit}
 use Rattle.a2_machine.specs.declared.Stop.{Stop}
 use Rattle.a2_machine.specs.declared.Stop.TheVariants as stop
 use Rattle.a2_machine.specs.Meaning.{End, stuck, world_at}
@@ -21,48 +20,22 @@ went : (limit : ℕ) (old new : Device) (why : Stop) → EndsBy limit old new (n
 went limit old new (stop.Cause cause) ran = record { more = ran.more; within = ran.end.within; reached = ran.end.reached; going = ran.end.first }
 went limit old new stop.Breakpoint ran = record { more = omega (arith, ran.0, ran.2.steps); within = ran.1; reached = ran.2.reached; going = ran.2.going }
 
-false≢true : false ≡ true → ⊥
-false≢true e = true≢false (sym e)
-
-none≢some : (c : Cause) → None ≡ Some c → ⊥
-none≢some c e = false≢true (ap is_some e)
-
 module _ (is_breakpoint : ℕ → Bool) (limit : ℕ) (old : Device) where
   -- none ends before the other
   not_before : (new other : Device) (a b : Stop) → IsRunTo is_breakpoint limit old new a → IsRunTo is_breakpoint limit old other b
       → new.state.steps - old.state.steps < other.state.steps - old.state.steps → ⊥
-  not_before new other (stop.Cause cause) b x y less = go x.ends.end.cause
-    where
-      later : Went limit old other
-      later = went limit old other b y.ends
-
-      free : stuck (code_of old.state) (world_of_state new.state) ≡ None
-      free = ap (λ w. stuck (code_of old.state) w) x.ends.end.reached ∙ later.going (new.state.steps - old.state.steps) less
-
-      go : (stuck (code_of old.state) (world_of_state new.state) ≡ Some cause)
-          ⊎ ((stuck (code_of old.state) (world_of_state new.state) ≡ None) × (new.state.steps - old.state.steps ≡ steps_left limit old.state) × (cause ≡ Limit)) → ⊥
-      go (inl is) = none≢some cause (sym free ∙ is)
-      go (inr is) = omega (arith, is.1, less, later.within)
+  not_before new other (stop.Cause cause) b x y less =
+      let later = went limit old other b y.ends in
+      let free = ap (stuck (code_of old.state)) x.ends.end.reached ∙ later.going (new.state.steps - old.state.steps) less in
+      grind (arith, x.ends.end.cause, free, less, later.within)
   not_before new other stop.Breakpoint b x y less =
-      false≢true
-      (sym (y.passed (new.state.steps - old.state.steps) x.ends.0 less)
-      ∙ ap (λ (w : World). is_breakpoint w.registers.pc) (sym x.ends.2.reached)
-      ∙ x.last x.ends.0)
+      true≢false
+      (sym (x.last x.ends.0) ∙ ap (λ (w : World). is_breakpoint w.registers.pc) x.ends.2.reached
+      ∙ y.passed (new.state.steps - old.state.steps) x.ends.0 less)
 
   module _ (new other : Device) (a b : Stop) (x : IsRunTo is_breakpoint limit old new a) (y : IsRunTo is_breakpoint limit old other b) where
     count : new.state.steps - old.state.steps ≡ other.state.steps - old.state.steps
-    count = equal (new.state.steps - old.state.steps) (other.state.steps - old.state.steps) (not_before new other a b x y) (not_before other new b a y x)
-      where
-        equal : (m n : ℕ) → (m < n → ⊥) → (n < m → ⊥) → m ≡ n
-        equal m n above below = go (three m n)
-          where
-            three : (m n : ℕ) → (m ≡ n) ⊎ (m < n) ⊎ (n < m)
-            three m n = grind (arith)
-
-            go : (m ≡ n) ⊎ (m < n) ⊎ (n < m) → m ≡ n
-            go (inl e) = e
-            go (inr (inl l)) = absurd (above l)
-            go (inr (inr l)) = absurd (below l)
+    count = grind (arith, not_before new other a b x y, not_before other new b a y x)
 
     steps : new.state.steps ≡ other.state.steps
     steps = omega (arith, count, (went limit old new a x.ends).more, (went limit old other b y.ends).more)
@@ -75,10 +48,9 @@ module _ (is_breakpoint : ℕ → Bool) (limit : ℕ) (old : Device) where
   -- where one comes to a breakpoint, the other does
   apart : (new other : Device) (cause : Cause) → IsRunTo is_breakpoint limit old new (stop.Cause cause) → IsRunTo is_breakpoint limit old other stop.Breakpoint → ⊥
   apart new other cause x y =
-      false≢true
-      (sym (x.last (omega (arith, count new other (stop.Cause cause) stop.Breakpoint x y, y.ends.0)))
-      ∙ ap (λ (w : World). is_breakpoint w.registers.pc) (worlds new other (stop.Cause cause) stop.Breakpoint x y)
-      ∙ y.last y.ends.0)
+      true≢false
+      (sym (y.last y.ends.0) ∙ ap (λ (w : World). is_breakpoint w.registers.pc) (sym (worlds new other (stop.Cause cause) stop.Breakpoint x y))
+      ∙ x.last (omega (arith, count new other (stop.Cause cause) stop.Breakpoint x y, y.ends.0)))
 
   stops : (new other : Device) (a b : Stop) → IsRunTo is_breakpoint limit old new a → IsRunTo is_breakpoint limit old other b → a ≡ b
   stops new other (stop.Cause c) (stop.Cause d) x y =

@@ -1,23 +1,18 @@
 -- Protected addresses: only which they are matters, not how they are listed.
-use Rattle.std.specs.Prelude.{◌≡◌, ◌<◌, ◌≤◌, ◌⊎◌, ℕ, zero, suc, ◌+◌, Bool, true, false, ◌||◌, ◌&&◌, not, ◌==◌, nat_lt, nat_le, List, [], ◌∷◌, ◌++◌, if◌then◌else◌, Option, Some, None, Result, Ok, Err, refl, is_some}
+use Rattle.std.specs.Prelude.{◌≡◌, ◌≤◌, ℕ, zero, suc, ◌+◌, Bool, true, false, ◌||◌, ◌&&◌, ◌==◌, nat_lt, nat_le, List, [], ◌∷◌, ◌++◌, if◌then◌else◌, Option, Some, None, Result, refl, is_some}
 use Rattle.std.specs.List.{list_any, list_all}
-use Rattle.std.proofs.Common.{sym, ap, ap₂, ◌∙◌, arith, inl, inr, true≢false}
-use Rattle.std.proofs.lemmas.Bool.{cases_lt}
+use Rattle.std.proofs.Common.{sym, ap, ap₂, ◌∙◌, arith}
 use Rattle.std.proofs.lemmas.Bool.Decides.{nat_tests}
 use Rattle.std.proofs.lemmas.List.Folds.{list_any-append}
 use Rattle.a2_text.specs.Bytes.{is_among}
 use Rattle.a2_opcode.specs.declared.Instr.{Instr}
 use Rattle.a2_page.specs.Cells.{numbers_from}
-use Rattle.a2_bus.specs.Memory.{memory_access, ram_end}
-use Rattle.a2_cpu.specs.BusStep.{refusal_of}
-use Rattle.a2_cpu.specs.Stores.{stores_of}
+use Rattle.a2_bus.specs.Memory.{ram_end}
 use Rattle.a2_services.specs.World.{World}
-use Rattle.a2_services.specs.Services.{service_at, reach, fits, lacks_keys}
 use Rattle.a2_asm.specs.declared.program.Statement.{Statement}
 use Rattle.a2_asm.specs.Programs.{is_code}
 use Rattle.a2_machine.specs.declared.Cause.{Cause}
-use Rattle.a2_machine.specs.declared.Cause.TheVariants.{Returned, CodeWrite, Window, Keys}
-use Rattle.a2_machine.specs.Meaning.{Decoded, cause_of_refusal, return_address, stuck_at, stuck, next, statements}
+use Rattle.a2_machine.specs.Meaning.{Decoded, stuck_at, stuck, next, statements}
 use Rattle.a2_machine.specs.ByteRun.{addresses_below}
 use Rattle.a2_machine.proofs.Marking.{among-low, among-high}
 use Rattle.a2_machine.proofs.Walks.{walked}
@@ -25,61 +20,25 @@ use Rattle.a2_machine.proofs.Walks.{walked}
 abbrev pub SameMembers : List ℕ → List ℕ → Type 0
 SameMembers p q = (a : ℕ) → is_among p a ≡ is_among q a
 
-or-true : (x : Bool) → (x || true) ≡ true
-or-true true = refl
-or-true false = refl
-
-itself : (n : ℕ) → (n == n) ≡ true
-itself n = grind (arith, nat_tests)
-
 -- one that is among numbers and passes is found
 any-found : (p : ℕ → Bool) (ns : List ℕ) (a : ℕ) → is_among ns a ≡ true → p a ≡ true → list_any p ns ≡ true
-any-found p [] a among is = absurd (true≢false (sym among))
-any-found p (n ∷ ns) a among is = go (n == a) refl among (λ later. any-found p ns a later is)
-  where
-    go : (here : Bool) → (n == a) ≡ here → (here || is_among ns a) ≡ true → (is_among ns a ≡ true → list_any p ns ≡ true)
-        → (p n || list_any p ns) ≡ true
-    go true e _ rest =
-        let same : n ≡ a = grind (arith, nat_tests, e) in
-        ap (λ v. v || list_any p ns) (ap p same ∙ is)
-    go false e later rest = ap (λ v. p n || v) (rest later) ∙ or-true (p n)
+any-found p [] a among is = cc
+any-found p (n ∷ ns) a among is = grind (arith, nat_tests, any-found p ns a, among, is)
 
 -- what one list has that passes, the other has
 carried : (f : ℕ → Bool) (p q : List ℕ) → ((a : ℕ) → is_among p a ≡ true → is_among q a ≡ true) → list_any f p ≡ true → list_any f q ≡ true
-carried f [] q into h = absurd (true≢false (sym h))
-carried f (n ∷ p) q into h = go (f n) refl h (λ e. carried f p q (λ a among. into a (ap (λ v. (n == a) || v) among ∙ or-true (n == a))) e)
-  where
-    go : (v : Bool) → f n ≡ v → (v || list_any f p) ≡ true → (list_any f p ≡ true → list_any f q ≡ true) → list_any f q ≡ true
-    go true is e rest = any-found f q n (into n (ap (λ v. v || is_among p n) (itself n))) is
-    go false is e rest = rest e
+carried f [] q into h = cc
+carried f (n ∷ p) q into h =
+    let rest : list_any f p ≡ true → list_any f q ≡ true = carried f p q (λ a among. into a (grind (arith, among))) in
+    grind (arith, nat_tests, into n, any-found f q n, rest, h)
 
 same_any : (f : ℕ → Bool) (p q : List ℕ) → SameMembers p q → list_any f p ≡ list_any f q
-same_any f p q same = go (list_any f p) (list_any f q) refl refl
-  where
-    go : (u v : Bool) → list_any f p ≡ u → list_any f q ≡ v → u ≡ v
-    go true true a b = refl
-    go false false a b = refl
-    go true false a b = absurd (true≢false (sym (carried f p q (λ k h. sym (same k) ∙ h) a) ∙ b))
-    go false true a b = absurd (true≢false (sym (carried f q p (λ k h. same k ∙ h) b) ∙ a))
+same_any f p q same = grind (arith, carried f p q (λ k h. sym (same k) ∙ h), carried f q p (λ k h. same k ∙ h))
 
 same_stuck : (p q : List ℕ) (found : Result Decoded Cause) (world : World) → SameMembers p q → stuck_at p found world ≡ stuck_at q found world
 unfolding stuck_at
-same_stuck p q found world same = λ i.
-    if world.registers.pc == return_address then Some Returned
-    else elim (service_at world.registers.pc) [
-      | Some service ↦
-          if same_any (reach service) p q same i then Some CodeWrite
-          else if not (fits service world.registers world.memory) then Some Window
-          else if lacks_keys service world.memory then Some Keys
-          else None
-      | None ↦ elim found [
-        | Err cause ↦ Some cause
-        | Ok decoded ↦ elim (refusal_of decoded.row.mnemonic world.registers.flags) [
-          | Some why ↦ Some (cause_of_refusal why)
-          | None ↦ if list_any (λ a. same a i) (stores_of memory_access decoded.row decoded.value world) then Some CodeWrite else None
-        ]
-      ]
-    ]
+same_stuck p q found world same =
+    let alike : is_among p ≡ is_among q = λ i a. same a i in grind (arith, alike, same_any)
 
 -- so are steps and parts of runs
 pub same_cause : (at : ℕ → Option Instr) (p q : List ℕ) → SameMembers p q → (w : World) → stuck (statements at p) w ≡ stuck (statements at q) w
@@ -118,16 +77,9 @@ code-bytes (s ∷ more) a = among-append (bytes_of_statement s) (code_bytes more
 
 below : (p : List ℕ) (a : ℕ) → list_all (λ n. nat_lt n ram_end) p ≡ true → ram_end ≤ a → is_among p a ≡ false
 below [] a h high = refl
-below (n ∷ p) a h high = go (nat_lt n ram_end) refl h (λ e. below p a e high)
-  where
-    go : (v : Bool) → nat_lt n ram_end ≡ v → (v && list_all (λ n. nat_lt n ram_end) p) ≡ true → (list_all (λ n. nat_lt n ram_end) p ≡ true → is_among p a ≡ false) → ((n == a) || is_among p a) ≡ false
-    go true is e rest = let other : (n == a) ≡ false = grind (arith, nat_tests, is, high) in ap (λ v. v || is_among p a) other ∙ rest e
-    go false is e rest = absurd (true≢false (sym e))
+below (n ∷ p) a h high = grind (arith, nat_tests, below p a, h, high)
 
 -- the guard's list and this one have the same members, where code lies in RAM
 pub guarded : (all : List Statement) → list_all (λ n. nat_lt n ram_end) (code_bytes all) ≡ true → SameMembers (addresses_below ram_end (is_code all)) (code_bytes all)
-guarded all low a = go (cases_lt a ram_end)
-  where
-    go : (a < ram_end) ⊎ (ram_end ≤ a) → is_among (addresses_below ram_end (is_code all)) a ≡ is_among (code_bytes all) a
-    go (inl is) = among-low ram_end (is_code all) a is ∙ sym (code-bytes all a)
-    go (inr is) = among-high ram_end (is_code all) a is ∙ sym (below (code_bytes all) a low is)
+guarded all low a =
+    grind (arith, among-low ram_end (is_code all) a, among-high ram_end (is_code all) a, code-bytes all a, below (code_bytes all) a low)

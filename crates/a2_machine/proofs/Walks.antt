@@ -1,9 +1,8 @@
 -- Parts of runs: so many steps, none of which is stuck. They follow one another, and make a run's end.
-use Rattle.std.specs.Prelude.{◌≡◌, ◌≤◌, ℕ, zero, suc, ◌+◌, ◌-◌, ◌*◌, Option, Some, None, refl, is_some, unwrap_or}
-use Rattle.std.proofs.Common.{sym, ap, ◌∙◌, subst, arith, true≢false}
+use Rattle.std.specs.Prelude.{◌≡◌, ◌≤◌, ℕ, zero, suc, ◌+◌, ◌-◌, ◌*◌, Option, Some, None, refl, unwrap_or}
+use Rattle.std.proofs.Common.{ap, ◌∙◌, subst, arith}
 use Rattle.a2_services.specs.World.{World}
 use Rattle.a2_machine.specs.declared.Cause.{Cause}
-use Rattle.a2_machine.specs.declared.Cause.TheVariants.{Limit}
 use Rattle.a2_machine.specs.Meaning.{Code, End, IsEnd, stuck, next}
 use Rattle.a2_machine.proofs.RunFrom.{run_from}
 use Rattle.a2_machine.proofs.Runs.{run-is_end}
@@ -12,9 +11,6 @@ use Rattle.a2_machine.proofs.Runs.{run-is_end}
 unfoldable pub walked : Code → World → ℕ → Option World
 walked code world zero = Some world
 walked code world (suc n) = elim (stuck code world) [ Some cause ↦ None | None ↦ walked code (next code world) n ]
-
-none-some : {X : Type 0} (x : X) → None ≡ Some x → ⊥
-none-some x e = true≢false (sym (ap is_some e))
 
 some-one : {X : Type 0} (x y : X) → Some x ≡ Some y → x ≡ y
 some-one x y e = ap (λ o. unwrap_or o x) e
@@ -25,13 +21,8 @@ unfolding walked
 then code w v u zero n a b =
     let e : 0 + n ≡ n = omega arith in ap (λ k. walked code w k) e ∙ ap (λ z. walked code z n) (some-one w v a) ∙ b
 then code w v u (suc m) n a b =
-    let e : suc m + n ≡ suc (m + n) = omega arith in ap (λ k. walked code w k) e ∙ go (stuck code w) a (λ h. then code (next code w) v u m n h b)
-  where
-    go : (o : Option Cause) → (let r : Option World = elim o [ Some cause ↦ None | None ↦ walked code (next code w) m ] in r) ≡ Some v
-        → (walked code (next code w) m ≡ Some v → walked code (next code w) (m + n) ≡ Some u)
-        → (let r : Option World = elim o [ Some cause ↦ None | None ↦ walked code (next code w) (m + n) ] in r) ≡ Some u
-    go (Some cause) h later = absurd (none-some v h)
-    go None h later = later h
+    let e : suc m + n ≡ suc (m + n) = omega arith in
+    ap (walked code w) e ∙ grind (arith, then code (next code w) v u m n, a, b)
 
 -- a run goes on where a part of it ends
 goes_on : (code : Code) (w v : World) (n done rest : ℕ) → walked code w n ≡ Some v → run_from code w done (n + rest) ≡ run_from code v (done + n) rest
@@ -42,38 +33,23 @@ goes_on code w v zero done rest h =
 goes_on code w v (suc n) done rest h =
     let e : suc n + rest ≡ suc (n + rest) = omega arith in
     let f : suc done + n ≡ done + suc n = omega arith in
-    ap (λ k. run_from code w done k) e ∙ go (stuck code w) h (λ g. goes_on code (next code w) v n (suc done) rest g ∙ ap (λ k. run_from code v k rest) f)
-  where
-    go : (o : Option Cause) → (let r : Option World = elim o [ Some cause ↦ None | None ↦ walked code (next code w) n ] in r) ≡ Some v
-        → (walked code (next code w) n ≡ Some v → run_from code (next code w) (suc done) (n + rest) ≡ run_from code v (done + suc n) rest)
-        → (let r : End = elim o [ Some cause ↦ record { world = w; steps = done; cause = cause } | None ↦ run_from code (next code w) (suc done) (n + rest) ] in r)
-        ≡ run_from code v (done + suc n) rest
-    go (Some cause) h later = absurd (none-some v h)
-    go None h later = later h
+    ap (run_from code w done) e ∙ grind (arith, goes_on code (next code w) v n (suc done) rest, ap (λ k. run_from code v k rest) f, h)
 
 stopped : (code : Code) (v : World) (cause : Cause) (done rest : ℕ) → stuck code v ≡ Some cause → run_from code v done rest ≡ record { world = v; steps = done; cause = cause }
 unfolding run_from
-stopped code v cause done zero h =
-    ap (λ o. let r : End = elim o [ Some cause ↦ record { world = v; steps = done; cause = cause } | None ↦ record { world = v; steps = done; cause = Limit } ] in r) h
-stopped code v cause done (suc rest) h =
-    ap (λ o. let r : End = elim o [ Some cause ↦ record { world = v; steps = done; cause = cause } | None ↦ run_from code (next code v) (suc done) rest ] in r) h
+stopped code v cause done zero h = grind (arith, h)
+stopped code v cause done _ h = grind (arith, h)
 
 -- a part that leads to a world that is stuck is a run's end, with each limit that allows its steps
 pub ends : (code : Code) (w v : World) (n limit : ℕ) (cause : Cause) → walked code w n ≡ Some v → stuck code v ≡ Some cause → n ≤ limit
     → IsEnd code w limit (record { world = v; steps = n; cause = cause })
-ends code w v n limit cause h stops within = by_rest (split n limit within)
-  where
-    split : (n limit : ℕ) → n ≤ limit → (rest : ℕ) × (limit ≡ n + rest)
-    split n limit within = (limit - n, omega (arith, within))
-
-    by_rest : (rest : ℕ) × (limit ≡ n + rest) → IsEnd code w limit (record { world = v; steps = n; cause = cause })
-    by_rest (rest, is) =
-        let zero_and : 0 + n ≡ n = omega arith in
-        let same : run_from code w 0 limit ≡ record { world = v; steps = n; cause = cause } =
-        ap (λ k. run_from code w 0 k) is ∙ goes_on code w v n 0 rest h ∙ stopped code v cause (0 + n) rest stops
-        ∙ ap (λ k. let r : End = record { world = v; steps = k; cause = cause } in r) zero_and in
-        let P : End → Type 0 = λ e. IsEnd code w limit e in
-        subst P same (run-is_end code w limit)
+ends code w v n limit cause h stops within =
+    let zero_and : 0 + n ≡ n = omega arith in
+    let is : limit ≡ n + (limit - n) = omega (arith, within) in
+    let same : run_from code w 0 limit ≡ record { world = v; steps = n; cause = cause } =
+    ap (run_from code w 0) is ∙ goes_on code w v n 0 (limit - n) h ∙ stopped code v cause (0 + n) (limit - n) stops
+    ∙ ap (λ k. let r : End = record { world = v; steps = k; cause = cause } in r) zero_and in
+    subst (λ e. IsEnd code w limit e) same (run-is_end code w limit)
 
 -- Parts of runs by what holds where they end
 

@@ -150,6 +150,7 @@ impl<A: Allocator + Copy> Machine<A> {
     /// The machine as it is switched on, in memory of `alloc`, with `image` laid over its RAM, PC at `entry` ($0000 to $FFFF) and
     /// `keys` waiting: no guard, no steps and no cycles, and every row marked. This project's profile. Refused only for want of
     /// memory.
+    #[tactic(auto, using(crate::proofs::Booting::switched_marked))]
     pub fn booted<C: Allocator>(
         alloc: A,
         image: &Image<C>,
@@ -321,6 +322,7 @@ impl<A: Allocator> Machine<A> {
 
     /// The byte of RAM at `address` ($0000 to $FFFF), with no effect on any device; none at or above $C000. Apple II
     /// Reference Manual (1979), the memory map.
+    #[tactic(auto, using(crate::proofs::Storing::peeked))]
     pub fn peek(&self, address: u16) -> Option<u8>
         ensures value { result ≡ peek_of (memory_of self.now.state.bus) address }
         // All of RAM is there.
@@ -331,6 +333,7 @@ impl<A: Allocator> Machine<A> {
 
     /// Puts `byte` into RAM at `address`, which is below $C000, whatever the guard. No step is made; the row of a cell
     /// there, on either page, is marked, and all else stays. This project's profile.
+    #[tactic(auto, using(crate::proofs::Storing::stored))]
     pub fn poke(&mut self, address: u16, byte: u8)
         requires { address < ram_end }
         ensures memory { memory_of self.new.state.bus ≡ with_ram (memory_of self.old.state.bus) address byte }
@@ -343,6 +346,7 @@ impl<A: Allocator> Machine<A> {
 
     /// Puts PC at `address` ($0000 to $FFFF) and the stack as it is at the start: S = $FD, and at $01FE and $01FF the bytes
     /// $68 and $FF, which send a last RTS to $FF69. No step is made, and all else stays. This project's profile.
+    #[tactic(auto, using(crate::proofs::Storing::stack_unmarked))]
     pub fn set_pc(&mut self, address: u16)
         ensures world { world_of_state self.new.state ≡ called_at address (world_of_state self.old.state) }
         ensures left { self.new ≡ (let s = self.old.state in let r = s.regs in let bus = self.new.state.bus in
@@ -449,6 +453,7 @@ impl<A: Allocator> Machine<A> {
     /// Makes one step, of an instruction or a service, and answers `None`; or answers the first of [`Cause`] that holds,
     /// and changes nothing. `Cause::Limit` is the answer only where 1,000,000,000,000 steps are made. This project's
     /// profile.
+    #[tactic(auto, using(crate::proofs::Making::cause_none, crate::proofs::Making::cause_last))]
     pub fn step(&mut self) -> Option<Cause>
         ensures cause { result ≡ cause_of self.old.state }
         ensures made { IfNone result (IsStep self.old self.new) }

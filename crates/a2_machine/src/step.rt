@@ -88,6 +88,7 @@ fn call_at<C: Allocator>(pc: u16, watch: &Watch<C>) -> Result<Service, Cause>
 
 // One step where PC is above RAM.
 #[inline(always)]
+#[tactic(auto, using(crate::proofs::Costs::called_cost))]
 fn make_step_above<A: Allocator, C: Allocator>(
     live: &mut Live,
     space: &mut AddressSpace<A>,

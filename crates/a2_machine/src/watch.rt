@@ -146,6 +146,7 @@ fn mark_code(marks: &mut [u8], address: usize)
 }
 
 // The same, and the services that may store there are blocked.
+#[tactic(auto, using(crate::proofs::Marking::any_added))]
 fn mark_byte(marks: &mut [u8], blocked: &mut Blocked, address: usize)
     requires started { AreStarted marks.old }
     requires in_ram { address < ram_end }
@@ -176,6 +177,7 @@ fn mark_bytes(marks: &mut [u8], blocked: &mut Blocked, start: usize, end: usize)
 }
 
 // An instruction of so many bytes is marked; what lies behind RAM is left out.
+#[tactic(auto, using(crate::proofs::Guarding::same_addresses))]
 fn mark_instruction(marks: &mut [u8], blocked: &mut Blocked, address: u16, bytes: u16)
     requires started { AreStarted marks.old }
     requires blocks { BlocksBy blocked.old (addresses_below ram_end (lies marks.old)) }
@@ -194,6 +196,7 @@ fn mark_instruction(marks: &mut [u8], blocked: &mut Blocked, address: u16, bytes
 }
 
 // The marks of a program's instruction statements, and the services that these block.
+#[tactic(auto, using(crate::proofs::Marking::any_none, crate::proofs::Watching::first_started, crate::proofs::Watching::first_lies, crate::proofs::Watching::first_begins, crate::proofs::Watching::none_blocked))]
 fn mark_statements(marks: &mut [u8], statements: &[Statement]) -> Blocked
     requires { length marks.old ≡ 65536 }
     ensures started { AreStarted marks.new }
@@ -253,6 +256,7 @@ impl<A: Allocator> Watch<A> {
     }
 
     /// The guard of a program.
+    #[tactic(auto, using(crate::proofs::Guarding::guard_same, crate::proofs::Watching::started_marks, crate::proofs::Watching::started_above), unfolding(crate::specs::Marks::guard_of))]
     pub fn set<C: Allocator>(&mut self, program: &Program<C>)
         ensures { self.new ≡ Some (guard_of_program program.now) }
     {

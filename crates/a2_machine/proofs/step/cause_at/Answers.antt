@@ -1,18 +1,11 @@
 use Rattle.std.proofs.Common.{sym, ap, ◌∙◌, ◌<◌}
-use Rattle.std.specs.Prelude.{Option, Some, None}
-use Rattle.a2_text.specs.Bytes.{is_among}
-use Rattle.a2_bus.specs.BusState.{board_access}
+use Rattle.std.specs.Prelude.{refl}
 use Rattle.a2_bus.specs.Memory.{ram_end}
-use Rattle.a2_cpu.specs.View.{guarded_answer_of}
-use Rattle.a2_core.specs.Instruction.{state_of}
-use Rattle.a2_cpu.specs.GuardedBusStep.{guarded_bus_step}
-use Rattle.a2_cpu.specs.declared.GuardedStep.{GuardedStep}
 use Rattle.a2_core.specs.Live.{live_registers}
 use Rattle.a2_services.specs.World.{world_of}
-use Rattle.a2_machine.specs.declared.Cause.{Cause}
-use Rattle.a2_machine.specs.Outcome.{protected_by, cause_in}
+use Rattle.a2_machine.specs.Outcome.{cause_in}
 use Rattle.a2_machine.proofs.Calls.{refused, found-off}
-use Rattle.a2_machine.proofs.Outcomes.{stop_of, instruction_stops, why_stops, no_service, no_return}
+use Rattle.a2_machine.proofs.Outcomes.{instruction_why, no_service, no_return}
 use Rattle.a2_machine.proofs.step.cause_at.Goals as goal
 
 pub returns-then-not-admits : goal.returns-then-not-admits
@@ -25,18 +18,13 @@ returns-then-not-admits g c =
 pub returns-in-Some : goal.returns-in-Some
 returns-in-Some g c =
     let low : c.args.live.now.pc < ram_end = c.if-live-ge-RAM_END.false in
-    let told : GuardedStep = guarded_answer_of (guarded_bus_step (is_among (protected_by c.args.watch.now)) board_access (state_of (live_registers c.args.live.now) c.args.space.now)) in
     λ before.
-    instruction_stops c.args.watch.now (live_registers c.args.live.now) c.args.space.now c.peek.ensures.size low (sym c.admits.ensures ∙ c.if-not-admits.false) before
-    ∙ why_stops told
-    ∙ ap (λ (o : Option GuardedStep). let r : Option Cause = elim o [ None ↦ None | Some why ↦ stop_of why ] in r) (sym c.live_refusal.ensures ∙ c.in-Some.is)
-    ∙ ap cause_in (sym c.outcome_of.ensures) ∙ sym c.cause_in.ensures
+    instruction_why c.args.watch.now (live_registers c.args.live.now) c.args.space.now c.peek.ensures.size low (sym c.admits.ensures ∙ c.if-not-admits.false) before
+    ∙ rw (sym c.live_refusal.ensures ∙ c.in-Some.is) (ap cause_in (sym c.outcome_of.ensures) ∙ sym c.cause_in.ensures)
 
 pub returns-in-None : goal.returns-in-None
 returns-in-None g c =
     let low : c.args.live.now.pc < ram_end = c.if-live-ge-RAM_END.false in
-    let told : GuardedStep = guarded_answer_of (guarded_bus_step (is_among (protected_by c.args.watch.now)) board_access (state_of (live_registers c.args.live.now) c.args.space.now)) in
     λ before.
-    instruction_stops c.args.watch.now (live_registers c.args.live.now) c.args.space.now c.peek.ensures.size low (sym c.admits.ensures ∙ c.if-not-admits.false) before
-    ∙ why_stops told
-    ∙ ap (λ (o : Option GuardedStep). let r : Option Cause = elim o [ None ↦ None | Some why ↦ stop_of why ] in r) (sym c.live_refusal.ensures ∙ c.in-None.is)
+    instruction_why c.args.watch.now (live_registers c.args.live.now) c.args.space.now c.peek.ensures.size low (sym c.admits.ensures ∙ c.if-not-admits.false) before
+    ∙ rw (sym c.live_refusal.ensures ∙ c.in-None.is) refl
