@@ -1,21 +1,48 @@
 -- What each service leaves, service by service: it changes no byte out of its reach, and adds no key.
-use Rattle.std.specs.Prelude.{◌≡◌, ◌⊎◌, ℕ, ◌+◌, ◌/◌, ◌%◌, ◌<◌, ◌≤◌, List, [], ◌∷◌, Bool, true, false, ◌||◌, length, refl}
+use Rattle.std.specs.Prelude.{◌≡◌, ◌⊎◌, ℕ, ◌+◌, ◌%◌, ◌<◌, ◌≤◌, List, [], ◌∷◌, Bool, true, false, ◌||◌, length, refl, ◌≢◌, ◌*◌, fold}
 use Rattle.std.proofs.Common.{ap, ◌∙◌, arith, true≢false}
 use Rattle.std.proofs.lemmas.Bool.Decides.{nat_tests}
 use Rattle.a2_text.specs.Bytes.{is_between}
-use Rattle.a2_page.specs.Grid.{cleared}
-use Rattle.a2_bus.specs.Memory.{Memory, ram_byte}
+use Rattle.a2_page.specs.Grid.{Grid, byte_in}
+use Rattle.a2_page.specs.Text.{blocks_of, plotted}
+use Rattle.a2_bus.specs.Memory.{Memory, ram_byte, with_ram}
+use Rattle.a2_bus.proofs.Frame.{ram_byte-with_ram, ram_byte-page1}
 use Rattle.a2_services.specs.declared.Service.{Service}
 use Rattle.a2_services.specs.declared.Service.TheVariants.{Cout, Cout1, Crout, Home, Prbyte, Prhex, Setinv, Setnorm, Vtab, Clreol, Clreop, Rdkey, Keyin, Getln, Wait, Setcol, Plot, Hline, Vline, Scrn, Clrscr}
 use Rattle.a2_services.specs.World.{World}
-use Rattle.a2_services.specs.Put.{window_of, with_cursor_column, with_cursor_row, prompt_character, with_page1, after_put}
-use Rattle.a2_services.specs.Services.{reach, output_reach, Reading, line_read, with_key_taken, back, effect, output, with_memory, with_a, with_x, digit_byte, served}
+use Rattle.a2_services.specs.Put.{prompt_character, with_page1, after_put}
+use Rattle.a2_services.specs.Services.{reach, output_reach, Reading, line_read, with_key_taken, back, effect, output, with_memory, with_a, with_x, served, cleared_to_end, cleared_below}
 use Rattle.a2_services.specs.Reading.{reading}
 use Rattle.a2_services.proofs.Lines.{ram_devices, put_devices}
 use Rattle.a2_services.proofs.Reaching.{IsOutside, outside_of, page1-kept, column-kept, row-kept, put-kept, base-kept, line_read-kept, returned-kept, output-kept}
-use Rattle.a2_services.proofs.Counting.{Fewer, fewer_taken, fewer_read, base_devices, returned_devices, same_fewer, output_devices}
-use Rattle.a2_services.proofs.EditingKept.{setinv-kept, setnorm-kept, vtab-kept, clreol-kept, clreop-kept, setinv_fewer, setnorm_fewer, vtab_fewer, clreol_fewer, clreop_fewer}
-use Rattle.a2_services.proofs.BlocksKept.{setcol-kept, plot-kept, hline-kept, vline-kept, scrn-kept, clrscr-kept, setcol_fewer, plot_fewer, hline_fewer, vline_fewer, scrn_fewer, clrscr_fewer}
+use Rattle.a2_services.proofs.Counting.{Fewer, fewer_taken, fewer_read, base_devices, returned_devices, same_fewer, output_devices, cleared_devices, left_fewer, output_fewer}
+use Rattle.a2_services.proofs.Kept.{IsOffPage, IsOffBase, off_page, off_base, other_than, off_base-kept, off_page-cleared}
+use Rattle.a2_services.specs.Blocks.{painted, painted_across, painted_down, span_of, colour_of, black}
+
+-- blocks painted
+painted-kept : (b : ℕ) → IsOffPage b → (row column : ℕ) (m : Memory) → ram_byte (painted row column m) b ≡ ram_byte m b
+unfolding painted
+painted-kept b off row column m = ram_byte-page1 m (plotted row column (colour_of row m) m.page1) b off
+
+painted_devices : (row column : ℕ) (m : Memory) → (painted row column m).devices ≡ m.devices
+unfolding painted
+painted_devices row column m = refl
+
+-- one after another
+steps-kept : (b : ℕ) (step : ℕ → Memory → Memory) → ((k : ℕ) (m : Memory) → ram_byte (step k m) b ≡ ram_byte m b)
+    → (ks : List ℕ) (m : Memory) → ram_byte (fold (λ m k. step k m) m ks) b ≡ ram_byte m b
+steps-kept b step keeps [] m = refl
+steps-kept b step keeps (k ∷ ks) m = steps-kept b step keeps ks (step k m) ∙ keeps k m
+
+steps_devices : (step : ℕ → Memory → Memory) → ((k : ℕ) (m : Memory) → (step k m).devices ≡ m.devices)
+    → (ks : List ℕ) (m : Memory) → (fold (λ m k. step k m) m ks).devices ≡ m.devices
+steps_devices step keeps [] m = refl
+steps_devices step keeps (k ∷ ks) m = steps_devices step keeps ks (step k m) ∙ keeps k m
+
+-- the page black in any grid's place
+cleared-kept : (page : Grid) (world : World) (b : ℕ) → IsOffPage b → b ≢ 0x30 → b ≢ 0x2D
+    → ram_byte (with_ram (with_ram (with_page1 page world.memory) 0x30 0) 0x2D 47) b ≡ ram_byte world.memory b
+cleared-kept page world b off color v2 = grind (arith, ram_byte-with_ram, ram_byte-page1)
 
 -- what a service leaves differs only in its reach
 effect-kept : (service : Service) (world : World) (b : ℕ) → reach service b ≡ false
@@ -28,26 +55,24 @@ effect-kept Cout1 world b h =
 effect-kept Crout world b h = refl
 effect-kept Home world b h =
     let o : IsOutside b = outside_of b h in
-    let blank = with_page1 (cleared (window_of world.memory) world.memory.page1) world.memory in
-    output-kept b o (with_cursor_row (window_of world.memory).top (with_cursor_column 0 blank)) world
-    ∙ row-kept b o (window_of world.memory).top (with_cursor_column 0 blank)
-    ∙ column-kept b o 0 blank
-    ∙ page1-kept b o (cleared (window_of world.memory) world.memory.page1) world.memory
+    grind (arith, output-kept, row-kept, column-kept, page1-kept)
 effect-kept Prbyte world b h =
     let o : IsOutside b = outside_of b h in
-    let a = world.registers.a in
-    let first = after_put (digit_byte (a / 16)) world.memory in
-    output-kept b o (after_put (digit_byte (a % 16)) first) world
-    ∙ put-kept b o (digit_byte (a % 16)) first ∙ put-kept b o (digit_byte (a / 16)) world.memory
+    grind (arith, output-kept, put-kept)
 effect-kept Prhex world b h =
     let o : IsOutside b = outside_of b h in
-    let byte = digit_byte (world.registers.a % 16) in
-    output-kept b o (after_put byte world.memory) world ∙ put-kept b o byte world.memory
-effect-kept Setinv world b h = setinv-kept world b h
-effect-kept Setnorm world b h = setnorm-kept world b h
-effect-kept Vtab world b h = vtab-kept world b h
-effect-kept Clreol world b h = clreol-kept world b h
-effect-kept Clreop world b h = clreop-kept world b h
+    grind (arith, output-kept, put-kept)
+effect-kept Setinv world b h =
+    returned-kept (with_memory (with_ram world.memory 0x32 0x3F) world) b ∙ ram_byte-with_ram world.memory 0x32 0x3F b (other_than b 0x32 h)
+effect-kept Setnorm world b h =
+    returned-kept (with_memory (with_ram world.memory 0x32 0xFF) world) b ∙ ram_byte-with_ram world.memory 0x32 0xFF b (other_than b 0x32 h)
+effect-kept Vtab world b h = returned-kept (output world.memory world) b ∙ off_base-kept b (off_base b h) world.memory
+effect-kept Clreol world b h =
+    returned-kept (with_memory (cleared_to_end world.memory) world) b ∙ off_page-cleared b (off_page b h) world.memory
+effect-kept Clreop world b h =
+    let page : IsOffPage b = grind (arith, nat_tests, h) in
+    let base : IsOffBase b = record { low = grind (arith, nat_tests, h); high = grind (arith, nat_tests, h) } in
+    grind (arith, returned-kept, off_base-kept, ram_byte-page1, off_page-cleared)
 effect-kept Rdkey world b h = refl
 effect-kept Keyin world b h = go world.memory.devices.keys
   where
@@ -79,12 +104,28 @@ effect-kept Getln world b h =
     away : is_between 0x200 0x2FF b ≡ false → (b < 0x200) ⊎ (0x300 ≤ b)
     away h = grind (arith, nat_tests, h)
 effect-kept Wait world b h = returned-kept (with_a 0 world) b
-effect-kept Setcol world b h = setcol-kept world b h
-effect-kept Plot world b h = plot-kept world b h
-effect-kept Hline world b h = hline-kept world b h
-effect-kept Vline world b h = vline-kept world b h
-effect-kept Scrn world b h = scrn-kept world b h
-effect-kept Clrscr world b h = clrscr-kept world b h
+effect-kept Setcol world b h =
+    let colours = 17 * (world.registers.a % 16) in
+    returned-kept (with_memory (with_ram world.memory 0x30 colours) world) b
+    ∙ ram_byte-with_ram world.memory 0x30 colours b (other_than b 0x30 h)
+effect-kept Plot world b h =
+    let r = world.registers in
+    returned-kept (with_memory (painted r.a r.y world.memory) world) b ∙ painted-kept b (off_page b h) r.a r.y world.memory
+effect-kept Hline world b h =
+    let r = world.registers in
+    let columns = span_of r.y (ram_byte world.memory 0x2C) in
+    returned-kept (with_memory (painted_across r.a columns world.memory) world) b
+    ∙ steps-kept b (λ column m. painted r.a column m) (λ column m. painted-kept b (off_page b h) r.a column m) columns world.memory
+effect-kept Vline world b h =
+    let r = world.registers in
+    let rows = span_of r.a (ram_byte world.memory 0x2D) in
+    returned-kept (with_memory (painted_down rows r.y world.memory) world) b
+    ∙ steps-kept b (λ row m. painted row r.y m) (λ row m. painted-kept b (off_page b h) row r.y m) rows world.memory
+effect-kept Scrn world b h =
+    returned-kept (with_a (byte_in (blocks_of world.memory.page1) world.registers.a world.registers.y) world) b
+effect-kept Clrscr world b h =
+    returned-kept (with_memory (with_ram (with_ram (with_page1 black world.memory) 0x30 0) 0x2D 47) world) b
+    ∙ cleared-kept black world b (grind (arith, nat_tests, h)) (grind (arith, nat_tests, h)) (grind (arith, nat_tests, h))
 
 -- a service stores only in its reach
 pub served-kept : (service : Service) (world : World) (b : ℕ) → reach service b ≡ false
@@ -98,22 +139,14 @@ unfolding effect
 effect_fewer Cout w = omega arith
 effect_fewer Cout1 w = same_fewer _ _ (output_devices (after_put w.registers.a w.memory) w ∙ put_devices w.registers.a w.memory)
 effect_fewer Crout w = omega arith
-effect_fewer Home w =
-    let blank = with_page1 (cleared (window_of w.memory) w.memory.page1) w.memory in
-    same_fewer _ _ (output_devices (with_cursor_row (window_of w.memory).top (with_cursor_column 0 blank)) w
-    ∙ ram_devices (with_cursor_column 0 blank) 0x25 (window_of w.memory).top ∙ ram_devices blank 0x24 0)
-effect_fewer Prbyte w =
-    let first = after_put (digit_byte (w.registers.a / 16)) w.memory in
-    same_fewer _ _ (output_devices (after_put (digit_byte (w.registers.a % 16)) first) w
-    ∙ put_devices (digit_byte (w.registers.a % 16)) first ∙ put_devices (digit_byte (w.registers.a / 16)) w.memory)
-effect_fewer Prhex w =
-    let byte = digit_byte (w.registers.a % 16) in
-    same_fewer _ _ (output_devices (after_put byte w.memory) w ∙ put_devices byte w.memory)
-effect_fewer Setinv w = setinv_fewer w
-effect_fewer Setnorm w = setnorm_fewer w
-effect_fewer Vtab w = vtab_fewer w
-effect_fewer Clreol w = clreol_fewer w
-effect_fewer Clreop w = clreop_fewer w
+effect_fewer Home w = grind (arith, output_devices, ram_devices)
+effect_fewer Prbyte w = grind (arith, output_devices, put_devices)
+effect_fewer Prhex w = grind (arith, output_devices, put_devices)
+effect_fewer Setinv w = left_fewer (with_ram w.memory 0x32 0x3F) w (ram_devices w.memory 0x32 0x3F)
+effect_fewer Setnorm w = left_fewer (with_ram w.memory 0x32 0xFF) w (ram_devices w.memory 0x32 0xFF)
+effect_fewer Vtab w = output_fewer w.memory w refl
+effect_fewer Clreol w = left_fewer (cleared_to_end w.memory) w (cleared_devices w.memory)
+effect_fewer Clreop w = output_fewer (cleared_below (cleared_to_end w.memory)) w (cleared_devices w.memory)
 effect_fewer Rdkey w = omega arith
 effect_fewer Keyin w = go w.memory.devices.keys refl
   where
@@ -138,12 +171,23 @@ effect_fewer Getln w =
       fewer.is,
     )
 effect_fewer Wait w = same_fewer _ _ (ap (λ (x : Memory). x.devices) (returned_devices (with_a 0 w)))
-effect_fewer Setcol w = setcol_fewer w
-effect_fewer Plot w = plot_fewer w
-effect_fewer Hline w = hline_fewer w
-effect_fewer Vline w = vline_fewer w
-effect_fewer Scrn w = scrn_fewer w
-effect_fewer Clrscr w = clrscr_fewer w
+effect_fewer Setcol w =
+    let colours = 17 * (w.registers.a % 16) in
+    left_fewer (with_ram w.memory 0x30 colours) w (ram_devices w.memory 0x30 colours)
+effect_fewer Plot w = left_fewer (painted w.registers.a w.registers.y w.memory) w (painted_devices w.registers.a w.registers.y w.memory)
+effect_fewer Hline w =
+    let columns = span_of w.registers.y (ram_byte w.memory 0x2C) in
+    left_fewer (painted_across w.registers.a columns w.memory) w
+    (steps_devices (λ column m. painted w.registers.a column m) (λ column m. painted_devices w.registers.a column m) columns w.memory)
+effect_fewer Vline w =
+    let rows = span_of w.registers.a (ram_byte w.memory 0x2D) in
+    left_fewer (painted_down rows w.registers.y w.memory) w
+    (steps_devices (λ row m. painted row w.registers.y m) (λ row m. painted_devices row w.registers.y m) rows w.memory)
+effect_fewer Scrn w =
+    same_fewer _ _ (ap (λ (m : Memory). m.devices) (returned_devices (with_a (byte_in (blocks_of w.memory.page1) w.registers.a w.registers.y) w)))
+effect_fewer Clrscr w =
+    let page = with_page1 black w.memory in
+    left_fewer (with_ram (with_ram page 0x30 0) 0x2D 47) w (ram_devices (with_ram page 0x30 0) 0x2D 47 ∙ ram_devices page 0x30 0)
 
 -- a service adds no key
 pub served_fewer : (service : Service) (w : World) → length (served service w).memory.devices.keys ≤ length w.memory.devices.keys

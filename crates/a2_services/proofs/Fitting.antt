@@ -25,24 +25,11 @@ row_free = refl
 differ : (a b : ℕ) → a < b → a ≢ b
 differ a b lt e = omega (arith, lt, e)
 
-abbrev four : (ℕ → ℕ) → Window
-four f = record { left = f 0x20; width = f 0x21; top = f 0x22; bottom = f 0x23 }
-
 pub window_kept : (m : Memory) (a byte : ℕ) → 0x24 ≤ a → window_of (with_ram m a byte) ≡ window_of m
-window_kept m a byte high = λ i. record {
-  left = ram_byte-with_ram m a byte 0x20 (differ 0x20 a (omega (arith, high))) i;
-  width = ram_byte-with_ram m a byte 0x21 (differ 0x21 a (omega (arith, high))) i;
-  top = ram_byte-with_ram m a byte 0x22 (differ 0x22 a (omega (arith, high))) i;
-  bottom = ram_byte-with_ram m a byte 0x23 (differ 0x23 a (omega (arith, high))) i;
-}
+window_kept m a byte high = grind (arith, ram_byte-with_ram)
 
 pub window_kept-page : (m : Memory) (page : Grid) → window_of (with_page1 page m) ≡ window_of m
-window_kept-page m page = λ i. record {
-  left = ram_byte-page1 m page 0x20 (inl (omega arith)) i;
-  width = ram_byte-page1 m page 0x21 (inl (omega arith)) i;
-  top = ram_byte-page1 m page 0x22 (inl (omega arith)) i;
-  bottom = ram_byte-page1 m page 0x23 (inl (omega arith)) i;
-}
+window_kept-page m page = grind (arith, ram_byte-page1)
 
 line_from : (m n : Memory) → LineFits m → window_of n ≡ window_of m → cursor_row n < 24 → LineFits n
 line_from m n h e row = record { window = subst IsWindow (sym e) h.window; row = row }

@@ -8,6 +8,4 @@ pub mod Returning
 pub mod Unreached
 pub mod Access
 pub mod Counting
-pub mod EditingKept
-pub mod BlocksKept
 pub mod Effects

@@ -1,5 +1,5 @@
 -- Reading a line, key by key.
-use Rattle.std.specs.Prelude.{◌≡◌, ◌≢◌, ℕ, zero, suc, ◌+◌, ◌-◌, ◌<◌, ◌==◌, Bool, true, false, not, ◌&&◌, nat_lt, nat_le, if◌then◌else◌, List, [], ◌∷◌, length, Option, Some, None, is_some, unwrap_or, slice_index, refl}
+use Rattle.std.specs.Prelude.{◌≡◌, ◌≢◌, ℕ, zero, suc, ◌+◌, ◌<◌, ◌==◌, Bool, true, false, not, if◌then◌else◌, List, [], ◌∷◌, length, Option, Some, None, is_some, unwrap_or, slice_index, refl}
 use Rattle.std.proofs.Common.{sym, ap, ◌∙◌, arith, true≢false}
 use Rattle.std.proofs.lemmas.Bool.Decides.{nat_tests}
 use Rattle.a2_page.specs.Cells.{Cell, cell_at}
@@ -8,8 +8,7 @@ use Rattle.a2_bus.specs.View.{memory_of}
 use Rattle.a2_bus.specs.Devices.{Devices, key_taken}
 use Rattle.a2_bus.specs.Memory.{Memory, with_ram}
 use Rattle.a2_bus.proofs.Agreement.{written, devices-with_grid}
-use Rattle.a2_services.specs.Put.{after_line_feed, after_return, after_backspace, after_character, after_put_unmasked, after_put, prompt_character, inverse_mask, masked_by, with_cursor_row, with_cursor_column, window_of, cursor_row, cursor_column, screen_column, with_page1}
-use Rattle.a2_page.specs.Grid.{with_byte, blank}
+use Rattle.a2_services.specs.Put.{after_line_feed, after_return, after_backspace, after_character, after_put_unmasked, after_put, prompt_character, inverse_mask, masked_by, with_cursor_column}
 use Rattle.a2_services.specs.Services.{Reading, byte_of_key, after_byte, after_cancel, after_prompt, line_read, with_key_taken, cleared_to_end, lacks_keys, effect, back, with_a, with_memory}
 use Rattle.a2_services.specs.World.{World}
 use Rattle.a2_services.specs.declared.Service.TheVariants.{Keyin}
@@ -25,55 +24,25 @@ ram_devices m a byte = go (cell_at a)
     go None = refl
     go (Some cell) = devices-with_grid m cell.page _
 
--- the memory has these devices
-record Holds (d : Devices) (m : Memory) : Type 0 where
-  is : m.devices ≡ d
-
-holds : (d : Devices) (m : Memory) → m.devices ≡ d → Holds d m
-holds d m e = record { is = e }
-
-either : (d : Devices) (v : Bool) (x y : Memory) → Holds d x → Holds d y → Holds d (if v then x else y)
-either d true x y h g = h
-either d false x y h g = g
-
-line_feed_holds : (m : Memory) → Holds m.devices (after_line_feed m)
+line_feed_devices : (m : Memory) → (after_line_feed m).devices ≡ m.devices
 unfolding after_line_feed
-line_feed_holds m = either m.devices (nat_lt (cursor_row m + 1) (window_of m).bottom) _ _ (holds m.devices _ (ram_devices m 0x25 (cursor_row m + 1))) (holds m.devices _ refl)
+line_feed_devices m = grind (arith, ram_devices)
 
 return_devices : (m : Memory) → (after_return m).devices ≡ m.devices
 unfolding after_return
-return_devices m = (line_feed_holds (with_cursor_column 0 m)).is ∙ ram_devices m 0x24 0
+return_devices m = line_feed_devices (with_cursor_column 0 m) ∙ ram_devices m 0x24 0
 
-backspace_holds : (m : Memory) → Holds m.devices (after_backspace m)
+backspace_devices : (m : Memory) → (after_backspace m).devices ≡ m.devices
 unfolding after_backspace
-backspace_holds m =
-    let wrapped = with_cursor_column ((window_of m).width - 1) m in
-    let first : wrapped.devices ≡ m.devices = ram_devices m 0x24 ((window_of m).width - 1) in
-    either m.devices (nat_lt 0 (cursor_column m)) _ _
-    (holds m.devices (with_cursor_column (cursor_column m - 1) m) (ram_devices m 0x24 (cursor_column m - 1)))
-    (either m.devices (nat_lt (window_of m).top (cursor_row m)) _ _
-    (holds m.devices (with_cursor_row (cursor_row m - 1) wrapped) (ram_devices wrapped 0x25 (cursor_row m - 1) ∙ first))
-    (holds m.devices wrapped first))
+backspace_devices m = grind (arith, ram_devices)
 
-character_holds : (byte : ℕ) (m : Memory) → Holds m.devices (after_character byte m)
+character_devices : (byte : ℕ) (m : Memory) → (after_character byte m).devices ≡ m.devices
 unfolding after_character
-character_holds byte m =
-    let written = with_page1 (with_byte m.page1 (cursor_row m) (screen_column m) byte) m in
-    let moved = with_cursor_column (cursor_column m + 1) written in
-    let first : moved.devices ≡ m.devices = ram_devices written 0x24 (cursor_column m + 1) in
-    either m.devices (nat_le (window_of m).width (cursor_column m + 1)) _ _
-    (holds m.devices (after_return moved) (return_devices moved ∙ first)) (holds m.devices moved first)
-
-put_unmasked_holds : (byte : ℕ) (m : Memory) → Holds m.devices (after_put_unmasked byte m)
-unfolding after_put_unmasked
-put_unmasked_holds byte m =
-    either m.devices (byte == 0x8D) _ _ (holds m.devices _ (return_devices m))
-    (either m.devices (byte == 0x8A) _ _ (line_feed_holds m)
-    (either m.devices (byte == 0x88) _ _ (backspace_holds m)
-    (either m.devices (nat_le 0x80 byte && nat_lt byte blank) _ _ (holds m.devices m refl) (character_holds byte m))))
+character_devices byte m = grind (arith, ram_devices, return_devices)
 
 put_unmasked_devices : (byte : ℕ) (m : Memory) → (after_put_unmasked byte m).devices ≡ m.devices
-put_unmasked_devices byte m = (put_unmasked_holds byte m).is
+unfolding after_put_unmasked
+put_unmasked_devices byte m = grind (arith, line_feed_devices, return_devices, backspace_devices, character_devices)
 
 pub put_devices : (byte : ℕ) (m : Memory) → (after_put byte m).devices ≡ m.devices
 unfolding after_put
@@ -85,35 +54,12 @@ prompt_devices m = put_devices (prompt_character m) (after_put 0x8D m) ∙ put_d
 cancel_devices : (m : Memory) → (after_cancel m).memory.devices ≡ m.devices
 cancel_devices m = prompt_devices (after_put 0xDC m) ∙ put_devices 0xDC m
 
-record HoldsLine (d : Devices) (line : Reading) : Type 0 where
-  is : line.memory.devices ≡ d
-
-holds_line : (d : Devices) (line : Reading) → line.memory.devices ≡ d → HoldsLine d line
-holds_line d line e = record { is = e }
-
-either_line : (d : Devices) (v : Bool) (x y : Reading) → HoldsLine d x → HoldsLine d y → HoldsLine d (if v then x else y)
-either_line d true x y h g = h
-either_line d false x y h g = g
-
-after_byte_holds : (byte : ℕ) (line : Reading) → HoldsLine line.memory.devices (after_byte byte line)
-after_byte_holds byte line =
-    let d = line.memory.devices in
-    let echoed = after_put_unmasked byte line.memory in
-    let gone : HoldsLine d (after_cancel echoed) = holds_line d (after_cancel echoed) (cancel_devices echoed ∙ put_unmasked_devices byte line.memory) in
-    either_line d (byte == 0x88) _ _ (backspace line.len)
-    (either_line d (byte == 0x98) _ _ gone
-    (either_line d (line.len == 255) _ _ gone (holds_line d (reading echoed (line.len + 1)) (put_unmasked_devices byte line.memory))))
-  where
-    backspace : (len : ℕ)
-        → HoldsLine line.memory.devices (elim len as (λ _. Reading) [
-          | zero ↦ record { memory = after_prompt (after_put_unmasked byte line.memory); len = 0 }
-          | suc len ↦ record { memory = after_put_unmasked byte line.memory; len = len }
-        ])
-    backspace zero = holds_line line.memory.devices _ (prompt_devices (after_put_unmasked byte line.memory) ∙ put_unmasked_devices byte line.memory)
-    backspace (suc len) = holds_line line.memory.devices _ (put_unmasked_devices byte line.memory)
-
 pub after_byte_devices : (byte : ℕ) (line : Reading) → (after_byte byte line).memory.devices ≡ line.memory.devices
-after_byte_devices byte line = (after_byte_holds byte line).is
+after_byte_devices byte line = go line.len
+  where
+    go : (len : ℕ) → (after_byte byte (reading line.memory len)).memory.devices ≡ line.memory.devices
+    go zero = grind (arith, put_unmasked_devices, prompt_devices, cancel_devices)
+    go (suc len) = grind (arith, put_unmasked_devices, prompt_devices, cancel_devices)
 
 -- The keys
 
@@ -148,11 +94,7 @@ at_key : (m : Memory) (len key byte k : ℕ) (keys : List ℕ) → m.devices.key
     ≡ (if byte == 0x8D then reading (after_put 0x8D (cleared_to_end (kept m len byte))) len
     else line_read keys (after_byte byte (reading (kept m len byte) len)))
 unfolding line_read
-at_key m len key byte k keys e same is =
-    let b : byte_of_key m k ≡ byte = ap (λ j. byte_of_key m j) same ∙ sym is in
-    ap (λ l. line_read l (reading m len)) e
-    ∙ ap (λ x. if x == 0x8D then reading (after_put 0x8D (cleared_to_end (kept m len x))) len
-    else line_read keys (after_byte x (reading (kept m len x) len))) b
+at_key m len key byte k keys e same is = grind arith
 
 pub line_end : (m : Memory) (len key byte : ℕ) → first_of m.devices.keys ≡ Some key → byte ≡ byte_of_key m key → byte ≡ 0x8D
     → rest_of m len ≡ reading (after_put 0x8D (cleared_to_end (kept m len byte))) len
@@ -192,10 +134,7 @@ fewer_keys m len key byte next first step = go m.devices.keys refl first
 
 pub line_from_prompt : (m n : Memory) (mark : ℕ) → mark ≡ prompt_character m → n ≡ after_put mark m
     → rest_of n 0 ≡ line_read m.devices.keys (reading (after_put (prompt_character m) m) 0)
-line_from_prompt m n mark is step =
-    let whole : n ≡ after_put (prompt_character m) m = step ∙ ap (λ b. after_put b m) is in
-    ap (λ x. rest_of x 0) whole
-    ∙ ap (λ (d : Devices). line_read d.keys (reading (after_put (prompt_character m) m) 0)) (put_devices (prompt_character m) m)
+line_from_prompt m n mark is step = grind (arith, put_devices)
 
 -- no key is there exactly where there is no first one
 pub lacks_unless : (m : Memory) (lacking : Bool) → is_some (first_of m.devices.keys) ≡ not lacking → lacking ≡ lacks_keys Keyin m

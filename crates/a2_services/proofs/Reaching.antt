@@ -1,13 +1,13 @@
 -- A service changes no byte out of its reach.
-use Rattle.std.specs.Prelude.{◌≡◌, ◌≢◌, ◌⊎◌, ℕ, zero, suc, ◌+◌, ◌-◌, ◌<◌, ◌≤◌, List, [], ◌∷◌, Bool, true, false, ◌&&◌, ◌==◌, nat_lt, nat_le, if◌then◌else◌, refl}
+use Rattle.std.specs.Prelude.{◌≡◌, ◌≢◌, ◌⊎◌, ℕ, zero, suc, ◌+◌, ◌<◌, ◌≤◌, List, [], ◌∷◌, Bool, true, false, ◌==◌, if◌then◌else◌, refl}
 use Rattle.std.proofs.Common.{◌∙◌, arith, inl, inr}
 use Rattle.std.proofs.lemmas.Bool.Decides.{nat_tests}
-use Rattle.a2_page.specs.Grid.{Grid, scrolled, with_byte, blank}
+use Rattle.a2_page.specs.Grid.{Grid}
 use Rattle.a2_bus.specs.Memory.{Memory, ram_byte, with_ram, memory_access}
 use Rattle.a2_bus.proofs.Frame.{ram_byte-with_ram, ram_byte-page1, changed_by_writes}
 use Rattle.a2_core.specs.Instruction.{returned, after_pull}
 use Rattle.a2_services.specs.World.{World}
-use Rattle.a2_services.specs.Put.{window_of, cursor_column, cursor_row, with_cursor_column, with_cursor_row, screen_column, prompt_character, inverse_mask, masked_by, with_page1, after_line_feed, after_return, after_backspace, after_character, after_put, after_put_unmasked, with_base_address}
+use Rattle.a2_services.specs.Put.{with_cursor_column, with_cursor_row, prompt_character, inverse_mask, masked_by, with_page1, after_line_feed, after_return, after_backspace, after_character, after_put, after_put_unmasked, with_base_address}
 use Rattle.a2_services.specs.Services.{output_reach, cleared_to_end, Reading, byte_of_key, after_byte, after_cancel, after_prompt, line_read, with_key_taken, back, output}
 use Rattle.a2_services.proofs.Kept.{off_base-kept, off_page-cleared}
 
@@ -28,10 +28,6 @@ outside_of b h = record {
   base_high = grind (arith, nat_tests, h);
 }
 
-either : (v : Bool) (x y : Memory) (b r : ℕ) → ram_byte x b ≡ r → ram_byte y b ≡ r → ram_byte (if v then x else y) b ≡ r
-either true x y b r h g = h
-either false x y b r h g = g
-
 module _ (b : ℕ) (outside : IsOutside b) where
   pub page1-kept : (page : Grid) (m : Memory) → ram_byte (with_page1 page m) b ≡ ram_byte m b
   page1-kept page m = ram_byte-page1 m page b outside.page
@@ -44,11 +40,7 @@ module _ (b : ℕ) (outside : IsOutside b) where
 
   line_feed-kept : (m : Memory) → ram_byte (after_line_feed m) b ≡ ram_byte m b
   unfolding after_line_feed
-  line_feed-kept m =
-      let down = with_cursor_row (cursor_row m + 1) m in
-      let moved = with_page1 (scrolled (window_of m) m.page1) m in
-      either (nat_lt (cursor_row m + 1) (window_of m).bottom) down moved b (ram_byte m b)
-      (row-kept (cursor_row m + 1) m) (page1-kept (scrolled (window_of m) m.page1) m)
+  line_feed-kept m = grind (arith, row-kept, page1-kept)
 
   return-kept : (m : Memory) → ram_byte (after_return m) b ≡ ram_byte m b
   unfolding after_return
@@ -56,36 +48,15 @@ module _ (b : ℕ) (outside : IsOutside b) where
 
   backspace-kept : (m : Memory) → ram_byte (after_backspace m) b ≡ ram_byte m b
   unfolding after_backspace
-  backspace-kept m =
-      let left = with_cursor_column (cursor_column m - 1) m in
-      let wrapped = with_cursor_column ((window_of m).width - 1) m in
-      let up = with_cursor_row (cursor_row m - 1) wrapped in
-      either (nat_lt 0 (cursor_column m)) left (if nat_lt (window_of m).top (cursor_row m) then up else wrapped) b (ram_byte m b)
-      (column-kept (cursor_column m - 1) m)
-      (either (nat_lt (window_of m).top (cursor_row m)) up wrapped b (ram_byte m b)
-      (row-kept (cursor_row m - 1) wrapped ∙ column-kept ((window_of m).width - 1) m) (column-kept ((window_of m).width - 1) m))
+  backspace-kept m = grind (arith, column-kept, row-kept)
 
   character-kept : (byte : ℕ) (m : Memory) → ram_byte (after_character byte m) b ≡ ram_byte m b
   unfolding after_character
-  character-kept byte m =
-      let page = with_byte m.page1 (cursor_row m) (screen_column m) byte in
-      let written = with_page1 page m in
-      let moved = with_cursor_column (cursor_column m + 1) written in
-      let same : ram_byte moved b ≡ ram_byte m b = column-kept (cursor_column m + 1) written ∙ page1-kept page m in
-      either (nat_le (window_of m).width (cursor_column m + 1)) (after_return moved) moved b (ram_byte m b)
-      (return-kept moved ∙ same) same
+  character-kept byte m = grind (arith, column-kept, page1-kept, return-kept)
 
   put_unmasked-kept : (byte : ℕ) (m : Memory) → ram_byte (after_put_unmasked byte m) b ≡ ram_byte m b
   unfolding after_put_unmasked
-  put_unmasked-kept byte m =
-      let was = ram_byte m b in
-      let last = if nat_le 0x80 byte && nat_lt byte blank then m else after_character byte m in
-      let back = if byte == 0x88 then after_backspace m else last in
-      let feed = if byte == 0x8A then after_line_feed m else back in
-      either (byte == 0x8D) (after_return m) feed b was (return-kept m)
-      (either (byte == 0x8A) (after_line_feed m) back b was (line_feed-kept m)
-      (either (byte == 0x88) (after_backspace m) last b was (backspace-kept m)
-      (either (nat_le 0x80 byte && nat_lt byte blank) m (after_character byte m) b was refl (character-kept byte m))))
+  put_unmasked-kept byte m = grind (arith, return-kept, line_feed-kept, backspace-kept, character-kept)
 
   pub put-kept : (byte : ℕ) (m : Memory) → ram_byte (after_put byte m) b ≡ ram_byte m b
   unfolding after_put

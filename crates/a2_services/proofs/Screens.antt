@@ -19,9 +19,7 @@ part_more : (m n k : Memory) (row left : ℕ) (part : List ℕ) (c byte : ℕ) �
     → n ≡ with_page1 (with_row_part m.page1 row left part) m
     → k ≡ with_page1 (with_byte n.page1 row c byte) n
     → k ≡ with_page1 (with_row_part m.page1 row left (part ++ byte ∷ [])) m
-part_more m n k row left part c byte h row_ok e lt is step =
-    step ∙ ap (λ (x : Memory). with_page1 (with_byte x.page1 row c byte) x) is
-    ∙ ap (λ page. with_page1 page m) (with_row_part-more m.page1 row left part c byte h row_ok e lt)
+part_more m n k row left part c byte h row_ok e lt is step = grind (arith, with_row_part-more)
 
 -- the board's bytes with some laid from an address on
 abbrev laid : BusState → ℕ → List ℕ → BusState

@@ -1,4 +1,5 @@
 //! The services that draw and look at lo-res blocks.
+#![tactic(auto, unfolding(crate::specs::Services::effect))]
 
 ghost use Rattle.std.specs.Prelude.{◌≡◌, ◌<◌, ℕ, length, true};
 ghost use Rattle.a2_bus.specs.Memory.{with_ram, ram_end};
@@ -64,11 +65,12 @@ pub(crate) fn vline<A: Allocator>(live: &mut Live, space: &mut AddressSpace<A>)
     return_from(live, space);
 }
 
-pub(crate) fn scrn<A: Allocator>(live: &mut Live, space: &AddressSpace<A>)
-    requires { fits_of Scrn (live_registers live.old) (memory_of space.now) ≡ true }
-    ensures left { IsLeft Scrn (live_registers live.old) space.now (live_registers live.new) space.now }
+#[tactic(auto, using(crate::proofs::Painting::block_shown), unfolding(crate::specs::Services::effect))]
+pub(crate) fn scrn<A: Allocator>(live: &mut Live, space: &mut AddressSpace<A>)
+    requires { fits_of Scrn (live_registers live.old) (memory_of space.old) ≡ true }
+    ensures left { IsLeft Scrn (live_registers live.old) space.old (live_registers live.new) space.new }
     ensures cycles { live.new.cycles ≡ live.old.cycles }
-    ensures size { length space.now.bytes ≡ ram_end }
+    ensures size { length space.new.bytes ≡ ram_end }
 {
     live.a = block(cell(space, live.a / 2, live.y), half_of(live.a));
     return_from(live, space);
@@ -99,7 +101,7 @@ fn half_of(row: u8) -> Half
 }
 
 // A block takes its colour.
-#[tactic(auto, unfolding(crate::specs::Blocks::painted))]
+#[tactic(auto, using(a2_bus::proofs::Viewing::cell_seen, a2_bus::proofs::Viewing::cell_written, crate::proofs::Painting::paint_made), unfolding(crate::specs::Blocks::painted))]
 fn paint<A: Allocator>(space: &mut AddressSpace<A>, row: u8, column: u8)
     requires row { row < 48 }
     requires column { column < 40 }

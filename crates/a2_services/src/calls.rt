@@ -101,6 +101,7 @@ fn call_in_place<A: Allocator>(
 
 // A call that has what it needs: the cycles that it takes.
 #[inline(always)]
+#[tactic(auto, unfolding(crate::specs::Services::served))]
 fn serve<A: Allocator>(service: Service, live: &mut Live, space: &mut AddressSpace<A>) -> u32
     requires fitting { fits_of service (live_registers live.old) (memory_of space.old) ≡ true }
     requires keyed { lacks_keys_of service (memory_of space.old) ≡ false }
@@ -171,6 +172,7 @@ fn act<A: Allocator>(service: Service, live: &mut Live, space: &mut AddressSpace
     }
 }
 
+#[tactic(auto, unfolding(crate::specs::Services::effect))]
 fn cout1<A: Allocator>(live: &mut Live, space: &mut AddressSpace<A>)
     requires { CursorFits (memory_of space.old) }
     ensures left { IsLeft Cout1 (live_registers live.old) space.old (live_registers live.new) space.new }
@@ -181,6 +183,7 @@ fn cout1<A: Allocator>(live: &mut Live, space: &mut AddressSpace<A>)
     end_output(live, space);
 }
 
+#[tactic(auto, unfolding(crate::specs::Services::effect))]
 fn home<A: Allocator>(live: &mut Live, space: &mut AddressSpace<A>)
     requires { IsWindow (window_of (memory_of space.old)) }
     ensures left { IsLeft Home (live_registers live.old) space.old (live_registers live.new) space.new }
@@ -194,6 +197,7 @@ fn home<A: Allocator>(live: &mut Live, space: &mut AddressSpace<A>)
     end_output(live, space);
 }
 
+#[tactic(auto, unfolding(crate::specs::Services::effect))]
 fn prbyte<A: Allocator>(live: &mut Live, space: &mut AddressSpace<A>)
     requires { CursorFits (memory_of space.old) }
     ensures left { IsLeft Prbyte (live_registers live.old) space.old (live_registers live.new) space.new }
@@ -205,6 +209,7 @@ fn prbyte<A: Allocator>(live: &mut Live, space: &mut AddressSpace<A>)
     end_output(live, space);
 }
 
+#[tactic(auto, unfolding(crate::specs::Services::effect))]
 fn prhex<A: Allocator>(live: &mut Live, space: &mut AddressSpace<A>)
     requires { CursorFits (memory_of space.old) }
     ensures left { IsLeft Prhex (live_registers live.old) space.old (live_registers live.new) space.new }
@@ -227,15 +232,17 @@ fn keyin<A: Allocator>(live: &mut Live, space: &mut AddressSpace<A>)
     return_from(live, space);
 }
 
-fn wait<A: Allocator>(live: &mut Live, space: &AddressSpace<A>)
-    ensures left { IsLeft Wait (live_registers live.old) space.now (live_registers live.new) space.now }
+#[tactic(auto, unfolding(crate::specs::Services::effect))]
+fn wait<A: Allocator>(live: &mut Live, space: &mut AddressSpace<A>)
+    ensures left { IsLeft Wait (live_registers live.old) space.old (live_registers live.new) space.new }
     ensures cycles { live.new.cycles ≡ live.old.cycles }
-    ensures size { length space.now.bytes ≡ ram_end }
+    ensures size { length space.new.bytes ≡ ram_end }
 {
     live.a = 0;
     return_from(live, space);
 }
 
+#[tactic(auto, using(crate::proofs::Lines::line_from_prompt), unfolding(crate::specs::Services::effect))]
 fn getln<A: Allocator>(live: &mut Live, space: &mut AddressSpace<A>)
     requires { CursorFits (memory_of space.old) }
     ensures left { IsLeft Getln (live_registers live.old) space.old (live_registers live.new) space.new }

@@ -1,4 +1,5 @@
 //! The services that edit the screen without putting a byte.
+#![tactic(auto, unfolding(crate::specs::Services::effect))]
 
 ghost use Rattle.std.specs.Prelude.{◌≡◌, ℕ, length};
 ghost use Rattle.a2_bus.specs.Memory.{with_ram, ram_end};

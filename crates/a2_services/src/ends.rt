@@ -11,9 +11,9 @@ ghost use Rattle.a2_services.specs.Services.{with_memory};
 ghost use Rattle.a2_services.specs.Fits.{LineFits};
 
 use crate::put::set_base;
-use crate::screen::load;
 use a2_bus::AddressSpace;
 use a2_core::Live;
+use a2_core::families::return_from_call;
 use std::alloc::Allocator;
 
 /// The end of an output service.
@@ -32,15 +32,13 @@ pub(crate) fn end_output<A: Allocator>(live: &mut Live, space: &mut AddressSpace
 
 /// PC is pulled as RTS does.
 #[inline(always)]
-pub(crate) fn return_from<A: Allocator>(live: &mut Live, space: &AddressSpace<A>)
-    ensures returned { (cycles : ℕ) → world_of (live_registers live.new) space.now cycles
-        ≡ returned memory_access (world_of (live_registers live.old) space.now cycles) }
+pub(crate) fn return_from<A: Allocator>(live: &mut Live, space: &mut AddressSpace<A>)
+    ensures returned { (cycles : ℕ) → world_of (live_registers live.new) space.new cycles
+        ≡ returned memory_access (world_of (live_registers live.old) space.old cycles) }
     ensures cycles { live.new.cycles ≡ live.old.cycles }
-    ensures size { length space.now.bytes ≡ ram_end }
+    ensures size { length space.new.bytes ≡ ram_end }
 {
-    live.s = live.s.wrapping_add(1);
-    let low = load(space, 0x100 + u16::from(live.s));
-    live.s = live.s.wrapping_add(1);
-    let high = load(space, 0x100 + u16::from(live.s));
-    live.pc = u16::from_le_bytes([low, high]).wrapping_add(1);
+    // Shows the prover how long RAM is before the pulls.
+    let _ = space.ram();
+    return_from_call(live, space);
 }

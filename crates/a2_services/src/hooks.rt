@@ -1,4 +1,5 @@
 //! The hooks: steps that go on where two bytes of page 0 say.
+#![tactic(auto, unfolding(crate::specs::Services::effect))]
 
 ghost use Rattle.std.specs.Prelude.{◌≡◌, ◌+◌, ◌<◌, ℕ, length};
 ghost use Rattle.a2_bus.specs.Memory.{ram_end};

@@ -1,7 +1,8 @@
 //! The Monitor's services: each call of one as a single step on the registers and the board.
 //!
 //! [`call`] calls a service. Who makes many steps in a row and keeps the registers apart meanwhile has [`live::call`]. Who
-//! follows a service without calling it has what it looks at and puts: [`load`], [`window`], [`masked`] and [`bytes`].
+//! follows a service without calling it has its row, [`row_of`], and what it looks at and puts: [`load`], [`window`], [`masked`] and
+//! [`bytes`].
 //!
 //! The names, addresses and purposes are those of the Apple II Reference Manual (1979), chapter 3, "The System
 //! Monitor", chapter 2, "Conversation with Apples", on standard output, the text window, standard input and GETLN, and
@@ -31,7 +32,7 @@ mod stores;
 
 pub use on_board::call;
 pub use put::masked;
-pub use rows::service_at;
+pub use rows::{Needs, Reach, Row, Takes, row_of, service_at};
 pub use screen::{Edges, load, window};
 pub use stores::reach;
 

@@ -24,6 +24,7 @@ fn first(keys: &[u8]) -> Option<u8>
 }
 
 /// The first waiting key.
+#[tactic(auto, using(a2_bus::proofs::Viewing::devices_seen))]
 pub(crate) fn first_key<A: Allocator>(space: &AddressSpace<A>) -> Option<u8>
     ensures key { result ≡ first_of (memory_of space.now).devices.keys }
     ensures code { IfSome result (λ key. key < 128) }
@@ -32,6 +33,7 @@ pub(crate) fn first_key<A: Allocator>(space: &AddressSpace<A>) -> Option<u8>
 }
 
 /// The first waiting key is taken.
+#[tactic(auto, using(a2_bus::proofs::Viewing::take_seen))]
 pub(crate) fn take_key<A: Allocator>(space: &mut AddressSpace<A>)
     ensures { memory_of space.new ≡ with_key_taken (memory_of space.old) }
 {
@@ -116,6 +118,7 @@ fn after_byte<A: Allocator>(space: &mut AddressSpace<A>, byte: u8, length: u8) -
 }
 
 /// The line that the waiting keys make: its length.
+#[tactic(auto, using(crate::proofs::Lines::line_none, crate::proofs::Lines::line_end))]
 pub(crate) fn read_line<A: Allocator>(space: &mut AddressSpace<A>) -> u8
     requires { CursorFits (memory_of space.old) }
     ensures line { reading (memory_of space.new) result ≡ rest_of (memory_of space.old) 0 }

@@ -121,6 +121,7 @@ fn lacks_keys<A: Allocator>(needs: Needs, space: &AddressSpace<A>) -> bool
 }
 
 // No key waits.
+#[tactic(auto, using(crate::proofs::Lines::lacks_unless))]
 fn lacks_key<A: Allocator>(space: &AddressSpace<A>) -> bool
     ensures { result ≡ lacks_keys_of Keyin (memory_of space.now) }
 {
@@ -128,6 +129,7 @@ fn lacks_key<A: Allocator>(space: &AddressSpace<A>) -> bool
 }
 
 // No RETURN is among the waiting keys.
+#[tactic(auto, using(a2_bus::proofs::Viewing::devices_seen))]
 fn lacks_return<A: Allocator>(space: &AddressSpace<A>) -> bool
     ensures { result ≡ not (has_return_of (memory_of space.now).devices.keys) }
 {

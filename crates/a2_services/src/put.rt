@@ -91,6 +91,7 @@ pub(crate) fn put_unmasked<A: Allocator>(space: &mut AddressSpace<A>, byte: u8)
 }
 
 // Two bytes, digit by digit.
+#[tactic(auto, using(a2_core::proofs::Digits::and_is))]
 fn both(byte: u8, mask: u8) -> u8
     ensures { result ≡ by_digits 8 ◌&&◌ byte mask }
 {

@@ -27,6 +27,7 @@ pub struct Edges {
 /// The byte at an address of RAM, from 0 to $BFFF, as the services look at it: nothing changes, and no device sees an access. Apple II
 /// Reference Manual (1979), chapter 4, the memory map.
 #[inline(always)]
+#[tactic(auto, using(crate::proofs::Access::looked_at))]
 pub fn load<A: Allocator>(space: &AddressSpace<A>, address: u16) -> u8
     requires { address < ram_end }
     ensures byte { result ≡ ram_byte (memory_of space.now) address }
@@ -37,6 +38,7 @@ pub fn load<A: Allocator>(space: &AddressSpace<A>, address: u16) -> u8
 
 /// The byte at an address of RAM becomes another.
 #[inline(always)]
+#[tactic(auto, using(crate::proofs::Access::written_to))]
 pub(crate) fn store<A: Allocator>(space: &mut AddressSpace<A>, address: u16, byte: u8)
     requires { address < ram_end }
     ensures { memory_of space.new ≡ with_ram (memory_of space.old) address byte }
@@ -45,6 +47,7 @@ pub(crate) fn store<A: Allocator>(space: &mut AddressSpace<A>, address: u16, byt
 }
 
 /// The byte of a cell of page 1.
+#[tactic(auto, using(a2_bus::proofs::Viewing::cell_seen))]
 pub(crate) fn cell<A: Allocator>(space: &AddressSpace<A>, row: u8, column: u8) -> u8
     requires row { row < 24 }
     requires column { column < 40 }
@@ -54,6 +57,7 @@ pub(crate) fn cell<A: Allocator>(space: &AddressSpace<A>, row: u8, column: u8) -
 }
 
 /// The byte of a cell of page 1 becomes another.
+#[tactic(auto, using(a2_bus::proofs::Viewing::cell_written))]
 pub(crate) fn set_cell<A: Allocator>(space: &mut AddressSpace<A>, row: u8, column: u8, byte: u8)
     requires row { row < 24 }
     requires column { column < 40 }
@@ -90,6 +94,7 @@ pub(crate) fn blank_part<A: Allocator>(space: &mut AddressSpace<A>, row: u8, lef
 }
 
 /// A row becomes black blocks.
+#[tactic(auto, using(crate::proofs::Screens::row_laid))]
 pub(crate) fn black_row<A: Allocator>(space: &mut AddressSpace<A>, row: u8)
     requires row { row < 24 }
     ensures { let memory = memory_of space.old in
@@ -99,6 +104,7 @@ pub(crate) fn black_row<A: Allocator>(space: &mut AddressSpace<A>, row: u8)
 }
 
 /// A part of a row takes the bytes of the row below.
+#[tactic(auto, using(crate::proofs::Screens::row_laid, crate::proofs::Screens::row_taken, crate::proofs::Screens::below_long, a2_bus::proofs::Viewing::page1_is_grid))]
 pub(crate) fn copy_up<A: Allocator>(space: &mut AddressSpace<A>, row: u8, left: u8, width: u8)
     requires row { row + 1 < 24 }
     requires left { left < 40 }

@@ -9,7 +9,6 @@ ghost use Rattle.a2_bus.specs.View.{memory_of};
 ghost use Rattle.a2_core.specs.View.{registers_of};
 ghost use Rattle.a2_services.specs.Blocks.{span_of};
 ghost use Rattle.a2_services.specs.Put.{after_put};
-ghost use Rattle.a2_services.specs.Rows.{service_row};
 ghost use Rattle.a2_services.specs.World.{world_of};
 ghost use Rattle.a2_reads.specs.Reads.{Knows};
 ghost use Rattle.a2_reads.specs.Services.{block_cell, bytes_used, fit_bytes, is_keyless as is_keyless_by, moved_by, put_moves};
@@ -25,7 +24,7 @@ use a2_bus::locations::{CH, COLOR, CSW, CV, H2, INVFLG, KSW, V2, WNDBTM, WNDLFT,
 use a2_cpu::Regs;
 use a2_page::{Page, address};
 use a2_services::bytes::digit_byte;
-use a2_services::{Service, load, masked};
+use a2_services::{Needs, Service, load, masked, row_of};
 use a2_uses::{Part, pull_address};
 use std::alloc::Global;
 
@@ -71,21 +70,16 @@ fn way_of(service: Service, s: u8) -> [u16; 2]
     }
 }
 
-// The bytes that say whether it fits.
-fn fit_of(service: Service) -> &'static [u16]
-    ensures { result.now ≡ fit_bytes (service_row service).needs }
+// The bytes that say whether a service with these needs fits.
+fn fit_of(needs: Needs) -> &'static [u16]
+    ensures { result.now ≡ fit_bytes needs }
 {
-    match service {
-        Service::Home => &[WNDLFT, WNDWDTH, WNDTOP, WNDBTM],
-        Service::Cout1
-        | Service::Prbyte
-        | Service::Prhex
-        | Service::Vtab
-        | Service::Clreol
-        | Service::Clreop => &[CH, CV, WNDLFT, WNDWDTH, WNDTOP, WNDBTM],
-        Service::Hline => &[H2],
-        Service::Vline => &[V2],
-        _ => &[],
+    match needs {
+        Needs::Window => &[WNDLFT, WNDWDTH, WNDTOP, WNDBTM],
+        Needs::Cursor => &[CH, CV, WNDLFT, WNDWDTH, WNDTOP, WNDBTM],
+        Needs::Across => &[H2],
+        Needs::Down => &[V2],
+        Needs::Nothing | Needs::Key | Needs::Line | Needs::Block => &[],
     }
 }
 
@@ -243,7 +237,7 @@ pub(crate) fn is_all_known(
         → Knows (known_now known.now stored.now) (service_reads service (world_of (registers_of regs.now) space.now before)) }
 {
     if !are_known(known, stored, &way_of(service, regs.s))
-        || !are_known(known, stored, fit_of(service))
+        || !are_known(known, stored, fit_of(row_of(service).needs))
     {
         return false;
     }

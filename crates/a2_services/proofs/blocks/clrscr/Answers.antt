@@ -1,11 +1,9 @@
-use Rattle.std.proofs.Common.{◌∙◌, ap, arith}
-use Rattle.a2_bus.specs.Memory.{with_ram}
+use Rattle.std.proofs.Common.{arith}
+use Rattle.std.proofs.lemmas.Grind.{common_steps}
 use Rattle.a2_bus.specs.View.{memory_of}
 use Rattle.a2_bus.proofs.Viewing.{page1_is_grid}
-use Rattle.a2_core.specs.Live.{live_registers}
 use Rattle.a2_services.specs.Blocks.{black}
 use Rattle.a2_services.specs.Services.{effect}
-use Rattle.a2_services.proofs.Returning.{made_is}
 use Rattle.a2_services.proofs.Screens.{turning_first, black_is, black_more, black_all}
 use Rattle.a2_services.proofs.blocks.clrscr.Goals as goal
 
@@ -20,10 +18,7 @@ loop-row-preserved g c =
 pub returns-clause-left : goal.returns-clause-left
 unfolding effect
 returns-clause-left g c =
-    λ cycles. made_is (live_registers c.return_from.new.live) c.store-2.new.space _ _ (live_registers c.args.live.now) c.args.space.now cycles (c.return_from.ensures.returned cycles)
-    (c.store-2.ensures
-    ∙ ap (λ m. with_ram m 0x2D 47)
-    (c.store.ensures
-    ∙ ap (λ m. with_ram m 0x30 0)
-    (black_all black (memory_of c.args.space.now) (memory_of c.loop-row.space) c.loop-row.row black_is (page1_is_grid c.args.space.now)
-    c.loop-row.invariant (omega arith))))
+    let all =
+    black_all black (memory_of c.args.space.now) (memory_of c.loop-row.space) c.loop-row.row black_is (page1_is_grid c.args.space.now)
+    c.loop-row.invariant (omega arith) in
+    grind (arith, common_steps)

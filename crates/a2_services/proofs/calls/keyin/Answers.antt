@@ -1,7 +1,7 @@
-use Rattle.std.proofs.Common.{◌∙◌, sym}
+use Rattle.std.proofs.Common.{arith}
+use Rattle.std.proofs.lemmas.Grind.{common_steps}
 use Rattle.a2_core.specs.Live.{live_registers}
 use Rattle.a2_services.specs.World.{world_of}
-use Rattle.a2_services.proofs.Returning.{made_keyin}
 use Rattle.a2_services.proofs.Lines.{effect_key, some_key, key_there}
 use Rattle.a2_services.proofs.calls.keyin.Goals as goal
 
@@ -11,7 +11,7 @@ bounds-waiting-0 g c = some_key c.args.space.now c.waiting.result.now c.waiting.
 pub returns-clause-left : goal.returns-clause-left
 returns-clause-left g c =
     λ cycles.
-    made_keyin (live_registers c.args.live.now) (live_registers c.return_from.new.live) c.args.space.now c.take_key.new.space _ cycles
-    (c.return_from.ensures.returned cycles) c.take_key.ensures
-    ∙ sym (effect_key (world_of (live_registers c.args.live.now) c.args.space.now cycles) _
-    (key_there c.args.space.now c.waiting.result.now c.waiting.ensures.keys c.requires))
+    let key =
+    effect_key (world_of (live_registers c.args.live.now) c.args.space.now cycles) _
+    (key_there c.args.space.now c.waiting.result.now c.waiting.ensures.keys c.requires) in
+    grind (arith, common_steps)

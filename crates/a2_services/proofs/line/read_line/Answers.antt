@@ -1,19 +1,10 @@
 use Rattle.std.proofs.Common.{◌≡◌, ◌∙◌, ap, sym}
 use Rattle.std.specs.Prelude.{Some}
 use Rattle.a2_bus.specs.View.{memory_of}
-use Rattle.a2_services.specs.Put.{after_put}
-use Rattle.a2_services.specs.Services.{cleared_to_end, after_byte}
+use Rattle.a2_services.specs.Services.{after_byte}
 use Rattle.a2_services.specs.Reading.{reading, first_of}
-use Rattle.a2_services.proofs.Lines.{line_none, line_end, line_more, fewer_keys}
+use Rattle.a2_services.proofs.Lines.{line_more, fewer_keys}
 use Rattle.a2_services.proofs.line.read_line.Goals as goal
-
-pub returns-then-byte-clause-line : goal.returns-then-byte-clause-line
-returns-then-byte-clause-line g c =
-    let m = memory_of c.loop-key.space in
-    let first : first_of m.devices.keys ≡ Some c.in-Some.key = sym c.first_key.ensures.key ∙ c.in-Some.is in
-    ap (λ x. reading x c.loop-key.length) (c.put.ensures.memory ∙ ap (λ x. after_put 0x8D x) (c.clear_to_end.ensures.memory ∙ ap cleared_to_end c.keep.ensures.memory))
-    ∙ sym (line_end m c.loop-key.length c.in-Some.key c.byte_of_key-byte.result first c.byte_of_key-byte.ensures c.if-byte.true)
-    ∙ c.loop-key.invariant.same
 
 pub loop-key-preserved : goal.loop-key-preserved
 loop-key-preserved g c =
@@ -34,7 +25,3 @@ loop-key-smaller g c =
     fewer_keys m c.loop-key.length c.in-Some.key c.byte_of_key-byte.result
     (reading (memory_of c.after_byte-length.new.space) c.after_byte-length.result) first
     (c.after_byte-length.ensures.line ∙ ap (λ x. after_byte c.byte_of_key-byte.result (reading x c.loop-key.length)) c.keep.ensures.memory)
-
-pub returns-clause-line : goal.returns-clause-line
-returns-clause-line g c =
-    sym (line_none (memory_of c.loop-key.space) c.loop-key.length (sym c.first_key.ensures.key ∙ c.in_default.is)) ∙ c.loop-key.invariant.same
