@@ -197,6 +197,7 @@ fn locate<B: Bus>(mode: Mode, live: &Live, bus: &B) -> Option<Operand>
 
 /// The instruction at PC, or why there is none: the bus shows not all of its bytes, or its opcode is undocumented.
 #[inline(always)]
+#[tactic(auto, unfolding(crate::specs::Code::found_at, crate::specs::Code::site_at, crate::specs::Code::operand_at))]
 pub(crate) fn find<B: Bus>(live: &Live, bus: &B) -> Result<Found, GuardedStep>
     ensures few { IfOk result (λ found. found.cycles < 512) }
     ensures found { found_for result
