@@ -5,7 +5,7 @@ import copy
 import re
 
 from .arrays import MOST_CASES, Cut, Finder, Kept, Put, is_apart, span
-from .assembling import BRANCHES
+from .assembling import BRANCHES, RAM_END
 from .language import spelt
 from .refusal import Refusal
 from .services import SERVICES, TAKERS, Unproved, services_of, taker_of, why_unproved
@@ -102,7 +102,7 @@ class Proof(Run):
         called = {it.value for it in self.program.statements if it.is_instruction and it.mnemonic == "JSR"}
         for other in [self.routines[a] for a in sorted(called & set(self.routines))] + services_of(self.program):
             clauses += other.promise.promised + other.promise.wanted
-        return {a for clause in clauses for a in cells_in(clause.expr) if a < 0xC000}
+        return {a for clause in clauses for a in cells_in(clause.expr) if a < RAM_END}
 
     # Texts
 

@@ -3,6 +3,7 @@ crates/a2_rules/proofs/Saying.antt compute, and of which expressions they speak.
 
 import copy
 
+from .assembling import RAM_END
 from .refusal import Refusal
 from .terms import bare, par
 
@@ -124,7 +125,7 @@ def why_no_place(e, tops):
         return "signed is proved of bytes only" if is_minus(e[2]) or most(e[2], tops) > 255 else None
     if is_minus(e[2]) and (e[1] == "Word" or not is_never_below(e[2], tops)):
         return "an address that is a difference can be proved only of a byte, and where the numbers show that it is never below 0"
-    if most(e[2], tops) >= (0xC000 if e[1] == "Byte" else 0xBFFF):
+    if most(e[2], tops) >= (RAM_END if e[1] == "Byte" else RAM_END - 1):
         return "this address may lie at $C000 or above: only bytes of RAM can be proved"
     return None
 

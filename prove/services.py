@@ -1,12 +1,30 @@
 """The Monitor's services that a routine may call: what they want and leave, as crates/a2_rules/proofs/Calling.antt and Typing.antt
 have it, and what they do in a trial."""
 
+import re
+from pathlib import Path
+
 from .language import Reader, spelt
 from .promises import Changes, Clause, Promise
 from .refusal import Refusal
 from .terms import list_of
 from .written import said
 
+CRATES = Path(__file__).resolve().parent.parent / "crates"
+SERVICE_ROW = re.compile(r"^service_row (\w+) = row_at (?:0x(\w{4})|at\.(\w+)) need\.\w+ reaches\.\w+ span\.(\w+)$", re.M)
+LOCATION = re.compile(r"^(\w+) = 0x(\w{4})$", re.M)
+
+
+def rows():
+    """The address of each service and how long it takes, by its name, as the rows of a2_services have them."""
+    places = dict(LOCATION.findall((CRATES / "a2_bus/specs/Locations.antt").read_text(encoding="utf-8")))
+    found = SERVICE_ROW.findall((CRATES / "a2_services/specs/Rows.antt").read_text(encoding="utf-8"))
+    return {name.upper(): (int(number or places[place], 16), takes) for name, number, place, takes in found}
+
+
+ADDRESSES = {name: address for name, (address, _) in rows().items()}
+# Those that jump where a hook leads, so that another step comes behind them.
+HOOKS = {name for name, (_, takes) in rows().items() if takes == "Hook"}
 WINDOW = ("$21 >= 1", "$20 + $21 <= 40", "$22 < $23", "$23 <= 24")
 CURSOR = (*WINDOW, "$25 < 24", "$20 + $24 < 40")
 HOOK = (*CURSOR, "word $36 = #$FDF0")
@@ -27,11 +45,11 @@ def clauses(texts):
 class Service:
     """A service, called as a routine with a promise is; it needs no proof but a rule."""
 
-    def __init__(self, name, address, wanted, left, rule, registers="", ranges=(PLACE, BASE, PAGE), keys=(), known=None, stores=()):
+    def __init__(self, name, wanted, left, rule, registers="", ranges=(PLACE, BASE, PAGE), keys=(), known=None, stores=()):
         self.name, self.wanted, self.rule = name, wanted, rule
         # the registers that are numbers behind it, each with the name of the fact; and the bytes
         self.known, self.stores = known or {}, list(stores)
-        self.promise = Promise(name, 0, address, clauses(wanted), clauses(left), Changes(set(registers), list(ranges)), list(keys))
+        self.promise = Promise(name, 0, ADDRESSES[name], clauses(wanted), clauses(left), Changes(set(registers), list(ranges)), list(keys))
 
     def changed(self, s):
         return self.promise.changes.ranges
@@ -44,31 +62,23 @@ class Service:
 SERVICES = {
     it.promise.address: it
     for it in (
-        Service("HOME", 0xFC58, WINDOW, LEFT, "home_serves @ refl"),
-        Service("PRBYTE", 0xFDDA, CURSOR, LEFT, "prbyte_serves @ refl"),
-        Service("PRHEX", 0xFDE3, CURSOR, LEFT, "prhex_serves @ refl"),
-        Service("COUT1", 0xFDF0, CURSOR, LEFT, "cout1_serves @ refl"),
-        Service("COUT", 0xFDED, HOOK, LEFT, "cout_serves @ refl refl"),
-        Service("CROUT", 0xFD8E, HOOK, (*LEFT, "A = 141"), "crout_serves @ refl refl", "A", known={"A": (0x8D, "e3")}),
-        Service("VTAB", 0xFC22, CURSOR, (), "vtab_serves @ refl", ranges=[BASE]),
-        Service("CLREOL", 0xFC9C, CURSOR, (), "clreol_serves @ refl", ranges=[PAGE]),
-        Service("SETINV", 0xFE80, (), ("$32 = #$3F",), "setinv_serves @ refl", ranges=[MASK]),
-        Service("SETNORM", 0xFE84, (), ("$32 = #$FF",), "setnorm_serves @ refl", ranges=[MASK]),
-        Service("WAIT", 0xFCA8, (), ("A = 0",), "wait_serves @ refl", "A", [], known={"A": (0, "e1")}),
+        Service("HOME", WINDOW, LEFT, "home_serves @ refl"),
+        Service("PRBYTE", CURSOR, LEFT, "prbyte_serves @ refl"),
+        Service("PRHEX", CURSOR, LEFT, "prhex_serves @ refl"),
+        Service("COUT1", CURSOR, LEFT, "cout1_serves @ refl"),
+        Service("COUT", HOOK, LEFT, "cout_serves @ refl refl"),
+        Service("CROUT", HOOK, (*LEFT, "A = 141"), "crout_serves @ refl refl", "A", known={"A": (0x8D, "e3")}),
+        Service("VTAB", CURSOR, (), "vtab_serves @ refl", ranges=[BASE]),
+        Service("CLREOL", CURSOR, (), "clreol_serves @ refl", ranges=[PAGE]),
+        Service("SETINV", (), ("$32 = #$3F",), "setinv_serves @ refl", ranges=[MASK]),
+        Service("SETNORM", (), ("$32 = #$FF",), "setnorm_serves @ refl", ranges=[MASK]),
+        Service("WAIT", (), ("A = 0",), "wait_serves @ refl", "A", [], known={"A": (0, "e1")}),
     )
 }
 # Those that take keys, and others.
-RDKEY, KEYIN, GETLN = 0xFD0C, 0xFD1B, 0xFD6A
+RDKEY, KEYIN, GETLN = (ADDRESSES[name] for name in ("RDKEY", "KEYIN", "GETLN"))
 TAKERS = {RDKEY: "RDKEY", KEYIN: "KEYIN", GETLN: "GETLN"}
-OTHERS = {
-    0xFC42: "CLREOP",
-    0xF864: "SETCOL",
-    0xF800: "PLOT",
-    0xF819: "HLINE",
-    0xF828: "VLINE",
-    0xF871: "SCRN",
-    0xF832: "CLRSCR",
-}
+OTHERS = {address: name for name, address in ADDRESSES.items() if address not in SERVICES and address not in TAKERS}
 
 
 def why_unproved(address):
@@ -93,7 +103,7 @@ class KeyTaker(Service):
     def __init__(self, address, key):
         wanted, rule = ((), "keyin_serves @") if address == KEYIN else (KEY_HOOK, "rdkey_serves @")
         rule = f"{rule} {key} (omega arith) refl{' refl' if address == RDKEY else ''}"
-        super().__init__(TAKERS[address], address, wanted, (), rule, "A", [], [key], {"A": (0x80 + key, "e1")})
+        super().__init__(TAKERS[address], wanted, (), rule, "A", [], [key], {"A": (0x80 + key, "e1")})
 
 
 class LineTaker(Service):
@@ -102,7 +112,7 @@ class LineTaker(Service):
     def __init__(self, line):
         rule = f"getln_serves @ {list_of(line)} refl (omega arith) refl"
         ranges, known = [PLACE, BASE, LINE, PAGE], {"X": (len(line), "e3")}
-        super().__init__("GETLN", GETLN, CURSOR, LEFT, rule, "X", ranges, [*line, RETURN_KEY], known, line_stores(line))
+        super().__init__("GETLN", CURSOR, LEFT, rule, "X", ranges, [*line, RETURN_KEY], known, line_stores(line))
 
 
 def line_stores(line):

@@ -5,6 +5,7 @@ import copy
 import re
 from typing import NamedTuple
 
+from .assembling import RAM_END
 from .refusal import Refusal
 from .saying import BYTES, FLAGS, Words
 from .terms import add, modulo, par
@@ -207,7 +208,7 @@ class Run:
         else:
             low, high = (self.cell(state, a) for a in self.pointer(state, it))
             address = (low + 256 * high + (state.registers["Y"] if it.mode == "IndirectIndexed" else 0)) & 0xFFFF
-        if address >= 0xC000:
+        if address >= RAM_END:
             raise Refusal(it.line, f"${address:04X} lies above RAM: what keys and switches give can't be proved")
         return address
 

@@ -3,6 +3,7 @@ no state meets is not proved. Of a state that does the prover is told."""
 
 import random
 
+from .assembling import RAM_END
 from .language import spelt
 from .machine import Machine, Stuck
 from .values import State, holds, value
@@ -28,7 +29,7 @@ def cells_in(e):
 
 def cells_of(promise):
     """The addresses of RAM that a promise names."""
-    return {a for clause in promise.wanted + promise.promised for a in cells_in(clause.expr) if a < 0xC000}
+    return {a for clause in promise.wanted + promise.promised for a in cells_in(clause.expr) if a < RAM_END}
 
 
 def array_cells(e):
@@ -45,7 +46,7 @@ def inputs_of(program, promise):
     for it in program.statements:
         if it.is_instruction and it.mode in ("ZeroPage", "Absolute") and it.mnemonic not in ("JSR", "JMP"):
             cells.add(it.value)
-    return sorted(a for a in cells if a < 0xC000)
+    return sorted(a for a in cells if a < RAM_END)
 
 
 class Noted:
@@ -138,7 +139,7 @@ def meet_each(count, e, memory):
     """Makes the bytes of an array less than a number."""
     at, limit = e[2][2] if e[2][:2] == ("of", "Byte") else (), e[3][1] + (e[1] == "AtMost")
     if at[:2] == ("pair", "Plus") and at[2][0] == "number" and at[3][0] == "bound" and limit > 0:
-        for a in range(at[2][1], min(at[2][1] + count, 0xC000)):
+        for a in range(at[2][1], min(at[2][1] + count, RAM_END)):
             memory[a] %= limit
 
 

@@ -1,5 +1,7 @@
 """What an expression is of a state at the entry and one at the exit: a whole number, or None."""
 
+from .assembling import RAM_END
+
 LIMIT = 2**63
 
 
@@ -48,7 +50,7 @@ def operated(operation, x, y):
 
 def made(function, memory, x):
     def byte(a):
-        return memory[a] if 0 <= a < 0xC000 else None
+        return memory[a] if 0 <= a < RAM_END else None
 
     if function == "Byte":
         return byte(x)

@@ -7,7 +7,7 @@ use Rattle.a2_opcode.specs.declared.Row.{Row}
 use Rattle.a2_opcode.specs.Table.{row, length_of}
 use Rattle.a2_opcode.specs.Encoding.{fetched, instruction}
 use Rattle.a2_syntax.specs.declared.source.Line.{Line}
-use Rattle.a2_hex.specs.Images.{held}
+use Rattle.a2_hex.specs.Images.{held, ram_end}
 use Rattle.a2_asm.specs.declared.program.Statement.{Statement}
 use Rattle.a2_asm.specs.Assembled.{Assembled}
 use Rattle.a2_asm.specs.Layout.{Row as PlacedLine, IsLayout, names}
@@ -67,9 +67,9 @@ abbrev pub StatementsApart : Assembled → Type 0
 StatementsApart p =
     (s t : Statement) (a : ℕ) → Contains p.statements s → Contains p.statements t → Holds s a → Holds t a → s ≡ t
 
--- each byte of code is below $C000
+-- each byte of code is in RAM
 abbrev pub CodeInRam : Assembled → Type 0
-CodeInRam p = (a : ℕ) → IsTrue (is_code p.statements a) → a < 49152
+CodeInRam p = (a : ℕ) → IsTrue (is_code p.statements a) → a < ram_end
 
 -- the image has each byte of code
 abbrev pub CodeIsHeld : Assembled → Type 0
@@ -79,9 +79,9 @@ CodeIsHeld p = (a : ℕ) → IsTrue (is_code p.statements a) → (byte : ℕ) ×
 abbrev pub EntryBegins : Assembled → Type 0
 EntryBegins p = (i : Instr) × (instr_at p.statements p.entry ≡ Some i)
 
--- nothing is held at or above $C000
+-- nothing is held behind RAM
 abbrev pub ImageInRam : Assembled → Type 0
-ImageInRam p = (a : ℕ) → 49152 ≤ a → held p.image a ≡ None
+ImageInRam p = (a : ℕ) → ram_end ≤ a → held p.image a ≡ None
 
 -- what holds of every program, of whatever source; a run and a debugger rest on it
 pub record IsSound (p : Assembled) : Type 0 where

@@ -2,6 +2,7 @@
 
 ghost use Rattle.std.specs.Prelude.{◌≡◌, ◌<◌, ◌≤◌, ◌+◌, ◌-◌, ◌*◌, ◌++◌, ℕ, length, slice_index, slice_range};
 ghost use Rattle.arrayvec.specs.ArrayVec.{array_vec_len};
+ghost use Rattle.a2_bus.specs.Locations.{ch};
 ghost use Rattle.a2_bus.specs.Memory.{ram_byte, ram_end};
 ghost use Rattle.a2_bus.specs.View.{memory_of};
 ghost use Rattle.a2_film.specs.Changes.{differing};
@@ -41,7 +42,7 @@ pub fn keep_low<A: Allocator>(end: u16, machine: &Machine<A>, ram: &mut [u8])
     requires end { end ≤ ram_end }
     requires size { length ram.old ≡ ram_end }
     ensures size { length ram.new ≡ length ram.old }
-    ensures bytes { (a : ℕ) → 0x24 ≤ a → a < end → slice_index ram.new a ≡ ram_byte (memory_of machine.now.state.bus) a }
+    ensures bytes { (a : ℕ) → ch ≤ a → a < end → slice_index ram.new a ≡ ram_byte (memory_of machine.now.state.bus) a }
 {
     for address in CH..end {
         ram[usize::from(address)] = machine.peek(address).unwrap_or(0);
@@ -117,13 +118,13 @@ pub fn append_changes<A: Allocator>(
     page1: &[u8; 1024],
     machine: &Machine<A>,
 )
-    requires order { 0x24 ≤ end }
+    requires order { ch ≤ end }
     requires end { end ≤ 0x300 }
     requires size { length ram.now ≡ ram_end }
     requires room { array_vec_len rows.old ≤ most_kept + 62 }
     ensures stores { let new = ram_byte (memory_of machine.now.state.bus) in
         rows.new.items ≡ rows.old.items ++ spelt.stores_text spelt.no_address
-        (differing (from_address 0x24 (slice_range ram.now 0x24 end)) new 0x24 (end - 0x24)
+        (differing (from_address ch (slice_range ram.now ch end)) new ch (end - ch)
         ++ differing (from_address 0x400 page1.now) new 0x400 0x400) }
     ensures length { array_vec_len rows.new < rows_room }
 {

@@ -1,6 +1,6 @@
 -- What an old text becomes. This project's profile.
 use Rattle.std.specs.Prelude.{◌≡◌, ◌<◌, ℕ, List, Option, Ok, Err}
-use Rattle.a2_hex.specs.Images.{held}
+use Rattle.a2_hex.specs.Images.{held, ram_end}
 use Rattle.a2_syntax.specs.Bare.{BareLine}
 use Rattle.a2_syntax.specs.Sources.{IsSource}
 use Rattle.a2_asm.specs.Assembled.{Assembled}
@@ -13,7 +13,7 @@ use Rattle.a2_import.specs.Listing.{listed}
 abbrev pub AssemblesTo : (ℕ → Option ℕ) → List ℕ → Type 0
 AssemblesTo bytes text =
     (source : List BareLine) × (program : Assembled) × IsSource text source × IsProgram source program
-    × ((a : ℕ) → a < 49152 → held program.image a ≡ bytes a)
+    × ((a : ℕ) → a < ram_end → held program.image a ≡ bytes a)
 
 -- a text is a source that assembles to the bytes of a listing
 abbrev pub SaysListing : List ℕ → List ℕ → Type 0

@@ -16,7 +16,7 @@ get_take (suc n) (x ∷ xs) (suc k) lt = let low : k < length (take n xs) = omeg
 
 module _ (pc : ℕ) (bytes : List ℕ) (size : length bytes ≡ ram_end) (a b c : ℕ) (first : slice_get bytes pc ≡ Some a)
     (second : slice_get bytes ((pc + 1) % 65536) ≡ Some b) (third : slice_get bytes ((pc + 2) % 65536) ≡ Some c) where
-  low : pc ≤ 0xBFFF
+  low : pc < ram_end
   low = omega (arith, slice_get_within bytes pc a first, size)
 
   shown : (k : ℕ) → k < 3 → slice_get bytes ((pc + k) % 65536) ≡ slice_get (a ∷ b ∷ c ∷ []) k

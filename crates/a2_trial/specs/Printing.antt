@@ -4,6 +4,7 @@ use Rattle.std.specs.Prelude.{ℕ, ◌+◌, ◌-◌, ◌/◌, ◌%◌, ◌==◌,
 use Rattle.std.specs.List.{flat_map}
 use Rattle.a2_bus.specs.Memory.{Memory}
 use Rattle.a2_core.specs.Registers.{Registers}
+use Rattle.a2_page.specs.Grid.{blank}
 use Rattle.a2_services.specs.declared.Service.{Service}
 use Rattle.a2_services.specs.declared.Service.TheVariants.{Cout1, Prbyte, Prhex, Getln}
 use Rattle.a2_services.specs.Bytes.{carriage_return, line_feed, backspace, cancel, backslash}
@@ -14,7 +15,7 @@ use Rattle.a2_promise.specs.declared.texts.Text.{Text}
 -- a byte that is put is a character, but for those from $80 to $9F with which nothing is done
 abbrev pub shown : ℕ → List ℕ
 shown byte =
-    if nat_lt byte 0x80 || nat_le 0xA0 byte || byte == backspace || byte == line_feed || byte == carriage_return then byte ∷ [] else []
+    if nat_lt byte 0x80 || nat_le blank byte || byte == backspace || byte == line_feed || byte == carriage_return then byte ∷ [] else []
 
 -- the byte that a key is echoed as; a right arrow, which copies what stands at the cursor, as none that is a character
 abbrev pub echo_of : ℕ → ℕ

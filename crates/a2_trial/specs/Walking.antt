@@ -1,5 +1,5 @@
 -- What is known where a routine is on its way, and a step of it, for the contracts of the crate's own functions.
-use Rattle.std.specs.Prelude.{◌≡◌, ◌≢◌, ◌≤◌, ℕ, ◌+◌, ◌-◌, ◌||◌, if◌then◌else◌, Bool, true, false, IsTrue, nat_lt, List, ◌∷◌, length, Some, None, slice_get}
+use Rattle.std.specs.Prelude.{◌≡◌, ◌≢◌, ◌<◌, ℕ, ◌+◌, ◌-◌, ◌||◌, if◌then◌else◌, Bool, true, false, IsTrue, nat_lt, List, ◌∷◌, length, Some, None, slice_get}
 use Rattle.std.specs.List.{list_any}
 use Rattle.a2_text.specs.Bytes.{is_among}
 use Rattle.a2_opcode.specs.declared.Mode.{Mode}
@@ -64,7 +64,7 @@ with_part part_c parts = record parts { c = true }
 
 -- the instruction stands at an address
 pub record StandsAt (instr : Instr) (at : ℕ) (bytes : List ℕ) : Type 0 where
-  pub low : at ≤ 0xBFFF
+  pub low : at < ram_end
   pub size : length bytes ≡ ram_end
   pub row : Row
   pub is_row : Rattle.a2_opcode.specs.Table.row instr.mnemonic instr.mode ≡ Some row

@@ -8,6 +8,7 @@ ghost use Rattle.a2_trial.specs.States.{holds_part, values_of};
 
 use crate::settled::{number_of, settled_value};
 use a2_asm::Program;
+use a2_hex::RAM_END;
 use a2_opcode::Mode;
 use a2_promise::{Atom, Changes, Expr, Function, Promise};
 use a2_uses::Part;
@@ -197,7 +198,7 @@ fn add_bytes(
 ) -> Result<(), AllocError> {
     for further in 0..count {
         let place = address.saturating_add(i64::from(further));
-        if 0 <= place && place < 0xC000 {
+        if 0 <= place && place < i64::from(RAM_END) {
             add_named(named, Input::Byte(place as u16), behind)?;
         }
     }

@@ -9,6 +9,7 @@ ghost use Rattle.a2_trial.specs.Printing as said;
 use a2_bus::AddressSpace;
 use a2_bus::locations::PROMPT;
 use a2_cpu::Regs;
+use a2_page::BLANK;
 use a2_promise::Text;
 use a2_services::bytes::{BACKSLASH, BACKSPACE, CANCEL, LINE_FEED, RETURN, digit_byte};
 use a2_services::{Service, load};
@@ -18,7 +19,7 @@ use std::alloc::{AllocError, Global};
 fn push_shown(printed: &mut Vec<u8>, byte: u8) -> Result<(), AllocError>
     ensures { OnOk result (printed.new.items ≡ printed.old.items ++ said.shown byte) }
 {
-    if byte < 0x80 || 0xA0 <= byte || byte == BACKSPACE || byte == LINE_FEED || byte == RETURN {
+    if byte < 0x80 || BLANK <= byte || byte == BACKSPACE || byte == LINE_FEED || byte == RETURN {
         printed.push(byte)?;
     }
     Ok(())
