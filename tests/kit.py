@@ -59,6 +59,18 @@ def sum_each_once(crate):
     crate.stamp = stamp
 
 
+def list_below_once(crate):
+    """Has the crates below one be listed once. The kit walks each way that leads down, each time, which is half a minute of a run."""
+    whole = crate.below
+
+    def below(self):
+        if not hasattr(self, "all_below"):
+            self.all_below = whole(self)
+        return list(self.all_below)
+
+    crate.below = below
+
+
 def keep_checked(crate, folder):
     """Keeps the verdict on a program, which stands in the folder, in place of the one before. Where there is no room, none is kept."""
     with contextlib.suppress(OSError, shutil.Error):
@@ -82,15 +94,16 @@ def keep_what_is_checked(made):
 
 
 def share_processors(made):
-    """Has the last proofs of `rt ci` take the processors that no other crate is left for. Several that share a proof take up to a third
-    more in all, so each of those before has one."""
+    """Has a proof of `rt ci` take the processors that no other crate is ready for: in a chain of crates, and at the end. Several that
+    share a proof take up to a third more in all, so each has one while others wait."""
     whole = made.Crate.ci
     is_there = lambda it: os.path.exists(f"{it.folder}/out/{it.name}" if it.is_program else it.rlib)
 
     def ci(self, flags, tests):
-        left = sum(not is_there(it) for it in made.rtlib.crates_below(os.getcwd()))
-        if flags == ["--jobs", "1"] and 0 < left <= made.processors():
-            flags = ["--jobs", str(made.processors() // left)]
+        left = [it for it in made.rtlib.crates_below(os.getcwd()) if not is_there(it)]
+        ready = sum(all(map(is_there, it.below())) for it in left)
+        if flags == ["--jobs", "1"] and 0 < ready <= made.processors():
+            flags = ["--jobs", str(made.processors() // ready)]
         return whole(self, flags, tests)
 
     made.Crate.ci = ci
@@ -113,6 +126,7 @@ def rt_of_kit():
     """The kit's rt, by which crates are read and built as by its commands."""
     made = module_of("rt")
     sum_each_once(made.rtlib.Crate)
+    list_below_once(made.rtlib.Crate)
     # (its first call sets a signal's handler, which only the main thread may)
     made.rtlib.guarded()
     return made
