@@ -109,6 +109,31 @@ def share_processors(made):
     made.Crate.ci = ci
 
 
+def take_what_is_kept(made):
+    """Gives each library of the checkout what `rt ci` keeps of the very same files, and tells of which it could: a check above them begins
+    there, and proves none of them. A toolchain that keeps nothing by itself gives none."""
+    crates = [it for it in made.rtlib.crates_below(os.getcwd()) if not it.is_program]
+    made.Crate.allowed = made.handles_of(os.getcwd())
+    kept, taken = made.Kept(crates) if hasattr(made, "Kept") else None, []
+    for it in crates if kept else []:
+        is_over_taken = all(below in taken for below in it.below())
+        if is_over_taken and (it.is_built() or give_library(kept, it)):
+            kept.is_built(it)
+            taken.append(it)
+    print("taken:", *[it.name for it in taken])
+    print("to be proved:", *[it.name for it in crates if it not in taken])
+
+
+def give_library(kept, crate):
+    """Gives a crate its library, as built of the sources as they stand; whether it could."""
+    at = Path(crate.folder, "out/rlib")
+    shutil.rmtree(at, ignore_errors=True)
+    if not kept.give(crate, False, kept.key(crate)):
+        return False
+    Path(at, "stamp").write_text(crate.stamp())
+    return True
+
+
 def listed_sources(top):
     """The sources as the gate listed them before it built their libraries: what `as_listed` says of each, by name; none where there is
     no list."""
