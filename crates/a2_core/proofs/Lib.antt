@@ -1,4 +1,2 @@
 pub mod FlagBits
 pub mod Digits
-pub mod Signs
-pub mod Words

@@ -1,4 +1,5 @@
 //! The processor's flags.
+#![tactic(auto, using(crate::proofs::FlagBits::flag_bits))]
 
 ghost use Rattle.std.specs.Prelude.{⊤, ◌≡◌, ◌<◌, ◌≤◌, ◌+◌, ◌==◌, ◌↔◌, cond, [], ◌∷◌, codes, IsTrue};
 ghost use Rattle.std.specs.Ordering.{on};
@@ -51,7 +52,6 @@ impl Status {
 
     /// Whether N is set.
     #[inline(always)]
-    #[tactic(auto, using(crate::proofs::FlagBits::negative_is))]
     pub fn negative(self) -> bool
         ensures { result ≡ (flags_of self).n }
     {
@@ -60,7 +60,6 @@ impl Status {
 
     /// Whether V is set.
     #[inline(always)]
-    #[tactic(auto, using(crate::proofs::FlagBits::overflow_is))]
     pub fn overflow(self) -> bool
         ensures { result ≡ (flags_of self).v }
     {
@@ -69,7 +68,6 @@ impl Status {
 
     /// Whether D is set.
     #[inline(always)]
-    #[tactic(auto, using(crate::proofs::FlagBits::decimal_is))]
     pub fn decimal(self) -> bool
         ensures { result ≡ (flags_of self).d }
     {
@@ -78,7 +76,6 @@ impl Status {
 
     /// Whether I is set.
     #[inline(always)]
-    #[tactic(auto, using(crate::proofs::FlagBits::interrupt_is))]
     pub fn interrupt(self) -> bool
         ensures { result ≡ (flags_of self).i }
     {
@@ -87,7 +84,6 @@ impl Status {
 
     /// Whether Z is set.
     #[inline(always)]
-    #[tactic(auto, using(crate::proofs::FlagBits::zero_is))]
     pub fn zero(self) -> bool
         ensures { result ≡ (flags_of self).z }
     {
@@ -96,7 +92,6 @@ impl Status {
 
     /// Whether C is set.
     #[inline(always)]
-    #[tactic(auto, using(crate::proofs::FlagBits::carry_is))]
     pub fn carry(self) -> bool
         ensures { result ≡ (flags_of self).c }
     {
@@ -114,9 +109,7 @@ impl Status {
         zero: bool,
         carry: bool,
     ) -> Status
-        ensures flags { flags_of result
-            ≡ record
-            { n = negative; v = overflow; d = decimal; i = interrupt; z = zero; c = carry } }
+        ensures flags { flags_of result ≡ record { n = negative; v = overflow; d = decimal; i = interrupt; z = zero; c = carry } }
         ensures spare { spare_bits_of result ≡ 0 }
     {
         let bits = bit(negative, 0x80)
@@ -166,32 +159,23 @@ impl Eq for Status {
     ghost laws = { Prim.search (comparing, rules) };
 }
 
+macro_rules! flag {
+    ($name:ident) => {
+        Flag {
+            name: stringify!($name),
+            value: Status::$name,
+        }
+    };
+}
+
 // The flags by name, from bit 7 down.
 static FLAGS: [Flag<Status>; 6] = [
-    Flag {
-        name: "NEGATIVE",
-        value: Status { bits: 0x80 },
-    },
-    Flag {
-        name: "OVERFLOW",
-        value: Status { bits: 0x40 },
-    },
-    Flag {
-        name: "DECIMAL",
-        value: Status { bits: 8 },
-    },
-    Flag {
-        name: "INTERRUPT",
-        value: Status { bits: 4 },
-    },
-    Flag {
-        name: "ZERO",
-        value: Status { bits: 2 },
-    },
-    Flag {
-        name: "CARRY",
-        value: Status { bits: 1 },
-    },
+    flag!(NEGATIVE),
+    flag!(OVERFLOW),
+    flag!(DECIMAL),
+    flag!(INTERRUPT),
+    flag!(ZERO),
+    flag!(CARRY),
 ];
 
 impl Flags for Status {

@@ -1,12 +1,13 @@
 //! What stands at PC: the instruction, and where its operand is.
 
-ghost use Rattle.std.specs.Prelude.{◌≡◌, ◌+◌, ◌*◌, ◌%◌, ◌<◌, ◌≤◌, ◌&&◌, IfOk, slice_get, option_map};
+ghost use Rattle.std.specs.Prelude.{◌≡◌, ◌+◌, ◌*◌, ◌%◌, ◌<◌, ◌≤◌, ◌&&◌, IfOk, slice_get, option_map, Some};
 ghost use Rattle.a2_bus.specs.BusState.{BusState};
 ghost use Rattle.a2_core.specs.Place.{place_of, base_address, crosses_page};
 ghost use Rattle.a2_core.specs.Registers.{one_if};
 ghost use Rattle.a2_core.specs.Live.{live_registers};
 ghost use Rattle.a2_core.specs.Operands.{operand_with};
-ghost use Rattle.a2_cpu.specs.Code.{operand_byte_at, word_at, place_for, operand_for, operand_of, operand_at, found_for, found_at};
+ghost use Rattle.a2_cpu.specs.Code.{operand_byte_at, word_at, place_for, operand_for, operand_of, operand_at, found_for, found_of};
+ghost use Rattle.a2_opcode.specs.Encoding.{fetched};
 
 use crate::GuardedStep;
 use a2_bus::Bus;
@@ -114,52 +115,22 @@ impl<'a, B: Bus> Bytes for Shown<'a, B> {
     }
 }
 
-// An operand at an address.
-#[inline(always)]
-fn at_address<P: AtAddress, S: Bytes>(live: &Live, bytes: &S) -> Operand
-    requires { S.AreThere bytes.now }
-    ensures place { place_for result.place ≡ place_of S.access (S.memory bytes.now) (live_registers live.now) P.mode
-        (operand_with (S.byte bytes.now) (S.word bytes.now) live.now.pc P.mode) }
-    ensures base { result.base ≡ base_address S.access (S.memory bytes.now) P.mode
-        (operand_with (S.byte bytes.now) (S.word bytes.now) live.now.pc P.mode) }
-{
-    let Site { place, base } = P::find(live, bytes);
-    Operand {
-        place: Place::Address(place),
-        base,
-    }
-}
-
-// The same of a mode with a byte behind its opcode, if that is there.
-#[inline(always)]
-fn by_byte<P: AtAddress, B: Bus>(live: &Live, bus: &B) -> Option<Operand>
-    ensures { operand_for result
-        ≡ option_map (λ byte. operand_of B.access (B.state bus.now) (live_registers live.now) P.mode
-        (operand_with byte 0 live.now.pc P.mode)) (operand_byte_at (slice_get (B.state bus.now).bytes) live.now.pc) }
-{
-    let byte = byte(bus, live.pc)?;
-    let shown = Shown { bus, byte, word: 0 };
-    Some(at_address::<P, Shown<B>>(live, &shown))
-}
-
-// And of one with a word.
-#[inline(always)]
-fn by_word<P: AtAddress, B: Bus>(live: &Live, bus: &B) -> Option<Operand>
-    ensures { operand_for result
-        ≡ option_map (λ word. operand_of B.access (B.state bus.now) (live_registers live.now) P.mode
-        (operand_with 0 word live.now.pc P.mode)) (word_at (slice_get (B.state bus.now).bytes) live.now.pc) }
-{
-    let word = word(bus, live.pc)?;
-    let shown = Shown { bus, byte: 0, word };
-    Some(at_address::<P, Shown<B>>(live, &shown))
-}
-
 // An operand that is there.
 #[inline(always)]
 fn with_base(place: Place, base: u16) -> Option<Operand>
-    ensures { result ≡ Rattle.std.specs.Prelude.Some (record { place = place; base = base }) }
+    ensures { result ≡ Some (record { place = place; base = base }) }
 {
     Some(Operand { place, base })
+}
+
+// An operand at an address, by the byte or the word behind the opcode.
+#[inline(always)]
+fn at_address<P: AtAddress, B: Bus>(live: &Live, bus: &B, byte: u8, word: u16) -> Option<Operand>
+    ensures { operand_for result
+        ≡ Some (operand_of B.access (B.state bus.now) (live_registers live.now) P.mode (operand_with byte word live.now.pc P.mode)) }
+{
+    let Site { place, base } = P::find(live, &Shown { bus, byte, word });
+    with_base(Place::Address(place), base)
 }
 
 /// The operand of a mode at PC, if all bytes of the instruction are there.
@@ -169,27 +140,28 @@ fn locate<B: Bus>(mode: Mode, live: &Live, bus: &B) -> Option<Operand>
     ensures { operand_for result
         ≡ operand_at B.access (B.state bus.now) (slice_get (B.state bus.now).bytes) (live_registers live.now) mode }
 {
+    let pc = live.pc;
     match mode {
         Mode::Implied => with_base(Place::Nowhere, 0),
         Mode::Accumulator => with_base(Place::Accumulator, 0),
         Mode::Immediate => {
-            let value = byte(bus, live.pc)?;
+            let value = byte(bus, pc)?;
             with_base(Place::Literal(value), u16::from(value))
         }
-        Mode::ZeroPage => by_byte::<ZeroPage, B>(live, bus),
-        Mode::ZeroPageX => by_byte::<ZeroPageX, B>(live, bus),
-        Mode::ZeroPageY => by_byte::<ZeroPageY, B>(live, bus),
-        Mode::Absolute => by_word::<Absolute, B>(live, bus),
-        Mode::AbsoluteX => by_word::<AbsoluteX, B>(live, bus),
-        Mode::AbsoluteY => by_word::<AbsoluteY, B>(live, bus),
-        Mode::IndexedIndirect => by_byte::<IndexedIndirect, B>(live, bus),
-        Mode::IndirectIndexed => by_byte::<IndirectIndexed, B>(live, bus),
+        Mode::ZeroPage => at_address::<ZeroPage, B>(live, bus, byte(bus, pc)?, 0),
+        Mode::ZeroPageX => at_address::<ZeroPageX, B>(live, bus, byte(bus, pc)?, 0),
+        Mode::ZeroPageY => at_address::<ZeroPageY, B>(live, bus, byte(bus, pc)?, 0),
+        Mode::Absolute => at_address::<Absolute, B>(live, bus, 0, word(bus, pc)?),
+        Mode::AbsoluteX => at_address::<AbsoluteX, B>(live, bus, 0, word(bus, pc)?),
+        Mode::AbsoluteY => at_address::<AbsoluteY, B>(live, bus, 0, word(bus, pc)?),
+        Mode::IndexedIndirect => at_address::<IndexedIndirect, B>(live, bus, byte(bus, pc)?, 0),
+        Mode::IndirectIndexed => at_address::<IndirectIndexed, B>(live, bus, byte(bus, pc)?, 0),
         Mode::Indirect => {
-            let value = word(bus, live.pc)?;
+            let value = word(bus, pc)?;
             with_base(Place::Pointer(value), value)
         }
         Mode::Relative => {
-            let target = branch_target(live.pc, byte(bus, live.pc)?);
+            let target = branch_target(pc, byte(bus, pc)?);
             with_base(Place::Address(target), target)
         }
     }
@@ -197,11 +169,11 @@ fn locate<B: Bus>(mode: Mode, live: &Live, bus: &B) -> Option<Operand>
 
 /// The instruction at PC, or why there is none: the bus shows not all of its bytes, or its opcode is undocumented.
 #[inline(always)]
-#[tactic(auto, unfolding(crate::specs::Code::found_at, crate::specs::Code::site_at, crate::specs::Code::operand_at))]
+#[tactic(auto, unfolding(a2_opcode::specs::Encoding::fetched, crate::specs::Code::operand_at))]
 pub(crate) fn find<B: Bus>(live: &Live, bus: &B) -> Result<Found, GuardedStep>
     ensures few { IfOk result (λ found. found.cycles < 512) }
     ensures found { found_for result
-        ≡ found_at B.access (B.state bus.now) (slice_get (B.state bus.now).bytes) (live_registers live.now) }
+        ≡ found_of B.access (B.state bus.now) (live_registers live.now) (fetched (slice_get (B.state bus.now).bytes) live.now.pc) }
 {
     let Some(opcode) = bus.peek(live.pc) else {
         return Err(GuardedStep::Rom);

@@ -22,9 +22,7 @@ fn stores_at_protected<G: Protection>(
     live: &Live,
     guard: &G,
 ) -> bool
-    ensures { result
-        ≡ list_any (G.is_protected guard.now)
-        (acting_stores mnemonic (place_for place) (live_registers live.now)) }
+    ensures { result ≡ list_any (G.is_protected guard.now) (acting_stores mnemonic (place_for place) (live_registers live.now)) }
 {
     match targets_of(mnemonic, place, live) {
         Targets::None => false,
@@ -42,9 +40,7 @@ pub(crate) fn refusal<G: Protection>(
     live: &Live,
     guard: &G,
 ) -> Option<GuardedStep>
-    ensures { result
-        ≡ refused_at (G.is_protected guard.now) mnemonic (place_for place)
-        (live_registers live.now) }
+    ensures { result ≡ refused_at (G.is_protected guard.now) mnemonic (place_for place) (live_registers live.now) }
 {
     match mnemonic {
         Mnemonic::Brk => Some(GuardedStep::Brk),

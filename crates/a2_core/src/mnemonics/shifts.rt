@@ -1,8 +1,5 @@
 //! Shifts and rotations.
 
-ghost use Rattle.std.specs.Prelude.{refl, false};
-ghost use Rattle.a2_core.specs.Arithmetic.{doubled, halved};
-ghost use Rattle.a2_core.specs.Effect.{effect_of, shifted};
 ghost use Rattle.a2_opcode.specs.declared.Mnemonic.TheVariants as mnemonic;
 
 use crate::Live;
@@ -14,8 +11,6 @@ pub struct Asl;
 impl Replaces for Asl {
     ghost mnemonic = { mnemonic.Asl };
 
-    ghost change = { λ byte flags. shifted (doubled byte false) flags };
-
     #[inline(always)]
     fn replace(live: &mut Live, byte: u8) -> u8 {
         let result = (2 * u16::from(byte) % 256) as u8;
@@ -23,8 +18,6 @@ impl Replaces for Asl {
         live.nz(result);
         result
     }
-
-    ghost effect = { unfold effect_of in refl };
 }
 
 /// LSR: the byte to the right, bit 0 into C; N and Z by it.
@@ -33,8 +26,6 @@ pub struct Lsr;
 impl Replaces for Lsr {
     ghost mnemonic = { mnemonic.Lsr };
 
-    ghost change = { λ byte flags. shifted (halved byte false) flags };
-
     #[inline(always)]
     fn replace(live: &mut Live, byte: u8) -> u8 {
         let result = byte / 2;
@@ -42,8 +33,6 @@ impl Replaces for Lsr {
         live.nz(result);
         result
     }
-
-    ghost effect = { unfold effect_of in refl };
 }
 
 /// ROL: the byte to the left, C into bit 0, bit 7 into C; N and Z by it.
@@ -52,8 +41,6 @@ pub struct Rol;
 impl Replaces for Rol {
     ghost mnemonic = { mnemonic.Rol };
 
-    ghost change = { λ byte flags. shifted (doubled byte flags.c) flags };
-
     #[inline(always)]
     fn replace(live: &mut Live, byte: u8) -> u8 {
         let result = ((2 * u16::from(byte) + u16::from(live.carry)) % 256) as u8;
@@ -61,8 +48,6 @@ impl Replaces for Rol {
         live.nz(result);
         result
     }
-
-    ghost effect = { unfold effect_of in refl };
 }
 
 /// ROR: the byte to the right, C into bit 7, bit 0 into C; N and Z by it.
@@ -71,8 +56,6 @@ pub struct Ror;
 impl Replaces for Ror {
     ghost mnemonic = { mnemonic.Ror };
 
-    ghost change = { λ byte flags. shifted (halved byte flags.c) flags };
-
     #[inline(always)]
     fn replace(live: &mut Live, byte: u8) -> u8 {
         let result = byte / 2 + 128 * u8::from(live.carry);
@@ -80,6 +63,4 @@ impl Replaces for Ror {
         live.nz(result);
         result
     }
-
-    ghost effect = { unfold effect_of in refl };
 }
