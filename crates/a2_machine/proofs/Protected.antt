@@ -1,5 +1,5 @@
 -- Protected addresses: only which they are matters, not how they are listed.
-use Rattle.std.specs.Prelude.{◌≡◌, ◌≤◌, ℕ, zero, suc, ◌+◌, Bool, true, false, ◌||◌, ◌&&◌, ◌==◌, nat_lt, nat_le, List, [], ◌∷◌, ◌++◌, if◌then◌else◌, Option, Some, None, Result, refl, is_some}
+use Rattle.std.specs.Prelude.{◌≡◌, ◌≤◌, ℕ, zero, suc, ◌+◌, Bool, true, false, ◌||◌, ◌&&◌, ◌==◌, nat_lt, nat_le, List, [], ◌∷◌, ◌++◌, if◌then◌else◌, Option, Some, None, refl, is_some}
 use Rattle.std.specs.List.{list_any, list_all}
 use Rattle.std.proofs.Common.{sym, ap, ap₂, ◌∙◌, arith}
 use Rattle.std.proofs.lemmas.Bool.Decides.{nat_tests}
@@ -11,10 +11,9 @@ use Rattle.a2_bus.specs.Memory.{ram_end}
 use Rattle.a2_services.specs.World.{World}
 use Rattle.a2_asm.specs.declared.program.Statement.{Statement}
 use Rattle.a2_asm.specs.Programs.{is_code}
-use Rattle.a2_machine.specs.declared.Cause.{Cause}
-use Rattle.a2_machine.specs.Meaning.{Decoded, stuck_at, stuck, next, statements}
+use Rattle.a2_machine.specs.Meaning.{stuck_at, stuck, next, statements}
 use Rattle.a2_machine.specs.ByteRun.{addresses_below}
-use Rattle.a2_machine.proofs.Marking.{among-low, among-high}
+use Rattle.a2_machine.proofs.Marking.{among_below}
 use Rattle.a2_machine.proofs.Walks.{walked}
 
 abbrev pub SameMembers : List ℕ → List ℕ → Type 0
@@ -35,15 +34,10 @@ carried f (n ∷ p) q into h =
 same_any : (f : ℕ → Bool) (p q : List ℕ) → SameMembers p q → list_any f p ≡ list_any f q
 same_any f p q same = grind (arith, carried f p q (λ k h. sym (same k) ∙ h), carried f q p (λ k h. same k ∙ h))
 
-same_stuck : (p q : List ℕ) (found : Result Decoded Cause) (world : World) → SameMembers p q → stuck_at p found world ≡ stuck_at q found world
-unfolding stuck_at
-same_stuck p q found world same =
-    let alike : is_among p ≡ is_among q = λ i a. same a i in grind (arith, alike, same_any)
-
 -- so are steps and parts of runs
 pub same_cause : (at : ℕ → Option Instr) (p q : List ℕ) → SameMembers p q → (w : World) → stuck (statements at p) w ≡ stuck (statements at q) w
-unfolding stuck statements
-same_cause at p q same w = same_stuck p q _ w same
+unfolding stuck stuck_at statements
+same_cause at p q same w = let alike : is_among p ≡ is_among q = λ i a. same a i in grind (arith, alike, same_any)
 
 pub same_walk : (at : ℕ → Option Instr) (p q : List ℕ) → SameMembers p q → (w : World) (n : ℕ) → walked (statements at p) w n ≡ walked (statements at q) w n
 unfolding walked next statements
@@ -64,16 +58,10 @@ among-numbers : (first count a : ℕ) → is_among (numbers_from first count) a 
 among-numbers first zero a = grind (arith, nat_tests)
 among-numbers first (suc count) a = ap (λ v. (first == a) || v) (among-numbers (suc first) count a) ∙ grind (arith, nat_tests)
 
-among-append : (p q : List ℕ) (a : ℕ) → is_among (p ++ q) a ≡ (is_among p a || is_among q a)
-among-append p q a = list_any-append (λ m. m == a) p q
-
 pub code-bytes : (all : List Statement) (a : ℕ) → is_among (code_bytes all) a ≡ is_code all a
 code-bytes [] a = refl
-code-bytes (s ∷ more) a = among-append (bytes_of_statement s) (code_bytes more) a ∙ ap₂ (λ u v. u || v) (one s.instr) (code-bytes more a)
-  where
-    one : (o : Option Instr) → is_among (if is_some o then numbers_from s.addr s.length else []) a ≡ (is_some o && nat_le s.addr a && nat_lt a (s.addr + s.length))
-    one None = refl
-    one (Some i) = among-numbers s.addr s.length a
+code-bytes (s ∷ more) a =
+    list_any-append (λ m. m == a) (bytes_of_statement s) (code_bytes more) ∙ grind (arith, code-bytes more a, among-numbers s.addr s.length a)
 
 below : (p : List ℕ) (a : ℕ) → list_all (λ n. nat_lt n ram_end) p ≡ true → ram_end ≤ a → is_among p a ≡ false
 below [] a h high = refl
@@ -82,4 +70,4 @@ below (n ∷ p) a h high = grind (arith, nat_tests, below p a, h, high)
 -- the guard's list and this one have the same members, where code lies in RAM
 pub guarded : (all : List Statement) → list_all (λ n. nat_lt n ram_end) (code_bytes all) ≡ true → SameMembers (addresses_below ram_end (is_code all)) (code_bytes all)
 guarded all low a =
-    grind (arith, among-low ram_end (is_code all) a, among-high ram_end (is_code all) a, code-bytes all a, below (code_bytes all) a low)
+    grind (arith, nat_tests, among_below ram_end (is_code all) a, code-bytes all a, below (code_bytes all) a low)

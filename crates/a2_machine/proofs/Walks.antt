@@ -1,9 +1,10 @@
 -- Parts of runs: so many steps, none of which is stuck. They follow one another, and make a run's end.
-use Rattle.std.specs.Prelude.{◌≡◌, ◌≤◌, ℕ, zero, suc, ◌+◌, ◌-◌, ◌*◌, Option, Some, None, refl, unwrap_or}
+use Rattle.std.specs.Prelude.{◌≡◌, ◌≤◌, ℕ, zero, suc, ◌+◌, ◌-◌, ◌*◌, Option, Some, None, refl}
 use Rattle.std.proofs.Common.{ap, ◌∙◌, subst, arith}
+use Rattle.std.proofs.lemmas.Option.{same_Some}
 use Rattle.a2_services.specs.World.{World}
 use Rattle.a2_machine.specs.declared.Cause.{Cause}
-use Rattle.a2_machine.specs.Meaning.{Code, End, IsEnd, stuck, next}
+use Rattle.a2_machine.specs.Meaning.{Code, IsEnd, stuck, next}
 use Rattle.a2_machine.proofs.RunFrom.{run_from}
 use Rattle.a2_machine.proofs.Runs.{run-is_end}
 
@@ -12,14 +13,10 @@ unfoldable pub walked : Code → World → ℕ → Option World
 walked code world zero = Some world
 walked code world (suc n) = elim (stuck code world) [ Some cause ↦ None | None ↦ walked code (next code world) n ]
 
-some-one : {X : Type 0} (x y : X) → Some x ≡ Some y → x ≡ y
-some-one x y e = ap (λ o. unwrap_or o x) e
-
 -- one part after another
 pub then : (code : Code) (w v u : World) (m n : ℕ) → walked code w m ≡ Some v → walked code v n ≡ Some u → walked code w (m + n) ≡ Some u
 unfolding walked
-then code w v u zero n a b =
-    let e : 0 + n ≡ n = omega arith in ap (λ k. walked code w k) e ∙ ap (λ z. walked code z n) (some-one w v a) ∙ b
+then code w v u zero n a b = let e : 0 + n ≡ n = omega arith in rw (e, same_Some w v a) b
 then code w v u (suc m) n a b =
     let e : suc m + n ≡ suc (m + n) = omega arith in
     ap (walked code w) e ∙ grind (arith, then code (next code w) v u m n, a, b)
@@ -28,8 +25,7 @@ then code w v u (suc m) n a b =
 goes_on : (code : Code) (w v : World) (n done rest : ℕ) → walked code w n ≡ Some v → run_from code w done (n + rest) ≡ run_from code v (done + n) rest
 unfolding walked run_from
 goes_on code w v zero done rest h =
-    let e : 0 + rest ≡ rest = omega arith in let f : done ≡ done + 0 = omega arith in
-    ap (λ k. run_from code w done k) e ∙ ap (λ z. run_from code z done rest) (some-one w v h) ∙ ap (λ k. run_from code v k rest) f
+    let e : 0 + rest ≡ rest = omega arith in let f : done + 0 ≡ done = omega arith in rw (e, f, same_Some w v h)
 goes_on code w v (suc n) done rest h =
     let e : suc n + rest ≡ suc (n + rest) = omega arith in
     let f : suc done + n ≡ done + suc n = omega arith in
@@ -44,12 +40,10 @@ stopped code v cause done _ h = grind (arith, h)
 pub ends : (code : Code) (w v : World) (n limit : ℕ) (cause : Cause) → walked code w n ≡ Some v → stuck code v ≡ Some cause → n ≤ limit
     → IsEnd code w limit (record { world = v; steps = n; cause = cause })
 ends code w v n limit cause h stops within =
-    let zero_and : 0 + n ≡ n = omega arith in
-    let is : limit ≡ n + (limit - n) = omega (arith, within) in
-    let same : run_from code w 0 limit ≡ record { world = v; steps = n; cause = cause } =
-    ap (run_from code w 0) is ∙ goes_on code w v n 0 (limit - n) h ∙ stopped code v cause (0 + n) (limit - n) stops
-    ∙ ap (λ k. let r : End = record { world = v; steps = k; cause = cause } in r) zero_and in
-    subst (λ e. IsEnd code w limit e) same (run-is_end code w limit)
+    let all : n + (limit - n) ≡ limit = omega (arith, within) in
+    let none : 0 + n ≡ n = omega arith in
+    let same = goes_on code w v n 0 (limit - n) h ∙ stopped code v cause (0 + n) (limit - n) stops in
+    rw (all, none) at (rw same at (run-is_end code w (n + (limit - n))))
 
 -- Parts of runs by what holds where they end
 
@@ -58,10 +52,7 @@ abbrev pub Leads : Code → World → ℕ → (World → Type 0) → Type 0
 Leads code w n Q = (v : World) × (walked code w n ≡ Some v) × Q v
 
 pub and_then : (code : Code) (w : World) (m n : ℕ) (P Q : World → Type 0) → Leads code w m P → ((v : World) → P v → Leads code v n Q) → Leads code w (m + n) Q
-and_then code w m n P Q (v, walk, holds) later = go (later v holds)
-  where
-    go : Leads code v n Q → Leads code w (m + n) Q
-    go (u, more, at_end) = (u, then code w v u m n walk more, at_end)
+and_then code w m n P Q (v, walk, holds) later = let on = later v holds in (on.0, then code w v on.0 m n walk on.1, on.2)
 
 -- a loop: a count goes down by one each round, and each round takes as many steps
 pub rounds : (code : Code) (P : ℕ → World → Type 0) (round : ℕ) → ((k : ℕ) (w : World) → P (suc k) w → Leads code w round (P k))

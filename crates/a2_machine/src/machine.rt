@@ -1,7 +1,6 @@
 //! The machine: a board with a processor, its guard, and its counts.
 
-ghost use Rattle.std.specs.Prelude.{◌≡◌, ◌≢◌, ◌+◌, ◌-◌, ◌*◌, ◌^◌, ◌<◌, ◌≤◌, ◌↔◌, ℕ, [], true, false, None, Some, Ok, IfOk};
-ghost use Rattle.std.specs.Prelude.{IfNone, IfSome, OnOk, OnErr, OnSome, IsOk, length, slice_range};
+ghost use Rattle.std.specs.Prelude.{◌≡◌, ◌≢◌, ◌+◌, ◌-◌, ◌*◌, ◌^◌, ◌<◌, ◌≤◌, ◌↔◌, ℕ, [], true, false, None, Some, Ok, IfOk, IfNone, IfSome, OnOk, OnErr, OnSome, IsOk, length, slice_range};
 ghost use Rattle.a2_stream.specs.Stream.{SendsOrBreaks};
 ghost use Rattle.a2_page.specs.Kept.{is_row_marked, with_row_marked, after_switch};
 ghost use Rattle.a2_page.specs.Picture.{page_grid, picture, attribute_rows};
@@ -16,8 +15,7 @@ ghost use Rattle.a2_machine.specs.Meaning.{stuck};
 ghost use Rattle.a2_machine.specs.Outcome.{most_cost};
 ghost use Rattle.a2_machine.specs.ProgramGuard.{guard_of_program};
 ghost use Rattle.a2_machine.specs.Start.{start_world, called_at};
-ghost use Rattle.a2_machine.specs.State.{world_of_state, code_of, cause_of, most_steps, steps_left, raised_by, IsStep};
-ghost use Rattle.a2_machine.specs.State.{IsMachineRun, IsRunTo, after_print};
+ghost use Rattle.a2_machine.specs.State.{world_of_state, code_of, cause_of, most_steps, steps_left, raised_by, IsStep, IsMachineRun, IsRunTo, after_print};
 ghost use Rattle.a2_machine.specs.declared.Cause.TheVariants.{Limit};
 ghost use Rattle.a2_machine.specs.declared.Stop.TheVariants.{Cause as StopCause, Breakpoint};
 
@@ -42,13 +40,6 @@ const MOST_STEPS: u64 = 1_000_000_000_000;
 
 /// Where PC stands with no program, $0300 (this project's profile).
 pub const FIRST_ENTRY: u16 = 0x0300;
-
-// For the prover alone: a count of 64 bits is below 2^64, which the clauses of a field do not tell.
-fn keeps_count(count: u64)
-    ensures { count < 2 ^ 64 }
-{
-    let _ = count;
-}
 
 // The cause that stopped a run, where no breakpoint did.
 fn cause_in(stop: Stop) -> Cause
@@ -94,7 +85,7 @@ impl<A: Allocator> Drop for Machine<A> {
 }
 
 impl<A: Allocator> Model for Machine<A> {
-    ghost use Rattle.std.specs.Prelude.{◌≡◌, ◌≤◌, ◌*◌};
+    ghost use Rattle.std.specs.Prelude.{◌≡◌, ◌≤◌, ◌<◌, ◌*◌, ◌^◌};
     ghost use Rattle.a2_core.specs.View.{spare_bits_of};
     ghost use Rattle.a2_machine.specs.State.{Device, most_steps};
     ghost use Rattle.a2_machine.specs.Outcome.{most_cost};
@@ -106,7 +97,7 @@ impl<A: Allocator> Model for Machine<A> {
       made = m.made;
     } };
 
-    ghost invariant = { λ m. (m.steps ≤ most_steps) × (m.cycles ≤ most_cost * m.steps) × (spare_bits_of m.regs.p ≡ 0) };
+    ghost invariant = { λ m. (m.steps ≤ most_steps) × (m.cycles ≤ most_cost * m.steps) × (spare_bits_of m.regs.p ≡ 0) × (m.made < 2 ^ 64) };
 }
 
 impl<A: Allocator + Copy> Machine<A> {
@@ -393,9 +384,7 @@ impl<A: Allocator> Machine<A> {
           state = record s { cycles = s.cycles + done.cycles; steps = s.steps + done.made };
           made = raised_by self.old.made done.made;
         }) }
-        ensures few { self.old.made < 2 ^ 64 }
     {
-        keeps_count(self.made);
         self.cycles += done.cycles;
         self.steps += done.made;
         self.made = self.made.saturating_add(done.made);
@@ -459,7 +448,6 @@ impl<A: Allocator> Machine<A> {
         ensures made { IfNone result (IsStep self.old self.new) }
         ensures stuck { IfSome result (λ _. self.new ≡ self.old) }
     {
-        keeps_count(self.made);
         if self.steps < MOST_STEPS {
             return match make_one_step(&mut self.regs, self.board.space_mut(), &self.watch) {
                 Outcome::Made(cycles) => {

@@ -42,14 +42,6 @@ fn outcome_of(step: GuardedStep) -> Outcome
     }
 }
 
-// For the prover alone: a byte is below 256, which the clauses of a register behind a reference do not tell.
-#[inline(always)]
-fn keeps_range(byte: u8)
-    ensures { byte < 256 }
-{
-    let _ = byte;
-}
-
 // What a call did, as an outcome.
 #[inline(always)]
 fn outcome_of_call(answer: Served) -> Outcome
@@ -88,7 +80,7 @@ fn call_at<C: Allocator>(pc: u16, watch: &Watch<C>) -> Result<Service, Cause>
 
 // One step where PC is above RAM.
 #[inline(always)]
-#[tactic(auto, using(crate::proofs::Costs::called_cost))]
+#[tactic(auto, using(crate::proofs::Costs::called_cost, crate::proofs::Calls::stuck_above))]
 fn make_step_above<A: Allocator, C: Allocator>(
     live: &mut Live,
     space: &mut AddressSpace<A>,
@@ -99,7 +91,8 @@ fn make_step_above<A: Allocator, C: Allocator>(
     ensures cost { cost_of result ≤ most_cost }
     ensures cycles { live.new.cycles ≡ live.old.cycles }
 {
-    keeps_range(live.a);
+    // For the prover alone: a byte is below 256.
+    let _a: u8 = live.a;
     match call_at(live.pc, watch) {
         Ok(service) => outcome_of_call(call(service, live, space)),
         Err(cause) => Outcome::Stuck(cause),
@@ -109,6 +102,7 @@ fn make_step_above<A: Allocator, C: Allocator>(
 /// One step: a service where PC is one, else the instruction at PC; or the first cause of a stop, and nothing changes. Its
 /// cycles are told, and not counted.
 #[inline(always)]
+#[tactic(auto, using(crate::proofs::Calls::off_statement))]
 pub fn make_step<A: Allocator, C: Allocator>(
     live: &mut Live,
     space: &mut AddressSpace<A>,
@@ -140,6 +134,7 @@ fn cause_in(outcome: Outcome) -> Option<Cause>
 }
 
 // Why there is no step, where PC is above RAM.
+#[tactic(auto, using(crate::proofs::Calls::stuck_above))]
 fn cause_above<A: Allocator, C: Allocator>(
     live: &Live,
     space: &AddressSpace<A>,
@@ -149,15 +144,13 @@ fn cause_above<A: Allocator, C: Allocator>(
     ensures { (before : ℕ) → stuck (bytes watch.now) (world_of (live_registers live.now) space.now before) ≡ result }
 {
     match call_at(live.pc, watch) {
-        Ok(service) => match refusal(service, live, space) {
-            Some(why) => cause_in(outcome_of_call(why)),
-            None => None,
-        },
+        Ok(service) => cause_in(outcome_of_call(refusal(service, live, space)?)),
         Err(cause) => Some(cause),
     }
 }
 
 /// Why there would be no step here; none where it would be made. Nothing changes.
+#[tactic(auto, using(crate::proofs::Calls::off_statement, crate::proofs::Outcomes::instruction_why))]
 pub fn cause_at<A: Allocator, C: Allocator>(
     live: &Live,
     space: &AddressSpace<A>,
@@ -173,8 +166,5 @@ pub fn cause_at<A: Allocator, C: Allocator>(
     }
     // For the prover alone: a look at RAM tells how long it is.
     let _ = space.peek(live.pc);
-    match live_refusal(live, space, watch) {
-        Some(why) => cause_in(outcome_of(why)),
-        None => None,
-    }
+    cause_in(outcome_of(live_refusal(live, space, watch)?))
 }

@@ -1,7 +1,6 @@
 //! The guard as a machine keeps it: a byte of marks for each address.
 
-ghost use Rattle.std.specs.Prelude.{◌≡◌, ℕ, ◌+◌, ◌<◌, ◌≤◌, ◌==◌, ◌&&◌, ◌||◌, nat_le, nat_lt, Bool, List, length, slice_index};
-ghost use Rattle.std.specs.Prelude.{if◌then◌else◌, true, is_some, IfOk, Some, None};
+ghost use Rattle.std.specs.Prelude.{◌≡◌, ℕ, ◌+◌, ◌<◌, ◌≤◌, ◌==◌, ◌&&◌, ◌||◌, nat_le, nat_lt, Bool, List, length, slice_index, if◌then◌else◌, true, is_some, IfOk, Some, None};
 ghost use Rattle.a2_asm.specs.Programs.{begins_at, is_code};
 ghost use Rattle.a2_machine.specs.ProgramGuard.{guard_of_program};
 ghost use Rattle.std.specs.List.{list_any};

@@ -5,6 +5,6 @@ use Rattle.a2_machine.proofs.machine.Machine.make_alone.Goals as goal
 pub returns : goal.returns
 returns g c =
     rw (c.count.ensures.counted, ← c.self.view_is)
-    (making (λ address. false) _ _ _ c.make_steps_alone-done.result _ _ c.count.ensures.few refl
+    (making (λ address. false) _ _ _ c.make_steps_alone-done.result _ _ c.self.invariant.3 refl
     (rw c.space_mut.ensures.value at c.make_steps_alone-done.ensures.steps) c.make_steps_alone-done.ensures.none c.args.limit
     (rw (← c.self.view_is) at c.most_within-most.ensures))
