@@ -85,9 +85,7 @@ fn run_file<S: Shelf, R: Input, W: Output>(
     run_input(alloc, &mut reader, order, output)
 }
 
-// Writes the object lines of a file. (By itself, as the next one is: how fast a run is hangs on where its code begins, so on
-// what stands before that.)
-#[inline(never)]
+// Writes the object lines of a file.
 fn assemble_file<S: Shelf, W: Output>(
     alloc: Global,
     shelf: &mut S,
@@ -103,7 +101,6 @@ fn assemble_file<S: Shelf, W: Output>(
 }
 
 // Answers the Monitor lines of a file.
-#[inline(never)]
 fn answer_file<S: Shelf, W: Output>(
     alloc: Global,
     shelf: &mut S,
