@@ -1,20 +1,20 @@
 -- Lines that are not refused are a program.
-use Rattle.std.specs.Prelude.{◌≡◌, ℕ, zero, suc, ◌+◌, ◌≤◌, not, true, false, List, [], ◌∷◌, length, Bool, Option, Some, None, is_some}
-use Rattle.std.proofs.Common.{refl, sym, ap, ◌∙◌, arith, true≢false}
-use Rattle.a2_text.specs.Refusals.{◌otherwise◌, refuse_if}
+use Rattle.std.specs.Prelude.{◌≡◌, ℕ, zero, suc, ◌+◌, ◌≤◌, true, List, [], ◌∷◌, length, Option, Some, None, is_some}
+use Rattle.std.proofs.Common.{refl, sym, ap, ◌∙◌, arith}
+use Rattle.std.proofs.lemmas.Bool.Decides.{nat_tests}
+use Rattle.std.proofs.lemmas.Option.{slice_get_past}
 use Rattle.a2_hex.specs.Images.{Cells, held}
 use Rattle.a2_syntax.specs.declared.fault.Fault.{Fault}
-use Rattle.a2_syntax.specs.declared.fault.Fault.TheVariants.{NoCode}
 use Rattle.a2_syntax.specs.declared.source.Line.{Line}
 use Rattle.a2_asm.specs.Assembled.{Assembled}
 use Rattle.a2_asm.specs.Values.{Names}
 use Rattle.a2_asm.specs.Layout.{Row, names}
 use Rattle.a2_asm.specs.Bytes.{bytes_of, image, statements_of, first_instruction}
-use Rattle.a2_asm.specs.Refusals.{first_behind, refuse_names, refuse_place, refuse_bytes, IsLayoutRefusal}
+use Rattle.a2_asm.specs.Refusals.{IsLayoutRefusal}
 use Rattle.a2_asm.specs.Pass.{source_rows, layout_refusal}
 use Rattle.a2_asm.specs.Programs.{IsProgram}
 use Rattle.a2_asm.proofs.MadeLaws.{program-of, refused-of}
-use Rattle.a2_asm.proofs.PassedLaws.{none-past}
+use Rattle.a2_asm.proofs.PassedLaws.{accepted-parts}
 
 -- the cells of a map below an end
 abbrev cells_of : (ℕ → Option ℕ) → ℕ → Cells
@@ -34,34 +34,17 @@ end_of_bytes all (row ∷ more) = row.place.address + length (bytes_of all row.p
 
 nothing-behind : {A : Type 0} (all : Names) (rows : List (Row A)) (a : ℕ) → end_of_bytes all rows ≤ a → image all rows a ≡ None
 nothing-behind all [] a le = refl
-nothing-behind all (row ∷ more) a le =
-    ap (λ o. o otherwise image all more a) (none-past row.place.address (bytes_of all row.place row.line.body) a (omega (arith, le)))
-    ∙ nothing-behind all more a (omega (arith, le))
+nothing-behind all (row ∷ more) a le = grind (arith, nat_tests, slice_get_past, nothing-behind all more a)
 
 some-of : (o : Option ℕ) → is_some o ≡ true → (n : ℕ) × (o ≡ Some n)
 some-of (Some n) e = (n, refl)
-some-of None e = absurd (true≢false (sym e))
-
--- what is not refused has an entry
-entered : {A : Type 0} (source : List (Line A)) → layout_refusal source ≡ None → is_some (first_instruction (source_rows source)) ≡ true
-entered source e =
-    go (first_behind refuse_names [] source) (first_behind (refuse_place (names (source_rows source))) [] (source_rows source)) (is_some (first_instruction (source_rows source))) e
-  where
-    some≢none : {X : Type 0} (x : X) → Some x ≡ None → ⊥
-    some≢none x e = true≢false (ap is_some e)
-
-    go : (a b : Option Fault) (c : Bool)
-        → (a otherwise b otherwise refuse_if (not c) NoCode otherwise first_behind (refuse_bytes (names (source_rows source))) [] (source_rows source)) ≡ None → c ≡ true
-    go (Some f) b c e = absurd (some≢none f e)
-    go None (Some f) c e = absurd (some≢none f e)
-    go None None true e = refl
-    go None None false e = absurd (some≢none NoCode e)
+some-of None e = cc
 
 -- lines that are not refused are a program
 pub program-of-source : {A : Type 0} (source : List (Line A)) → layout_refusal source ≡ None → (p : Assembled) × IsProgram source p
 program-of-source source e =
     let all = names (source_rows source) in
-    let first = some-of (first_instruction (source_rows source)) (entered source e) in
+    let first = some-of (first_instruction (source_rows source)) (accepted-parts source e).1 in
     let made : Assembled = record {
       image = cells_of (image all (source_rows source)) (end_of_bytes all (source_rows source));
       statements = statements_of all (source_rows source);

@@ -1,7 +1,6 @@
 -- A program by the places that the first pass finds, and by any layout: there is one.
-use Rattle.std.specs.Prelude.{◌≡◌, ℕ, List, [], Some, None, unwrap_or, is_some}
-use Rattle.std.proofs.Common.{sym, ap, ◌∙◌}
-use Rattle.std.proofs.lemmas.Bool.{false≢true}
+use Rattle.std.specs.Prelude.{◌≡◌, ℕ, List, [], Some, None}
+use Rattle.std.proofs.Common.{arith, sym, ap, ◌∙◌}
 use Rattle.a2_hex.specs.Images.{held}
 use Rattle.a2_syntax.specs.declared.fault.Fault.{Fault}
 use Rattle.a2_syntax.specs.declared.source.Line.{Line}
@@ -11,8 +10,7 @@ use Rattle.a2_asm.specs.Bytes.{image, statements_of, first_instruction}
 use Rattle.a2_asm.specs.Refusals.{first_behind, refuse_names, refuse_place, refuse_bytes, refusal_in, IsLayoutRefusal}
 use Rattle.a2_asm.specs.Pass.{source_rows, layout_refusal}
 use Rattle.a2_asm.specs.Programs.{IsProgram, AreAlike}
-use Rattle.a2_asm.proofs.AssembleLaws.{layout-by}
-use Rattle.a2_asm.proofs.OneLayout.{rows-fit, one-layout}
+use Rattle.a2_asm.proofs.RowLaws.{rows-fit, one-layout}
 
 -- the program that the first pass's places make
 pub record IsMade {A : Type 0} (source : List (Line A)) (p : Assembled) : Type 0 where
@@ -28,10 +26,10 @@ pub made-by : {A : Type 0} (source : List (Line A)) (p : Assembled)
     → first_behind (refuse_bytes p.names) [] (source_rows source) ≡ None → p.names ≡ names (source_rows source) → ((a : ℕ) → held p.image a ≡ image p.names (source_rows source) a)
     → p.statements ≡ statements_of p.names (source_rows source) → first_instruction (source_rows source) ≡ Some p.entry → IsMade source p
 made-by source p few placed laid named bytes stated begins = record {
-  accepted = layout-by source p.names p.entry None few placed begins named laid;
+  accepted = grind arith;
   named = named;
-  laid = λ a. bytes a ∙ ap (λ k. image k (source_rows source) a) named;
-  stated = stated ∙ ap (λ k. statements_of k (source_rows source)) named;
+  laid = λ a. rw named at (bytes a);
+  stated = rw named at stated;
   begins = begins;
 }
 
@@ -64,16 +62,13 @@ refusal-of source fault (layout, is, e) =
 pub refused-of : {A : Type 0} (source : List (Line A)) (fault : Fault) → layout_refusal source ≡ Some fault → IsLayoutRefusal source fault
 refused-of source fault e = (source_rows source, rows-fit source, e)
 
-some-one : {X : Type 0} (x y : X) → Some x ≡ Some y → x ≡ y
-some-one x y e = ap (λ o. unwrap_or o x) e
-
 -- lines have one first refusal at most
 pub one-layout_refusal : {A : Type 0} (source : List (Line A)) (fault other : Fault) → IsLayoutRefusal source fault → IsLayoutRefusal source other → fault ≡ other
-one-layout_refusal source fault other a b = some-one fault other (sym (refusal-of source fault a) ∙ refusal-of source other b)
+one-layout_refusal source fault other a b = cc (refusal-of source fault a, refusal-of source other b)
 
 -- and no program where they have one
 pub refused-no-program : {A : Type 0} (source : List (Line A)) (fault : Fault) (p : Assembled) → IsLayoutRefusal source fault → IsProgram source p → ⊥
-refused-no-program source fault p a b = false≢true (ap is_some (sym (made-of source p b).accepted ∙ refusal-of source fault a))
+refused-no-program source fault p a b = cc (refusal-of source fault a, (made-of source p b).accepted)
 
 -- and one program at most, but for how its image is kept
 pub programs-alike : {A : Type 0} (source : List (Line A)) (p q : Assembled) → IsProgram source p → IsProgram source q → AreAlike p q
@@ -83,6 +78,6 @@ programs-alike source p q a b =
     record {
       names_are = x.named ∙ sym y.named;
       statements_are = x.stated ∙ sym y.stated;
-      entry_is = some-one p.entry q.entry (sym x.begins ∙ y.begins);
+      entry_is = cc (x.begins, y.begins);
       held_is = λ at. x.laid at ∙ sym (y.laid at);
     }

@@ -1,82 +1,134 @@
 -- What is known of the rows of lines that are not refused.
-use Rattle.std.specs.Prelude.{◌≡◌, ◌⊎◌, ℕ, ◌-◌, ◌<◌, ◌≤◌, Bool, true, false, nat_le, List, [], ◌∷◌, ◌++◌, length, slice_get, Option, None, if◌then◌else◌}
-use Rattle.std.proofs.Common.{refl, sym, ap, ◌∙◌, subst, inl, inr, arith}
-use Rattle.std.proofs.lemmas.Bool.{cases_lt}
-use Rattle.std.proofs.lemmas.List.{append_assoc, append-nil}
+use Rattle.std.proofs.Common.{◌≡◌, ℕ, ◌+◌, ◌*◌, ◌<◌, ◌≤◌, false, true, List, [], ◌∷◌, ◌++◌, length, get_or, take, drop, map, refl, sym, ap, ◌∙◌, subst, Some, None, is_some, arith}
+use Rattle.std.specs.List.{flat_map}
+use Rattle.std.proofs.lemmas.Bool.{not-false}
+use Rattle.std.proofs.lemmas.Bool.Decides.{nat_tests}
+use Rattle.std.proofs.lemmas.List.{length-map, length-replicate, append_assoc, take-append-drop}
 use Rattle.std.proofs.lemmas.Option.{slice_get_past}
-use Rattle.a2_text.specs.Refusals.{◌otherwise◌, refuse_if}
-use Rattle.a2_syntax.specs.declared.fault.Fault.{Fault}
-use Rattle.a2_syntax.specs.declared.fault.Fault.TheVariants as faults
+use Rattle.a2_opcode.specs.declared.Mnemonic.{Mnemonic}
+use Rattle.a2_opcode.specs.declared.Mode.{Mode}
+use Rattle.a2_opcode.specs.declared.Mode.TheVariants.{Implied}
+use Rattle.a2_opcode.specs.declared.Instr as opcode
+use Rattle.a2_opcode.specs.Table.{length_of}
+use Rattle.a2_opcode.specs.Encoding.{encoded}
+use Rattle.a2_opcode.proofs.RoundTrip.{coded, operand-length}
 use Rattle.a2_syntax.specs.declared.source.Line.{Line}
+use Rattle.a2_syntax.specs.declared.source.Operand.{Operand}
+use Rattle.a2_syntax.specs.declared.source.Body.{Body}
+use Rattle.a2_syntax.specs.declared.source.Body.TheVariants.{Instr, Dw}
 use Rattle.a2_asm.specs.declared.place.Place.{Place}
-use Rattle.a2_asm.specs.Layout.{Row, names, IsPlaced}
-use Rattle.a2_asm.specs.Laying.{byte_from, meets}
-use Rattle.a2_asm.specs.Bytes.{bytes_of, image}
-use Rattle.a2_asm.specs.Refusals.{first_behind, is_taken, is_outside, refuse_body, refuse_operand, refuse_place, refuse_bytes}
-use Rattle.a2_asm.specs.Pass.{source_rows, layout_refusal}
-use Rattle.a2_asm.proofs.FirstLaws.{otherwise-left, otherwise-right}
-use Rattle.a2_asm.proofs.SeatLaws.{Keeps, keeps-line, place-room}
-use Rattle.a2_asm.proofs.StateLaws.{accepted-is, bytes-length}
-use Rattle.a2_asm.proofs.OneLayout.{rows-fit}
+use Rattle.a2_asm.specs.Values.{Names}
+use Rattle.a2_asm.specs.Modes.{has_mode, mode_of}
+use Rattle.a2_asm.specs.Layout.{Row, IsPlaced, names, mode_in, size}
+use Rattle.a2_asm.specs.Laying.{meets}
+use Rattle.a2_asm.specs.Bytes.{value_or_zero, bytes_of, word_bytes, instr_of, image, first_instruction}
+use Rattle.a2_asm.specs.Refusals.{first_behind, is_outside, lacks_row, refuse_body, refuse_line, refuse_place, refuse_operand, refuse_bytes}
+use Rattle.a2_asm.specs.Pass.{row_behind, source_rows, layout_refusal}
+use Rattle.a2_asm.proofs.FirstLaws.{at-split}
+use Rattle.a2_asm.proofs.BytesLaws.{operand-refused}
+use Rattle.a2_asm.proofs.RowLaws.{rows-fit, place_at, row-read}
 
--- a check that refuses nothing does not refuse an element behind those before it
-at-split : {X : Type 0} (check : List X → X → Option Fault) (done before after : List X) (x : X) → first_behind check done (before ++ x ∷ after) ≡ None → check (done ++ before) x ≡ None
-at-split check done [] after x h = ap (λ xs. check xs x) (append-nil done) ∙ otherwise-left (check done x) (first_behind check (done ++ x ∷ []) after) h
-at-split check done (b ∷ bs) after x h =
-    ap (λ xs. check xs x) (sym (append_assoc done (b ∷ []) bs))
-    ∙ at-split check (done ++ b ∷ []) bs after x (otherwise-right (check done b) (first_behind check (done ++ b ∷ []) (bs ++ x ∷ after)) h)
+pub length-some : (mode : Mode) → 1 ≤ length_of mode
+length-some Implied = omega arith
+length-some _ = omega arith
 
--- a row passes each check
-pub record Passed {A : Type 0} (source : List (Line A)) (before : List (Row A)) (row : Row A) : Type 0 where
-  pub now : refuse_body (names (source_rows source)) (names before) row.place row.line.body ≡ None
-  pub later : refuse_operand (names (source_rows source)) row.place row.line.body ≡ None
-  pub keeps : Keeps (names before) row.place row.line.body
+encoded-length : (i : opcode.Instr) (at : ℕ) (bytes : List ℕ) → encoded i at ≡ Some bytes → length bytes ≡ length_of i.mode
+encoded-length i at bytes e = grind (arith, (coded i at bytes e).bytes_are, operand-length i.mode at i.value, length-some i.mode)
 
-pub passed-is : {A : Type 0} (source : List (Line A)) (before after : List (Row A)) (row : Row A) → layout_refusal source ≡ None → source_rows source ≡ before ++ row ∷ after → Passed source before row
-passed-is {A} source before after row e is =
+words-length : {X : Type 0} (f : X → ℕ) (xs : List X) → length (flat_map (λ x. word_bytes (f x)) xs) ≡ 2 * length xs
+words-length f [] = refl
+words-length f (x ∷ xs) = omega (arith, words-length f xs)
+
+-- an instruction that is not refused has its bytes
+pub instr-encoded : {A : Type 0} (all earlier : Names) (place : Place) (m : Mnemonic) (o : Operand A) → has_mode m place.mode ≡ true → place.mode ≡ mode_of earlier place.address m o
+    → refuse_operand all place (Instr m o) ≡ None → encoded (instr_of all place m o) place.address ≡ Some (bytes_of all place (Instr m o))
+instr-encoded all earlier place m o has form later = grind (arith, operand-refused all earlier place m o has form)
+
+-- what a line in its place keeps that the first pass does not refuse
+pub record Keeps {A : Type 0} (all : Names) (before : List (Row A)) (row : Row A) : Type 0 where
+  pub now : refuse_body all (names before) row.place row.line.body ≡ None
+  pub has_row : lacks_row row.place row.line.body ≡ false
+  pub inside : is_outside row.place ≡ false
+  pub placed : IsPlaced before row
+
+passes : {A : Type 0} (all earlier : Names) (place : Place) (line : Line A) → refuse_line all earlier place line ≡ None
+    → (refuse_body all earlier place line.body ≡ None) × (lacks_row place line.body ≡ false) × (is_outside place ≡ false)
+passes all earlier place line h = grind arith
+
+pub keeps : {A : Type 0} (source : List (Line A)) (before after : List (Row A)) (row : Row A) → first_behind (refuse_place (names (source_rows source))) [] (source_rows source) ≡ None
+    → source_rows source ≡ before ++ row ∷ after → Keeps (names (source_rows source)) before row
+keeps source before after row h split =
     let all = names (source_rows source) in
-    let earlier = names before in
-    let place = row.place in
-    let body = row.line.body in
-    let passed = accepted-is source e in
-    let P : List (Row A) → Type 0 = λ xs. first_behind (refuse_place all) [] xs ≡ None in
-    let Q : List (Row A) → Type 0 = λ xs. first_behind (refuse_bytes all) [] xs ≡ None in
-    let placed : refuse_place all before row ≡ None = at-split (refuse_place all) [] before after row (subst P is passed.place) in
-    let laid : refuse_bytes all before row ≡ None = at-split (refuse_bytes all) [] before after row (subst Q is passed.bytes) in
-    let taken = refuse_if (is_taken earlier row.line.label) (faults.Duplicate place.number) in
-    let outside = refuse_if (is_outside place) (faults.Outside place.number) in
-    let kept = keeps-line all earlier place row.line placed in
-    let lies : IsPlaced before row = (rows-fit source).placed before row after is in
-    record {
-      now = otherwise-left (refuse_body all earlier place body) outside (otherwise-right taken (refuse_body all earlier place body otherwise outside) placed);
-      later = otherwise-left (refuse_operand all place body) (refuse_if (meets (image all before) place.address (bytes_of all place body)) (faults.Overlap place.number)) laid;
-      keeps = record { has_row = kept.0; form = lies.mode; long = lies.size; inside = kept.1 };
-    }
+    let p = passes all (names before) row.place row.line
+    (at-split (refuse_place all) [] before after row (subst (λ rows. first_behind (refuse_place all) [] rows ≡ None) split h)) in
+    record { now = p.0; has_row = p.1; inside = p.2; placed = (rows-fit source).placed before row after split }
 
--- behind the last of some bytes there is none
-pub none-past : (at : ℕ) (bytes : List ℕ) (a : ℕ) → length bytes ≤ a - at → byte_from at bytes a ≡ None
-none-past at bytes a le = go (nat_le at a)
-  where
-    go : (b : Bool) → (if b then slice_get bytes (a - at) else None) ≡ None
-    go true = slice_get_past bytes (a - at) le
-    go false = refl
+-- the row of a line at the place that the second pass reads
+abbrev pub seat : {A : Type 0} → List (Line A) → List Place → ℕ → Line A → Row A
+seat lines places i line = record (row_behind (take i (source_rows lines)) line) { place = place_at places i }
 
--- a place inside RAM ends at or below its end
-ends-in-ram : (place : Place) (n a : ℕ) → is_outside place ≡ false → n ≡ place.length → 49152 ≤ a → n ≤ a - place.address
-ends-in-ram place n a inside long le = go (cases_lt 0 place.length)
-  where
-    go : (0 < place.length) ⊎ (place.length ≤ 0) → n ≤ a - place.address
-    go (inl some) = omega (arith, long, le, place-room place inside some)
-    go (inr none) = omega (arith, long, none)
+pub record Seated {A : Type 0} (lines : List (Line A)) (i : ℕ) (row : Row A) : Type 0 where
+  pub taken : take (i + 1) (source_rows lines) ≡ take i (source_rows lines) ++ row ∷ []
+  pub dropped : drop i (source_rows lines) ≡ row ∷ drop (i + 1) (source_rows lines)
+  pub keeps : Keeps (names (source_rows lines)) (take i (source_rows lines)) row
+
+pub seated : {A : Type 0} (lines : List (Line A)) (places : List Place) (i : ℕ) (line : Line A) → places ≡ map (λ row. row.place) (source_rows lines) → i < length lines
+    → line ≡ get_or lines i line → first_behind (refuse_place (names (source_rows lines))) [] (source_rows lines) ≡ None → Seated lines i (seat lines places i line)
+seated lines places i line are lt e placed =
+    let rows = source_rows lines in
+    let cut = row-read lines i line lt e in
+    let row = row_behind (take i rows) line in
+    let kept = keeps lines (take i rows) (drop (i + 1) rows) row placed (sym (take-append-drop i rows) ∙ ap (λ more. take i rows ++ more) cut.2) in
+    subst (Seated lines i) (ap (λ place. record row { place = place }) (sym (ap (λ ps. place_at ps i) are ∙ cut.3)))
+    (record { taken = cut.1; dropped = cut.2; keeps = kept })
+
+-- a line that is not refused has as many bytes as its place
+pub bytes-length : {A : Type 0} (all earlier : Names) (place : Place) (body : Body A) → lacks_row place body ≡ false → place.mode ≡ mode_in earlier place.address body
+    → place.length ≡ size earlier place.address body → refuse_operand all place body ≡ None → length (bytes_of all place body) ≡ place.length
+bytes-length all earlier place (Instr m o) has form long later =
+    grind (arith, encoded-length (instr_of all place m o) place.address _ (instr-encoded all earlier place m o (not-false _ has) form later))
+bytes-length all earlier place (Dw es) has form long later = omega (arith, words-length (value_or_zero all 65535 place.address) es)
+bytes-length all earlier place _ has form long later = grind (arith, length-map, length-replicate)
+
+-- a place inside RAM has room
+pub place-room : (place : Place) → is_outside place ≡ false → 0 < place.length → place.address + place.length ≤ 49152
+place-room place h lt = grind (arith, nat_tests)
+
+pub bytes-room : {A : Type 0} (all whole : Names) (before : List (Row A)) (row : Row A) (bytes : List ℕ) → Keeps whole before row → refuse_operand all row.place row.line.body ≡ None
+    → bytes ≡ bytes_of all row.place row.line.body → 0 < length bytes → row.place.address + length bytes ≤ 49152
+bytes-room all whole before row bytes k later is lt =
+    omega (arith, ap length is, bytes-length all (names before) row.place row.line.body k.has_row k.placed.mode k.placed.size later, place-room row.place k.inside)
+
+-- and what passes both passes
+pub record Passed {A : Type 0} (all : Names) (before : List (Row A)) (row : Row A) : Type 0 where
+  pub keeps : Keeps all before row
+  pub later : refuse_operand all row.place row.line.body ≡ None
+  pub free : meets (image all before) row.place.address (bytes_of all row.place row.line.body) ≡ false
+  pub long : length (bytes_of all row.place row.line.body) ≡ row.place.length
+
+laid : {A : Type 0} (all : Names) (before : List (Row A)) (row : Row A) → refuse_bytes all before row ≡ None
+    → (refuse_operand all row.place row.line.body ≡ None) × (meets (image all before) row.place.address (bytes_of all row.place row.line.body) ≡ false)
+laid all before row h = grind arith
+
+-- the parts of a source's refusal
+pub accepted-parts : {A : Type 0} (source : List (Line A)) → layout_refusal source ≡ None
+    → (first_behind (refuse_place (names (source_rows source))) [] (source_rows source) ≡ None) × (is_some (first_instruction (source_rows source)) ≡ true)
+    × (first_behind (refuse_bytes (names (source_rows source))) [] (source_rows source) ≡ None)
+accepted-parts source e = grind arith
+
+pub passed-is : {A : Type 0} (source : List (Line A)) (before after : List (Row A)) (row : Row A) → layout_refusal source ≡ None → source_rows source ≡ before ++ row ∷ after
+    → Passed (names (source_rows source)) before row
+passed-is source before after row e split =
+    let all = names (source_rows source) in
+    let ok = accepted-parts source e in
+    let k = keeps source before after row ok.0 split in
+    let l = laid all before row (at-split (refuse_bytes all) [] before after row (subst (λ rows. first_behind (refuse_bytes all) [] rows ≡ None) split ok.2)) in
+    record { keeps = k; later = l.0; free = l.1; long = bytes-length all (names before) row.place row.line.body k.has_row k.placed.mode k.placed.size l.0 }
 
 -- rows that are not refused hold nothing at or above $C000
 pub none-outside : {A : Type 0} (source : List (Line A)) (before after : List (Row A)) (a : ℕ) → layout_refusal source ≡ None → source_rows source ≡ before ++ after → 49152 ≤ a
     → image (names (source_rows source)) after a ≡ None
-none-outside source before [] a e is le = refl
-none-outside source before (row ∷ after) a e is le =
-    let all = names (source_rows source) in
-    let bytes = bytes_of all row.place row.line.body in
-    let passed = passed-is source before after row e is in
-    let long = bytes-length all (names before) row.place row.line.body passed.keeps passed.later in
-    ap (λ o. o otherwise image all after a) (none-past row.place.address bytes a (ends-in-ram row.place (length bytes) a passed.keeps.inside long le))
-    ∙ none-outside source (before ++ row ∷ []) after a e (is ∙ sym (append_assoc before (row ∷ []) after)) le
+none-outside source before [] a e split le = refl
+none-outside source before (row ∷ after) a e split le =
+    let p = passed-is source before after row e split in
+    grind (arith, nat_tests, slice_get_past, p.long, place-room row.place p.keeps.inside, none-outside source (before ++ row ∷ []) after a e (simp append_assoc split) le)

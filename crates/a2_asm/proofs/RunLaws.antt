@@ -1,295 +1,217 @@
 -- What a run rests on: what the bytes say, where statements begin, and where code lies.
-use Rattle.std.proofs.Common.{◌≡◌, ℕ, zero, suc, ◌+◌, ◌-◌, ◌<◌, ◌≤◌, Bool, true, false, cond, eqb, List, [], ◌∷◌, length, get_or, ◌++◌, take, drop, slice_get, refl, sym, ap, ◌∙◌, subst, ⊎_elim, Option, Some, None, is_some, unwrap_or, arith, Contains}
+use Rattle.std.proofs.Common.{◌≡◌, ℕ, zero, suc, ◌+◌, ◌-◌, ◌<◌, ◌≤◌, Bool, true, false, cond, List, [], ◌∷◌, length, get_or, ◌++◌, slice_get, refl, sym, ap, ◌∙◌, subst, ◌⊎◌, inl, inr, ⊎_elim, Some, None, arith, Contains}
 use Rattle.std.specs.List.{find}
 use Rattle.std.specs.Option.{option_map_or}
-use Rattle.std.proofs.lemmas.Bool.{false≢true, cases_lt, and_parts}
 use Rattle.std.proofs.lemmas.Bool.Decides.{nat_tests}
-use Rattle.std.proofs.lemmas.List.{get_or-take}
+use Rattle.std.proofs.lemmas.Bool.{not-false, false≢true}
+use Rattle.std.proofs.lemmas.List.Elements.{Contains-append_cases, Contains-append_right}
 use Rattle.std.proofs.lemmas.List.Folds.{Any-from_list_any, list_any_at}
 use Rattle.std.proofs.lemmas.Option.{slice_get-get_or}
 use Rattle.a2_opcode.specs.declared.Instr.{Instr}
 use Rattle.a2_opcode.specs.Table.{length_of}
 use Rattle.a2_opcode.specs.Encoding.{encoded}
 use Rattle.a2_opcode.proofs.Fetching.{fetched-back, shows-below}
+use Rattle.a2_hex.specs.Images.{held}
 use Rattle.a2_syntax.specs.declared.source.Line.{Line}
 use Rattle.a2_syntax.specs.declared.source.Body.{Body}
 use Rattle.a2_syntax.specs.declared.source.Body.TheVariants as bodies
+use Rattle.a2_asm.specs.declared.place.Place.{Place}
 use Rattle.a2_asm.specs.declared.program.Statement.{Statement}
 use Rattle.a2_asm.specs.Values.{Names}
-use Rattle.a2_asm.specs.Laying.{meets}
 use Rattle.a2_asm.specs.Assembled.{Assembled}
-use Rattle.a2_asm.specs.Layout.{Row, names}
+use Rattle.a2_asm.specs.Layout.{Row, names, mode_in, size}
 use Rattle.a2_asm.specs.Pass.{source_rows}
-use Rattle.a2_asm.specs.Bytes.{image, bytes_of, stated, is_instruction, instr_in, instr_of, statement_of, statements_of, first_instruction}
-use Rattle.a2_asm.specs.Refusals.{refuse_operand}
-use Rattle.a2_asm.specs.Programs.{IsProgram, begins_at, covers, is_code, StatementsDecode, StatementsBegin, StatementsApart, CodeInRam, CodeIsHeld, EntryBegins, ImageInRam, IsSound, instr_at, Holds}
+use Rattle.a2_asm.specs.Bytes.{image, bytes_of, stated, instr_in, statement_of, statements_of, first_instruction}
+use Rattle.a2_asm.specs.Refusals.{lacks_row, refuse_operand}
+use Rattle.a2_asm.specs.Programs.{IsProgram, begins_at, covers, is_code, StatementsDecode, StatementsBegin, StatementsApart, EntryBegins, IsSound, instr_at, Holds}
 use Rattle.a2_asm.proofs.MadeLaws.{IsMade, made-of}
-use Rattle.a2_asm.proofs.LayingLaws.{meets-free}
+use Rattle.a2_asm.proofs.LayingLaws.{meets-free, row-held}
 use Rattle.a2_asm.proofs.BytesLaws.{operand-most, greatest-word}
-use Rattle.a2_asm.proofs.SeatLaws.{Keeps, get_or-same, encoded-length, place-room, length-some}
-use Rattle.a2_asm.proofs.PassedLaws.{none-outside}
-use Rattle.a2_asm.proofs.StateLaws.{Fits, Comes, says, fits-is, accepted-is, row-held, row-split, instr-encoded}
+use Rattle.a2_asm.proofs.PassedLaws.{Passed, passed-is, instr-encoded, place-room, length-some, none-outside}
 
-fits-of : {A : Type 0} (source : List (Line A)) (p : Assembled) (s : Statement) → IsMade source p → Contains p.statements s → Fits source s
-fits-of source p s is among =
-    let Q : List Statement → Type 0 = λ x. Contains x s in
-    fits-is source s (accepted-is source is.accepted) (subst Q is.stated among)
+-- a statement is of a row
+record Comes {A : Type 0} (all : Names) (rows : List (Row A)) (s : Statement) : Type 0 where
+  before : List (Row A)
+  row : Row A
+  after : List (Row A)
+  split : rows ≡ before ++ row ∷ after
+  is : s ≡ stated row.place (instr_in all row.place row.line.body)
 
--- a statement's bytes lie below $C000
-statement-room : {A : Type 0} (source : List (Line A)) (s : Statement) (f : Fits source s) → 0 < s.length → s.addr + s.length ≤ 49152
-statement-room source s f lt =
-    let long : s.length ≡ f.from.row.place.length = ap (λ x. x.length) f.from.is in
-    omega (arith, f.begins, long, place-room f.from.row.place f.keeps.inside (omega (arith, lt, long)))
+of-if : (b : Bool) (x s : Statement) → Contains (cond b (x ∷ []) []) s → s ≡ x
+of-if true x s (zero, lt, e) = sym e
+of-if _ x s (k, lt, e) = absurd (omega (arith, lt))
 
--- an instruction statement's line, and its bytes
-record Codes {A : Type 0} (source : List (Line A)) (s : Statement) (i : Instr) (f : Fits source s) : Type 0 where
-  bytes : List ℕ
-  encodes : encoded i s.addr ≡ Some bytes
-  bytes_are : bytes_of (names (source_rows source)) f.from.row.place f.from.row.line.body ≡ bytes
-  small : i.value < 65536
-
-codes-is : {A : Type 0} (source : List (Line A)) (s : Statement) (i : Instr) (f : Fits source s) → s.instr ≡ Some i → Codes source s i f
-codes-is {A = A} source s i f of-s =
-    let all = names (source_rows source) in
-    let place = f.from.row.place in
-    let body = f.from.row.line.body in
-    let earlier = names (take f.from.index (source_rows source)) in
-    let y = says all place body i (sym (ap (λ x. x.instr) f.from.is) ∙ of-s) in
-    let K : Body A → Type 0 = λ b. Keeps earlier place b in
-    let R : Body A → Type 0 = λ b. refuse_operand all place b ≡ None in
-    let e = instr-encoded all earlier place y.m y.o (subst K y.body_is f.keeps) (subst R y.body_is f.value) in
-    record {
-      bytes = e.0;
-      encodes = ap (λ x. encoded x s.addr) y.instr_is ∙ ap (encoded (instr_of all place y.m y.o)) (sym f.begins) ∙ e.1;
-      bytes_are = ap (bytes_of all place) y.body_is ∙ ap (λ x. unwrap_or x []) e.1;
-      small = omega (arith, ap (λ x. x.value) y.instr_is, operand-most all place y.o, greatest-word place.mode);
-    }
-
-code-length : {A : Type 0} (source : List (Line A)) (s : Statement) (i : Instr) (f : Fits source s) → s.instr ≡ Some i → s.length ≡ length_of i.mode
-code-length source s i f of-s =
-    let k = codes-is source s i f of-s in
-    sym f.long ∙ ap length k.bytes_are ∙ encoded-length i s.addr k.bytes k.encodes
-
-code-there : (all : List Statement) (s : Statement) (i : Instr) (k : ℕ) → Contains all s → s.instr ≡ Some i → k < s.length → is_code all (s.addr + k) ≡ true
-code-there all s i k (j, lt, e) is h =
-    let P : Statement → Type 0 = λ x. covers (s.addr + k) x ≡ true in
-    let some : is_some s.instr ≡ true = ap is_some is in
-    let here : P s = grind (arith, nat_tests) in
-    list_any_at (covers (s.addr + k)) all j s lt (subst P (sym e) here)
-
-made-decodes : {A : Type 0} (source : List (Line A)) (p : Assembled) → IsMade source p → StatementsDecode p
-made-decodes source p is peek shows s i among of-s =
-    let all = names (source_rows source) in
-    let f = fits-of source p s is among in
-    let k = codes-is source s i f of-s in
-    let long : length k.bytes ≡ s.length = sym (ap length k.bytes_are) ∙ f.long in
-    let some : 0 < s.length = omega (arith, code-length source s i f of-s, length-some i.mode) in
-    let room = statement-room source s f some in
-    let shown : (n : ℕ) → n < length k.bytes → peek (s.addr + n) ≡ slice_get k.bytes n = λ n lt.
-    (let within : n < length (bytes_of all f.from.row.place f.from.row.line.body) = omega (arith, lt, ap length k.bytes_are) in
-    let byte = slice_get-get_or (bytes_of all f.from.row.place f.from.row.line.body) n 0 within in
-    let there = row-held all (take f.from.index (source_rows source)) (drop (f.from.index + 1) (source_rows source)) f.from.row n (get_or (bytes_of all f.from.row.place f.from.row.line.body) n 0) f.free within byte in
-    shows (s.addr + n) (code-there p.statements s i n among of-s (omega (arith, lt, long)))
-    ∙ is.laid (s.addr + n)
-    ∙ ap (λ a. image all (source_rows source) (a + n)) (sym f.begins)
-    ∙ ap (λ xs. image all xs (f.from.row.place.address + n)) (row-split (source_rows source) f.from.index f.from.row f.from.within f.from.at)
-    ∙ there ∙ sym byte ∙ ap (λ b. slice_get b n) k.bytes_are) in
-    fetched-back i s.addr k.bytes (omega (arith, room, some)) k.small k.encodes peek (shows-below peek s.addr k.bytes (omega (arith, long, room)) shown)
-
-taken-of : {X : Type 0} (xs : List X) (i j : ℕ) → i < j → take i (take j xs) ≡ take i xs
-taken-of [] zero zero lt = refl
-taken-of [] zero (suc j) lt = refl
-taken-of [] (suc i) zero lt = refl
-taken-of [] (suc i) (suc j) lt = refl
-taken-of (x ∷ xs) zero j lt = refl
-taken-of (x ∷ xs) (suc i) zero lt = absurd (omega (arith, lt))
-taken-of (x ∷ xs) (suc i) (suc j) lt = ap (λ ys. x ∷ ys) (taken-of xs i j (omega (arith, lt)))
-
-taken-within : {X : Type 0} (xs : List X) (i j : ℕ) → i < j → i < length xs → i < length (take j xs)
-taken-within [] i j lt in_xs = absurd (omega (arith, in_xs))
-taken-within (x ∷ xs) i zero lt in_xs = absurd (omega (arith, lt))
-taken-within (x ∷ xs) zero (suc j) lt in_xs = omega arith
-taken-within (x ∷ xs) (suc i) (suc j) lt in_xs = omega (arith, taken-within xs i j (omega (arith, lt)) (omega (arith, in_xs)))
-
--- a byte of an earlier row is held before a later one
-earlier-holds : {A : Type 0} (all : Names) (places : List (Row A)) (row : Row A) (i j n : ℕ) → i < j → i < length places → get_or places i row ≡ row → meets (image all (take i places)) row.place.address (bytes_of all row.place row.line.body) ≡ false → n < length (bytes_of all row.place row.line.body) → image all (take j places) (row.place.address + n) ≡ Some (get_or (bytes_of all row.place row.line.body) n 0)
-earlier-holds {A = A} all places row i j n lt within at free some =
-    let here : get_or (take j places) i row ≡ row = get_or-take j places i row lt ∙ at in
-    let split = row-split (take j places) i row (taken-within places i j lt within) here in
-    let P : List (Row A) → Type 0 = λ x. meets (image all x) row.place.address (bytes_of all row.place row.line.body) ≡ false in
-    let there = row-held all (take i (take j places)) (drop (i + 1) (take j places)) row n (get_or (bytes_of all row.place row.line.body) n 0) (subst P (sym (taken-of places i j lt)) free) some (slice_get-get_or (bytes_of all row.place row.line.body) n 0 some) in
-    ap (λ x. image all x (row.place.address + n)) split ∙ there
-
-none-some : (x : ℕ) (o : Option ℕ) → o ≡ None → o ≡ Some x → ⊥
-none-some x o h k = let e : None ≡ Some x = sym h ∙ k in cc (e)
-
--- rows of two statements that hold one address do not follow one another
-not-before : {A : Type 0} (source : List (Line A)) (s t : Statement) (a : ℕ) (f : Fits source s) (g : Fits source t) → Holds s a → Holds t a → f.from.index < g.from.index → ⊥
-not-before source s t a f g in-s in-t lt =
-    let all = names (source_rows source) in
-    let here : f.from.row.place.address + (a - s.addr) ≡ a = omega (arith, f.begins, in-s.0) in
-    let there : g.from.row.place.address + (a - t.addr) ≡ a = omega (arith, g.begins, in-t.0) in
-    let holds = earlier-holds all (source_rows source) f.from.row f.from.index g.from.index (a - s.addr) lt f.from.within f.from.at f.free (omega (arith, f.long, in-s.0, in-s.1)) in
-    let free = meets-free (image all (take g.from.index (source_rows source))) g.from.row.place.address (bytes_of all g.from.row.place g.from.row.line.body) (a - t.addr) g.free (omega (arith, g.long, in-t.0, in-t.1)) in
-    none-some _ (image all (take g.from.index (source_rows source)) a) (sym (ap (image all (take g.from.index (source_rows source))) there) ∙ free) (sym (ap (image all (take g.from.index (source_rows source))) here) ∙ holds)
-
-same-index : {A : Type 0} (all : Names) (places : List (Row A)) (s t : Statement) (c : Comes all places s) (d : Comes all places t) → c.index ≡ d.index → s ≡ t
-same-index all places s t c d e =
-    let rows-same : c.row ≡ d.row = sym c.at ∙ get_or-same places c.index c.row d.row c.within ∙ ap (λ i. get_or places i d.row) e ∙ d.at in
-    c.is ∙ ap (λ r. record { line = r.place.number; addr = r.place.address; length = r.place.length; instr = instr_in all r.place r.line.body }) rows-same ∙ sym d.is
-
-made-apart : {A : Type 0} (source : List (Line A)) (p : Assembled) → IsMade source p → StatementsApart p
-made-apart source p is s t a in-s in-t holds-s holds-t =
-    let f = fits-of source p s is in-s in
-    let g = fits-of source p t is in-t in
+comes : {A : Type 0} (all : Names) (rows : List (Row A)) (s : Statement) → Contains (statements_of all rows) s → Comes all rows s
+comes all [] s (k, lt, e) = absurd (omega (arith, lt))
+comes all (row ∷ more) s h =
     ⊎_elim
-    (λ (lt : f.from.index < g.from.index). absurd (not-before source s t a f g holds-s holds-t lt))
-    (λ (ge : g.from.index ≤ f.from.index). ⊎_elim
-    (λ (lt : g.from.index < f.from.index). absurd (not-before source t s a g f holds-t holds-s lt))
-    (λ (le : f.from.index ≤ g.from.index). same-index (names (source_rows source)) (source_rows source) s t f.from g.from (omega (arith, ge, le)))
-    (cases_lt g.from.index f.from.index))
-    (cases_lt f.from.index g.from.index)
+    (λ (k : Contains (statement_of all row.place row.line.body) s). record { before = []; row = row; after = more; split = refl; is = of-if _ _ s k })
+    (λ (k : Contains (statements_of all more) s).
+    let f = comes all more s k in
+    record { before = row ∷ f.before; row = f.row; after = f.after; split = ap (λ rows. row ∷ rows) f.split; is = f.is })
+    (Contains-append_cases (statement_of all row.place row.line.body) (statements_of all more) s h)
+
+-- two rows of one list are one, or one stands before the other
+meeting : {X : Type 0} (xs ys : List X) (x y : X) (after more : List X) → xs ++ x ∷ after ≡ ys ++ y ∷ more
+    → (x ≡ y) ⊎ ((mid : List X) × (ys ≡ xs ++ x ∷ mid)) ⊎ ((mid : List X) × (xs ≡ ys ++ y ∷ mid))
+meeting [] [] x y after more e = inl cc
+meeting [] (z ∷ ys) x y after more e = inr (inl (ys, cc))
+meeting (z ∷ xs) [] x y after more e = inr (inr (xs, cc))
+meeting (z ∷ xs) (w ∷ ys) x y after more e =
+    let rest = meeting xs ys x y after more cc in
+    let same : z ≡ w = cc in
+    elim rest [
+      | inl is ↦ inl is
+      | inr (inl (mid, is)) ↦ inr (inl (mid, cc))
+      | inr (inr (mid, is)) ↦ inr (inr (mid, cc))
+    ]
 
 -- the first that passes a test, where all that pass are the same
 find-one : (p : Statement → Bool) (all : List Statement) (s : Statement) → Contains all s → p s ≡ true → ((t : Statement) → Contains all t → p t ≡ true → t ≡ s) → find p all ≡ Some s
 find-one p [] s (j, lt, e) h only = absurd (omega (arith, lt))
-find-one p (x ∷ xs) s among h only = by (p x) refl (λ k. find-one p xs s k h (λ t (j, lt, e) q. only t (suc j, omega (arith, lt), e) q))
+find-one p (x ∷ xs) s among h only = by (p x) refl among (λ k. find-one p xs s k h (λ t (k, lt, g) q. only t (suc k, omega (arith, lt), g) q))
   where
-    by : (b : Bool) → p x ≡ b → (Contains xs s → find p xs ≡ Some s) → find p (x ∷ xs) ≡ Some s
-    by true e rest = ap (λ b. cond b (Some x) (find p xs)) e ∙ ap Some (only x (0, omega arith, refl) e)
-    by false e rest = ap (λ b. cond b (Some x) (find p xs)) e ∙ rest (behind among)
-      where
-        behind : Contains (x ∷ xs) s → Contains xs s
-        behind (zero, lt, f) = absurd (false≢true (sym e ∙ ap p f ∙ h))
-        behind (suc j, lt, f) = (j, omega (arith, lt), f)
+    by : (b : Bool) → p x ≡ b → Contains (x ∷ xs) s → (Contains xs s → find p xs ≡ Some s) → find p (x ∷ xs) ≡ Some s
+    by true e k rest = ap (λ b. cond b (Some x) (find p xs)) e ∙ ap Some (only x (0, omega arith, refl) e)
+    by false e (zero, lt, f) rest = absurd (false≢true (sym e ∙ ap p f ∙ h))
+    by false e (suc j, lt, f) rest = ap (λ b. cond b (Some x) (find p xs)) e ∙ rest (j, omega (arith, lt), f)
 
-begins-addr : (a : ℕ) (t : Statement) → begins_at a t ≡ true → t.addr ≡ a
-begins-addr a t h = let same = (and_parts (eqb t.addr a) (is_some t.instr) h).0 in grind (arith, nat_tests)
+-- an instruction of a line that is not refused
+coded : {A : Type 0} (all earlier : Names) (place : Place) (body : Body A) (i : Instr) → lacks_row place body ≡ false → place.mode ≡ mode_in earlier place.address body
+    → refuse_operand all place body ≡ None → instr_in all place body ≡ Some i
+    → (encoded i place.address ≡ Some (bytes_of all place body)) × (i.value < 65536) × (size earlier place.address body ≡ length_of i.mode)
+coded all earlier place (bodies.Instr m o) i has form later e =
+    let is = instr-encoded all earlier place m o (not-false _ has) form later in
+    (grind (arith, is), grind (arith, operand-most all place o, greatest-word place.mode), grind arith)
+coded all earlier place _ i has form later e = cc
 
-begins-there : (s : Statement) → is_some s.instr ≡ true → begins_at s.addr s ≡ true
-begins-there s some = grind (arith, nat_tests)
-
-covers-from : (a : ℕ) (s : Statement) → covers a s ≡ true → s.addr ≤ a
-covers-from a s h = grind (arith, nat_tests)
-
-covers-below : (a : ℕ) (s : Statement) → covers a s ≡ true → a < s.addr + s.length
-covers-below a s h = grind (arith, nat_tests)
-
--- an address at which an instruction begins is one that it holds
-begins-holds : {A : Type 0} (source : List (Line A)) (p : Assembled) (is : IsMade source p) (t : Statement) → Contains p.statements t → (o : Option Instr) → t.instr ≡ o → is_some o ≡ true → Holds t t.addr
-begins-holds source p is t among None e h = cc
-begins-holds source p is t among (Some i) e h =
-    (omega arith, omega (arith, code-length source t i (fits-of source p t is among) e, length-some i.mode))
-
-begins-some : (a : ℕ) (t : Statement) → begins_at a t ≡ true → is_some t.instr ≡ true
-begins-some a t h = (and_parts (eqb t.addr a) (is_some t.instr) h).1
-
-made-begins : {A : Type 0} (source : List (Line A)) (p : Assembled) → IsMade source p → StatementsBegin p
-made-begins source p is s i among of-s =
-    let f = fits-of source p s is among in
-    let long = code-length source s i f of-s in
-    let some : is_some s.instr ≡ true = ap is_some of-s in
-    let zero-more : s.addr + 0 ≡ s.addr = omega arith in
-    let P : ℕ → Type 0 = λ a. is_code p.statements a ≡ true in
-    let there = begins-holds source p is s among s.instr refl some in
-    let found = find-one (begins_at s.addr) p.statements s among (begins-there s some) (λ t in-t h.
-    (let Q : ℕ → Type 0 = λ a. Holds t a in
-    made-apart source p is t s s.addr in-t among (subst Q (begins-addr s.addr t h) (begins-holds source p is t in-t t.instr refl (begins-some s.addr t h))) there)) in (
-      ap (λ o. option_map_or (λ x. x.instr) o None) found ∙ of-s,
-      subst P zero-more (code-there p.statements s i 0 among of-s (omega (arith, long, length-some i.mode))),
-      long,
-    )
-
-made-room : {A : Type 0} (source : List (Line A)) (p : Assembled) → IsMade source p → CodeInRam p
-made-room source p is a code =
-    let any = Any-from_list_any (covers a) p.statements code in
-    let below = covers-below a any.1 any.4 in
-    let f = fits-of source p any.1 is (any.0, any.2, any.3) in
-    omega (arith, below, statement-room source any.1 f (omega (arith, below, covers-from a any.1 any.4)))
-
--- each byte of code is in the image
-made-stored : {A : Type 0} (source : List (Line A)) (p : Assembled) → IsMade source p → CodeIsHeld p
-made-stored source p is a code =
-    let all = names (source_rows source) in
-    let any = Any-from_list_any (covers a) p.statements code in
-    let s = any.1 in
-    let from = covers-from a s any.4 in
-    let below = covers-below a s any.4 in
-    let f = fits-of source p s is (any.0, any.2, any.3) in
-    let row = f.from.row in
-    let bytes = bytes_of all row.place row.line.body in
-    let k = a - row.place.address in
-    let at : row.place.address + k ≡ a = omega (arith, f.begins, from) in
-    let short : k < length bytes = omega (arith, f.begins, from, below, f.long) in
-    let there = row-held all (take f.from.index (source_rows source)) (drop (f.from.index + 1) (source_rows source)) row k (get_or bytes k 0) f.free short (slice_get-get_or bytes k 0 short) in
-    (get_or bytes k 0, is.laid a ∙ ap (λ xs. image all xs a) (row-split (source_rows source) f.from.index row f.from.within f.from.at) ∙ ap (image all (take f.from.index (source_rows source) ++ row ∷ drop (f.from.index + 1) (source_rows source))) (sym at) ∙ there)
-
--- a statement of a row further on
-Contains-back : (xs ys : List Statement) (s : Statement) → Contains ys s → Contains (xs ++ ys) s
-Contains-back [] ys s h = h
-Contains-back (x ∷ xs) ys s h = let (k, lt, e) = Contains-back xs ys s h in (suc k, omega (arith, lt), e)
-
--- the entry's row has a statement
-record Stated {A : Type 0} (all : Names) (places : List (Row A)) (e : ℕ) : Type 0 where
-  statement : Statement
-  instr : Instr
-  among : Contains (statements_of all places) statement
-  of_instr : statement.instr ≡ Some instr
-  there : statement.addr ≡ e
-
-entry-stated : {A : Type 0} (all : Names) (places : List (Row A)) (e : ℕ) → first_instruction places ≡ Some e → Stated all places e
-entry-stated all [] e h = cc (h)
+-- the statement of the first instruction
+entry-stated : {A : Type 0} (all : Names) (rows : List (Row A)) (e : ℕ) → first_instruction rows ≡ Some e
+    → (s : Statement) × (i : Instr) × Contains (statements_of all rows) s × (s.instr ≡ Some i) × (s.addr ≡ e)
+entry-stated all [] e h = cc
 entry-stated {A = A} all (row ∷ more) e h = by row.line.body refl (λ k. entry-stated all more e k)
   where
-    later : (b : Body A) → row.line.body ≡ b → is_instruction b ≡ false → (first_instruction more ≡ Some e → Stated all more e) → Stated all (row ∷ more) e
-    later b is none rest =
-        let r = rest (ap (λ x. cond x (Some row.place.address) (first_instruction more)) (sym (ap is_instruction is ∙ none)) ∙ h) in record {
-          statement = r.statement;
-          instr = r.instr;
-          among = Contains-back (statement_of all row.place row.line.body) (statements_of all more) r.statement r.among;
-          of_instr = r.of_instr;
-          there = r.there;
-        }
+    Stated : Body A → Type 0
+    Stated body = (s : Statement) × (i : Instr) × Contains (statement_of all row.place body ++ statements_of all more) s × (s.instr ≡ Some i) × (s.addr ≡ e)
 
-    by : (b : Body A) → row.line.body ≡ b → (first_instruction more ≡ Some e → Stated all more e) → Stated all (row ∷ more) e
-    by (bodies.Instr m o) is rest =
-        let first : Some row.place.address ≡ Some e = ap (λ b. cond (is_instruction b) (Some row.place.address) (first_instruction more)) (sym is) ∙ h in
-        let there : row.place.address ≡ e = cc (first) in
-        let P : List Statement → Type 0 = λ x. Contains (x ++ statements_of all more) (stated row.place (Some (instr_of all row.place m o))) in record {
-          statement = stated row.place (Some (instr_of all row.place m o));
-          instr = instr_of all row.place m o;
-          among = subst P (ap (statement_of all row.place) (sym is)) (0, omega arith, refl);
-          of_instr = refl;
-          there = there;
-        }
-    by bodies.Empty is rest = later bodies.Empty is refl rest
-    by (bodies.Org n) is rest = later (bodies.Org n) is refl rest
-    by (bodies.Equ n) is rest = later (bodies.Equ n) is refl rest
-    by (bodies.Dfb es) is rest = later (bodies.Dfb es) is refl rest
-    by (bodies.Dw es) is rest = later (bodies.Dw es) is refl rest
-    by (bodies.Asc bytes) is rest = later (bodies.Asc bytes) is refl rest
-    by (bodies.Ds n) is rest = later (bodies.Ds n) is refl rest
+    by : (body : Body A) → row.line.body ≡ body
+        → (first_instruction more ≡ Some e → (s : Statement) × (i : Instr) × Contains (statements_of all more) s × (s.instr ≡ Some i) × (s.addr ≡ e)) → Stated row.line.body
+    by (bodies.Instr m o) is rest = subst Stated (sym is) (_, _, (0, omega arith, refl), refl, grind arith)
+    by _ is rest =
+        let r = rest (grind arith) in
+        (r.0, r.1, Contains-append_right (statement_of all row.place row.line.body) (statements_of all more) r.0 r.2, r.3, r.4)
 
-made-enters : {A : Type 0} (source : List (Line A)) (p : Assembled) → IsMade source p → EntryBegins p
-made-enters source p is =
-    let r = entry-stated (names (source_rows source)) (source_rows source) p.entry is.begins in
-    let P : List Statement → Type 0 = λ x. Contains x r.statement in
-    let begins = made-begins source p is r.statement r.instr (subst P (sym is.stated) r.among) r.of_instr in
-    (r.instr, ap (instr_at p.statements) (sym r.there) ∙ begins.0)
+covered : (a : ℕ) (s : Statement) → covers a s ≡ true → (i : Instr) × (s.instr ≡ Some i) × Holds s a
+covered a s h = grind (arith, nat_tests)
 
-made-outside : {A : Type 0} (source : List (Line A)) (p : Assembled) → IsMade source p → ImageInRam p
-made-outside source p is a le = is.laid a ∙ none-outside source [] (source_rows source) a is.accepted refl le
+begun : (a : ℕ) (s : Statement) → begins_at a s ≡ true → (i : Instr) × (s.instr ≡ Some i) × (s.addr ≡ a)
+begun a s h = grind (arith, nat_tests)
 
-pub made-sound : {A : Type 0} (source : List (Line A)) (p : Assembled) → IsMade source p → IsSound p
-made-sound source p is = record {
-  decodes = made-decodes source p is;
-  begins = made-begins source p is;
-  apart = made-apart source p is;
-  in_ram = made-room source p is;
-  is_held = made-stored source p is;
-  enters = made-enters source p is;
-  outside = made-outside source p is;
-}
+module _ {A : Type 0} (source : List (Line A)) (p : Assembled) (is : IsMade source p) where
+  abbrev all : Names
+  all = names (source_rows source)
+
+  abbrev bytes : Row A → List ℕ
+  bytes row = bytes_of all row.place row.line.body
+
+  -- a statement's row
+  record Fits (s : Statement) : Type 0 where
+    from : Comes all (source_rows source) s
+    passed : Passed all from.before from.row
+    at : s.addr ≡ from.row.place.address
+    long : s.length ≡ length (bytes from.row)
+
+  fits : (s : Statement) → Contains p.statements s → Fits s
+  fits s among =
+      let f = comes all (source_rows source) s (subst (λ statements. Contains statements s) is.stated among) in
+      let k = passed-is source f.before f.after f.row is.accepted f.split in
+      record { from = f; passed = k; at = ap (λ x. x.addr) f.is; long = ap (λ x. x.length) f.is ∙ sym k.long }
+
+  -- its bytes are held, below $C000
+  held-at : (s : Statement) (f : Fits s) (a : ℕ) → Holds s a → held p.image a ≡ Some (get_or (bytes f.from.row) (a - s.addr) 0)
+  held-at s f a h =
+      is.laid a ∙ ap (λ rows. image all rows a) f.from.split
+      ∙ rw f.at (row-held all f.from.before f.from.after f.from.row a f.passed.free (omega (arith, f.at, h)) (omega (arith, f.at, f.long, h)))
+
+  room : (s : Statement) → Fits s → 0 < s.length → s.addr + s.length ≤ 49152
+  room s f lt = omega (arith, f.at, f.long, f.passed.long, place-room f.from.row.place f.passed.keeps.inside)
+
+  -- an instruction's bytes
+  code : (s : Statement) (f : Fits s) (i : Instr) → s.instr ≡ Some i → (encoded i s.addr ≡ Some (bytes f.from.row)) × (i.value < 65536) × (s.length ≡ length_of i.mode)
+  code s f i of-s =
+      let k = f.passed in
+      let e = coded all (names f.from.before) f.from.row.place f.from.row.line.body i k.keeps.has_row k.keeps.placed.mode k.later (sym (ap (λ x. x.instr) f.from.is) ∙ of-s) in
+      (rw f.at e.0, e.1, f.long ∙ k.long ∙ k.keeps.placed.size ∙ e.2)
+
+  starts : (s : Statement) (i : Instr) → Contains p.statements s → s.instr ≡ Some i → Holds s s.addr
+  starts s i among of-s = (omega arith, omega (arith, (code s (fits s among) i of-s).2, length-some i.mode))
+
+  code-there : (s : Statement) (i : Instr) (a : ℕ) → Contains p.statements s → s.instr ≡ Some i → Holds s a → is_code p.statements a ≡ true
+  code-there s i a (j, lt, e) of-s h =
+      let here : covers a s ≡ true = grind (arith, nat_tests) in
+      list_any_at (covers a) p.statements j s lt (ap (covers a) e ∙ here)
+
+  code-of : (a : ℕ) → is_code p.statements a ≡ true → (s : Statement) × Fits s × Holds s a
+  code-of a code =
+      let any = Any-from_list_any (covers a) p.statements code in
+      (any.1, fits any.1 (any.0, any.2, any.3), (covered a any.1 any.4).2)
+
+  decodes : StatementsDecode p
+  decodes peek shows s i among of-s =
+      let f = fits s among in
+      let e = code s f i of-s in
+      let below = room s f (omega (arith, e.2, length-some i.mode)) in
+      let shown : (n : ℕ) → n < length (bytes f.from.row) → peek (s.addr + n) ≡ slice_get (bytes f.from.row) n = λ n lt.
+      (let holds : Holds s (s.addr + n) = omega (arith, f.long, lt) in
+      let same : s.addr + n - s.addr ≡ n = omega arith in
+      shows (s.addr + n) (code-there s i (s.addr + n) among of-s holds) ∙ held-at s f (s.addr + n) holds ∙ rw same (sym (slice_get-get_or (bytes f.from.row) n 0 lt))) in
+      fetched-back i s.addr (bytes f.from.row) (omega (arith, below, e.2, length-some i.mode)) e.1 e.0 peek
+      (shows-below peek s.addr (bytes f.from.row) (omega (arith, below, f.long)) shown)
+
+  -- a row holds no byte where an earlier one does
+  clash : (before mid : List (Row A)) (row other : Row A) (a : ℕ) → Passed all before row → Passed all (before ++ row ∷ mid) other
+      → row.place.address ≤ a → a < row.place.address + length (bytes row) → other.place.address ≤ a → a < other.place.address + length (bytes other) → ⊥
+  clash before mid row other a k l from below other_from other_below =
+      cc (row-held all before mid row a k.free from below, meets-free (image all (before ++ row ∷ mid)) other.place.address (bytes other) a l.free other_from other_below)
+
+  apart : StatementsApart p
+  apart s t a in-s in-t in_s in_t =
+      let f = fits s in-s in
+      let g = fits t in-t in
+      elim (meeting f.from.before g.from.before f.from.row g.from.row f.from.after g.from.after (sym f.from.split ∙ g.from.split)) [
+        | inl same ↦ f.from.is ∙ ap (λ row. stated row.place (instr_in all row.place row.line.body)) same ∙ sym g.from.is
+        | inr (inl (mid, e)) ↦
+            absurd (clash f.from.before mid f.from.row g.from.row a f.passed (subst (λ rows. Passed all rows g.from.row) e g.passed)
+            (omega (arith, f.at, in_s)) (omega (arith, f.at, f.long, in_s)) (omega (arith, g.at, in_t)) (omega (arith, g.at, g.long, in_t)))
+        | inr (inr (mid, e)) ↦
+            absurd (clash g.from.before mid g.from.row f.from.row a g.passed (subst (λ rows. Passed all rows f.from.row) e f.passed)
+            (omega (arith, g.at, in_t)) (omega (arith, g.at, g.long, in_t)) (omega (arith, f.at, in_s)) (omega (arith, f.at, f.long, in_s)))
+      ]
+
+  begins : StatementsBegin p
+  begins s i among of-s =
+      let starts_here = starts s i among of-s in
+      let here : begins_at s.addr s ≡ true = grind (arith, nat_tests) in
+      let found = find-one (begins_at s.addr) p.statements s among here (λ t in-t h.
+      (let k = begun s.addr t h in
+      apart t s s.addr in-t among (subst (Holds t) k.2 (starts t k.0 in-t k.1)) starts_here)) in
+      (ap (λ o. option_map_or (λ x. x.instr) o None) found ∙ of-s, code-there s i s.addr among of-s starts_here, (code s (fits s among) i of-s).2)
+
+  enters : EntryBegins p
+  enters =
+      let r = entry-stated all (source_rows source) p.entry is.begins in
+      (r.1, subst (λ a. instr_at p.statements a ≡ Some r.1) r.4 (begins r.0 r.1 (subst (λ statements. Contains statements r.0) (sym is.stated) r.2) r.3).0)
+
+  pub made-sound : IsSound p
+  made-sound = record {
+    decodes = decodes;
+    begins = begins;
+    apart = apart;
+    in_ram = λ a code. (let (s, f, h) = code-of a code in omega (arith, room s f, h));
+    is_held = λ a code. (let (s, f, h) = code-of a code in (_, held-at s f a h));
+    enters = enters;
+    outside = λ a le. is.laid a ∙ none-outside source [] (source_rows source) a is.accepted refl le;
+  }
 
 -- the same of a program by any layout
 pub program-sound : {A : Type 0} (source : List (Line A)) (p : Assembled) → IsProgram source p → IsSound p

@@ -1,6 +1,11 @@
+use Rattle.std.proofs.Common.{◌≡◌, ◌+◌, ◌++◌, take, drop}
 use Rattle.a2_asm.specs.Entries.{entries}
-use Rattle.a2_asm.proofs.EveryLaws.{Naming}
+use Rattle.a2_asm.specs.Every.{each_behind, refuse_by_names, labels, by_names}
 use Rattle.a2_asm.proofs.every.by_names.Given as goal
 
 abbrev pub invariant-loop-line : goal.invariant-loop-line
-invariant-loop-line g l = Naming l.lines l.line-index l.n (entries l.known) l.faults.items
+invariant-loop-line g l = record {
+  index : l.n ≡ l.line-index + 1;
+  labelled : entries l.known ≡ labels (take l.line-index l.lines);
+  told : l.faults.items ++ each_behind (refuse_by_names (labels l.lines)) (take l.line-index l.lines) (drop l.line-index l.lines) ≡ by_names l.lines;
+}

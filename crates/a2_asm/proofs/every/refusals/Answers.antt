@@ -1,9 +1,9 @@
-use Rattle.std.proofs.Common.{sym, ap, ◌∙◌, subst, inl, inr, refl}
+use Rattle.std.proofs.Common.{sym, ap, ◌∙◌, subst, inr}
 use Rattle.std.proofs.lemmas.Result.{IfOk-weaker}
 use Rattle.a2_asm.specs.Every.{first_and_others}
 use Rattle.a2_asm.specs.Pass.{source_rows}
 use Rattle.a2_asm.specs.Refusals.{IsLayoutRefusal}
-use Rattle.a2_asm.proofs.OneLayout.{rows-fit}
+use Rattle.a2_asm.proofs.RowLaws.{rows-fit}
 use Rattle.a2_asm.proofs.EveryLaws.{each-of}
 use Rattle.a2_asm.proofs.every.refusals.Goals as goal
 
