@@ -62,16 +62,6 @@ fn labels<A: Allocator + Copy>(alloc: A, lines: &[Line<A>]) -> Result<Names<A>, 
     Ok(known)
 }
 
-// Why an expression is refused, by the names in it.
-fn refuse_name<A: Allocator>(all: &Names<A>, number: u16, e: &Expr<A>) -> Option<Fault>
-    ensures { result ≡ every.refuse_name (entries all.now) number e.now }
-{
-    if !is_known(all, e) {
-        return Some(Fault::Unknown(number));
-    }
-    None
-}
-
 // Why ORG, EQU or DS is refused, by the names in it.
 fn refuse_early<A: Allocator>(
     all: &Names<A>,
@@ -90,16 +80,6 @@ fn refuse_early<A: Allocator>(
     None
 }
 
-// Why the expressions of DFB or DW are refused, by the names in them.
-fn refuse_unknown<A: Allocator>(all: &Names<A>, number: u16, es: &[Expr<A>]) -> Option<Fault>
-    ensures { result ≡ every.refuse_unknown (entries all.now) number es.now }
-{
-    if !are_known(all, es) {
-        return Some(Fault::Unknown(number));
-    }
-    None
-}
-
 // Why an instruction is refused, by its form and the names in it.
 fn refuse_instr<A: Allocator>(
     all: &Names<A>,
@@ -114,8 +94,8 @@ fn refuse_instr<A: Allocator>(
         return Some(Fault::NoMode(number));
     }
     match operand.expr() {
-        Some(e) => refuse_name(all, number, e),
-        None => None,
+        Some(e) if !is_known(all, e) => Some(Fault::Unknown(number)),
+        _ => None,
     }
 }
 
@@ -131,7 +111,7 @@ fn refuse_words<A: Allocator>(
     match body {
         Body::Instr(mnemonic, operand) => refuse_instr(all, earlier, number, *mnemonic, operand),
         Body::Org(e) | Body::Equ(e) | Body::Ds(e) => refuse_early(all, earlier, number, e),
-        Body::Dfb(es) | Body::Dw(es) => refuse_unknown(all, number, es.get()),
+        Body::Dfb(es) | Body::Dw(es) if !are_known(all, es.get()) => Some(Fault::Unknown(number)),
         _ => None,
     }
 }
@@ -161,8 +141,7 @@ fn by_names<A: Allocator + Copy>(alloc: A, lines: &[Line<A>]) -> Result<Vec<Faul
     let mut faults = Vec::new(alloc);
     let mut n: u16 = 1;
     for line in lines {
-        let refusal = refuse_names_in(&all, &known, n, line);
-        if let Some(fault) = refusal {
+        if let Some(fault) = refuse_names_in(&all, &known, n, line) {
             faults.push(fault)?;
         }
         add_label(alloc, &mut known, line)?;
@@ -202,8 +181,7 @@ fn by_values<A: Allocator + Copy>(
 {
     let mut faults = Vec::new(alloc);
     for (i, line) in lines.iter().enumerate() {
-        let place = places[i];
-        let refusal = refuse_operand(alloc, known, place, &line.body)?;
+        let refusal = refuse_operand(alloc, known, places[i], &line.body)?;
         if let Some(fault) = refusal {
             faults.push(fault)?;
         }
@@ -264,9 +242,8 @@ pub fn refusals<A: Allocator + Copy>(
 ) -> Result<Vec<Fault, A>, AllocError>
     ensures { IfOk result (λ faults. AreLayoutRefusals source.now faults.items) }
 {
-    let fault = match assemble(alloc, source) {
-        Ok(_) => return Ok(Vec::new(alloc)),
-        Err(fault) => fault,
+    let Err(fault) = assemble(alloc, source) else {
+        return Ok(Vec::new(alloc));
     };
     let first = refused(fault)?;
     let lines = source.lines();
