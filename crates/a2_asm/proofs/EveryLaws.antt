@@ -1,5 +1,5 @@
 -- What each line is refused for, as far as the lines were looked at.
-use Rattle.std.proofs.Common.{◌≡◌, ℕ, ◌+◌, ◌<◌, cond, List, [], ◌∷◌, ◌++◌, length, get_or, take, drop, map, refl, sym, ap, ◌∙◌, Option, Some, None, is_some, arith}
+use Rattle.std.proofs.Common.{◌≡◌, ℕ, ◌+◌, ◌<◌, List, [], ◌∷◌, ◌++◌, length, get_or, take, drop, map, refl, ap, ◌∙◌, Option, arith}
 use Rattle.std.specs.List.{cons_option}
 use Rattle.std.proofs.lemmas.List.{length-map, map-append}
 use Rattle.std.proofs.lemmas.List.Folds.{list_all-map, fold-map}
@@ -10,9 +10,8 @@ use Rattle.a2_syntax.specs.declared.source.Body.{Body}
 use Rattle.a2_syntax.specs.declared.source.Body.TheVariants.{Instr}
 use Rattle.a2_syntax.specs.declared.source.Line.{Line}
 use Rattle.a2_asm.specs.Values.{Names}
-use Rattle.a2_asm.specs.Layout.{Row, names}
+use Rattle.a2_asm.specs.Layout.{Row}
 use Rattle.a2_asm.specs.Pass.{source_rows}
-use Rattle.a2_asm.specs.Refusals.{first_behind, refuse_place}
 use Rattle.a2_asm.specs.Every.{each_behind, with_label, labels, refuse_words, refuse_by_names, by_names, by_values, each_refusal}
 use Rattle.a2_asm.proofs.Steps.{read}
 use Rattle.a2_asm.proofs.BareLaws.{bare_row, known-bare, number-bare, operand_refusal-bare, placed-bare, rows-bare, names-bare}
@@ -21,13 +20,6 @@ use Rattle.a2_asm.proofs.BareLaws.{bare_row, known-bare, number-bare, operand_re
 pub each-more : {X : Type 0} (check : List X → X → Option Fault) (xs : List X) (i : ℕ) (x : X) (o : Option Fault) (told all : List Fault) → i < length xs → x ≡ get_or xs i x
     → check (take i xs) x ≡ o → told ++ each_behind check (take i xs) (drop i xs) ≡ all → told ++ cons_option o (each_behind check (take (i + 1) xs) (drop (i + 1) xs)) ≡ all
 each-more check xs i x o told all lt e is h = grind (arith, read)
-
-pub each-placed : {A : Type 0} (source : List (Line A)) (rows : List (Row A)) (all : Names) → all ≡ names rows → first_behind (refuse_place (names rows)) [] rows ≡ None → by_values all rows ≡ each_refusal source rows
-each-placed source rows all is h =
-    ap (λ k. by_values k rows) is ∙ ap (λ o. cond (is_some o) (by_names source) (by_values (names rows) rows)) (sym h)
-
-pub each-named : {A : Type 0} (source : List (Line A)) (rows : List (Row A)) (f : Fault) → first_behind (refuse_place (names rows)) [] rows ≡ Some f → by_names source ≡ each_refusal source rows
-each-named source rows f h = ap (λ o. cond (is_some o) (by_names source) (by_values (names rows) rows)) (sym h)
 
 -- The lines without their allocator
 

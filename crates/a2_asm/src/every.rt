@@ -45,10 +45,7 @@ fn add_label<A: Allocator + Copy>(
     if is_taken(known, line) {
         return Ok(());
     }
-    match define(alloc, known, line, 0) {
-        Ok(()) => Ok(()),
-        Err(_) => Err(AllocError),
-    }
+    define(alloc, known, line, 0).or(Err(AllocError))
 }
 
 // The labels of lines.
@@ -206,13 +203,6 @@ fn each_refusal<A: Allocator + Copy>(
     }
 }
 
-// Whether two refusals are of two lines.
-fn is_of_another_line(fault: Fault, first: Fault) -> bool
-    ensures { result ≡ not (fault_line fault == fault_line first) }
-{
-    fault.line() != first.line()
-}
-
 // A refusal, and those of other lines.
 fn first_and_others<A: Allocator>(
     alloc: A,
@@ -224,7 +214,7 @@ fn first_and_others<A: Allocator>(
     let mut faults = Vec::new(alloc);
     faults.push(first)?;
     for fault in told {
-        if is_of_another_line(*fault, first) {
+        if fault.line() != first.line() {
             faults.push(*fault)?;
         }
     }
