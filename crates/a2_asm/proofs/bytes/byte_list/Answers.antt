@@ -17,3 +17,6 @@ loop-e-preserved g c = record {
   count = omega arith;
   room = omega arith;
 }
+
+pub push_reserved-requires : goal.push_reserved-requires
+push_reserved-requires g c = omega arith

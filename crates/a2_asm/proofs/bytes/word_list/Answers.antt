@@ -18,3 +18,9 @@ loop-e-preserved g c = record {
   count = omega arith;
   room = omega arith;
 }
+
+pub push_reserved-requires : goal.push_reserved-requires
+push_reserved-requires g c = omega arith
+
+pub push_reserved-requires-in-loop-e : goal.push_reserved-requires-in-loop-e
+push_reserved-requires-in-loop-e g c = omega arith
