@@ -1,5 +1,5 @@
 use Rattle.std.proofs.Common.{arith}
-use Rattle.std.proofs.lemmas.List.{map-append}
+use Rattle.std.proofs.lemmas.List.{map-append, take_all}
 use Rattle.std.proofs.lemmas.List.Folds.{list_all-append}
 use Rattle.a2_asm.proofs.Steps.{read}
 use Rattle.a2_asm.specs.Entries.{entries}
@@ -18,5 +18,8 @@ loop-e-preserved g c = record {
   room = omega arith;
 }
 
-pub push_reserved-requires : goal.push_reserved-requires
-push_reserved-requires g c = omega arith
+pub returns-clause-bytes : goal.returns-clause-bytes
+returns-clause-bytes g c = rw (take_all c.loop-e.e-index c.args.es.now (omega arith)) at c.loop-e.invariant.bytes
+
+pub returns-clause-taken : goal.returns-clause-taken
+returns-clause-taken g c = rw (take_all c.loop-e.e-index c.args.es.now (omega arith)) at c.loop-e.invariant.taken

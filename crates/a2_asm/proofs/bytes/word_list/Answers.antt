@@ -1,5 +1,5 @@
 use Rattle.std.proofs.Common.{arith}
-use Rattle.std.proofs.lemmas.List.{append_assoc}
+use Rattle.std.proofs.lemmas.List.{append_assoc, take_all}
 use Rattle.std.proofs.lemmas.List.Folds.{list_all-append}
 use Rattle.std.proofs.lemmas.Grind.{flat_map-append}
 use Rattle.a2_asm.proofs.Steps.{read}
@@ -19,8 +19,8 @@ loop-e-preserved g c = record {
   room = omega arith;
 }
 
-pub push_reserved-requires : goal.push_reserved-requires
-push_reserved-requires g c = omega arith
+pub returns-clause-bytes : goal.returns-clause-bytes
+returns-clause-bytes g c = rw (take_all c.loop-e.e-index c.args.es.now (omega arith)) at c.loop-e.invariant.bytes
 
-pub push_reserved-requires-in-loop-e : goal.push_reserved-requires-in-loop-e
-push_reserved-requires-in-loop-e g c = omega arith
+pub returns-clause-taken : goal.returns-clause-taken
+returns-clause-taken g c = rw (take_all c.loop-e.e-index c.args.es.now (omega arith)) at c.loop-e.invariant.taken

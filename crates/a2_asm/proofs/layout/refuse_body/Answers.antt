@@ -6,3 +6,6 @@ refuse_now-requires g c = c.requires
 
 pub returns-in-Org : goal.returns-in-Org
 returns-in-Org g c = grind arith
+
+pub returns-in_default : goal.returns-in_default
+returns-in_default g c = grind arith
