@@ -1,203 +1,255 @@
--- The loop over the terms of an expression.
-use Rattle.std.proofs.Common.{◌≡◌, ℕ, Bool, true, false, List, [], ◌∷◌, ◌++◌, refl, sym, ap, ◌∙◌, subst, Some, None, eqb, codes, get_or, drop}
-use Rattle.std.proofs.lemmas.List.{append_assoc, append-nil}
-use Rattle.std.proofs.lemmas.Bool.{false≢true}
-use Rattle.a2_syntax.specs.Relations.{TheOne}
+-- Pieces are one expression at most, and so are those with commas between them.
+use Rattle.std.proofs.Common.{◌≡◌, ℕ, ◌+◌, ◌-◌, ◌<◌, ◌≤◌, Bool, true, false, List, [], ◌∷◌, ◌++◌, length, take, drop, map, refl, sym, ap, ◌∙◌, inl, inr, arith, Option, Some, None, option_map, MatchOption, codes, get_or, if◌then◌else◌, Bor}
+use Rattle.std.proofs.lemmas.Bool.{false≢true, eqb-true, or_parts, or_right, cases_Bool, cases_lt, lt-ltb, le-ltb}
+use Rattle.std.proofs.lemmas.Bool.Decides.{nat_tests}
+use Rattle.std.proofs.lemmas.List.{take_all, take-append-drop, map-append, at_drop_more, take_rest}
+use Rattle.std.proofs.lemmas.List.Folds.{list_any-append}
+use Rattle.std.specs.Prelude.{nat_lt}
+use Rattle.std.specs.List.{list_any}
+use Rattle.a2_text.specs.Bytes.{is_among}
+use Rattle.a2_syntax.specs.Names.{is_name}
+use Rattle.a2_syntax.specs.Numbers.{number}
+use Rattle.a2_syntax.specs.Grammar.{IsTerm, IsSign, AreMoreTerms, AreTerms, IsPart, IsExpr, AreExprs}
+use Rattle.a2_syntax.specs.Relations.{Finds}
+use Rattle.a2_syntax.specs.Reading.{is_byte, part_of, has_comma, BeginsComma}
 use Rattle.a2_syntax.specs.declared.source.Term.{Term}
-use Rattle.a2_syntax.specs.declared.source.Signed.{Signed}
 use Rattle.a2_syntax.specs.declared.source.Term.TheVariants.{Number, Named, Here}
+use Rattle.a2_syntax.specs.declared.source.Signed.{Signed}
 use Rattle.a2_syntax.specs.declared.source.Part.{Part}
 use Rattle.a2_syntax.specs.declared.source.Part.TheVariants.{Whole, Low, High}
 use Rattle.a2_syntax.specs.declared.source.Expr.{Expr}
-use Rattle.a2_syntax.specs.Grammar.{IsTerm, IsSign, AreMoreTerms, AreTerms, IsPart, IsExpr}
-use Rattle.a2_syntax.specs.Reading.{ContinuesTerms, PartIs}
 
--- the terms so far are read, as they have to be
-pub record Reads {A : Type 0} (all rest : List (List ℕ)) (done : List (Signed A)) : Type 0 where
-  pub back : (more : List (Signed A)) → AreMoreTerms rest more → AreMoreTerms all (done ++ more)
-  pub only : (others : List (Signed A)) → AreMoreTerms all others → (more : List (Signed A)) × AreMoreTerms rest more × (others ≡ done ++ more)
+-- Terms
 
-pub same-signed : {A : Type 0} → (a b : Signed A) → a.minus ≡ b.minus → a.term ≡ b.term → a ≡ b
-same-signed {A} a b m t = ap (λ (x : Bool). record { minus = x; term = a.term }) m ∙ ap (λ (x : Term A). record { minus = b.minus; term = x }) t
+-- one byte that is a term is none of these
+term-byte : {A : Type 0} (c : ℕ) (t : Term A) → IsTerm (c ∷ []) t → is_among (codes "#,()Aa<>") c ≡ false
+term-byte c (Number n) h = grind (arith, nat_tests)
+term-byte c (Named name) h = grind (arith, nat_tests)
+term-byte c Here h = grind (arith, nat_tests)
 
-pub Reads-start : {A : Type 0} → (all : List (List ℕ)) → Reads {A = A} all all []
-Reads-start all = record { back = λ more h. h; only = λ others h. (others, h, refl) }
+number-name : (piece : List ℕ) (n : ℕ) → number piece ≡ Some n → is_name piece ≡ true → ⊥
+number-name [] n h k = false≢true k
+number-name (c ∷ cs) n h k = grind (arith, nat_tests)
 
--- a first term, and the further ones behind it
-pub terms-some : {A : Type 0} → (all rest : List (List ℕ)) (piece : List ℕ) (t : Term A) (found ts : List (Signed A)) → all ≡ piece ∷ rest → TheOne (IsTerm piece) (Some t) → found ≡ record { minus = false; term = t } ∷ [] → ContinuesTerms rest found ts → TheOne (AreTerms all) (Some ts)
-terms-some {A} all rest piece t found ts e one is (more, whole, m) =
-    let P : List (Signed A) → Type 0 = λ x. TheOne (AreTerms all) (Some x) in
-    subst P (sym (whole ∙ ap (λ x. x ++ more) is)) ((piece, rest, e, refl, one.0, m.0), only)
-  where
-    only : (others : List (Signed A)) → AreTerms all others → others ≡ record { minus = false; term = t } ∷ more
-    only [] h = absurd h
-    only (s ∷ ss) (p, r, k, minus, term, behind) =
-        let both : piece ∷ rest ≡ p ∷ r = sym e ∙ k in
-        let pieces : p ≡ piece = cc in
-        let rests : r ≡ rest = cc in
-        let Q : List ℕ → Type 0 = λ x. IsTerm x s.term in
-        let R : List (List ℕ) → Type 0 = λ x. AreMoreTerms x ss in
-        ap (λ x. s ∷ x) (m.1 ss (subst R rests behind)) ∙ ap (λ x. x ∷ more) (same-signed s (record { minus = false; term = t }) minus (one.1 s.term (subst Q pieces term)))
+star-here : {A : Type 0} (t : Term A) → IsTerm (codes "*") t → t ≡ Here
+star-here (Number n) h = cc
+star-here (Named name) h = absurd (false≢true h.1)
+star-here Here h = refl
 
-pub terms-none : {A : Type 0} → (all rest : List (List ℕ)) (piece : List ℕ) → all ≡ piece ∷ rest → TheOne (AreMoreTerms {A = A} rest) None → TheOne (AreTerms {A = A} all) None
-terms-none all rest piece e none [] h = h
-terms-none all rest piece e none (q ∷ qs) (p, r, k, _, _, behind) =
-    let both : piece ∷ rest ≡ p ∷ r = sym e ∙ k in
-    let rests : r ≡ rest = cc in
-    let R : List (List ℕ) → Type 0 = λ x. AreMoreTerms x qs in
-    none qs (subst R rests behind)
+pub IsTerm-one : {A : Type 0} (piece : List ℕ) (a b : Term A) → IsTerm piece a → IsTerm piece b → a ≡ b
+IsTerm-one piece (Number n) (Number m) h k = grind arith
+IsTerm-one piece (Number n) (Named x) h k = absurd (number-name piece n h k.1)
+IsTerm-one piece (Named x) (Number m) h k = absurd (number-name piece m k h.1)
+IsTerm-one piece (Named x) (Named y) h k = ap Named (sym h.0 ∙ k.0)
+IsTerm-one piece Here b h k = sym (star-here b (rw h at k))
+IsTerm-one piece a Here h k = star-here a (rw k at h)
 
-abbrev is_first : ℕ → List ℕ → Bool
-is_first c [] = false
-is_first c (x ∷ xs) = eqb x c
-
--- plus is not minus
-plus-minus : (sign : List ℕ) → sign ≡ codes "+" → sign ≡ codes "-" → ⊥
-plus-minus sign h k = false≢true (ap (is_first 45) (sym h ∙ k))
-
-pub IsSign-one : (sign : List ℕ) (a b : Bool) → IsSign sign a → IsSign sign b → a ≡ b
-IsSign-one sign false false h k = refl
-IsSign-one sign true true h k = refl
-IsSign-one sign false true h k = absurd (plus-minus sign h k)
-IsSign-one sign true false h k = absurd (plus-minus sign k h)
-
-pub Reads-more : {A : Type 0} → (all here rest : List (List ℕ)) (sign piece : List ℕ) (done : List (Signed A)) (m : Bool) (t : Term A) → Reads all here done → here ≡ sign ∷ piece ∷ rest → IsSign sign m → TheOne (IsTerm piece) (Some t) → Reads all rest (done ++ record { minus = m; term = t } ∷ [])
-Reads-more {A} all here rest sign piece done m t r e s one = record {
-  back = λ more h. (let P : List (Signed A) → Type 0 = AreMoreTerms all in subst P (sym (append_assoc done (record { minus = m; term = t } ∷ []) more)) (r.back (record { minus = m; term = t } ∷ more) (sign, piece, rest, e, s, one.0, h)));
-  only = λ others h.
-      let x = r.only others h in
-      let y = next x.0 x.1 in
-      (y.0, y.1, x.2 ∙ ap (λ z. done ++ z) y.2 ∙ sym (append_assoc done (record { minus = m; term = t } ∷ []) y.0));
-} where
-  next : (others : List (Signed A)) → AreMoreTerms here others → (more : List (Signed A)) × AreMoreTerms rest more × (others ≡ record { minus = m; term = t } ∷ more)
-  next [] h = (let none : sign ∷ piece ∷ rest ≡ [] = sym e ∙ h in cc)
-  next (q ∷ qs) (g, p, rs, is, k, l, more) =
-      let both : sign ∷ piece ∷ rest ≡ g ∷ p ∷ rs = sym e ∙ is in
-      let signs : g ≡ sign = cc in
-      let pieces : p ≡ piece = cc in
-      let rests : rs ≡ rest = cc in
-      let P : List ℕ → Type 0 = λ x. IsTerm x q.term in
-      let Q : List (List ℕ) → Type 0 = λ x. AreMoreTerms x qs in
-      let S : List ℕ → Type 0 = λ x. IsSign x q.minus in
-      (qs, subst Q rests more, ap (λ x. x ∷ qs) (same-signed q (record { minus = m; term = t }) (IsSign-one sign q.minus m (subst S signs k) s) (one.1 q.term (subst P pieces l))))
-
-pub Reads-end : {A : Type 0} → (all here : List (List ℕ)) (done : List (Signed A)) → Reads all here done → here ≡ [] → TheOne (AreMoreTerms all) (Some done)
-Reads-end {A} all here done r e = (let P : List (Signed A) → Type 0 = AreMoreTerms all in subst P (append-nil done) (r.back [] e), λ others h. last others (r.only others h)) where
-  last : (others : List (Signed A)) → (more : List (Signed A)) × AreMoreTerms here more × (others ≡ done ++ more) → others ≡ done
-  last others ([], h, is) = is ∙ append-nil done
-  last others (q ∷ qs, (g, p, rs, k, _, _, _), is) = (let none : [] ≡ g ∷ p ∷ rs = sym e ∙ k in cc)
-
--- what stands there is no further term
-pub Reads-none : {A : Type 0} → (all here : List (List ℕ)) (done : List (Signed A)) → Reads all here done → ((more : List (Signed A)) → AreMoreTerms here more → ⊥) → TheOne (AreMoreTerms {A = A} all) None
-Reads-none all here done r h = λ others k. (let x = r.only others k in h x.0 x.1)
-
--- the terms found are those before, and behind them terms that are read
-pub record Behind {A : Type 0} (all rest : List (List ℕ)) (before found : List (Signed A)) : Type 0 where
-  pub done : List (Signed A)
-  pub whole : found ≡ before ++ done
-  pub reads : Reads all rest done
-
-pub Behind-start : {A : Type 0} → (all : List (List ℕ)) (before : List (Signed A)) → Behind all all before before
-Behind-start all before = record { done = []; whole = sym (append-nil before); reads = Reads-start all }
-
-pub Behind-more : {A : Type 0} → (all here rest : List (List ℕ)) (sign piece : List ℕ) (before found : List (Signed A)) (m : Bool) (t : Term A) → Behind all here before found → here ≡ sign ∷ piece ∷ rest → IsSign sign m → TheOne (IsTerm piece) (Some t) → Behind all rest before (found ++ record { minus = m; term = t } ∷ [])
-Behind-more all here rest sign piece before found m t b e s one = record {
-  done = b.done ++ record { minus = m; term = t } ∷ [];
-  whole = ap (λ x. x ++ record { minus = m; term = t } ∷ []) b.whole ∙ append_assoc before b.done (record { minus = m; term = t } ∷ []);
-  reads = Reads-more all here rest sign piece b.done m t b.reads e s one;
-}
-
-pub Behind-end : {A : Type 0} → (all here : List (List ℕ)) (before found : List (Signed A)) → Behind all here before found → here ≡ [] → ContinuesTerms all before found
-Behind-end all here before found b e = (b.done, b.whole, Reads-end all here b.done b.reads e)
-
-pub Behind-none : {A : Type 0} → (all here : List (List ℕ)) (before found : List (Signed A)) → Behind all here before found → ((more : List (Signed A)) → AreMoreTerms here more → ⊥) → TheOne (AreMoreTerms {A = A} all) None
-Behind-none all here before found b h = Reads-none all here b.done b.reads h
-
-pub one-left : {A : Type 0} → (here : List (List ℕ)) (piece : List ℕ) (more : List (Signed A)) → here ≡ piece ∷ [] → AreMoreTerms here more → ⊥
-one-left here piece [] e h = let none : [] ≡ piece ∷ [] = sym h ∙ e in cc
-one-left here piece (q ∷ qs) e (g, p, rs, k, _, _, _) = let none : g ∷ p ∷ rs ≡ piece ∷ [] = sym k ∙ e in cc
-
-pub no-sign : {A : Type 0} → (here rest : List (List ℕ)) (sign piece : List ℕ) (more : List (Signed A)) → here ≡ sign ∷ piece ∷ rest → TheOne (IsSign sign) None → AreMoreTerms here more → ⊥
-no-sign here rest sign piece [] e none h = let never : sign ∷ piece ∷ rest ≡ [] = sym e ∙ h in cc
-no-sign here rest sign piece (q ∷ qs) e none (g, p, rs, k, s, _, _) =
-    let both : sign ∷ piece ∷ rest ≡ g ∷ p ∷ rs = sym e ∙ k in
+-- what stands in further terms
+pub more-parts : {A : Type 0} {ps : List (List ℕ)} {sign piece : List ℕ} {rest : List (List ℕ)} (ts : List (Signed A)) → ps ≡ sign ∷ piece ∷ rest → AreMoreTerms ps ts
+    → (t : Signed A) × (more : List (Signed A)) × (ts ≡ t ∷ more) × IsSign sign t.minus × IsTerm piece t.term × AreMoreTerms rest more
+more-parts [] e h = cc
+more-parts {sign = sign} {piece = piece} {rest = rest} (t ∷ more) e (g, p, rs, is, s, k, m) =
     let signs : g ≡ sign = cc in
-    let S : List ℕ → Type 0 = λ x. IsSign x q.minus in
-    none q.minus (subst S signs s)
-
-pub no-term : {A : Type 0} → (here rest : List (List ℕ)) (sign piece : List ℕ) (more : List (Signed A)) → here ≡ sign ∷ piece ∷ rest → TheOne (IsTerm {A = A} piece) None → AreMoreTerms here more → ⊥
-no-term here rest sign piece [] e none h = let never : sign ∷ piece ∷ rest ≡ [] = sym e ∙ h in cc
-no-term here rest sign piece (q ∷ qs) e none (g, p, rs, k, _, t, _) =
-    let both : sign ∷ piece ∷ rest ≡ g ∷ p ∷ rs = sym e ∙ k in
     let pieces : p ≡ piece = cc in
-    let P : List ℕ → Type 0 = λ x. IsTerm x q.term in
-    none q.term (subst P pieces t)
+    let rests : rs ≡ rest = cc in
+    (t, more, refl, rw signs at s, rw pieces at k, rw rests at m)
 
-pub no-first : {A : Type 0} → (all rest : List (List ℕ)) (piece : List ℕ) → all ≡ piece ∷ rest → TheOne (IsTerm {A = A} piece) None → TheOne (AreTerms {A = A} all) None
-no-first all rest piece e none [] h = h
-no-first all rest piece e none (q ∷ qs) (p, rs, k, _, t, _) =
-    let both : piece ∷ rest ≡ p ∷ rs = sym e ∙ k in
+-- one piece is no further term
+pub no-more : {A : Type 0} (ps : List (List ℕ)) (ts : List (Signed A)) → AreMoreTerms ps ts → 0 < length ps → length ps < 2 → ⊥
+no-more ps [] h some few = omega (arith, ap length h, some)
+no-more ps (t ∷ ts) (sign, piece, more, e, _, _, _) some few = omega (arith, ap length e, few)
+
+pub terms-parts : {A : Type 0} {ps : List (List ℕ)} {piece : List ℕ} {rest : List (List ℕ)} (ts : List (Signed A)) → ps ≡ piece ∷ rest → AreTerms ps ts
+    → (t : Signed A) × (more : List (Signed A)) × (ts ≡ t ∷ more) × (t.minus ≡ false) × IsTerm piece t.term × AreMoreTerms rest more
+terms-parts [] e h = absurd h
+terms-parts {piece = piece} {rest = rest} (t ∷ more) e (p, rs, is, plus, k, m) =
     let pieces : p ≡ piece = cc in
-    let P : List ℕ → Type 0 = λ x. IsTerm x q.term in
-    none q.term (subst P pieces t)
+    let rests : rs ≡ rest = cc in
+    (t, more, refl, plus, rw pieces at k, rw rests at m)
 
-pub no-pieces : {A : Type 0} → (all : List (List ℕ)) → all ≡ [] → TheOne (AreTerms {A = A} all) None
-no-pieces all e [] h = h
-no-pieces all e (q ∷ qs) (p, rs, k, _, _, _) = let none : [] ≡ p ∷ rs = sym e ∙ k in cc
+same-signed : {A : Type 0} (a b : Signed A) → a.minus ≡ b.minus → a.term ≡ b.term → a ≡ b
+same-signed a b m t = λ i. record { minus = m i; term = t i }
 
-none-some : (n : ℕ) → None ≡ Some n → ⊥
-none-some n h = cc
+-- a sign is a minus where it is that byte
+sign-is : (sign : List ℕ) (m : Bool) → IsSign sign m → is_byte 45 sign ≡ m
+sign-is sign false h = rw h refl
+sign-is sign true h = rw h refl
 
-pub angle-low : {A : Type 0} → (t : Term A) → IsTerm (codes "<") t → ⊥
-angle-low (Number n) h = none-some n h
-angle-low (Named n) h = false≢true h.1
-angle-low Here h = false≢true (ap (is_first 42) h)
+AreMoreTerms-one : {A : Type 0} (ps : List (List ℕ)) (a b : List (Signed A)) → AreMoreTerms ps a → AreMoreTerms ps b → a ≡ b
+AreMoreTerms-one ps [] [] h k = refl
+AreMoreTerms-one ps [] (y ∷ ys) h k = cc (k.3)
+AreMoreTerms-one ps (x ∷ xs) b (s, p, rest, e, sign, term, more) k =
+    let (y, ys, is, mark, named, back) = more-parts b e k in
+    let first = same-signed x y (sym (sign-is s x.minus sign) ∙ sign-is s y.minus mark) (IsTerm-one p x.term y.term term named) in
+    (λ i. first i ∷ AreMoreTerms-one rest xs ys more back i) ∙ sym is
 
-pub angle-high : {A : Type 0} → (t : Term A) → IsTerm (codes ">") t → ⊥
-angle-high (Number n) h = none-some n h
-angle-high (Named n) h = false≢true h.1
-angle-high Here h = false≢true (ap (is_first 42) h)
+AreTerms-one : {A : Type 0} (ps : List (List ℕ)) (a b : List (Signed A)) → AreTerms ps a → AreTerms ps b → a ≡ b
+AreTerms-one ps [] b h k = absurd h
+AreTerms-one ps (x ∷ xs) b (p, rest, e, plus, term, more) k =
+    let (y, ys, is, also, named, back) = terms-parts b e k in
+    let first = same-signed x y (plus ∙ sym also) (IsTerm-one p x.term y.term term named) in
+    (λ i. first i ∷ AreMoreTerms-one rest xs ys more back i) ∙ sym is
 
--- no terms begin with such a piece
-pub no-terms : {A : Type 0} → (piece : List ℕ) (pieces rest : List (List ℕ)) (ts : List (Signed A)) → ((t : Term A) → IsTerm piece t → ⊥) → pieces ≡ piece ∷ rest → AreTerms pieces ts → ⊥
-no-terms piece pieces rest [] never e h = h
-no-terms piece pieces rest (q ∷ qs) never e (p, rs, k, _, t, _) =
-    let both : piece ∷ rest ≡ p ∷ rs = sym e ∙ k in
-    let same : p ≡ piece = cc in
-    let P : List ℕ → Type 0 = λ x. IsTerm x q.term in
-    never q.term (subst P same t)
+-- Expressions
 
-pub low-high : (pieces r s : List (List ℕ)) → pieces ≡ codes "<" ∷ r → pieces ≡ codes ">" ∷ s → ⊥
-low-high pieces r s h k = false≢true (ap (λ ps. is_first 62 (get_or ps 0 [])) (sym h ∙ k))
+pub byte-is : (c : ℕ) (piece : List ℕ) → is_byte c piece ≡ true → piece ≡ c ∷ []
+byte-is c [] h = cc
+byte-is c (x ∷ []) h = ap (λ z. z ∷ []) (eqb-true x c h)
+byte-is c (x ∷ y ∷ more) h = cc
 
-pub tail-one : (piece : List ℕ) (pieces r s : List (List ℕ)) → pieces ≡ piece ∷ r → pieces ≡ piece ∷ s → s ≡ r
-tail-one piece pieces r s h k = ap (drop 1) (sym k ∙ h)
+pub part-is : (ps : List (List ℕ)) → IsPart (part_of ps).0 ps (part_of ps).1
+part-is [] = refl
+part-is (p ∷ ps) = elim (cases_Bool (is_byte 60 p)) [
+  | inl low ↦ rw low (ap (λ z. z ∷ ps) (byte-is 60 p low))
+  | inr low ↦ elim (cases_Bool (is_byte 62 p)) [
+    | inl high ↦ rw (low, high) (ap (λ z. z ∷ ps) (byte-is 62 p high))
+    | inr high ↦ rw (low, high) refl
+  ]
+]
 
-part-one : {A : Type 0} → (p q : Part) (pieces rest s : List (List ℕ)) (ts : List (Signed A)) → PartIs p pieces rest → IsPart q pieces s → AreTerms s ts → (q ≡ p) × (s ≡ rest)
-part-one Whole Whole pieces rest s ts h k a = (refl, sym k ∙ h.0)
-part-one Whole Low pieces rest s ts h k a = absurd ((h.1 refl s).0 k)
-part-one Whole High pieces rest s ts h k a = absurd ((h.1 refl s).1 k)
-part-one Low Low pieces rest s ts h k a = (refl, tail-one (codes "<") pieces rest s h.0 k)
-part-one Low Whole pieces rest s ts h k a = absurd (no-terms (codes "<") s rest ts angle-low (sym k ∙ h.0) a)
-part-one Low High pieces rest s ts h k a = absurd (low-high pieces rest s h.0 k)
-part-one High High pieces rest s ts h k a = (refl, tail-one (codes ">") pieces rest s h.0 k)
-part-one High Whole pieces rest s ts h k a = absurd (no-terms (codes ">") s rest ts angle-high (sym k ∙ h.0) a)
-part-one High Low pieces rest s ts h k a = absurd (low-high pieces s rest k h.0)
+-- no term begins with the sign of a part
+term-part : {A : Type 0} (piece : List ℕ) (ps : List (List ℕ)) (t : Term A) → IsTerm piece t → part_of (piece ∷ ps) ≡ (Whole, piece ∷ ps)
+term-part [] ps t h = refl
+term-part (c ∷ []) ps t h = let other = term-byte c t h in grind (arith, nat_tests)
+term-part (c ∷ d ∷ ds) ps t h = refl
 
-pub same-expr : {A : Type 0} → (a b : Expr A) → a.part ≡ b.part → a.terms ≡ b.terms → a ≡ b
-same-expr {A} a b p t = ap (λ (x : Part). record { part = x; terms = a.terms }) p ∙ ap (λ (x : List (Signed A)). record { part = b.part; terms = x }) t
+IsExpr-part : {A : Type 0} (p : Part) (ps rest : List (List ℕ)) (ts : List (Signed A)) → IsPart p ps rest → AreTerms rest ts → part_of ps ≡ (p, rest)
+IsExpr-part Low ps rest ts e h = rw e refl
+IsExpr-part High ps rest ts e h = rw e refl
+IsExpr-part Whole ps rest [] e h = absurd h
+IsExpr-part Whole ps rest (t ∷ ts) e (piece, more, is, _, term, _) = rw (e, is) (term-part piece more t.term term)
 
-pub expr-some : {A : Type 0} → (p : Part) (pieces rest : List (List ℕ)) (ts : List (Signed A)) → PartIs p pieces rest → TheOne (AreTerms rest) (Some ts) → TheOne (IsExpr pieces) (Some (record { part = p; terms = ts }))
-expr-some {A} p pieces rest ts h one = (
-  (rest, h.0, one.0),
-  λ b k.
-      (let x = part-one p b.part pieces rest k.0 b.terms h k.1 k.2 in
-      let Q : List (List ℕ) → Type 0 = λ s. AreTerms s b.terms in
-      same-expr b (record { part = p; terms = ts }) x.0 (one.1 b.terms (subst Q x.1 k.2))),
-)
+expr-parts : {A : Type 0} (ps : List (List ℕ)) (e : Expr A) → IsExpr ps e → ((part_of ps).0 ≡ e.part) × AreTerms (part_of ps).1 e.terms
+expr-parts ps e (rest, p, h) = let same = IsExpr-part e.part ps rest e.terms p h in (ap (λ z. z.0) same, rw same h)
 
-pub expr-none : {A : Type 0} → (p : Part) (pieces rest : List (List ℕ)) → PartIs p pieces rest → TheOne (AreTerms {A = A} rest) None → TheOne (IsExpr {A = A} pieces) None
-expr-none {A} p pieces rest h none = λ b k.
-    (let x = part-one p b.part pieces rest k.0 b.terms h k.1 k.2 in
-    let Q : List (List ℕ) → Type 0 = λ s. AreTerms s b.terms in
-    none b.terms (subst Q x.1 k.2))
+pub expr-found : {A : Type 0} (ps : List (List ℕ)) (found : Part × List (List ℕ)) (o : Option (List (Signed A))) → found ≡ part_of ps → Finds (AreTerms found.1) o
+    → Finds (IsExpr ps) (option_map (λ ts. record { part = found.0; terms = ts }) o)
+expr-found ps found (Some ts) e h = (found.1, rw e (part-is ps), h)
+expr-found ps found None e none = λ x h. none x.terms (rw e (expr-parts ps x h).1)
+
+pub IsExpr-one : {A : Type 0} (ps : List (List ℕ)) (a b : Expr A) → IsExpr ps a → IsExpr ps b → a ≡ b
+IsExpr-one ps a b h k =
+    let (p, ts) = expr-parts ps a h in
+    let (q, us) = expr-parts ps b k in
+    λ i. record { part = (sym p ∙ q) i; terms = AreTerms-one (part_of ps).1 a.terms b.terms ts us i }
+
+-- a piece that no expression has: `#`, `,`, `(`, `)` or the letter A alone
+abbrev pub is_outer : List ℕ → Bool
+is_outer (c ∷ []) = is_among (codes "#,()Aa") c
+is_outer piece = false
+
+term-inner : {A : Type 0} (piece : List ℕ) (t : Term A) → IsTerm piece t → is_outer piece ≡ false
+term-inner [] t h = refl
+term-inner (c ∷ []) t h = let other = term-byte c t h in grind (arith, nat_tests)
+term-inner (c ∷ d ∷ ds) t h = refl
+
+sign-inner : (piece : List ℕ) (m : Bool) → IsSign piece m → is_outer piece ≡ false
+sign-inner piece false h = ap is_outer h
+sign-inner piece true h = ap is_outer h
+
+more-inner : {A : Type 0} (ps : List (List ℕ)) (ts : List (Signed A)) → AreMoreTerms ps ts → list_any is_outer ps ≡ false
+more-inner ps [] h = rw h refl
+more-inner ps (t ∷ ts) (sign, piece, more, e, s, k, rest) = rw (e, sign-inner sign t.minus s, term-inner piece t.term k) (more-inner more ts rest)
+
+pub expr-inner : {A : Type 0} (ps : List (List ℕ)) (e : Expr A) → IsExpr ps e → list_any is_outer ps ≡ false
+expr-inner {A} ps e (rest, p, h) = by_part e.part ps p (terms-inner rest e.terms h)
+  where
+    terms-inner : (rest : List (List ℕ)) (ts : List (Signed A)) → AreTerms rest ts → list_any is_outer rest ≡ false
+    terms-inner rest [] h = absurd h
+    terms-inner rest (t ∷ ts) (piece, more, e, m, k, behind) = rw (e, term-inner piece t.term k) (more-inner more ts behind)
+
+    by_part : (p : Part) (ps : List (List ℕ)) → IsPart p ps rest → list_any is_outer rest ≡ false → list_any is_outer ps ≡ false
+    by_part Whole ps e h = rw e h
+    by_part Low ps e h = rw e h
+    by_part High ps e h = rw e h
+
+pub outer-behind : (front back : List (List ℕ)) → list_any is_outer back ≡ true → list_any is_outer (front ++ back) ≡ true
+outer-behind front back h = list_any-append is_outer front back ∙ or_right _ _ h
+
+pub expr-some : {A : Type 0} (ps : List (List ℕ)) (e : Expr A) → IsExpr ps e → 0 < length ps
+expr-some {A} [] e h = absurd (none e.terms (expr-parts [] e h).1)
+  where
+    none : (ts : List (Signed A)) → AreTerms [] ts → ⊥
+    none [] h = h
+    none (t ∷ ts) h = cc (h.2)
+expr-some (p ∷ ps) e h = omega arith
+
+-- Expressions with commas between them
+
+inner-comma : (ps : List (List ℕ)) → list_any is_outer ps ≡ false → has_comma ps ≡ false
+inner-comma [] h = refl
+inner-comma (p ∷ ps) h = let (first, rest) = or_parts _ _ h in rw (inner_first p first) (inner-comma ps rest)
+  where
+    inner_first : (p : List ℕ) → is_outer p ≡ false → is_byte 44 p ≡ false
+    inner_first [] h = refl
+    inner_first (c ∷ []) h = grind (arith, nat_tests)
+    inner_first (c ∷ d ∷ ds) h = refl
+
+-- the pieces before the first comma are one front
+cut-one : (f g a b : List (List ℕ)) → f ++ codes "," ∷ a ≡ g ++ codes "," ∷ b → has_comma f ≡ false → has_comma g ≡ false → (g ≡ f) × (b ≡ a)
+cut-one [] [] a b e h k = (refl, ap (drop 1) (sym e))
+cut-one [] (q ∷ qs) a b e h k = absurd (false≢true (sym (or_parts (is_byte 44 q) _ k).0 ∙ ap (λ z. is_byte 44 (get_or z 0 [])) (sym e)))
+cut-one (p ∷ ps) [] a b e h k = absurd (false≢true (sym (or_parts (is_byte 44 p) _ h).0 ∙ ap (λ z. is_byte 44 (get_or z 0 [])) e))
+cut-one (p ∷ ps) (q ∷ qs) a b e h k =
+    let first : q ≡ p = cc in
+    let (same, behind) = cut-one ps qs a b (ap (drop 1) e) (or_parts _ _ h).1 (or_parts _ _ k).1 in
+    ((λ i. first i ∷ same i), behind)
+
+comma-behind : (front back : List (List ℕ)) → has_comma (front ++ codes "," ∷ back) ≡ true
+comma-behind front back = list_any-append (is_byte 44) front (codes "," ∷ back) ∙ or_right _ _ refl
+
+-- pieces up to the first comma, or to the end, and what is behind it
+abbrev pub IsCut : List (List ℕ) → List (List ℕ) → Option (List (List ℕ)) → Type 0
+IsCut pieces front None = (pieces ≡ front) × (has_comma front ≡ false)
+IsCut pieces front (Some back) = (pieces ≡ front ++ codes "," ∷ back) × (has_comma front ≡ false)
+
+-- the first expression stands before the first comma, and the others behind it
+pub exprs-parts : {A : Type 0} (ps front : List (List ℕ)) (back : Option (List (List ℕ))) (es : List (Expr A)) → IsCut ps front back → AreExprs ps es
+    → (e : Expr A) × (more : List (Expr A)) × (es ≡ e ∷ more) × IsExpr front e × MatchOption back (more ≡ []) (λ rest. AreExprs rest more)
+exprs-parts ps front back [] is h = absurd h
+exprs-parts ps front None (e ∷ []) (is, c) h = (e, [], refl, rw is at h, refl)
+exprs-parts ps front (Some b) (e ∷ []) (is, c) h =
+    absurd (false≢true (sym (inner-comma ps (expr-inner ps e h)) ∙ ap has_comma is ∙ comma-behind front b))
+exprs-parts ps front None (e ∷ f ∷ fs) (is, c) (g, d, same, k, more) = absurd (false≢true (sym c ∙ ap has_comma (sym is ∙ same) ∙ comma-behind g d))
+exprs-parts ps front (Some b) (e ∷ f ∷ fs) (is, c) (g, d, same, k, more) =
+    let (fronts, backs) = cut-one front g b d (sym is ∙ same) c (inner-comma g (expr-inner g e k)) in
+    (e, f ∷ fs, refl, rw fronts at k, rw backs at more)
+
+pub exprs-more : {A : Type 0} (ps front back : List (List ℕ)) (e : Expr A) (more : List (Expr A)) → ps ≡ front ++ codes "," ∷ back → IsExpr front e
+    → AreExprs back more → AreExprs ps (e ∷ more)
+exprs-more ps front back e [] is h k = absurd k
+exprs-more ps front back e (f ∷ fs) is h k = (front, back, is, h, k)
+
+pub AreExprs-one : {A : Type 0} (ps : List (List ℕ)) (a b : List (Expr A)) → AreExprs ps a → AreExprs ps b → a ≡ b
+AreExprs-one ps [] b h k = absurd h
+AreExprs-one ps (x ∷ []) b h k =
+    let (y, ys, is, first, none) = exprs-parts ps ps None b (refl, inner-comma ps (expr-inner ps x h)) k in
+    ap (λ z. z ∷ []) (IsExpr-one ps x y h first) ∙ ap (λ z. y ∷ z) (sym none) ∙ sym is
+AreExprs-one ps (x ∷ w ∷ ws) b (front, back, e, h, more) k =
+    let (y, ys, is, first, others) = exprs-parts ps front (Some back) b (e, inner-comma front (expr-inner front x h)) k in
+    let same = IsExpr-one front x y h first in
+    (λ i. same i ∷ AreExprs-one back (w ∷ ws) ys more others i) ∙ sym is
+
+abbrev pub now : List (Bor (List ℕ)) → List (List ℕ)
+now = map (λ x. x.now)
+
+abbrev pub no_piece : Bor (List ℕ)
+no_piece = record { ref_ptr = (0, 0); now = [] }
+
+-- a place among pieces, at the first comma or at their end, cuts them
+pub place-cut : (ps : List (Bor (List ℕ))) (end : ℕ) → has_comma (now (take end ps)) ≡ false → BeginsComma (now (drop end ps))
+    → IsCut (now ps) (now (take end ps)) (if nat_lt end (length ps) then Some (now (drop (end + 1) ps)) else None)
+place-cut ps end c h = elim (cases_lt end (length ps)) [
+  | inl lt ↦
+      let at = at_drop_more now ps end no_piece lt in
+      let comma = rw at at h in
+      rw (lt-ltb end (length ps) lt) (sym (ap now (take-append-drop end ps)) ∙ map-append _ (take end ps) (drop end ps) ∙ ap (λ z. now (take end ps) ++ z) (at ∙ ap (λ z. z ∷ now (drop (end + 1) ps)) comma), c)
+  | inr ge ↦ rw (le-ltb end (length ps) ge) (ap now (sym (take_all end ps ge)), c)
+]
+
+-- the first two of pieces
+pub two-pieces : (ps : List (Bor (List ℕ))) → 2 ≤ length ps
+    → now ps ≡ (get_or ps 0 no_piece).now ∷ (get_or ps 1 no_piece).now ∷ now (take (length ps - 2) (drop 2 ps))
+two-pieces [] h = absurd (omega (arith, h))
+two-pieces (p ∷ []) h = absurd (omega (arith, h))
+two-pieces (p ∷ q ∷ ps) h = ap (λ z. p.now ∷ q.now ∷ now z) (sym (take_rest (p ∷ q ∷ ps) 2))

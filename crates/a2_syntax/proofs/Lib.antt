@@ -1,3 +1,4 @@
+pub mod Going
 pub mod NameLaws
 pub mod PieceLaws
 pub mod ExprLaws

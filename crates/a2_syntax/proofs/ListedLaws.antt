@@ -32,7 +32,7 @@ use Rattle.a2_syntax.specs.declared.source.Operand.{Operand}
 use Rattle.a2_syntax.specs.declared.source.Operand.TheVariants as form
 use Rattle.a2_syntax.specs.declared.operation.Operation.TheVariants as operations
 use Rattle.a2_syntax.proofs.BodyLaws.{operand_of-to}
-use Rattle.a2_syntax.proofs.OneReading.{IsOperand-one}
+use Rattle.a2_syntax.proofs.OperandLaws.{IsOperand-one}
 
 -- a digit
 digit-is : (n : ℕ) → n < 16 → is_digit_in 16 (hex_digit n) ≡ true

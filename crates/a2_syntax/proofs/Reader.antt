@@ -17,18 +17,20 @@ use Rattle.a2_syntax.specs.Names.{is_name}
 use Rattle.a2_syntax.specs.Numbers.{number, is_quote, is_quotable, code_in}
 use Rattle.a2_syntax.specs.Pieces.{is_gap, is_over, Spells}
 use Rattle.a2_syntax.specs.Limits.{size_refusal}
-use Rattle.a2_syntax.specs.Reading.{run_len, piece_len}
+use Rattle.a2_syntax.specs.Reading.{run_len, piece_len, part_of}
+use Rattle.a2_syntax.specs.Shapes.{of_shape, is_accumulator, shape_of}
 use Rattle.a2_syntax.specs.Words.{letters_of}
-use Rattle.a2_syntax.specs.Grammar.{IsTerm, IsSign, AreMoreTerms, AreTerms, IsExpr, AreExprs, IsIndexed, IsEnclosed, IsOperand, is_shift, IsOperandOf, IsText, IsOperation, IsBody, IsLabelled, may_stand, IsLine}
+use Rattle.a2_syntax.specs.Grammar.{IsTerm, IsSign, AreMoreTerms, AreTerms, IsExpr, AreExprs, IsOperand, is_shift, IsOperandOf, IsText, IsOperation, IsBody, IsLabelled, may_stand, IsLine}
 use Rattle.a2_syntax.specs.Sources.{AreLines, IsSource}
 use Rattle.a2_syntax.specs.declared.operation.Operation.{Operation}
 use Rattle.a2_syntax.specs.declared.operation.Operation.TheVariants as operations
 use Rattle.a2_syntax.specs.declared.source.Term.TheVariants.{Number, Named, Here}
-use Rattle.a2_syntax.specs.declared.source.Part.TheVariants.{Whole, Low, High}
 use Rattle.a2_syntax.specs.declared.source.Expr.{Expr}
-use Rattle.a2_syntax.specs.declared.source.Operand.TheVariants.{Nothing, Accumulator, Immediate, Plain, WithX, WithY, InParenthesesX, ParenthesesY, InParentheses}
+use Rattle.a2_syntax.specs.declared.source.Operand.TheVariants.{Nothing, Accumulator}
 use Rattle.a2_syntax.specs.declared.source.Body.TheVariants.{Empty, Instr, Org, Equ, Dfb, Dw, Asc, Ds}
 use Rattle.a2_syntax.proofs.PieceLaws.{Spells-over, Spells-more}
+use Rattle.a2_syntax.proofs.ExprLaws.{part-is}
+use Rattle.a2_syntax.proofs.OperandLaws.{accumulator-is, shape-operand}
 use Rattle.a2_syntax.proofs.BodyLaws.{operand_of-to}
 use Rattle.a2_syntax.proofs.LineLaws.{HasOperation-from}
 use Rattle.a2_syntax.proofs.Deciding.{Found, tested, where_so, told, and_then, or_else, same_number, same_bytes, before_last, cut_at}
@@ -48,7 +50,7 @@ read_pieces (suc most) text =
     tested (is_over (behind_blanks text)) (λ h. Some ([], Spells-over text h))
     (λ _. where_so (nat_lt 0 (piece_len (behind_blanks text))) (λ some.
     and_then (read_pieces most (drop (piece_len (behind_blanks text)) (behind_blanks text)))
-    (λ (more, is). Some (take (piece_len (behind_blanks text)) (behind_blanks text) ∷ more, Spells-more text more (below some) is))))
+    (λ (more, is). Some (take (piece_len (behind_blanks text)) (behind_blanks text) ∷ more, Spells-more text (behind_blanks text) more refl (below some) is))))
 
 -- Expressions
 
@@ -75,13 +77,9 @@ read_terms (piece ∷ more) =
     (λ (others, are). Some (record { minus = false; term = term } ∷ others, (piece, more, refl, refl, named, are))))
 
 abbrev pub read_expr : {A : Type 0} (pieces : List (List ℕ)) → Found (IsExpr {A = A} pieces)
-read_expr [] = None
-read_expr (piece ∷ rest) =
-    or_else (and_then (same_bytes piece (codes "<")) (λ e. and_then (read_terms rest)
-    (λ (terms, are). Some (record { part = Low; terms = terms }, (rest, ap (λ p. p ∷ rest) e, are)))))
-    (or_else (and_then (same_bytes piece (codes ">")) (λ e. and_then (read_terms rest)
-    (λ (terms, are). Some (record { part = High; terms = terms }, (rest, ap (λ p. p ∷ rest) e, are)))))
-    (and_then (read_terms (piece ∷ rest)) (λ (terms, are). Some (record { part = Whole; terms = terms }, (piece ∷ rest, refl, are)))))
+read_expr pieces =
+    and_then (read_terms (part_of pieces).1)
+    (λ (terms, are). Some (record { part = (part_of pieces).0; terms = terms }, ((part_of pieces).1, part-is pieces, are)))
 
 -- expressions with commas between them, at most so many
 abbrev pub read_exprs : {A : Type 0} (most : ℕ) (pieces : List (List ℕ)) → Found (AreExprs {A = A} pieces)
@@ -98,46 +96,11 @@ read_exprs {A} (suc most) pieces =
 
 -- Operands
 
--- what stands before a comma and a register's letter
-abbrev pub read_indexed : (letter : ℕ) (pieces : List (List ℕ)) → Found (IsIndexed (letter ∷ []) pieces)
-read_indexed letter [] = None
-read_indexed letter (comma ∷ []) = None
-read_indexed letter (comma ∷ x ∷ []) =
-    and_then (same_bytes comma (codes ",")) (λ e. and_then (same_bytes (map capital x) (letter ∷ [])) (λ is. Some ([], (x, ap (λ p. p ∷ x ∷ []) e, is))))
-read_indexed letter (piece ∷ next ∷ third ∷ more) =
-    and_then (read_indexed letter (next ∷ third ∷ more)) (λ (front, (x, e, is)). Some (piece ∷ front, (x, ap (λ ps. piece ∷ ps) e, is)))
-
-abbrev pub read_enclosed : (pieces : List (List ℕ)) → Found (IsEnclosed pieces)
-read_enclosed [] = None
-read_enclosed (piece ∷ rest) =
-    and_then (same_bytes piece (codes "(")) (λ e. and_then (before_last same_bytes (codes ")") rest)
-    (λ (front, f). Some (front, enclosed piece rest front e f)))
-  where
-    enclosed : (piece : List ℕ) (rest front : List (List ℕ)) → piece ≡ codes "(" → rest ≡ front ++ codes ")" ∷ [] → IsEnclosed (piece ∷ rest) front
-    enclosed piece rest front e f = λ i. e i ∷ f i
-
-abbrev pub read_immediate : {A : Type 0} (pieces : List (List ℕ)) → Found (IsOperand {A = A} pieces)
-read_immediate [] = None
-read_immediate (piece ∷ rest) =
-    and_then (same_bytes piece (codes "#")) (λ e. and_then (read_expr rest) (λ (expr, is). Some (Immediate expr, (rest, ap (λ p. p ∷ rest) e, is))))
-
-abbrev pub read_letter : {A : Type 0} (pieces : List (List ℕ)) → Found (IsOperand {A = A} pieces)
-read_letter [] = None
-read_letter (piece ∷ []) = and_then (same_bytes (map capital piece) (65 ∷ [])) (λ is. Some (Accumulator, (piece, refl, is)))
-read_letter (piece ∷ next ∷ more) = None
-
+-- an operand that is something
 abbrev pub read_operand : {A : Type 0} (pieces : List (List ℕ)) → Found (IsOperand {A = A} pieces)
 read_operand pieces =
-    or_else (read_letter pieces)
-    (or_else (read_immediate pieces)
-    (or_else (and_then (read_expr pieces) (λ (e, is). Some (Plain e, is)))
-    (or_else (and_then (read_indexed 88 pieces) (λ (es, indexed). and_then (read_expr es) (λ (e, is). Some (WithX e, (es, indexed, is)))))
-    (or_else (and_then (read_indexed 89 pieces) (λ (es, indexed). and_then (read_expr es) (λ (e, is). Some (WithY e, (es, indexed, is)))))
-    (or_else (and_then (read_enclosed pieces) (λ (inner, closed). and_then (read_indexed 88 inner)
-    (λ (es, indexed). and_then (read_expr es) (λ (e, is). Some (InParenthesesX e, (inner, es, closed, indexed, is))))))
-    (or_else (and_then (read_indexed 89 pieces) (λ (front, indexed). and_then (read_enclosed front)
-    (λ (es, closed). and_then (read_expr es) (λ (e, is). Some (ParenthesesY e, (front, es, indexed, closed, is))))))
-    (and_then (read_enclosed pieces) (λ (es, closed). and_then (read_expr es) (λ (e, is). Some (InParentheses e, (es, closed, is)))))))))))
+    tested (is_accumulator pieces) (λ h. Some (Accumulator, accumulator-is pieces h))
+    (λ _. and_then (read_expr (shape_of pieces).1) (λ (e, is). Some (of_shape (shape_of pieces).0 e, shape-operand pieces e is)))
 
 -- a shift with nothing behind it means the accumulator
 abbrev pub read_operand_of : {A : Type 0} (m : Mnemonic) (pieces : List (List ℕ)) → Found (IsOperandOf {A = A} m pieces)

@@ -1,18 +1,17 @@
 -- What stands at the front of a text, and kinds of operations. No public clause cites this file.
-use Rattle.std.specs.Prelude.{◌≡◌, ℕ, ◌+◌, Bool, false, ◌==◌, List, [], ◌∷◌, ◌++◌, drop, codes, Some, if◌then◌else◌}
+use Rattle.std.specs.Prelude.{◌≡◌, ℕ, ◌+◌, Bool, ◌==◌, List, [], ◌∷◌, ◌++◌, drop, codes, false, if◌then◌else◌}
 use Rattle.std.specs.List.{prefix_len, list_any}
 use Rattle.a2_text.specs.Signs.{sign}
 use Rattle.a2_syntax.specs.Names.{is_name_byte}
 use Rattle.a2_syntax.specs.Numbers.{is_quote, is_quotable}
 use Rattle.a2_syntax.specs.Pieces.{is_sign, is_mark, Spells}
-use Rattle.a2_syntax.specs.Relations.{TheOne}
-use Rattle.a2_syntax.specs.Grammar.{IsPart, AreMoreTerms, AreExprs}
+use Rattle.a2_syntax.specs.Grammar.{AreMoreTerms, AreExprs}
 use Rattle.a2_syntax.specs.declared.source.Term.TheVariants.{Number}
 use Rattle.a2_syntax.specs.declared.source.Signed.{Signed}
 use Rattle.a2_syntax.specs.declared.operation.Operation.{Operation}
 use Rattle.a2_syntax.specs.declared.operation.Operation.TheVariants.{Instr}
 use Rattle.a2_syntax.specs.declared.source.Part.{Part}
-use Rattle.a2_syntax.specs.declared.source.Part.TheVariants.{Whole}
+use Rattle.a2_syntax.specs.declared.source.Part.TheVariants.{Whole, Low, High}
 use Rattle.a2_syntax.specs.declared.source.Expr.{Expr}
 
 abbrev pub run_len : List ℕ → ℕ
@@ -40,20 +39,25 @@ piece_len (c ∷ cs) =
     if is_quote c then quoted_len c cs else
     run_len (c ∷ cs)
 
--- the part at the front of pieces, and no other
-abbrev pub PartIs : Part → List (List ℕ) → List (List ℕ) → Type 0
-PartIs p pieces rest = IsPart p pieces rest × (p ≡ Whole → (r : List (List ℕ)) → (pieces ≡ codes "<" ∷ r → ⊥) × (pieces ≡ codes ">" ∷ r → ⊥))
+-- a piece that is this one byte
+abbrev pub is_byte : ℕ → List ℕ → Bool
+is_byte c (x ∷ []) = x == c
+is_byte c piece = false
+
+-- the part that an expression asks for, and the pieces of its terms
+abbrev pub part_of : List (List ℕ) → Part × List (List ℕ)
+part_of [] = (Whole, [])
+part_of (piece ∷ pieces) =
+    if is_byte (sign "<") piece then (Low, pieces) else
+    if is_byte (sign ">") piece then (High, pieces) else
+    (Whole, piece ∷ pieces)
 
 -- all are those found, and behind them the further terms that the pieces are
 abbrev pub ContinuesTerms : {A : Type 0} → List (List ℕ) → List (Signed A) → List (Signed A) → Type 0
-ContinuesTerms {A} pieces found all = (more : List (Signed A)) × (all ≡ found ++ more) × TheOne (AreMoreTerms pieces) (Some more)
-
-abbrev pub is_comma : List ℕ → Bool
-is_comma (c ∷ []) = c == sign ","
-is_comma piece = false
+ContinuesTerms {A} pieces found all = (more : List (Signed A)) × (all ≡ found ++ more) × AreMoreTerms pieces more
 
 abbrev pub has_comma : List (List ℕ) → Bool
-has_comma pieces = list_any is_comma pieces
+has_comma pieces = list_any (is_byte (sign ",")) pieces
 
 -- nothing, or a comma and more
 abbrev pub BeginsComma : List (List ℕ) → Type 0
@@ -72,3 +76,8 @@ number_expr n = record { part = Whole; terms = record { minus = false; term = Nu
 -- the pieces of a text are these expressions, with commas between them
 abbrev pub SpellsExprs : {A : Type 0} → List ℕ → List (Expr A) → Type 0
 SpellsExprs text es = (pieces : List (List ℕ)) × Spells text pieces × AreExprs pieces es
+
+-- whether a line begins with `*`
+abbrev pub is_starred : List ℕ → Bool
+is_starred [] = false
+is_starred (c ∷ cs) = c == sign "*"

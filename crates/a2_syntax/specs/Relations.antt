@@ -1,7 +1,7 @@
--- The one value in a relation.
-use Rattle.std.specs.Prelude.{◌≡◌, Option, Some, None}
+-- A value in a relation, if there is one.
+use Rattle.std.specs.Prelude.{Option, Some, None}
 
--- the one value in a relation, or None where there is none
-abbrev pub TheOne : {X : Type 0} → (X → Type 0) → Option X → Type 0
-TheOne {X} R None = (x : X) → R x → ⊥
-TheOne {X} R (Some x) = R x × ((y : X) → R y → y ≡ x)
+-- a value in a relation, or None where there is none
+abbrev pub Finds : {X : Type 0} → (X → Type 0) → Option X → Type 0
+Finds {X} R None = (x : X) → R x → ⊥
+Finds R (Some x) = R x

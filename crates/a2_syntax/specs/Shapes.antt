@@ -1,4 +1,9 @@
--- The operand of a shape with an expression in it. No public clause cites this file.
+-- What stands round the expression of an operand. No public clause cites this file.
+use Rattle.std.specs.Prelude.{ℕ, Bool, false, ◌==◌, List, [], ◌∷◌, Option, Some, None, if◌then◌else◌}
+use Rattle.std.specs.Option.{option_map, option_and_then}
+use Rattle.a2_text.specs.Bytes.{capital}
+use Rattle.a2_text.specs.Signs.{sign}
+use Rattle.a2_syntax.specs.Reading.{is_byte}
 use Rattle.a2_syntax.specs.declared.operand.Shape.{Shape}
 use Rattle.a2_syntax.specs.declared.operand.Shape.TheVariants as shapes
 use Rattle.a2_syntax.specs.declared.source.Expr.{Expr}
@@ -13,3 +18,47 @@ of_shape shapes.WithY e = WithY e
 of_shape shapes.InParenthesesX e = InParenthesesX e
 of_shape shapes.ParenthesesY e = ParenthesesY e
 of_shape shapes.InParentheses e = InParentheses e
+
+-- a letter alone, in either case
+abbrev pub is_letter : ℕ → List ℕ → Bool
+is_letter c (x ∷ []) = capital x == c
+is_letter c piece = false
+
+abbrev pub is_accumulator : List (List ℕ) → Bool
+is_accumulator (piece ∷ []) = is_letter (sign "A") piece
+is_accumulator pieces = false
+
+-- what stands behind a first piece that passes
+abbrev pub behind : (List ℕ → Bool) → List (List ℕ) → Option (List (List ℕ))
+behind passes [] = None
+behind passes (piece ∷ pieces) = if passes piece then Some pieces else None
+
+-- what stands before a last piece that passes
+abbrev pub before : (List ℕ → Bool) → List (List ℕ) → Option (List (List ℕ))
+before passes [] = None
+before passes (piece ∷ []) = if passes piece then Some [] else None
+before passes (piece ∷ next ∷ pieces) = option_map (λ front. piece ∷ front) (before passes (next ∷ pieces))
+
+-- what stands before a comma and the letter of a register
+abbrev pub indexed : ℕ → List (List ℕ) → Option (List (List ℕ))
+indexed c pieces = option_and_then (before (is_byte (sign ","))) (before (is_letter c) pieces)
+
+-- what stands in parentheses
+abbrev pub enclosed : List (List ℕ) → Option (List (List ℕ))
+enclosed pieces = option_and_then (before (is_byte (sign ")"))) (behind (is_byte (sign "(")) pieces)
+
+-- the shape of an operand of pieces that are no letter alone, and the pieces of its expression
+abbrev pub shape_of : List (List ℕ) → Shape × List (List ℕ)
+shape_of pieces = elim (behind (is_byte (sign "#")) pieces) [
+  | Some es ↦ (shapes.Immediate, es)
+  | None ↦ elim (enclosed pieces) [
+    | Some inner ↦ elim (indexed (sign "X") inner) [ Some es ↦ (shapes.InParenthesesX, es) | None ↦ (shapes.InParentheses, inner) ]
+    | None ↦ elim (indexed (sign "X") pieces) [
+      | Some es ↦ (shapes.WithX, es)
+      | None ↦ elim (indexed (sign "Y") pieces) [
+        | Some front ↦ elim (enclosed front) [ Some es ↦ (shapes.ParenthesesY, es) | None ↦ (shapes.WithY, front) ]
+        | None ↦ (shapes.Plain, pieces)
+      ]
+    ]
+  ]
+]

@@ -4,7 +4,7 @@ ghost use Rattle.std.specs.Prelude.{◌≡◌, ◌≤◌, ◌<◌, ℕ, List, tr
 ghost use Rattle.std.specs.List.{list_all, All};
 ghost use Rattle.a2_syntax.specs.Numbers.{is_quotable, code_in};
 ghost use Rattle.a2_syntax.specs.Pieces.{IsQuoted};
-ghost use Rattle.a2_syntax.specs.Relations.{TheOne};
+ghost use Rattle.a2_syntax.specs.Relations.{Finds};
 ghost use Rattle.a2_syntax.specs.Grammar as grammar;
 ghost use Rattle.a2_syntax.specs.Grammar.{IsText, IsOperandOf, IsOperation};
 
@@ -56,7 +56,7 @@ fn codes<A: Allocator>(alloc: A, quote: u8, text: &[u8]) -> Result<Bytes<A>, All
 // What a text in quotes, the only piece, stands for.
 fn text<A: Allocator>(alloc: A, pieces: &[&[u8]]) -> Result<Option<Bytes<A>>, AllocError>
     requires { All (λ p. length p ≤ 255) (map (λ x. x.now) pieces.now) }
-    ensures { IfOk result (λ o. TheOne (IsText (map (λ x. x.now) pieces.now)) o) }
+    ensures { IfOk result (λ o. Finds (IsText (map (λ x. x.now) pieces.now)) o) }
 {
     let [piece] = pieces else {
         return Ok(None);
@@ -64,8 +64,7 @@ fn text<A: Allocator>(alloc: A, pieces: &[&[u8]]) -> Result<Option<Bytes<A>>, Al
     let Some((quote, text)) = unquoted(*piece) else {
         return Ok(None);
     };
-    let bytes = codes(alloc, quote, text)?;
-    Ok(Some(bytes))
+    Ok(Some(codes(alloc, quote, text)?))
 }
 
 fn is_shift(mnemonic: Mnemonic) -> bool
@@ -84,12 +83,10 @@ fn operand_of<A: Allocator + Copy>(
     pieces: &[&[u8]],
 ) -> Result<Option<Operand<A>>, AllocError>
     requires { length pieces.now ≤ 255 }
-    ensures { IfOk result (λ o. TheOne (IsOperandOf mnemonic (map (λ x. x.now) pieces.now)) o) }
+    ensures { IfOk result (λ o. Finds (IsOperandOf mnemonic (map (λ x. x.now) pieces.now)) o) }
 {
-    if is_shift(mnemonic) {
-        if pieces.len() == 0 {
-            return Ok(Some(Operand::Accumulator));
-        }
+    if pieces.len() == 0 && is_shift(mnemonic) {
+        return Ok(Some(Operand::Accumulator));
     }
     operand(alloc, pieces)
 }
@@ -102,7 +99,7 @@ pub(crate) fn operation_body<A: Allocator + Copy>(
 ) -> Result<Option<Body<A>>, AllocError>
     requires few { length pieces.now ≤ 255 }
     requires short { All (λ p. length p ≤ 255) (map (λ x. x.now) pieces.now) }
-    ensures { IfOk result (λ o. TheOne (IsOperation operation (map (λ x. x.now) pieces.now)) o) }
+    ensures { IfOk result (λ o. Finds (IsOperation operation (map (λ x. x.now) pieces.now)) o) }
 {
     match operation {
         Operation::Instr(mnemonic) => match operand_of(alloc, mnemonic, pieces)? {

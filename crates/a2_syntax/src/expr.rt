@@ -1,48 +1,41 @@
 //! Expressions, alone and with commas between them.
 
-ghost use Rattle.std.specs.Prelude.{◌≡◌, ◌↔◌, ◌+◌, ◌≤◌, ◌∷◌, [], ◌++◌, take, drop, IsTrue, length, map, true, false, None, IfOk};
-ghost use Rattle.a2_syntax.specs.Relations.{TheOne};
+ghost use Rattle.std.specs.Prelude.{◌≡◌, ◌+◌, ◌≤◌, take, drop, length, map, true, false, None, IfOk};
+ghost use Rattle.a2_syntax.specs.Relations.{Finds};
 ghost use Rattle.a2_syntax.specs.Grammar.{AreMoreTerms, AreTerms, IsExpr, AreExprs};
-ghost use Rattle.a2_syntax.specs.Reading.{ContinuesTerms, PartIs, has_comma, BeginsComma};
+ghost use Rattle.a2_syntax.specs.Reading as reading;
+ghost use Rattle.a2_syntax.specs.Reading.{ContinuesTerms, has_comma, BeginsComma};
 
 use crate::source::{Expr, Exprs, Part, Signed, Terms};
 use crate::term::{minus, term};
 use std::alloc::{AllocError, Allocator};
 
-// Puts the terms behind the first piece, each behind its sign, behind those found; false where the pieces are none.
+// Puts the terms, each behind its sign, behind those found; false where the pieces are none.
 #[inline(never)]
 fn more_terms<A: Allocator + Copy>(
     alloc: A,
     pieces: &[&[u8]],
     found: &mut Vec<Signed<A>, A>,
 ) -> Result<bool, AllocError>
-    requires { length found.old.items + length (drop 1 pieces.now) ≤ 255 }
-    ensures read { IfOk result (λ is. is ≡ true
-        → ContinuesTerms (map (λ x. x.now) (drop 1 pieces.now)) found.old.items found.new.items) }
-    ensures none { IfOk result (λ is. is ≡ false → TheOne (AreMoreTerms {A = A} (map (λ x. x.now) (drop 1 pieces.now))) None) }
+    requires { length found.old.items + length pieces.now ≤ 255 }
+    ensures read { IfOk result (λ is. is ≡ true → ContinuesTerms (map (λ x. x.now) pieces.now) found.old.items found.new.items) }
+    ensures none { IfOk result (λ is. is ≡ false → Finds (AreMoreTerms {A = A} (map (λ x. x.now) pieces.now)) None) }
     ensures few { IfOk result (λ is. is ≡ true → length found.new.items ≤ 255) }
 {
-    let Some((_, others)) = pieces.split_first() else {
-        return Ok(true);
-    };
-    let mut rest = others;
+    let mut rest = &pieces[..];
     'terms: loop {
-        let Some((sign, behind)) = rest.split_first() else {
-            return Ok(true);
-        };
-        let Some((piece, more)) = behind.split_first() else {
-            return Ok(false);
+        let [sign, piece, more @ ..] = rest else {
+            return Ok(rest.len() == 0);
         };
         let Some(is_minus) = minus(*sign) else {
             return Ok(false);
         };
-        let next = term(alloc, *piece)?;
-        let Some(next_term) = next else {
+        let Some(term) = term(alloc, *piece)? else {
             return Ok(false);
         };
         found.push(Signed {
             minus: is_minus,
-            term: next_term,
+            term,
         })?;
         rest = more;
     }
@@ -51,25 +44,21 @@ fn more_terms<A: Allocator + Copy>(
 // The terms of an expression.
 fn terms<A: Allocator + Copy>(alloc: A, pieces: &[&[u8]]) -> Result<Option<Terms<A>>, AllocError>
     requires { length pieces.now ≤ 255 }
-    ensures { IfOk result (λ o. TheOne (AreTerms (map (λ x. x.now) pieces.now)) o) }
+    ensures { IfOk result (λ o. Finds (AreTerms (map (λ x. x.now) pieces.now)) o) }
 {
     let Some((first, others)) = pieces.split_first() else {
         return Ok(None);
     };
-    let read = term(alloc, *first)?;
-    let Some(first_term) = read else {
+    let Some(term) = term(alloc, *first)? else {
         return Ok(None);
     };
     // Between two terms stands a sign.
     let mut found = Vec::with_capacity(alloc, pieces.len() / 2 + 1)?;
-    found.push_reserved(Signed {
-        minus: false,
-        term: first_term,
-    });
+    found.push_reserved(Signed { minus: false, term });
     if others.len() == 0 {
         return Ok(Some(Terms::of(found)));
     }
-    if !more_terms(alloc, pieces, &mut found)? {
+    if !more_terms(alloc, others, &mut found)? {
         return Ok(None);
     }
     Ok(Some(Terms::of(found)))
@@ -77,7 +66,7 @@ fn terms<A: Allocator + Copy>(alloc: A, pieces: &[&[u8]]) -> Result<Option<Terms
 
 // Whether a piece is this one byte.
 pub(crate) fn is_byte(piece: &[u8], c: u8) -> bool
-    ensures { IsTrue result ↔ (piece.now ≡ c ∷ []) }
+    ensures { result ≡ reading.is_byte c piece.now }
 {
     match piece {
         [x] => *x == c,
@@ -87,7 +76,7 @@ pub(crate) fn is_byte(piece: &[u8], c: u8) -> bool
 
 // The part that an expression asks for, and the pieces of its terms.
 fn part<'a, 'b>(pieces: &'a [&'b [u8]]) -> (Part, &'a [&'b [u8]])
-    ensures is { PartIs result.0 (map (λ x. x.now) pieces.now) (map (λ x. x.now) result.1.now) }
+    ensures is { (result.0, map (λ x. x.now) result.1.now) ≡ reading.part_of (map (λ x. x.now) pieces.now) }
     ensures within { length result.1.now ≤ length pieces.now }
 {
     let Some((first, rest)) = pieces.split_first() else {
@@ -108,11 +97,10 @@ pub(crate) fn expr<A: Allocator + Copy>(
     pieces: &[&[u8]],
 ) -> Result<Option<Expr<A>>, AllocError>
     requires { length pieces.now ≤ 255 }
-    ensures { IfOk result (λ o. TheOne (IsExpr (map (λ x. x.now) pieces.now)) o) }
+    ensures { IfOk result (λ o. Finds (IsExpr (map (λ x. x.now) pieces.now)) o) }
 {
     let (part, rest) = part(pieces);
-    let read = terms(alloc, rest)?;
-    match read {
+    match terms(alloc, rest)? {
         Some(terms) => Ok(Some(Expr { part, terms })),
         None => Ok(None),
     }
@@ -138,22 +126,20 @@ pub(crate) fn exprs<A: Allocator + Copy>(
     pieces: &[&[u8]],
 ) -> Result<Option<Exprs<A>>, AllocError>
     requires { length pieces.now ≤ 255 }
-    ensures { IfOk result (λ o. TheOne (AreExprs (map (λ x. x.now) pieces.now)) o) }
+    ensures { IfOk result (λ o. Finds (AreExprs (map (λ x. x.now) pieces.now)) o) }
 {
     // Between two expressions stands a comma.
     let mut found = Vec::with_capacity(alloc, pieces.len() / 2 + 1)?;
-    let mut start = 0;
+    let mut rest = &pieces[..];
     'exprs: loop {
-        let rest = &pieces[start..];
         let end = comma_at(rest);
-        let read = expr(alloc, &rest[..end])?;
-        let Some(next) = read else {
+        let Some(next) = expr(alloc, &rest[..end])? else {
             return Ok(None);
         };
         found.push(next)?;
         if end == rest.len() {
             return Ok(Some(Exprs::of(found)));
         }
-        start += end + 1;
+        rest = &rest[end + 1..];
     }
 }

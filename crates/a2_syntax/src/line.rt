@@ -1,8 +1,8 @@
 //! A source line.
 
-ghost use Rattle.std.specs.Prelude.{◌≡◌, ◌≤◌, List, ℕ, not, length, None, ◌∷◌, IsTrue, ◌↔◌, IfOk};
-ghost use Rattle.a2_text.specs.Signs.{sign};
-ghost use Rattle.a2_syntax.specs.Relations.{TheOne};
+ghost use Rattle.std.specs.Prelude.{◌≡◌, ◌≤◌, not, length, None, IfOk};
+ghost use Rattle.a2_syntax.specs.Relations.{Finds};
+ghost use Rattle.a2_syntax.specs.Reading.{is_starred};
 ghost use Rattle.a2_syntax.specs.Grammar.{IsBody, may_stand, IsLine};
 
 use crate::body::operation_body;
@@ -22,7 +22,7 @@ fn body<'a, A: Allocator + Copy>(
     found: &mut Vec<&'a [u8], A>,
 ) -> Result<Option<Body<A>>, AllocError>
     requires { length text.now ≤ 255 }
-    ensures { IfOk result (λ o. TheOne (IsBody text.now) o) }
+    ensures { IfOk result (λ o. Finds (IsBody text.now) o) }
 {
     let here = behind_blanks(text);
     if is_over(here) {
@@ -35,8 +35,7 @@ fn body<'a, A: Allocator + Copy>(
     let Some(operation) = named(word) else {
         return Ok(None);
     };
-    let plain = plain_body(alloc, operation, after)?;
-    if let Some(body) = plain {
+    if let Some(body) = plain_body(alloc, operation, after)? {
         return Ok(Some(body));
     }
     if !pieces(after, found)? {
@@ -53,11 +52,11 @@ fn needs_label<A: Allocator>(body: &Body<A>) -> bool
 
 // Whether a line begins with `*`.
 fn is_starred(text: &[u8]) -> bool
-    ensures { IsTrue result ↔ ((rest : List ℕ) × (text.now ≡ sign "*" ∷ rest)) }
+    ensures { result ≡ is_starred text.now }
 {
-    match text.split_first() {
-        None => false,
-        Some((first, _)) => *first == b'*',
+    match text {
+        [first, ..] => *first == b'*',
+        [] => false,
     }
 }
 
@@ -68,7 +67,7 @@ pub(crate) fn line<'a, A: Allocator + Copy>(
     pieces: &mut Vec<&'a [u8], A>,
 ) -> Result<Option<Line<A>>, AllocError>
     requires { length text.now ≤ 255 }
-    ensures { IfOk result (λ o. TheOne (IsLine text.now) o) }
+    ensures { IfOk result (λ o. Finds (IsLine text.now) o) }
 {
     if is_starred(text) {
         return Ok(Some(Line {
@@ -80,8 +79,7 @@ pub(crate) fn line<'a, A: Allocator + Copy>(
     if !is_gap(rest) {
         return Ok(None);
     }
-    let found = body(alloc, rest, pieces)?;
-    let Some(body) = found else {
+    let Some(body) = body(alloc, rest, pieces)? else {
         return Ok(None);
     };
     if word.len() == 0 {
@@ -93,9 +91,6 @@ pub(crate) fn line<'a, A: Allocator + Copy>(
     if !is_name(word) {
         return Ok(None);
     }
-    let name = name_of(alloc, word)?;
-    Ok(Some(Line {
-        label: Some(name),
-        body,
-    }))
+    let label = Some(name_of(alloc, word)?);
+    Ok(Some(Line { label, body }))
 }

@@ -1,10 +1,11 @@
 //! The operands of instructions.
 
-ghost use Rattle.std.specs.Prelude.{◌≡◌, ◌↔◌, ◌≤◌, ◌∷◌, ◌++◌, [], List, ℕ, IsTrue, length, map, codes, IfOk, IfSome, MatchOption};
+ghost use Rattle.std.specs.Prelude.{◌≡◌, ◌≤◌, length, map, IfOk, IfSome};
 ghost use Rattle.std.specs.Option.{option_map};
-ghost use Rattle.a2_syntax.specs.Relations.{TheOne};
-ghost use Rattle.a2_syntax.specs.Grammar.{IsLetter, IsOperand, IsIndexed, IsEnclosed};
-ghost use Rattle.a2_syntax.specs.Shapes.{of_shape};
+ghost use Rattle.a2_syntax.specs.Relations.{Finds};
+ghost use Rattle.a2_syntax.specs.Reading.{is_byte};
+ghost use Rattle.a2_syntax.specs.Grammar.{IsOperand};
+ghost use Rattle.a2_syntax.specs.Shapes as shapes;
 
 use crate::expr::{expr, is_byte};
 use crate::source::{Expr, Operand};
@@ -25,7 +26,7 @@ pub(crate) enum Shape {
 
 // Whether a piece is this letter, in either case.
 fn is_letter(piece: &[u8], c: u8) -> bool
-    ensures { IsTrue result ↔ IsLetter (c ∷ []) piece.now }
+    ensures { result ≡ shapes.is_letter c piece.now }
 {
     match piece {
         [x] => capital(*x) == c,
@@ -35,51 +36,37 @@ fn is_letter(piece: &[u8], c: u8) -> bool
 
 // What stands behind a sign at the front.
 fn behind<'a, 'b>(pieces: &'a [&'b [u8]], c: u8) -> Option<&'a [&'b [u8]]>
-    ensures is { MatchOption result
-        ((es : List (List ℕ)) → map (λ x. x.now) pieces.now ≡ (c ∷ []) ∷ es → ⊥)
-        (λ r. map (λ x. x.now) pieces.now ≡ (c ∷ []) ∷ map (λ x. x.now) r.now) }
+    ensures is { option_map (λ r. map (λ x. x.now) r.now) result ≡ shapes.behind (is_byte c) (map (λ x. x.now) pieces.now) }
     ensures within { IfSome result (λ r. length r.now ≤ length pieces.now) }
 {
-    match pieces.split_first() {
-        Some((first, rest)) => { if is_byte(*first, c) { Some(rest) } else { None } }
-        None => None,
-    }
+    let (first, rest) = pieces.split_first()?;
+    if is_byte(*first, c) { Some(rest) } else { None }
 }
 
 // What stands before a sign at the end.
 fn front_of<'a, 'b>(pieces: &'a [&'b [u8]], c: u8) -> Option<&'a [&'b [u8]]>
-    ensures is { MatchOption result
-        ((es : List (List ℕ)) → map (λ x. x.now) pieces.now ≡ es ++ (c ∷ []) ∷ [] → ⊥)
-        (λ r. map (λ x. x.now) pieces.now ≡ map (λ x. x.now) r.now ++ (c ∷ []) ∷ []) }
+    ensures is { option_map (λ r. map (λ x. x.now) r.now) result ≡ shapes.before (is_byte c) (map (λ x. x.now) pieces.now) }
     ensures within { IfSome result (λ r. length r.now ≤ length pieces.now) }
 {
-    match pieces.split_last() {
-        Some((last, front)) => { if is_byte(*last, c) { Some(front) } else { None } }
-        None => None,
-    }
+    let (last, front) = pieces.split_last()?;
+    if is_byte(*last, c) { Some(front) } else { None }
 }
 
 // What stands before a comma and the letter of a register.
 fn indexed<'a, 'b>(pieces: &'a [&'b [u8]], c: u8) -> Option<&'a [&'b [u8]]>
-    ensures is { MatchOption result
-        ((es : List (List ℕ)) → IsIndexed (c ∷ []) (map (λ x. x.now) pieces.now) es → ⊥)
-        (λ r. IsIndexed (c ∷ []) (map (λ x. x.now) pieces.now) (map (λ x. x.now) r.now)) }
+    ensures is { option_map (λ r. map (λ x. x.now) r.now) result ≡ shapes.indexed c (map (λ x. x.now) pieces.now) }
     ensures within { IfSome result (λ r. length r.now ≤ length pieces.now) }
 {
-    match pieces.split_last() {
-        Some((last, front)) => {
-            if is_letter(*last, c) {
-                front_of(front, b',')
-            } else {
-                None
-            }
-        }
-        None => None,
+    let (last, front) = pieces.split_last()?;
+    if is_letter(*last, c) {
+        front_of(front, b',')
+    } else {
+        None
     }
 }
 
 fn is_accumulator(pieces: &[&[u8]]) -> bool
-    ensures { IsTrue result ↔ ((a : List ℕ) × (map (λ x. x.now) pieces.now ≡ a ∷ []) × IsLetter (codes "A") a) }
+    ensures { result ≡ shapes.is_accumulator (map (λ x. x.now) pieces.now) }
 {
     match pieces {
         [a] => is_letter(*a, b'A'),
@@ -89,19 +76,41 @@ fn is_accumulator(pieces: &[&[u8]]) -> bool
 
 // What stands in parentheses.
 fn enclosed<'a, 'b>(pieces: &'a [&'b [u8]]) -> Option<&'a [&'b [u8]]>
-    ensures is { MatchOption result
-        ((es : List (List ℕ)) → IsEnclosed (map (λ x. x.now) pieces.now) es → ⊥)
-        (λ r. IsEnclosed (map (λ x. x.now) pieces.now) (map (λ x. x.now) r.now)) }
+    ensures is { option_map (λ r. map (λ x. x.now) r.now) result ≡ shapes.enclosed (map (λ x. x.now) pieces.now) }
     ensures within { IfSome result (λ r. length r.now ≤ length pieces.now) }
 {
-    match behind(pieces, b'(') {
-        Some(rest) => front_of(rest, b')'),
-        None => None,
+    let rest = behind(pieces, b'(')?;
+    front_of(rest, b')')
+}
+
+// The shape of an operand that is neither nothing nor a letter alone, and the pieces of its expression.
+fn shape_of<'a, 'b>(pieces: &'a [&'b [u8]]) -> (Shape, &'a [&'b [u8]])
+    ensures is { (result.0, map (λ x. x.now) result.1.now) ≡ shapes.shape_of (map (λ x. x.now) pieces.now) }
+    ensures within { length result.1.now ≤ length pieces.now }
+{
+    if let Some(es) = behind(pieces, b'#') {
+        return (Shape::Immediate, es);
+    }
+    if let Some(inner) = enclosed(pieces) {
+        return match indexed(inner, b'X') {
+            Some(es) => (Shape::InParenthesesX, es),
+            None => (Shape::InParentheses, inner),
+        };
+    }
+    if let Some(es) = indexed(pieces, b'X') {
+        return (Shape::WithX, es);
+    }
+    let Some(front) = indexed(pieces, b'Y') else {
+        return (Shape::Plain, pieces);
+    };
+    match enclosed(front) {
+        Some(es) => (Shape::ParenthesesY, es),
+        None => (Shape::WithY, front),
     }
 }
 
 fn shaped<A: Allocator>(shape: Shape, found: Option<Expr<A>>) -> Option<Operand<A>>
-    ensures { result ≡ option_map (of_shape shape) found }
+    ensures { result ≡ option_map (shapes.of_shape shape) found }
 {
     let e = found?;
     Some(match shape {
@@ -121,7 +130,7 @@ pub(crate) fn operand<A: Allocator + Copy>(
     pieces: &[&[u8]],
 ) -> Result<Option<Operand<A>>, AllocError>
     requires { length pieces.now ≤ 255 }
-    ensures { IfOk result (λ o. TheOne (IsOperand (map (λ x. x.now) pieces.now)) o) }
+    ensures { IfOk result (λ o. Finds (IsOperand (map (λ x. x.now) pieces.now)) o) }
 {
     if pieces.len() == 0 {
         return Ok(Some(Operand::Nothing));
@@ -129,23 +138,6 @@ pub(crate) fn operand<A: Allocator + Copy>(
     if is_accumulator(pieces) {
         return Ok(Some(Operand::Accumulator));
     }
-    if let Some(es) = behind(pieces, b'#') {
-        return Ok(shaped(Shape::Immediate, expr(alloc, es)?));
-    }
-    if let Some(inner) = enclosed(pieces) {
-        if let Some(es) = indexed(inner, b'X') {
-            return Ok(shaped(Shape::InParenthesesX, expr(alloc, es)?));
-        }
-        return Ok(shaped(Shape::InParentheses, expr(alloc, inner)?));
-    }
-    if let Some(es) = indexed(pieces, b'X') {
-        return Ok(shaped(Shape::WithX, expr(alloc, es)?));
-    }
-    if let Some(front) = indexed(pieces, b'Y') {
-        if let Some(es) = enclosed(front) {
-            return Ok(shaped(Shape::ParenthesesY, expr(alloc, es)?));
-        }
-        return Ok(shaped(Shape::WithY, expr(alloc, front)?));
-    }
-    Ok(shaped(Shape::Plain, expr(alloc, pieces)?))
+    let (shape, es) = shape_of(pieces);
+    Ok(shaped(shape, expr(alloc, es)?))
 }

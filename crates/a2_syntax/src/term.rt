@@ -3,7 +3,7 @@
 ghost use Rattle.std.specs.Prelude.{◌≡◌, ◌≤◌, true, codes, IsTrue, ◌↔◌, IfOk};
 ghost use Rattle.a2_syntax.specs.Names.{is_name};
 ghost use Rattle.a2_syntax.specs.Numbers as numbers;
-ghost use Rattle.a2_syntax.specs.Relations.{TheOne};
+ghost use Rattle.a2_syntax.specs.Relations.{Finds};
 ghost use Rattle.a2_syntax.specs.Grammar.{IsTerm, IsSign};
 
 use crate::piece::{is_quotable, is_quote};
@@ -57,7 +57,7 @@ fn is_here(piece: &[u8]) -> bool
 
 // Whether a term behind this sign counts below zero.
 pub(crate) fn minus(sign: &[u8]) -> Option<bool>
-    ensures { TheOne (IsSign sign.now) result }
+    ensures { Finds (IsSign sign.now) result }
 {
     match sign {
         [b'+'] => Some(false),
@@ -79,7 +79,7 @@ pub(crate) fn name_of<A: Allocator>(alloc: A, bytes: &[u8]) -> Result<Name<A>, A
 
 // The term that a piece is.
 pub(crate) fn term<A: Allocator>(alloc: A, piece: &[u8]) -> Result<Option<Term<A>>, AllocError>
-    ensures { IfOk result (λ o. TheOne (IsTerm piece.now) o) }
+    ensures { IfOk result (λ o. Finds (IsTerm piece.now) o) }
 {
     if is_here(piece) {
         return Ok(Some(Term::Here));

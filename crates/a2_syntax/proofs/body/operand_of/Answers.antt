@@ -1,22 +1,17 @@
-use Rattle.std.proofs.Common.{◌≡◌, List, ℕ, Bor, true, [], map, length, sym, ap, ◌∙◌}
+use Rattle.std.proofs.Common.{◌≡◌, map, length, true, [], sym, ap, ◌∙◌}
 use Rattle.std.proofs.lemmas.Bool.{false≢true}
 use Rattle.std.proofs.lemmas.List.{length-map}
 use Rattle.std.proofs.lemmas.Result.{IfOk-weaker}
-use Rattle.a2_syntax.specs.Relations.{TheOne}
-use Rattle.a2_syntax.specs.Grammar.{is_shift, IsOperand, IsOperandOf}
-use Rattle.a2_syntax.proofs.BodyLaws.{operand_of-one}
+use Rattle.a2_syntax.specs.Grammar.{is_shift}
+use Rattle.a2_syntax.proofs.BodyLaws.{operand_of-found}
 use Rattle.a2_syntax.proofs.body.operand_of.Goals as goal
-use Rattle.a2_syntax.proofs.body.operand_of.Goals.{then-is_shift+else-pieces-eq0, else-is_shift}
-
-abbrev now : List (Bor (List ℕ)) → List (List ℕ)
-now = map (λ x. x.now)
+use Rattle.a2_syntax.proofs.body.operand_of.Goals.{else-pieces-eq0-via-then-pieces-eq0+else-is_shift, else-pieces-eq0-via-else-pieces-eq0}
 
 pub returns : goal.returns
 returns g c =
-    let ps = c.args.pieces.now in
-    let m = c.args.mnemonic in
-    let no : is_shift m ≡ true → now ps ≡ [] → ⊥ = elim c.if-is_shift.branch [
-      | then-is_shift+else-pieces-eq0 w ↦ λ s e. w.if-pieces-eq0.false (sym (length-map ps (λ x. x.now)) ∙ ap length e)
-      | else-is_shift w ↦ λ s e. false≢true (sym w.if-is_shift.false ∙ c.is_shift.ensures ∙ s)
+    let ps = map (λ x. x.now) c.args.pieces.now in
+    let no : is_shift c.args.mnemonic ≡ true → ps ≡ [] → ⊥ = elim c.else-pieces-eq0.branch [
+      | else-pieces-eq0-via-then-pieces-eq0+else-is_shift w ↦ λ s e. false≢true (sym w.if-is_shift.false ∙ w.is_shift.ensures ∙ s)
+      | else-pieces-eq0-via-else-pieces-eq0 w ↦ λ s e. w.if-pieces-eq0.false (sym (length-map c.args.pieces.now (λ x. x.now)) ∙ ap length e)
     ] in
-    IfOk-weaker _ (λ o. TheOne (IsOperand (now ps)) o) (λ o. TheOne (IsOperandOf m (now ps)) o) (operand_of-one m (now ps) no) c.operand.ensures
+    IfOk-weaker _ _ _ (operand_of-found c.args.mnemonic ps no) c.operand.ensures

@@ -1,5 +1,5 @@
 use Rattle.a2_syntax.specs.Numbers.{is_quotable}
-use Rattle.a2_syntax.proofs.BodyLaws.{list_all-from_AllPass}
+use Rattle.std.proofs.lemmas.List.Sums.{list_all-from_AllPass}
 use Rattle.a2_syntax.proofs.body.text.Goals as goal
 
 pub codes-requires-clause-quotable : goal.codes-requires-clause-quotable
