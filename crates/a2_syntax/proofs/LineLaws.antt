@@ -17,7 +17,7 @@ use Rattle.a2_syntax.specs.declared.operation.Operation.{Operation}
 use Rattle.a2_syntax.specs.declared.source.Body.{Body}
 use Rattle.a2_syntax.specs.declared.source.Body.TheVariants.{Empty}
 use Rattle.a2_syntax.specs.declared.source.Line.{Line}
-use Rattle.a2_syntax.proofs.NameLaws.{name-bytes, word-bytes, word-some, same-letters}
+use Rattle.a2_syntax.proofs.NameLaws.{name-bytes, word-names, same-letters}
 use Rattle.a2_syntax.proofs.PieceLaws.{Stops, front-one, behind-is, behind-self, name-first, Spells-at, Spells-one}
 use Rattle.a2_syntax.proofs.BodyLaws.{IsOperation-one}
 
@@ -46,8 +46,8 @@ BodyAt false here body =
 body-at : {A : Type 0} (text : List ℕ) (body : Body A) → IsBody text body → BodyAt (is_over (behind_blanks text)) (behind_blanks text) body
 body-at text body (inl (spells, is)) = rw (Spells-at text [] spells) is
 body-at text body (inr (o, ps, (rest, word, after, behind, is, name, gap, spells), does)) =
-    let bytes = word-bytes word o name in
-    let (stops, over) = begins word (word-some word o name) bytes in
+    let (some, bytes) = word-names word o name in
+    let (stops, over) = begins word some bytes in
     let here : behind_blanks text ≡ word ++ after = behind-is text rest behind (rw is stops) ∙ is in
     let (front, back) = word-front (behind_blanks text) word after here bytes gap in
     rw (here, over) (o, ps, rw (← here, back) gap, rw (← here, front) name, rw (← here, back) spells, does)

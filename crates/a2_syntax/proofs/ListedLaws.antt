@@ -1,8 +1,9 @@
 -- What a listing shows is read as what it lists.
-use Rattle.std.proofs.Common.{◌≡◌, ℕ, ◌-◌, ◌*◌, ◌/◌, ◌%◌, ◌<◌, ◌≤◌, Bool, true, false, eqb, ltb, leb, cond, ◌&&◌, List, [], ◌∷◌, ◌++◌, length, map, take, drop, refl, sym, ap, ◌∙◌, subst, inl, inr, arith, Option, Some, None, length-append}
+use Rattle.std.proofs.Common.{◌≡◌, ℕ, ◌-◌, ◌*◌, ◌/◌, ◌%◌, ◌<◌, ◌≤◌, true, eqb, ltb, List, [], ◌∷◌, ◌++◌, length, map, take, drop, refl, sym, ap, ◌∙◌, subst, inl, inr, arith, Option, Some, None, length-append}
 use Rattle.std.specs.Prelude.{codes, replicate, slice_index}
-use Rattle.std.specs.List.{AllPass, list_all, All}
-use Rattle.std.proofs.lemmas.Bool.{agree_below_at, eqb-true, false≢true, and_from, cases_lt, cond-true, lt-ltb}
+use Rattle.std.specs.List.{AllPass, All}
+use Rattle.std.proofs.lemmas.Bool.{agree_below_at, eqb-true, false≢true, cases_lt, cond_both, lt-ltb}
+use Rattle.std.proofs.lemmas.Option.{cond_some}
 use Rattle.std.proofs.lemmas.List.{append_assoc, drop_at, get_or_past, length-replicate, length-take, take_all}
 use Rattle.std.proofs.lemmas.List.Sums.{AllPass-from_list_all}
 use Rattle.std.proofs.lemmas.List.Elements.{All-nil, All-cons}
@@ -24,8 +25,8 @@ use Rattle.a2_opcode.proofs.RoundTrip.{coded, decoded_by, encodes-back}
 use Rattle.a2_opcode.proofs.Spacing.{spaced, length-so-far}
 use Rattle.a2_syntax.specs.Names.{is_name_byte}
 use Rattle.a2_syntax.specs.Numbers.{number}
-use Rattle.a2_syntax.specs.Pieces.{is_sign, EndsRun, is_gap, Spells}
-use Rattle.a2_syntax.specs.Grammar.{IsExpr, IsOperand, is_shift, IsLine}
+use Rattle.a2_syntax.specs.Pieces.{is_sign, EndsRun, IsBehindBlanks, is_gap, Spells}
+use Rattle.a2_syntax.specs.Grammar.{IsExpr, IsOperand, is_shift, HasOperation, IsLine}
 use Rattle.a2_syntax.specs.Bare.{NoAllocator}
 use Rattle.a2_syntax.specs.Listed.{one_number, listed_operand, SpellsOperand, ListedOperandIsOperand, listed_line, ListingIsLine}
 use Rattle.a2_syntax.specs.declared.source.Operand.{Operand}
@@ -34,17 +35,16 @@ use Rattle.a2_syntax.specs.declared.operation.Operation.TheVariants as operation
 use Rattle.a2_syntax.proofs.BodyLaws.{operand_of-to}
 use Rattle.a2_syntax.proofs.OperandLaws.{IsOperand-one}
 
--- a digit
-digit-is : (n : ℕ) → n < 16 → is_digit_in 16 (hex_digit n) ≡ true
-digit-is n h = agree_below_at (λ n. is_digit_in 16 (hex_digit n)) (λ _. true) 16 n refl h
+-- Digits behind `$`
 
-digit-value : (n : ℕ) → n < 16 → digit (hex_digit n) ≡ n
-digit-value n h = eqb-true (digit (hex_digit n)) n (agree_below_at (λ n. eqb (digit (hex_digit n)) n) (λ _. true) 16 n refl h)
+hex-digit : (n : ℕ) → n < 16 → (is_digit_in 16 (hex_digit n) ≡ true) × (digit (hex_digit n) ≡ n) × (is_name_byte (hex_digit n) ≡ true)
+hex-digit n h = (
+  agree_below_at (λ n. is_digit_in 16 (hex_digit n)) (λ _. true) 16 n refl h,
+  eqb-true (digit (hex_digit n)) n (agree_below_at (λ n. eqb (digit (hex_digit n)) n) (λ _. true) 16 n refl h),
+  agree_below_at (λ n. is_name_byte (hex_digit n)) (λ _. true) 16 n refl h,
+)
 
-digit-name : (n : ℕ) → n < 16 → is_name_byte (hex_digit n) ≡ true
-digit-name n h = agree_below_at (λ n. is_name_byte (hex_digit n)) (λ _. true) 16 n refl h
-
--- digits behind `$` that stand for a number
+-- digits that stand for a number
 record Digits (digits : List ℕ) (n : ℕ) : Type 0 where
   some : 0 < length digits
   names : AllPass is_name_byte digits
@@ -52,38 +52,29 @@ record Digits (digits : List ℕ) (n : ℕ) : Type 0 where
 
 pair-digits : (byte : ℕ) → byte < 256 → Digits (hex_pair byte) byte
 pair-digits byte h =
-    let n1 : byte / 16 < 16 = omega arith in
-    let n2 : byte % 16 < 16 = omega arith in
-    let d1 = digit-value (byte / 16) n1 in
-    let d2 = digit-value (byte % 16) n2 in
-    let v : value_of_digits 16 (hex_pair byte) ≡ byte = omega arith in
-    let all : list_all (is_digit_in 16) (hex_pair byte) ≡ true = and_from _ _ (digit-is (byte / 16) n1) (and_from _ _ (digit-is (byte % 16) n2) refl) in
-    let small : ltb (value_of_digits 16 (hex_pair byte)) 65536 ≡ true = lt-ltb _ 65536 (omega (arith, v)) in
+    let (d1, v1, n1) = hex-digit (byte / 16) (omega arith) in
+    let (d2, v2, n2) = hex-digit (byte % 16) (omega arith) in
+    let v : value_of_digits 16 (hex_pair byte) ≡ byte = omega (arith, v1, v2) in
     record {
       some = omega arith;
-      names = AllPass-from_list_all is_name_byte (hex_pair byte) (and_from _ _ (digit-name (byte / 16) n1) (and_from _ _ (digit-name (byte % 16) n2) refl));
-      is = cond-true (list_all (is_digit_in 16) (hex_pair byte) && ltb (value_of_digits 16 (hex_pair byte)) 65536) (Some (value_of_digits 16 (hex_pair byte))) None (and_from _ _ all small) ∙ ap Some v;
+      names = AllPass-from_list_all is_name_byte (hex_pair byte) (rw (n1, n2) refl);
+      is = rw (d1, d2, v, lt-ltb byte 65536 (omega (arith, h))) refl;
     }
 
 word-digits : (a : ℕ) → a < 65536 → Digits (hex_word a) a
 word-digits a h =
-    let n1 : a / 256 / 16 < 16 = omega arith in
-    let n2 : a / 256 % 16 < 16 = omega arith in
-    let n3 : a % 256 / 16 < 16 = omega arith in
-    let n4 : a % 256 % 16 < 16 = omega arith in
-    let d1 = digit-value (a / 256 / 16) n1 in
-    let d2 = digit-value (a / 256 % 16) n2 in
-    let d3 = digit-value (a % 256 / 16) n3 in
-    let d4 = digit-value (a % 256 % 16) n4 in
-    let v : value_of_digits 16 (hex_word a) ≡ a = omega arith in
-    let all : list_all (is_digit_in 16) (hex_word a) ≡ true =
-    and_from _ _ (digit-is (a / 256 / 16) n1) (and_from _ _ (digit-is (a / 256 % 16) n2) (and_from _ _ (digit-is (a % 256 / 16) n3) (and_from _ _ (digit-is (a % 256 % 16) n4) refl))) in
-    let small : ltb (value_of_digits 16 (hex_word a)) 65536 ≡ true = lt-ltb _ 65536 (omega (arith, v)) in
+    let (d1, v1, n1) = hex-digit (a / 256 / 16) (omega arith) in
+    let (d2, v2, n2) = hex-digit (a / 256 % 16) (omega arith) in
+    let (d3, v3, n3) = hex-digit (a % 256 / 16) (omega arith) in
+    let (d4, v4, n4) = hex-digit (a % 256 % 16) (omega arith) in
+    let v : value_of_digits 16 (hex_word a) ≡ a = omega (arith, v1, v2, v3, v4) in
     record {
       some = omega arith;
-      names = AllPass-from_list_all is_name_byte (hex_word a) (and_from _ _ (digit-name (a / 256 / 16) n1) (and_from _ _ (digit-name (a / 256 % 16) n2) (and_from _ _ (digit-name (a % 256 / 16) n3) (and_from _ _ (digit-name (a % 256 % 16) n4) refl))));
-      is = cond-true (list_all (is_digit_in 16) (hex_word a) && ltb (value_of_digits 16 (hex_word a)) 65536) (Some (value_of_digits 16 (hex_word a))) None (and_from _ _ all small) ∙ ap Some v;
+      names = AllPass-from_list_all is_name_byte (hex_word a) (rw (n1, n2, n3, n4) refl);
+      is = rw (d1, d2, d3, d4, v, lt-ltb a 65536 h) refl;
     }
+
+-- Operands
 
 -- a text's pieces, from its front
 record Reads (text : List ℕ) (pieces : List (List ℕ)) : Type 0 where
@@ -100,102 +91,90 @@ sign-first {text} c s h = record { spells = (c ∷ text, text, ([], no-blanks, r
 
 letter-first : {text : List ℕ} {ps : List (List ℕ)} (c : ℕ) → is_name_byte c ≡ true → EndsRun text → Reads text ps → Reads (c ∷ text) ((c ∷ []) ∷ ps)
 letter-first {text} c is ends h =
-    record { spells = (c ∷ text, text, ([], no-blanks, refl), refl, inr (inr (inr (omega arith, AllPass-from_list_all is_name_byte (c ∷ []) (and_from _ _ is refl), ends))), h.spells) }
+    record { spells = (c ∷ text, text, ([], no-blanks, refl), refl, inr (inr (inr (omega arith, All-cons (λ x. is_name_byte x ≡ true) c [] is (All-nil (λ x. is_name_byte x ≡ true)), ends))), h.spells) }
 
-number-first : {text : List ℕ} {ps : List (List ℕ)} (digits : List ℕ) (n : ℕ) → Digits digits n → EndsRun text → Reads text ps
-    → Reads (36 ∷ digits ++ text) ((36 ∷ digits) ∷ ps)
-number-first {text} digits n d ends h =
-    record { spells = (36 ∷ digits ++ text, text, ([], no-blanks, refl), refl, inr (inl (36, digits, refl, refl, (d.some, d.names, ends))), h.spells) }
+module _ {digits : List ℕ} {n : ℕ} (d : Digits digits n) where
+  number-first : {text : List ℕ} {ps : List (List ℕ)} → EndsRun text → Reads text ps → Reads (36 ∷ digits ++ text) ((36 ∷ digits) ∷ ps)
+  number-first {text} ends h = record { spells = (36 ∷ digits ++ text, text, ([], no-blanks, refl), refl, inr (inl (36, digits, refl, refl, (d.some, d.names, ends))), h.spells) }
 
-blank-first : (text : List ℕ) (ps : List (List ℕ)) → Spells text ps → Spells (32 ∷ text) ps
-blank-first text [] (rest, (gap, blank, whole), over) =
-    (rest, (32 ∷ gap, All-cons (λ c. is_blank c ≡ true) 32 gap refl blank, ap (λ x. 32 ∷ x) whole), over)
-blank-first text (p ∷ ps) (rest, after, (gap, blank, whole), is, piece, more) =
-    (rest, after, (32 ∷ gap, All-cons (λ c. is_blank c ≡ true) 32 gap refl blank, ap (λ x. 32 ∷ x) whole), is, piece, more)
+  expr : IsExpr {A = NoAllocator} ((36 ∷ digits) ∷ []) (one_number n)
+  expr = ((36 ∷ digits) ∷ [], refl, (36 ∷ digits, [], refl, refl, d.is, refl))
 
--- a number alone
-number-expr : (digits : List ℕ) (n : ℕ) → Digits digits n → IsExpr ((36 ∷ digits) ∷ []) (one_number n)
-number-expr digits n d = ((36 ∷ digits) ∷ [], refl, (36 ∷ digits, [], refl, refl, d.is, refl))
+formed : {text : List ℕ} {pieces : List (List ℕ)} (operand : Operand NoAllocator) → Reads text pieces → IsOperand pieces operand → SpellsOperand text operand
+formed {pieces = pieces} operand h is = (pieces, h.spells, is)
 
-formed : (text : List ℕ) (pieces : List (List ℕ)) (operand : Operand NoAllocator) → Reads text pieces → IsOperand pieces operand → SpellsOperand text operand
-formed text pieces operand h is = (pieces, h.spells, is)
+module _ {digits : List ℕ} {n : ℕ} (d : Digits digits n) where
+  immediate : SpellsOperand (35 ∷ 36 ∷ digits ++ []) (form.Immediate (one_number n))
+  immediate = formed (form.Immediate (one_number n)) (sign-first 35 refl (number-first d tt nothing)) (_, refl, expr d)
 
--- the forms of operands
-immediate : (digits : List ℕ) (n : ℕ) → Digits digits n → SpellsOperand (35 ∷ 36 ∷ digits ++ []) (form.Immediate (one_number n))
-immediate digits n d =
-    formed _ ((35 ∷ []) ∷ (36 ∷ digits) ∷ []) (form.Immediate (one_number n)) (sign-first 35 refl (number-first digits n d tt nothing))
-    ((36 ∷ digits) ∷ [], refl, number-expr digits n d)
+  plain : SpellsOperand (36 ∷ digits ++ []) (form.Plain (one_number n))
+  plain = formed (form.Plain (one_number n)) (number-first d tt nothing) (expr d)
 
-plain : (digits : List ℕ) (n : ℕ) → Digits digits n → SpellsOperand (36 ∷ digits ++ []) (form.Plain (one_number n))
-plain digits n d =
-    formed _ ((36 ∷ digits) ∷ []) (form.Plain (one_number n)) (number-first digits n d tt nothing) (number-expr digits n d)
+  with_x : SpellsOperand (36 ∷ digits ++ codes ",X") (form.WithX (one_number n))
+  with_x = formed (form.WithX (one_number n)) (number-first d refl (sign-first 44 refl (letter-first 88 refl tt nothing))) (_, (88 ∷ [], refl, refl), expr d)
 
-with_x : (digits : List ℕ) (n : ℕ) → Digits digits n → SpellsOperand (36 ∷ digits ++ 44 ∷ 88 ∷ []) (form.WithX (one_number n))
-with_x digits n d =
-    formed _ ((36 ∷ digits) ∷ (44 ∷ []) ∷ (88 ∷ []) ∷ []) (form.WithX (one_number n))
-    (number-first digits n d refl (sign-first 44 refl (letter-first 88 refl tt nothing)))
-    ((36 ∷ digits) ∷ [], (88 ∷ [], refl, refl), number-expr digits n d)
+  with_y : SpellsOperand (36 ∷ digits ++ codes ",Y") (form.WithY (one_number n))
+  with_y = formed (form.WithY (one_number n)) (number-first d refl (sign-first 44 refl (letter-first 89 refl tt nothing))) (_, (89 ∷ [], refl, refl), expr d)
 
-with_y : (digits : List ℕ) (n : ℕ) → Digits digits n → SpellsOperand (36 ∷ digits ++ 44 ∷ 89 ∷ []) (form.WithY (one_number n))
-with_y digits n d =
-    formed _ ((36 ∷ digits) ∷ (44 ∷ []) ∷ (89 ∷ []) ∷ []) (form.WithY (one_number n))
-    (number-first digits n d refl (sign-first 44 refl (letter-first 89 refl tt nothing)))
-    ((36 ∷ digits) ∷ [], (89 ∷ [], refl, refl), number-expr digits n d)
+  in_parentheses_x : SpellsOperand (40 ∷ 36 ∷ digits ++ codes ",X)") (form.InParenthesesX (one_number n))
+  in_parentheses_x = formed (form.InParenthesesX (one_number n))
+      (sign-first 40 refl (number-first d refl (sign-first 44 refl (letter-first 88 refl refl (sign-first 41 refl nothing)))))
+      ((36 ∷ digits) ∷ (44 ∷ []) ∷ (88 ∷ []) ∷ [], _, refl, (88 ∷ [], refl, refl), expr d)
 
-in_parentheses_x : (digits : List ℕ) (n : ℕ) → Digits digits n
-    → SpellsOperand (40 ∷ 36 ∷ digits ++ 44 ∷ 88 ∷ 41 ∷ []) (form.InParenthesesX (one_number n))
-in_parentheses_x digits n d =
-    formed _ ((40 ∷ []) ∷ (36 ∷ digits) ∷ (44 ∷ []) ∷ (88 ∷ []) ∷ (41 ∷ []) ∷ []) (form.InParenthesesX (one_number n))
-    (sign-first 40 refl (number-first digits n d refl (sign-first 44 refl (letter-first 88 refl refl (sign-first 41 refl nothing)))))
-    ((36 ∷ digits) ∷ (44 ∷ []) ∷ (88 ∷ []) ∷ [], (36 ∷ digits) ∷ [], refl, (88 ∷ [], refl, refl), number-expr digits n d)
+  parentheses_y : SpellsOperand (40 ∷ 36 ∷ digits ++ codes "),Y") (form.ParenthesesY (one_number n))
+  parentheses_y = formed (form.ParenthesesY (one_number n))
+      (sign-first 40 refl (number-first d refl (sign-first 41 refl (sign-first 44 refl (letter-first 89 refl tt nothing)))))
+      ((40 ∷ []) ∷ (36 ∷ digits) ∷ (41 ∷ []) ∷ [], _, (89 ∷ [], refl, refl), refl, expr d)
 
-parentheses_y : (digits : List ℕ) (n : ℕ) → Digits digits n
-    → SpellsOperand (40 ∷ 36 ∷ digits ++ 41 ∷ 44 ∷ 89 ∷ []) (form.ParenthesesY (one_number n))
-parentheses_y digits n d =
-    formed _ ((40 ∷ []) ∷ (36 ∷ digits) ∷ (41 ∷ []) ∷ (44 ∷ []) ∷ (89 ∷ []) ∷ []) (form.ParenthesesY (one_number n))
-    (sign-first 40 refl (number-first digits n d refl (sign-first 41 refl (sign-first 44 refl (letter-first 89 refl tt nothing)))))
-    ((40 ∷ []) ∷ (36 ∷ digits) ∷ (41 ∷ []) ∷ [], (36 ∷ digits) ∷ [], (89 ∷ [], refl, refl), refl, number-expr digits n d)
-
-in_parentheses : (digits : List ℕ) (n : ℕ) → Digits digits n → SpellsOperand (40 ∷ 36 ∷ digits ++ 41 ∷ []) (form.InParentheses (one_number n))
-in_parentheses digits n d =
-    formed _ ((40 ∷ []) ∷ (36 ∷ digits) ∷ (41 ∷ []) ∷ []) (form.InParentheses (one_number n))
-    (sign-first 40 refl (number-first digits n d refl (sign-first 41 refl nothing)))
-    ((36 ∷ digits) ∷ [], refl, number-expr digits n d)
+  in_parentheses : SpellsOperand (40 ∷ 36 ∷ digits ++ codes ")") (form.InParentheses (one_number n))
+  in_parentheses = formed (form.InParentheses (one_number n)) (sign-first 40 refl (number-first d refl (sign-first 41 refl nothing))) (_, refl, expr d)
 
 byte-digits : (n : ℕ) → ltb n 256 ≡ true → Digits (hex_pair n) n
 byte-digits n h = pair-digits n (lt-from n 256 h)
 
 pub listed-operand : ListedOperandIsOperand
 listed-operand Implied at n h k = ([], nothing.spells, refl)
-listed-operand Accumulator at n h k = formed _ ((65 ∷ []) ∷ []) form.Accumulator (letter-first 65 refl tt nothing) (65 ∷ [], refl, refl)
-listed-operand Immediate at n h k = immediate (hex_pair n) n (byte-digits n k)
-listed-operand ZeroPage at n h k = plain (hex_pair n) n (byte-digits n k)
-listed-operand ZeroPageX at n h k = with_x (hex_pair n) n (byte-digits n k)
-listed-operand ZeroPageY at n h k = with_y (hex_pair n) n (byte-digits n k)
-listed-operand Absolute at n h k = plain (hex_word n) n (word-digits n h)
-listed-operand AbsoluteX at n h k = with_x (hex_word n) n (word-digits n h)
-listed-operand AbsoluteY at n h k = with_y (hex_word n) n (word-digits n h)
-listed-operand IndexedIndirect at n h k = in_parentheses_x (hex_pair n) n (byte-digits n k)
-listed-operand IndirectIndexed at n h k = parentheses_y (hex_pair n) n (byte-digits n k)
-listed-operand Indirect at n h k = in_parentheses (hex_word n) n (word-digits n h)
-listed-operand Relative at n h k = plain (hex_word n) n (word-digits n h)
+listed-operand Accumulator at n h k = formed form.Accumulator (letter-first 65 refl tt nothing) (65 ∷ [], refl, refl)
+listed-operand Immediate at n h k = immediate (byte-digits n k)
+listed-operand ZeroPage at n h k = plain (byte-digits n k)
+listed-operand ZeroPageX at n h k = with_x (byte-digits n k)
+listed-operand ZeroPageY at n h k = with_y (byte-digits n k)
+listed-operand Absolute at n h k = plain (word-digits n h)
+listed-operand AbsoluteX at n h k = with_x (word-digits n h)
+listed-operand AbsoluteY at n h k = with_y (word-digits n h)
+listed-operand IndexedIndirect at n h k = in_parentheses_x (byte-digits n k)
+listed-operand IndirectIndexed at n h k = parentheses_y (byte-digits n k)
+listed-operand Indirect at n h k = in_parentheses (word-digits n h)
+listed-operand Relative at n h k = plain (word-digits n h)
 
--- the operand's column
+-- Lines
+
 column-gap : (mode : Mode) (n : ℕ) → is_gap (operand_column mode n) ≡ true
 column-gap Implied n = refl
 column-gap _ n = refl
+
+-- a blank before the pieces
+blank-first : (text : List ℕ) (ps : List (List ℕ)) → Spells text ps → Spells (32 ∷ text) ps
+blank-first text ps h = go ps h
+  where
+    more : (rest : List ℕ) → IsBehindBlanks text rest → IsBehindBlanks (32 ∷ text) rest
+    more rest (gap, blank, whole) = (32 ∷ gap, All-cons (λ c. is_blank c ≡ true) 32 gap refl blank, ap (λ x. 32 ∷ x) whole)
+
+    go : (ps : List (List ℕ)) → Spells text ps → Spells (32 ∷ text) ps
+    go [] (rest, behind, over) = (rest, more rest behind, over)
+    go (p ∷ ps) (rest, after, behind, is, piece, spells) = (rest, after, more rest behind, is, piece, spells)
 
 column-spells : (mode : Mode) (n : ℕ) (ps : List (List ℕ)) → Spells (operand_text mode n) ps → Spells (operand_column mode n) ps
 column-spells Implied n ps h = h
 column-spells mode n ps h = blank-first _ ps (blank-first _ ps (blank-first _ ps h))
 
--- a shift has no row of the implied mode
+-- a shift has no row of the implied mode, which alone is listed without an operand
 shift-row : (m : Mnemonic) (r : Row) → is_shift m ≡ true → row m Implied ≡ Some r → ⊥
 unfolding row table
-shift-row Asl r s e = let never : None ≡ Some r = e in cc
-shift-row Lsr r s e = let never : None ≡ Some r = e in cc
-shift-row Rol r s e = let never : None ≡ Some r = e in cc
-shift-row Ror r s e = let never : None ≡ Some r = e in cc
+shift-row Asl r s e = cc
+shift-row Lsr r s e = cc
+shift-row Rol r s e = cc
+shift-row Ror r s e = cc
 shift-row _ r s e = false≢true s
 
 only-implied : (mode : Mode) (n : ℕ) → listed_operand mode n ≡ form.Nothing → mode ≡ Implied
@@ -211,64 +190,38 @@ line-reads : (i : opcode.Instr) (at : ℕ) (bytes : List ℕ) → i.value < 6553
     → IsLine (32 ∷ (name_of i.mnemonic ++ operand_column i.mode i.value)) (listed_line i)
 line-reads i at bytes small e =
     let is = coded i at bytes e in
-    let operand = listed-operand i.mode at i.value small is.fits in
+    let (pieces, spells, operand) = listed-operand i.mode at i.value small is.fits in
     let column = operand_column i.mode i.value in
     let rest = name_of i.mnemonic ++ column in
-    let never : is_shift i.mnemonic ≡ true → operand.0 ≡ [] → ⊥ = λ s none.
-    let implied = only-implied i.mode i.value (IsOperand-one operand.0 _ form.Nothing operand.2 none) in
-    let P : Mode → Type 0 = λ k. row i.mnemonic k ≡ Some is.row in
-    shift-row i.mnemonic is.row s (subst P implied (row-only i.mnemonic i.mode is.row is.row_is)) in
-    inr (
-      32 ∷ rest,
+    let never : is_shift i.mnemonic ≡ true → pieces ≡ [] → ⊥ = λ s none.
+    let implied = only-implied i.mode i.value (IsOperand-one pieces _ form.Nothing operand none) in
+    shift-row i.mnemonic is.row s (subst (λ k. row i.mnemonic k ≡ Some is.row) implied (row-only i.mnemonic i.mode is.row is.row_is)) in
+    let has : HasOperation (32 ∷ rest) (operations.Instr i.mnemonic) pieces = (
+      rest,
+      name_of i.mnemonic,
+      column,
+      (32 ∷ [], All-cons (λ c. is_blank c ≡ true) 32 [] refl no-blanks, refl),
       refl,
-      refl,
-      inr (
-        operations.Instr i.mnemonic,
-        operand.0,
-        (
-          rest,
-          name_of i.mnemonic,
-          column,
-          (32 ∷ [], All-cons (λ c. is_blank c ≡ true) 32 [] refl no-blanks, refl),
-          refl,
-          name-capitals i.mnemonic,
-          column-gap i.mode i.value,
-          column-spells i.mode i.value operand.0 operand.1,
-        ),
-        (refl, operand_of-to i.mnemonic operand.0 never (listed_operand i.mode i.value) operand.2),
-      ),
-      refl,
-    )
+      name-capitals i.mnemonic,
+      column-gap i.mode i.value,
+      column-spells i.mode i.value pieces spells,
+    ) in
+    inr (32 ∷ rest, refl, refl, inr (operations.Instr i.mnemonic, pieces, has, (refl, operand_of-to i.mnemonic pieces never (listed_operand i.mode i.value) operand)), refl)
 
 -- a value that is decoded is one of two bytes
-cond-below : (b : Bool) (m n k : ℕ) → m < k → n < k → cond b m n < k
-cond-below true m n k h l = h
-cond-below false m n k h l = l
-
 value-small : (mode : Mode) (at : ℕ) (operand : List ℕ) → slice_index operand 0 < 256 → slice_index operand 1 < 256 → value_of mode at operand < 65536
-value-small Relative at operand a b = cond-below (ltb (slice_index operand 0) 128) _ _ 65536 (omega arith) (omega arith)
+value-small Relative at operand a b = cond_both (ltb (slice_index operand 0) 128) _ _ (λ v. v < 65536) (λ _. omega arith) (λ _. omega arith)
 value-small _ at operand a b = omega (arith, a, b)
-
-value-by : (mnemonic : Mnemonic) (mode : Mode) (operand : List ℕ) (at : ℕ) (i : opcode.Instr) (b : Bool)
-    → cond b (Some (record { mnemonic = mnemonic; mode = mode; value = value_of mode at operand })) None ≡ Some i
-    → (m : Mode) × (i.value ≡ value_of m at operand)
-value-by mnemonic mode operand at i true e =
-    let made : opcode.Instr = record { mnemonic = mnemonic; mode = mode; value = value_of mode at operand } in
-    let same : made ≡ i = cc in
-    (mode, ap (λ (j : opcode.Instr). j.value) (sym same))
-value-by mnemonic mode operand at i false e = cc
 
 value-row : (op : ℕ) (operand : List ℕ) (at : ℕ) (i : opcode.Instr) (found : Option Row) → decoded_by op operand at found ≡ Some i
     → (m : Mode) × (i.value ≡ value_of m at operand)
 value-row op operand at i None e = cc
-value-row op operand at i (Some r) e = value-by r.mnemonic r.mode operand at i (leb (length_of r.mode) (length (op ∷ operand))) e
+value-row op operand at i (Some r) e = let (_, made) = cond_some _ _ i e in (r.mode, ap (λ (j : opcode.Instr). j.value) (sym made))
 
 decoded-small : (bytes : List ℕ) (at : ℕ) (i : opcode.Instr) → ((k : ℕ) → slice_index bytes k < 256) → decoded bytes at ≡ Some i → i.value < 65536
 unfolding decoded
 decoded-small [] at i small e = cc
-decoded-small (op ∷ operand) at i small e =
-    let v = value-row op operand at i (row_of op) e in
-    omega (arith, v.1, value-small v.0 at operand (small 1) (small 2))
+decoded-small (op ∷ operand) at i small e = let (m, v) = value-row op operand at i (row_of op) e in omega (arith, v, value-small m at operand (small 1) (small 2))
 
 -- what stands before the mnemonic
 abbrev before : ℕ → List ℕ → List ℕ

@@ -8,7 +8,8 @@ use Rattle.a2_syntax.specs.Names.{is_name_byte}
 use Rattle.a2_syntax.specs.Numbers.{number}
 use Rattle.a2_syntax.specs.Pieces.{is_over, Spells}
 use Rattle.a2_syntax.specs.Grammar.{IsExpr}
-use Rattle.a2_syntax.specs.Reading.{run_len, number_expr, SpellsExprs}
+use Rattle.a2_syntax.specs.Listed.{one_number}
+use Rattle.a2_syntax.specs.Reading.{run_len, SpellsExprs}
 use Rattle.a2_syntax.specs.declared.source.Expr.{Expr}
 use Rattle.a2_syntax.proofs.Going.{Leads, leads-more}
 use Rattle.a2_syntax.proofs.PieceLaws.{behind-self, behind-within, run-front, Spells-over}
@@ -35,16 +36,16 @@ module _ {rest digits behind next : List ℕ} {n : ℕ} (p : Placed rest digits 
   spells-number : (ps : List (List ℕ)) → Spells behind ps → Spells rest (digits ∷ ps)
   spells-number ps h = rw (p.digits_are) (behind_blanks rest, behind, behind-self rest, rw p.behind_is (sym (take-append-drop (run_len (behind_blanks rest)) (behind_blanks rest))), inr (inr (inr (rw p.behind_is (run-front (behind_blanks rest) some-digits)))), h)
 
-  is-number : (A : Type 0) → IsExpr {A = A} (digits ∷ []) (number_expr n)
+  is-number : (A : Type 0) → IsExpr {A = A} (digits ∷ []) (one_number n)
   is-number A = (digits ∷ [], refl, (digits, [], refl, refl, p.is_number, refl))
 
-  pub numbers-end : {A : Type 0} {text : List ℕ} {found : List (Expr A)} → Leads SpellsExprs text rest found → is_over next ≡ true → SpellsExprs text (found ++ number_expr n ∷ [])
-  numbers-end {A} l over = l.back (number_expr n ∷ []) (digits ∷ [], spells-number [] (Spells-over behind (rw (← p.next_is) over)), is-number A)
+  pub numbers-end : {A : Type 0} {text : List ℕ} {found : List (Expr A)} → Leads SpellsExprs text rest found → is_over next ≡ true → SpellsExprs text (found ++ one_number n ∷ [])
+  numbers-end {A} l over = l.back (one_number n ∷ []) (digits ∷ [], spells-number [] (Spells-over behind (rw (← p.next_is) over)), is-number A)
 
-  pub numbers-more : {A : Type 0} {text more : List ℕ} {found : List (Expr A)} → Leads SpellsExprs text rest found → next ≡ 44 ∷ more → Leads SpellsExprs text more (found ++ number_expr n ∷ [])
-  numbers-more {A} {more = more} l comma = leads-more (number_expr n) l before
+  pub numbers-more : {A : Type 0} {text more : List ℕ} {found : List (Expr A)} → Leads SpellsExprs text rest found → next ≡ 44 ∷ more → Leads SpellsExprs text more (found ++ one_number n ∷ [])
+  numbers-more {A} {more = more} l comma = leads-more (one_number n) l before
     where
-      before : (es : List (Expr A)) → SpellsExprs more es → SpellsExprs rest (number_expr n ∷ es)
+      before : (es : List (Expr A)) → SpellsExprs more es → SpellsExprs rest (one_number n ∷ es)
       before [] (ps, s, h) = absurd h
       before (f ∷ fs) (ps, s, h) = (
         digits ∷ codes "," ∷ ps,

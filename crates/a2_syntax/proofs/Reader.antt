@@ -28,6 +28,7 @@ use Rattle.a2_syntax.specs.declared.source.Term.TheVariants.{Number, Named, Here
 use Rattle.a2_syntax.specs.declared.source.Expr.{Expr}
 use Rattle.a2_syntax.specs.declared.source.Operand.TheVariants.{Nothing, Accumulator}
 use Rattle.a2_syntax.specs.declared.source.Body.TheVariants.{Empty, Instr, Org, Equ, Dfb, Dw, Asc, Ds}
+use Rattle.a2_syntax.proofs.NameLaws.{directives}
 use Rattle.a2_syntax.proofs.PieceLaws.{Spells-over, Spells-more}
 use Rattle.a2_syntax.proofs.ExprLaws.{part-is}
 use Rattle.a2_syntax.proofs.OperandLaws.{accumulator-is, shape-operand}
@@ -127,9 +128,6 @@ read_operation operations.Dfb pieces = and_then (read_exprs (length pieces) piec
 read_operation operations.Dw pieces = and_then (read_exprs (length pieces) pieces) (λ (es, are). Some (Dw es, are))
 read_operation operations.Asc pieces = and_then (read_text pieces) (λ (bytes, is). Some (Asc bytes, is))
 read_operation operations.Ds pieces = and_then (read_expr pieces) (λ (e, is). Some (Ds e, is))
-
-abbrev pub directives : List Operation
-directives = operations.Org ∷ operations.Equ ∷ operations.Dfb ∷ operations.Dw ∷ operations.Asc ∷ operations.Ds ∷ []
 
 -- the operation of these letters, among some
 abbrev pub named_in : (all : List Operation) (word : List ℕ) → Option ((o : Operation) × (word ≡ letters_of o))

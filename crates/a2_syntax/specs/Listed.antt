@@ -17,7 +17,7 @@ use Rattle.a2_syntax.specs.declared.source.Operand.TheVariants as form
 use Rattle.a2_syntax.specs.declared.source.Body.TheVariants.{Instr}
 
 -- the expression that is one number
-abbrev pub one_number : ℕ → Expr NoAllocator
+abbrev pub one_number : {A : Type 0} → ℕ → Expr A
 one_number n = record { part = Whole; terms = record { minus = false; term = Number n } ∷ [] }
 
 -- the operand that is listed for a mode and a value

@@ -1,13 +1,11 @@
 -- What stands at the front of a text, and kinds of operations. No public clause cites this file.
-use Rattle.std.specs.Prelude.{◌≡◌, ℕ, ◌+◌, Bool, ◌==◌, List, [], ◌∷◌, ◌++◌, drop, codes, false, if◌then◌else◌}
+use Rattle.std.specs.Prelude.{◌≡◌, ℕ, ◌+◌, Bool, ◌==◌, List, [], ◌∷◌, drop, codes, false, if◌then◌else◌}
 use Rattle.std.specs.List.{prefix_len, list_any}
 use Rattle.a2_text.specs.Signs.{sign}
 use Rattle.a2_syntax.specs.Names.{is_name_byte}
 use Rattle.a2_syntax.specs.Numbers.{is_quote, is_quotable}
 use Rattle.a2_syntax.specs.Pieces.{is_sign, is_mark, Spells}
-use Rattle.a2_syntax.specs.Grammar.{AreMoreTerms, AreExprs}
-use Rattle.a2_syntax.specs.declared.source.Term.TheVariants.{Number}
-use Rattle.a2_syntax.specs.declared.source.Signed.{Signed}
+use Rattle.a2_syntax.specs.Grammar.{AreExprs}
 use Rattle.a2_syntax.specs.declared.operation.Operation.{Operation}
 use Rattle.a2_syntax.specs.declared.operation.Operation.TheVariants.{Instr}
 use Rattle.a2_syntax.specs.declared.source.Part.{Part}
@@ -52,10 +50,6 @@ part_of (piece ∷ pieces) =
     if is_byte (sign ">") piece then (High, pieces) else
     (Whole, piece ∷ pieces)
 
--- all are those found, and behind them the further terms that the pieces are
-abbrev pub ContinuesTerms : {A : Type 0} → List (List ℕ) → List (Signed A) → List (Signed A) → Type 0
-ContinuesTerms {A} pieces found all = (more : List (Signed A)) × (all ≡ found ++ more) × AreMoreTerms pieces more
-
 abbrev pub has_comma : List (List ℕ) → Bool
 has_comma pieces = list_any (is_byte (sign ",")) pieces
 
@@ -68,10 +62,6 @@ BeginsComma (p ∷ ps) = p ≡ codes ","
 abbrev pub IsInstr : Operation → Type 0
 IsInstr (Instr m) = Unit {0}
 IsInstr directive = ⊥
-
--- the expression that is one number
-abbrev pub number_expr : {A : Type 0} → ℕ → Expr A
-number_expr n = record { part = Whole; terms = record { minus = false; term = Number n } ∷ [] }
 
 -- the pieces of a text are these expressions, with commas between them
 abbrev pub SpellsExprs : {A : Type 0} → List ℕ → List (Expr A) → Type 0

@@ -1,10 +1,11 @@
 //! Expressions, alone and with commas between them.
 
-ghost use Rattle.std.specs.Prelude.{◌≡◌, ◌+◌, ◌≤◌, take, drop, length, map, true, false, None, IfOk};
+ghost use Rattle.std.specs.Prelude.{◌≡◌, ◌+◌, ◌≤◌, ◌++◌, List, take, drop, length, map, true, false, None, IfOk};
 ghost use Rattle.a2_syntax.specs.Relations.{Finds};
 ghost use Rattle.a2_syntax.specs.Grammar.{AreMoreTerms, AreTerms, IsExpr, AreExprs};
 ghost use Rattle.a2_syntax.specs.Reading as reading;
-ghost use Rattle.a2_syntax.specs.Reading.{ContinuesTerms, has_comma, BeginsComma};
+ghost use Rattle.a2_syntax.specs.Reading.{has_comma, BeginsComma};
+ghost use Rattle.a2_syntax.specs.declared.source.Signed.{Signed as DeclaredSigned};
 
 use crate::source::{Expr, Exprs, Part, Signed, Terms};
 use crate::term::{minus, term};
@@ -18,7 +19,8 @@ fn more_terms<A: Allocator + Copy>(
     found: &mut Vec<Signed<A>, A>,
 ) -> Result<bool, AllocError>
     requires { length found.old.items + length pieces.now ≤ 255 }
-    ensures read { IfOk result (λ is. is ≡ true → ContinuesTerms (map (λ x. x.now) pieces.now) found.old.items found.new.items) }
+    ensures read { IfOk result (λ is. is ≡ true → (more : List (DeclaredSigned A))
+        × (found.new.items ≡ found.old.items ++ more) × AreMoreTerms (map (λ x. x.now) pieces.now) more) }
     ensures none { IfOk result (λ is. is ≡ false → Finds (AreMoreTerms {A = A} (map (λ x. x.now) pieces.now)) None) }
     ensures few { IfOk result (λ is. is ≡ true → length found.new.items ≤ 255) }
 {

@@ -55,11 +55,8 @@ pub(crate) fn named(word: &[u8]) -> Option<Operation>
         [a, b, c] => directive(&[capital(*a), capital(*b), capital(*c)]),
         _ => None,
     };
-    match found {
-        Some(operation) => Some(operation),
-        None => match Mnemonic::named(word) {
-            Some(mnemonic) => Some(Operation::Instr(mnemonic)),
-            None => None,
-        },
+    if found.is_some() {
+        return found;
     }
+    Some(Operation::Instr(Mnemonic::named(word)?))
 }

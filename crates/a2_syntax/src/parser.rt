@@ -26,8 +26,7 @@ fn parse_lines<'a, A: Allocator + Copy>(alloc: A, texts: &[&'a [u8]]) -> Result<
     let mut pieces: Vec<&'a [u8], A> = Vec::new(alloc);
     let mut n: u16 = 1;
     for text in texts {
-        let read = line(alloc, *text, &mut pieces)?;
-        let Some(line) = read else {
+        let Some(line) = line(alloc, *text, &mut pieces)? else {
             return Err(Fault::Syntax(n));
         };
         parsed.push(line)?;

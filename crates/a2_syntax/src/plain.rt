@@ -3,7 +3,8 @@
 ghost use Rattle.std.specs.Prelude.{◌≡◌, ◌≤◌, List, ℕ, length, IfOk, IfSome};
 ghost use Rattle.a2_syntax.specs.Pieces.{Spells};
 ghost use Rattle.a2_syntax.specs.Grammar.{IsOperation};
-ghost use Rattle.a2_syntax.specs.Reading.{number_expr, SpellsExprs};
+ghost use Rattle.a2_syntax.specs.Listed.{one_number as number_expr};
+ghost use Rattle.a2_syntax.specs.Reading.{SpellsExprs};
 
 use crate::operation::Operation;
 use crate::piece::{front_run, is_over};

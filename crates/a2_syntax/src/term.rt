@@ -49,10 +49,7 @@ pub(crate) fn number(piece: &[u8]) -> Option<u16>
 fn is_here(piece: &[u8]) -> bool
     ensures { IsTrue result ↔ (piece.now ≡ codes "*") }
 {
-    match piece {
-        [b'*'] => true,
-        _ => false,
-    }
+    matches!(piece, [b'*'])
 }
 
 // Whether a term behind this sign counts below zero.

@@ -11,7 +11,7 @@ line-requires g c = c.requires.short c.loop-text.text-index _ c.loop-text-test.t
 
 pub returns-in_default-clause-refused : goal.returns-in_default-clause-refused
 returns-in_default-clause-refused g c = λ other.
-    (c.loop-text.n, refl, rw c.loop-text.invariant.number (first-unread c.args.texts.now c.loop-text.text-index c.loop-text.parsed.items c.loop-text-test.true c.loop-text.invariant.read (rw c.in_default.is at c.in_ok-read.ensures)))
+    (c.loop-text.n, refl, rw c.loop-text.invariant.number (first-unread c.args.texts.now c.loop-text.text-index c.loop-text.parsed.items c.loop-text-test.true c.loop-text.invariant.read (rw c.in_default.is at c.in_ok-line.ensures)))
 
 pub returns-clause-only : goal.returns-clause-only
 returns-clause-only g c = λ others h. rw c.of.ensures
@@ -22,7 +22,7 @@ loop-text-preserved g c = record {
   count = omega (arith, rw length_push at (ap length c.in_ok-push.ensures.items), c.loop-text.invariant.count);
   number = omega arith;
   read = rw (c.in_ok-push.ensures.items, take_more c.args.texts.now c.loop-text.text-index no_piece c.loop-text-test.true, map_push)
-      (lines-push _ _ _ c.in-Some.line c.loop-text.invariant.read (rw c.in-Some.is at c.in_ok-read.ensures));
+      (lines-push _ _ _ c.in-Some.line c.loop-text.invariant.read (rw c.in-Some.is at c.in_ok-line.ensures));
 }
 
 pub returns-clause-read : goal.returns-clause-read
