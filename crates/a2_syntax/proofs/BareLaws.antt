@@ -1,12 +1,12 @@
 -- The grammar says of a line what it says of the same line beside another allocator.
-use Rattle.std.specs.Prelude.{◌≡◌, ℕ, List, [], ◌∷◌, map, Option, Some, None, IsTrue}
+use Rattle.std.specs.Prelude.{◌≡◌, ℕ, List, [], ◌∷◌, map, Option, None, IsTrue}
 use Rattle.std.proofs.Common.{refl, sym, ap, subst, inl, inr}
 use Rattle.a2_opcode.specs.declared.Mnemonic.{Mnemonic}
 use Rattle.a2_syntax.specs.Bare.{bare_term, bare_signed, bare_expr, bare_operand, bare_body, bare_line}
 use Rattle.a2_syntax.specs.Grammar.{IsTerm, AreMoreTerms, AreTerms, IsExpr, AreExprs, IsOperand, IsOperandOf, IsOperation, IsBody, may_stand, IsLine}
 use Rattle.a2_syntax.specs.Sources.{AreLines}
 use Rattle.a2_syntax.specs.declared.source.Term.{Term}
-use Rattle.a2_syntax.specs.declared.source.Term.TheVariants.{Number, Named, Here}
+use Rattle.a2_syntax.specs.declared.source.Term.TheVariants.{Here}
 use Rattle.a2_syntax.specs.declared.source.Signed.{Signed}
 use Rattle.a2_syntax.specs.declared.source.Expr.{Expr}
 use Rattle.a2_syntax.specs.declared.source.Operand.{Operand}
@@ -18,9 +18,8 @@ use Rattle.a2_syntax.specs.declared.operation.Operation.{Operation}
 use Rattle.a2_syntax.specs.declared.operation.Operation.TheVariants as operations
 
 IsTerm-bare : {A : Type 0} (B : Type 0) (piece : List ℕ) (t : Term A) → IsTerm piece t → IsTerm {A = B} piece (bare_term t)
-IsTerm-bare B piece (Number n) h = h
-IsTerm-bare B piece (Named name) h = h
 IsTerm-bare B piece Here h = h
+IsTerm-bare B piece _ h = h
 
 AreMoreTerms-bare : {A : Type 0} (B : Type 0) (pieces : List (List ℕ)) (ts : List (Signed A)) → AreMoreTerms pieces ts → AreMoreTerms {A = B} pieces (map bare_signed ts)
 AreMoreTerms-bare B pieces [] h = h
@@ -44,12 +43,12 @@ AreExprs-bare B pieces (e ∷ f ∷ es) (front, back, is, first, others) =
 IsOperand-bare : {A : Type 0} (B : Type 0) (pieces : List (List ℕ)) (o : Operand A) → IsOperand pieces o → IsOperand {A = B} pieces (bare_operand o)
 IsOperand-bare B pieces Nothing h = h
 IsOperand-bare B pieces Accumulator h = h
-IsOperand-bare B pieces (Immediate e) (es, is, h) = (es, is, IsExpr-bare B es e h)
 IsOperand-bare B pieces (Plain e) h = IsExpr-bare B pieces e h
-IsOperand-bare B pieces (WithX e) (es, is, h) = (es, is, IsExpr-bare B es e h)
-IsOperand-bare B pieces (WithY e) (es, is, h) = (es, is, IsExpr-bare B es e h)
 IsOperand-bare B pieces (InParenthesesX e) (inner, es, round, is, h) = (inner, es, round, is, IsExpr-bare B es e h)
 IsOperand-bare B pieces (ParenthesesY e) (front, es, is, round, h) = (front, es, is, round, IsExpr-bare B es e h)
+IsOperand-bare B pieces (Immediate e) (es, is, h) = (es, is, IsExpr-bare B es e h)
+IsOperand-bare B pieces (WithX e) (es, is, h) = (es, is, IsExpr-bare B es e h)
+IsOperand-bare B pieces (WithY e) (es, is, h) = (es, is, IsExpr-bare B es e h)
 IsOperand-bare B pieces (InParentheses e) (es, round, h) = (es, round, IsExpr-bare B es e h)
 
 IsOperandOf-bare : {A : Type 0} (B : Type 0) (m : Mnemonic) (pieces : List (List ℕ)) (o : Operand A) → IsOperandOf m pieces o → IsOperandOf {A = B} m pieces (bare_operand o)
@@ -73,8 +72,7 @@ IsBody-bare B text body (inr (operation, pieces, has, is)) = inr (operation, pie
 
 may_stand-bare : {A : Type 0} (B : Type 0) (label : Option (List ℕ)) (body : Body A) → may_stand {A = B} label (bare_body body) ≡ may_stand label body
 may_stand-bare B None (Equ e) = refl
-may_stand-bare B None other = refl
-may_stand-bare B (Some name) body = refl
+may_stand-bare B _ _ = refl
 
 pub IsLine-bare : {A : Type 0} (B : Type 0) (text : List ℕ) (line : Line A) → IsLine text line → IsLine {A = B} text (bare_line line)
 IsLine-bare B text line (inl (comment, starred, label, empty)) = inl (comment, starred, label, ap bare_body empty)

@@ -1,10 +1,10 @@
 -- What a listing shows is read as what it lists.
-use Rattle.std.proofs.Common.{◌≡◌, ℕ, ◌-◌, ◌*◌, ◌/◌, ◌%◌, ◌<◌, ◌≤◌, true, eqb, ltb, List, [], ◌∷◌, ◌++◌, length, map, take, drop, refl, sym, ap, ◌∙◌, subst, inl, inr, arith, Option, Some, None, length-append}
-use Rattle.std.specs.Prelude.{codes, replicate, slice_index}
+use Rattle.std.proofs.Common.{◌≡◌, ℕ, ◌/◌, ◌%◌, ◌<◌, ◌≤◌, true, eqb, ltb, List, [], ◌∷◌, ◌++◌, length, map, take, drop, refl, sym, ap, ◌∙◌, subst, inl, inr, arith, Option, Some, None}
+use Rattle.std.specs.Prelude.{codes, slice_index}
 use Rattle.std.specs.List.{AllPass, All}
 use Rattle.std.proofs.lemmas.Bool.{agree_below_at, eqb-true, false≢true, cases_lt, cond_both, lt-ltb}
 use Rattle.std.proofs.lemmas.Option.{cond_some}
-use Rattle.std.proofs.lemmas.List.{append_assoc, drop_at, get_or_past, length-replicate, length-take, take_all}
+use Rattle.std.proofs.lemmas.List.{get_or_past, length-take}
 use Rattle.std.proofs.lemmas.List.Sums.{AllPass-from_list_all}
 use Rattle.std.proofs.lemmas.List.Elements.{All-nil, All-cons}
 use Rattle.a2_text.specs.Bytes.{is_blank, capital, digit, value_of_digits, is_digit_in}
@@ -18,11 +18,10 @@ use Rattle.a2_opcode.specs.declared.Instr as opcode
 use Rattle.a2_opcode.specs.Encoding.{value_of, encoded, decoded}
 use Rattle.a2_opcode.specs.Table.{row, row_of, table, length_of}
 use Rattle.a2_opcode.specs.Names.{name_of}
-use Rattle.a2_opcode.specs.Listing.{operand_text, operand_column, bytes_column, columns_before, line_text, listing}
+use Rattle.a2_opcode.specs.Listing.{operand_text, operand_column, columns_before, line_text, listing}
 use Rattle.a2_opcode.proofs.Comparing.{lt-from}
 use Rattle.a2_opcode.proofs.Lookup.{row-only}
 use Rattle.a2_opcode.proofs.RoundTrip.{coded, decoded_by, encodes-back}
-use Rattle.a2_opcode.proofs.Spacing.{spaced, length-so-far}
 use Rattle.a2_syntax.specs.Names.{is_name_byte}
 use Rattle.a2_syntax.specs.Numbers.{number}
 use Rattle.a2_syntax.specs.Pieces.{is_sign, EndsRun, IsBehindBlanks, is_gap, Spells}
@@ -104,9 +103,6 @@ formed : {text : List ℕ} {pieces : List (List ℕ)} (operand : Operand NoAlloc
 formed {pieces = pieces} operand h is = (pieces, h.spells, is)
 
 module _ {digits : List ℕ} {n : ℕ} (d : Digits digits n) where
-  immediate : SpellsOperand (35 ∷ 36 ∷ digits ++ []) (form.Immediate (one_number n))
-  immediate = formed (form.Immediate (one_number n)) (sign-first 35 refl (number-first d tt nothing)) (_, refl, expr d)
-
   plain : SpellsOperand (36 ∷ digits ++ []) (form.Plain (one_number n))
   plain = formed (form.Plain (one_number n)) (number-first d tt nothing) (expr d)
 
@@ -116,35 +112,30 @@ module _ {digits : List ℕ} {n : ℕ} (d : Digits digits n) where
   with_y : SpellsOperand (36 ∷ digits ++ codes ",Y") (form.WithY (one_number n))
   with_y = formed (form.WithY (one_number n)) (number-first d refl (sign-first 44 refl (letter-first 89 refl tt nothing))) (_, (89 ∷ [], refl, refl), expr d)
 
-  in_parentheses_x : SpellsOperand (40 ∷ 36 ∷ digits ++ codes ",X)") (form.InParenthesesX (one_number n))
-  in_parentheses_x = formed (form.InParenthesesX (one_number n))
-      (sign-first 40 refl (number-first d refl (sign-first 44 refl (letter-first 88 refl refl (sign-first 41 refl nothing)))))
-      ((36 ∷ digits) ∷ (44 ∷ []) ∷ (88 ∷ []) ∷ [], _, refl, (88 ∷ [], refl, refl), expr d)
-
-  parentheses_y : SpellsOperand (40 ∷ 36 ∷ digits ++ codes "),Y") (form.ParenthesesY (one_number n))
-  parentheses_y = formed (form.ParenthesesY (one_number n))
-      (sign-first 40 refl (number-first d refl (sign-first 41 refl (sign-first 44 refl (letter-first 89 refl tt nothing)))))
-      ((40 ∷ []) ∷ (36 ∷ digits) ∷ (41 ∷ []) ∷ [], _, (89 ∷ [], refl, refl), refl, expr d)
-
-  in_parentheses : SpellsOperand (40 ∷ 36 ∷ digits ++ codes ")") (form.InParentheses (one_number n))
-  in_parentheses = formed (form.InParentheses (one_number n)) (sign-first 40 refl (number-first d refl (sign-first 41 refl nothing))) (_, refl, expr d)
-
 byte-digits : (n : ℕ) → ltb n 256 ≡ true → Digits (hex_pair n) n
 byte-digits n h = pair-digits n (lt-from n 256 h)
 
 pub listed-operand : ListedOperandIsOperand
 listed-operand Implied at n h k = ([], nothing.spells, refl)
 listed-operand Accumulator at n h k = formed form.Accumulator (letter-first 65 refl tt nothing) (65 ∷ [], refl, refl)
-listed-operand Immediate at n h k = immediate (byte-digits n k)
+listed-operand Immediate at n h k =
+    let d = byte-digits n k in formed (form.Immediate (one_number n)) (sign-first 35 refl (number-first d tt nothing)) (_, refl, expr d)
 listed-operand ZeroPage at n h k = plain (byte-digits n k)
 listed-operand ZeroPageX at n h k = with_x (byte-digits n k)
 listed-operand ZeroPageY at n h k = with_y (byte-digits n k)
 listed-operand Absolute at n h k = plain (word-digits n h)
 listed-operand AbsoluteX at n h k = with_x (word-digits n h)
 listed-operand AbsoluteY at n h k = with_y (word-digits n h)
-listed-operand IndexedIndirect at n h k = in_parentheses_x (byte-digits n k)
-listed-operand IndirectIndexed at n h k = parentheses_y (byte-digits n k)
-listed-operand Indirect at n h k = in_parentheses (word-digits n h)
+listed-operand IndexedIndirect at n h k =
+    let d = byte-digits n k in
+    formed (form.InParenthesesX (one_number n)) (sign-first 40 refl (number-first d refl (sign-first 44 refl (letter-first 88 refl refl (sign-first 41 refl nothing)))))
+    ((36 ∷ hex_pair n) ∷ codes "," ∷ codes "X" ∷ [], _, refl, (codes "X", refl, refl), expr d)
+listed-operand IndirectIndexed at n h k =
+    let d = byte-digits n k in
+    formed (form.ParenthesesY (one_number n)) (sign-first 40 refl (number-first d refl (sign-first 41 refl (sign-first 44 refl (letter-first 89 refl tt nothing)))))
+    (codes "(" ∷ (36 ∷ hex_pair n) ∷ codes ")" ∷ [], _, (codes "Y", refl, refl), refl, expr d)
+listed-operand Indirect at n h k =
+    let d = word-digits n h in formed (form.InParentheses (one_number n)) (sign-first 40 refl (number-first d refl (sign-first 41 refl nothing))) (_, refl, expr d)
 listed-operand Relative at n h k = plain (word-digits n h)
 
 -- Lines
@@ -223,34 +214,13 @@ unfolding decoded
 decoded-small [] at i small e = cc
 decoded-small (op ∷ operand) at i small e = let (m, v) = value-row op operand at i (row_of op) e in omega (arith, v, value-small m at operand (small 1) (small 2))
 
--- what stands before the mnemonic
-abbrev before : ℕ → List ℕ → List ℕ
-before at xs = hex_word at ++ codes "-   " ++ bytes_column xs
-
-before-cut : (at : ℕ) (xs name column : List ℕ) → columns_before at xs ++ name ++ column ≡ (before at xs ++ codes "  ") ++ (32 ∷ (name ++ column))
-before-cut at xs name column =
-    append_assoc (columns_before at xs) name column
-    ∙ append_assoc (before at xs) (codes "   ") (name ++ column)
-    ∙ sym (append_assoc (before at xs) (codes "  ") (32 ∷ (name ++ column)))
-
-spaced-length : (xs : List ℕ) → length (spaced xs) ≡ 3 * length xs - 1
-spaced-length xs =
-    let so_far = length-so-far (spaced xs) [] xs (length xs) (omega arith) (ap spaced (sym (take_all (length xs) xs (omega arith)))) in
-    omega (arith, so_far)
-
-before-length : (at : ℕ) (xs : List ℕ) → length xs ≤ 3 → length (before at xs ++ codes "  ") ≡ 18
-before-length at xs few =
-    let first : length (hex_word at ++ codes "-   ") ≡ 8 = refl in
-    omega (
-      arith,
-      few,
-      first,
-      length-append (before at xs) (codes "  "),
-      length-append (hex_word at ++ codes "-   ") (bytes_column xs),
-      length-append (spaced xs) (replicate (8 - length (spaced xs)) 32),
-      length-replicate {A = ℕ} (8 - length (spaced xs)) 32,
-      spaced-length xs,
-    )
+-- the columns before the mnemonic have 19 places, of which the last is a blank
+columns-cut : (at : ℕ) (xs name column : List ℕ) → length xs ≤ 3 → drop 18 (columns_before at xs ++ name ++ column) ≡ 32 ∷ (name ++ column)
+columns-cut at [] name column few = refl
+columns-cut at (a ∷ []) name column few = refl
+columns-cut at (a ∷ b ∷ []) name column few = refl
+columns-cut at (a ∷ b ∷ c ∷ []) name column few = refl
+columns-cut at (a ∷ b ∷ c ∷ d ∷ xs) name column few = absurd (omega (arith, few))
 
 length-few : (mode : Mode) → length_of mode ≤ 3
 length-few Implied = omega arith
@@ -260,11 +230,7 @@ listing-cut : (bytes : List ℕ) (at : ℕ) (i : opcode.Instr) → decoded bytes
     → drop 18 (listing bytes at) ≡ 32 ∷ (name_of i.mnemonic ++ operand_column i.mode i.value)
 unfolding listing
 listing-cut bytes at i e =
-    let xs : List ℕ = take (length_of i.mode) bytes in
-    let few : length xs ≤ 3 = omega (arith, length-take (length_of i.mode) bytes, length-few i.mode) in
-    let rest : List ℕ = 32 ∷ (name_of i.mnemonic ++ operand_column i.mode i.value) in
-    ap (drop 18) (ap (line_text bytes at) e ∙ before-cut at xs (name_of i.mnemonic) (operand_column i.mode i.value))
-    ∙ drop_at (before at xs ++ codes "  ") rest 18 (before-length at xs few)
+    ap (drop 18) (ap (line_text bytes at) e) ∙ columns-cut at (take (length_of i.mode) bytes) _ _ (omega (arith, length-take (length_of i.mode) bytes, length-few i.mode))
 
 each-small : (bytes : List ℕ) → All (λ byte. byte < 256) bytes → (k : ℕ) → slice_index bytes k < 256
 each-small bytes all k = elim (cases_lt k (length bytes)) [
@@ -275,5 +241,4 @@ each-small bytes all k = elim (cases_lt k (length bytes)) [
 pub listing-line : ListingIsLine
 listing-line bytes at i all low e =
     let small = each-small bytes all in
-    let P : List ℕ → Type 0 = λ text. IsLine text (listed_line i) in
-    subst P (sym (listing-cut bytes at i e)) (line-reads i at (take (length_of i.mode) bytes) (decoded-small bytes at i small e) (encodes-back bytes at i low small e))
+    rw (listing-cut bytes at i e) (line-reads i at (take (length_of i.mode) bytes) (decoded-small bytes at i small e) (encodes-back bytes at i low small e))

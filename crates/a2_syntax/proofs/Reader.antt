@@ -1,10 +1,12 @@
 -- A reader of source texts by recursion: for any text that it reads, the lines that it finds are the text's, by one
 -- computation. No code follows it; it is for proofs about given texts.
-use Rattle.std.specs.Prelude.{◌≡◌, ℕ, suc, zero, ◌<◌, nat_lt, true, false, List, [], ◌∷◌, ◌++◌, length, map, take, drop, codes, Option, Some, None, option_map, is_some, unwrap_or, refl}
+use Rattle.std.specs.Prelude.{◌≡◌, ℕ, suc, zero, nat_lt, ◌==◌, true, false, List, [], ◌∷◌, ◌++◌, length, map, take, drop, codes, Option, Some, None, option_map, is_some, refl}
 use Rattle.std.specs.List.{list_all}
-use Rattle.std.proofs.Common.{sym, ap, subst, inl, inr, arith}
-use Rattle.std.proofs.lemmas.Bool.{false≢true}
-use Rattle.std.proofs.lemmas.Bool.Decides.{nat_tests}
+use Rattle.std.proofs.Common.{sym, ap, ◌∙◌, subst, inl, inr}
+use Rattle.std.specs.Str.{bytes_eq}
+use Rattle.std.proofs.lemmas.Bool.{eqb-true, ltb-true}
+use Rattle.std.proofs.lemmas.Option.{none-some, same_Some}
+use Rattle.std.proofs.lemmas.Slice.Eq.{bytes_eq-Decides}
 use Rattle.std.proofs.lemmas.List.{take-append-drop}
 use Rattle.std.proofs.lemmas.List.Sums.{AllPass-from_list_all}
 use Rattle.a2_text.specs.Bytes.{capital}
@@ -17,7 +19,7 @@ use Rattle.a2_syntax.specs.Names.{is_name}
 use Rattle.a2_syntax.specs.Numbers.{number, is_quote, is_quotable, code_in}
 use Rattle.a2_syntax.specs.Pieces.{is_gap, is_over, Spells}
 use Rattle.a2_syntax.specs.Limits.{size_refusal}
-use Rattle.a2_syntax.specs.Reading.{run_len, piece_len, part_of}
+use Rattle.a2_syntax.specs.Reading.{run_len, piece_len, is_byte, part_of, is_starred}
 use Rattle.a2_syntax.specs.Shapes.{of_shape, is_accumulator, shape_of}
 use Rattle.a2_syntax.specs.Words.{letters_of}
 use Rattle.a2_syntax.specs.Grammar.{IsTerm, IsSign, AreMoreTerms, AreTerms, IsExpr, AreExprs, IsOperand, is_shift, IsOperandOf, IsText, IsOperation, IsBody, IsLabelled, may_stand, IsLine}
@@ -30,14 +32,11 @@ use Rattle.a2_syntax.specs.declared.source.Operand.TheVariants.{Nothing, Accumul
 use Rattle.a2_syntax.specs.declared.source.Body.TheVariants.{Empty, Instr, Org, Equ, Dfb, Dw, Asc, Ds}
 use Rattle.a2_syntax.proofs.NameLaws.{directives}
 use Rattle.a2_syntax.proofs.PieceLaws.{Spells-over, Spells-more}
-use Rattle.a2_syntax.proofs.ExprLaws.{part-is}
+use Rattle.a2_syntax.proofs.ExprLaws.{part-is, byte-is}
 use Rattle.a2_syntax.proofs.OperandLaws.{accumulator-is, shape-operand}
 use Rattle.a2_syntax.proofs.BodyLaws.{operand_of-to}
-use Rattle.a2_syntax.proofs.LineLaws.{HasOperation-from}
-use Rattle.a2_syntax.proofs.Deciding.{Found, tested, where_so, told, and_then, or_else, same_number, same_bytes, before_last, cut_at}
-
-pub below : {n : ℕ} → nat_lt 0 n ≡ true → 0 < n
-below h = grind (arith, nat_tests, h)
+use Rattle.a2_syntax.proofs.LineLaws.{HasOperation-from, starred}
+use Rattle.a2_syntax.proofs.Deciding.{Found, tested, where_so, told, and_then, or_else}
 
 pub some : {X : Type 0} (x : X) (xs : List X) → x ∷ xs ≡ [] → ⊥
 some x xs e = cc
@@ -51,18 +50,18 @@ read_pieces (suc most) text =
     tested (is_over (behind_blanks text)) (λ h. Some ([], Spells-over text h))
     (λ _. where_so (nat_lt 0 (piece_len (behind_blanks text))) (λ some.
     and_then (read_pieces most (drop (piece_len (behind_blanks text)) (behind_blanks text)))
-    (λ (more, is). Some (take (piece_len (behind_blanks text)) (behind_blanks text) ∷ more, Spells-more text (behind_blanks text) more refl (below some) is))))
+    (λ (more, is). Some (take (piece_len (behind_blanks text)) (behind_blanks text) ∷ more, Spells-more text (behind_blanks text) more refl (ltb-true 0 _ some) is))))
 
 -- Expressions
 
 abbrev pub read_term : {A : Type 0} (piece : List ℕ) → Found (IsTerm {A = A} piece)
 read_term piece =
-    or_else (and_then (same_bytes piece (codes "*")) (λ e. Some (Here, e)))
+    or_else (where_so (is_byte 42 piece) (λ h. Some (Here, byte-is 42 piece h)))
     (told (number piece) (λ n e. Some (Number n, e)) (λ _. where_so (is_name piece) (λ h. Some (Named piece, (refl, h)))))
 
 abbrev pub read_sign : (piece : List ℕ) → Found (IsSign piece)
 read_sign piece =
-    or_else (and_then (same_bytes piece (codes "+")) (λ e. Some (false, e))) (and_then (same_bytes piece (codes "-")) (λ e. Some (true, e)))
+    or_else (where_so (is_byte 43 piece) (λ h. Some (false, byte-is 43 piece h))) (where_so (is_byte 45 piece) (λ h. Some (true, byte-is 45 piece h)))
 
 abbrev pub read_more : {A : Type 0} (pieces : List (List ℕ)) → Found (AreMoreTerms {A = A} pieces)
 read_more [] = Some ([], refl)
@@ -82,11 +81,18 @@ read_expr pieces =
     and_then (read_terms (part_of pieces).1)
     (λ (terms, are). Some (record { part = (part_of pieces).0; terms = terms }, ((part_of pieces).1, part-is pieces, are)))
 
+-- pieces cut at their first comma
+abbrev pub read_cut : (pieces : List (List ℕ)) → Option ((front back : List (List ℕ)) × (pieces ≡ front ++ codes "," ∷ back))
+read_cut [] = None
+read_cut (piece ∷ more) =
+    tested (is_byte 44 piece) (λ h. Some ([], more, ap (λ p. p ∷ more) (byte-is 44 piece h)))
+    (λ _. and_then (read_cut more) (λ (front, back, e). Some (piece ∷ front, back, ap (λ ps. piece ∷ ps) e)))
+
 -- expressions with commas between them, at most so many
 abbrev pub read_exprs : {A : Type 0} (most : ℕ) (pieces : List (List ℕ)) → Found (AreExprs {A = A} pieces)
 read_exprs zero pieces = None
 read_exprs {A} (suc most) pieces =
-    told (cut_at same_bytes (codes ",") pieces)
+    told (read_cut pieces)
     (λ (front, back, e) _. and_then (read_expr front) (λ (first, is). and_then (read_exprs most back) (λ (others, are). longer front back e first is others are)))
     (λ _. and_then (read_expr pieces) (λ (only, is). Some (only ∷ [], is)))
   where
@@ -108,15 +114,21 @@ abbrev pub read_operand_of : {A : Type 0} (m : Mnemonic) (pieces : List (List �
 read_operand_of m [] = tested (is_shift m) (λ h. Some (Accumulator, inr (h, refl))) (λ h. Some (Nothing, (h, refl)))
 read_operand_of m (piece ∷ more) = and_then (read_operand (piece ∷ more)) (λ (operand, is). Some (operand, operand_of-to m (piece ∷ more) (λ _ e. some piece more e) operand is))
 
+-- what stands before a last byte
+abbrev pub read_last : (last : ℕ) (bytes : List ℕ) → Option ((front : List ℕ) × (bytes ≡ front ++ last ∷ []))
+read_last last [] = None
+read_last last (c ∷ []) = where_so (c == last) (λ h. Some ([], ap (λ z. z ∷ []) (eqb-true c last h)))
+read_last last (c ∷ d ∷ more) = and_then (read_last last (d ∷ more)) (λ (front, e). Some (c ∷ front, ap (λ zs. c ∷ zs) e))
+
 -- characters in quotes
 abbrev pub read_text : (pieces : List (List ℕ)) → Found (IsText pieces)
 read_text [] = None
 read_text ([] ∷ more) = None
 read_text ((quote ∷ rest) ∷ next ∷ more) = None
 read_text ((quote ∷ rest) ∷ []) =
-    where_so (is_quote quote) (λ q. and_then (before_last same_number quote rest)
+    where_so (is_quote quote) (λ q. and_then (read_last quote rest)
     (λ (text, e). where_so (list_all (is_quotable quote) text) (λ all. where_so (nat_lt 0 (length text))
-    (λ some. Some (map (code_in quote) text, (quote, text, quote ∷ rest, refl, (q, AllPass-from_list_all (is_quotable quote) text all, ap (λ r. quote ∷ r) e), below some, refl))))))
+    (λ some. Some (map (code_in quote) text, (quote, text, quote ∷ rest, refl, (q, AllPass-from_list_all (is_quotable quote) text all, ap (λ r. quote ∷ r) e), ltb-true 0 _ some, refl))))))
 
 -- Lines
 
@@ -132,7 +144,7 @@ read_operation operations.Ds pieces = and_then (read_expr pieces) (λ (e, is). S
 -- the operation of these letters, among some
 abbrev pub named_in : (all : List Operation) (word : List ℕ) → Option ((o : Operation) × (word ≡ letters_of o))
 named_in [] word = None
-named_in (o ∷ more) word = or_else (and_then (same_bytes word (letters_of o)) (λ e. Some (o, e))) (named_in more word)
+named_in (o ∷ more) word = or_else (where_so (bytes_eq word (letters_of o)) (λ h. Some (o, (bytes_eq-Decides word (letters_of o)).0 h))) (named_in more word)
 
 unfoldable pub read_name : (word : List ℕ) → Option ((o : Operation) × (word ≡ letters_of o))
 unfolding table
@@ -155,12 +167,11 @@ read_behind text label rest labelled =
     (λ (body, is). where_so (may_stand label body) (λ may. Some (record { label = label; body = body }, inr (rest, labelled, gap, is, may)))))
 
 abbrev pub read_line : {A : Type 0} (text : List ℕ) → Found (IsLine {A = A} text)
-read_line [] = read_behind [] None [] refl
-read_line (c ∷ cs) =
-    or_else (and_then (same_number c 42) (λ e. Some (record { label = None; body = Empty }, inl (cs, ap (λ x. x ∷ cs) e, refl, refl))))
-    (tested (is_gap (c ∷ cs)) (λ _. read_behind (c ∷ cs) None (c ∷ cs) refl)
-    (λ _. where_so (is_name (take (run_len (c ∷ cs)) (c ∷ cs)))
-    (λ name. read_behind (c ∷ cs) (Some (take (run_len (c ∷ cs)) (c ∷ cs))) (drop (run_len (c ∷ cs)) (c ∷ cs)) (sym (take-append-drop (run_len (c ∷ cs)) (c ∷ cs)), name))))
+read_line text =
+    or_else (where_so (is_starred text) (λ h. Some (record { label = None; body = Empty }, starred text h)))
+    (tested (is_gap text) (λ _. read_behind text None text refl)
+    (λ _. where_so (is_name (take (run_len text) text))
+    (λ name. read_behind text (Some (take (run_len text) text)) (drop (run_len text) text) (sym (take-append-drop (run_len text) text), name))))
 
 abbrev pub read_lines : {A : Type 0} (texts : List (List ℕ)) → Found (AreLines {A = A} texts)
 read_lines [] = Some ([], tt)
@@ -177,11 +188,9 @@ read_source text = option_map (λ found. found.0) (read text)
 
 pub read-is_source : (text : List ℕ) (source : List BareLine) → read_source text ≡ Some source → IsSource text source
 unfolding read_source
-read-is_source text source e = go (read text) e
-  where
-    go : (found : Found (IsSource text)) → option_map (λ f. f.0) found ≡ Some source → IsSource text source
-    go None e = absurd (false≢true (ap is_some e))
-    go (Some (lines, is)) e = subst (IsSource text) (ap (λ o. unwrap_or o lines) e) is
+read-is_source text source e = told (read text)
+    (λ found f. subst (IsSource text) (same_Some found.0 source (ap (option_map (λ it. it.0)) (sym f) ∙ e)) found.1)
+    (λ f. absurd (none-some source (ap (option_map (λ it. it.0)) (sym f) ∙ e)))
 
 -- every form of a line, of an operand and of a directive is read
 pub reads_each_form : is_some (read_source (codes "* A COMMENT\n ORG $400\nN EQU 6\nLOOP clc ; ANOTHER\n lda #<N\n LDA N+%10,X\n LDX N-'A',Y\n STA (N),Y\n ORA (N,X)\n JMP (LOOP)\n LSR\n LSR A\n BNE LOOP\n BEQ *\nT DFB 1,>T,N-1\n DW T,$1234\n ASC \"AB\"\n DS 3\n\n")) ≡ true
