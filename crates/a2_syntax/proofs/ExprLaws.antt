@@ -21,11 +21,21 @@ use Rattle.a2_syntax.specs.declared.source.Expr.{Expr}
 
 -- Terms
 
--- one byte that is a term is none of these
-term-byte : {A : Type 0} (c : ℕ) (t : Term A) → IsTerm (c ∷ []) t → is_among (codes "#,()Aa<>") c ≡ false
-term-byte c (Number n) h = grind (arith, nat_tests)
-term-byte c (Named name) h = grind (arith, nat_tests)
-term-byte c Here h = grind (arith, nat_tests)
+-- a piece that no expression has: `#`, `,`, `(`, `)` or the letter A alone
+abbrev pub is_outer : List ℕ → Bool
+is_outer (c ∷ []) = is_among (codes "#,()Aa") c
+is_outer piece = false
+
+-- a term is no such piece, and not the sign of a part
+term-not : {A : Type 0} (piece : List ℕ) (t : Term A) → IsTerm piece t → (is_outer piece ≡ false) × (is_byte 60 piece ≡ false) × (is_byte 62 piece ≡ false)
+term-not [] t h = (refl, refl, refl)
+term-not (c ∷ d ∷ ds) t h = (refl, refl, refl)
+term-not (c ∷ []) t h = let other = byte t h in (grind (arith, nat_tests), grind (arith, nat_tests), grind (arith, nat_tests))
+  where
+    byte : {A : Type 0} (t : Term A) → IsTerm (c ∷ []) t → is_among (codes "#,()Aa<>") c ≡ false
+    byte (Number n) h = grind (arith, nat_tests)
+    byte (Named name) h = grind (arith, nat_tests)
+    byte Here h = grind (arith, nat_tests)
 
 number-name : (piece : List ℕ) (n : ℕ) → number piece ≡ Some n → is_name piece ≡ true → ⊥
 number-name [] n h k = false≢true k
@@ -59,16 +69,10 @@ pub no-more : {A : Type 0} (ps : List (List ℕ)) (ts : List (Signed A)) → Are
 no-more ps [] h some few = omega (arith, ap length h, some)
 no-more ps (t ∷ ts) (sign, piece, more, e, _, _, _) some few = omega (arith, ap length e, few)
 
-pub terms-parts : {A : Type 0} {ps : List (List ℕ)} {piece : List ℕ} {rest : List (List ℕ)} (ts : List (Signed A)) → ps ≡ piece ∷ rest → AreTerms ps ts
-    → (t : Signed A) × (more : List (Signed A)) × (ts ≡ t ∷ more) × (t.minus ≡ false) × IsTerm piece t.term × AreMoreTerms rest more
-terms-parts [] e h = absurd h
-terms-parts {piece = piece} {rest = rest} (t ∷ more) e (p, rs, is, plus, k, m) =
-    let pieces : p ≡ piece = cc in
-    let rests : rs ≡ rest = cc in
-    (t, more, refl, plus, rw pieces at k, rw rests at m)
-
-same-signed : {A : Type 0} (a b : Signed A) → a.minus ≡ b.minus → a.term ≡ b.term → a ≡ b
-same-signed a b m t = λ i. record { minus = m i; term = t i }
+-- terms are further terms behind a `+`
+pub plus-terms : {A : Type 0} (ps : List (List ℕ)) (ts : List (Signed A)) → AreTerms ps ts → AreMoreTerms (codes "+" ∷ ps) ts
+plus-terms ps [] h = absurd h
+plus-terms ps (t ∷ ts) (piece, more, e, plus, term, are) = (codes "+", piece, more, ap (λ z. codes "+" ∷ z) e, rw plus refl, term, are)
 
 -- a sign is a minus where it is that byte
 sign-is : (sign : List ℕ) (m : Bool) → IsSign sign m → is_byte 45 sign ≡ m
@@ -80,15 +84,8 @@ AreMoreTerms-one ps [] [] h k = refl
 AreMoreTerms-one ps [] (y ∷ ys) h k = cc (k.3)
 AreMoreTerms-one ps (x ∷ xs) b (s, p, rest, e, sign, term, more) k =
     let (y, ys, is, mark, named, back) = more-parts b e k in
-    let first = same-signed x y (sym (sign-is s x.minus sign) ∙ sign-is s y.minus mark) (IsTerm-one p x.term y.term term named) in
-    (λ i. first i ∷ AreMoreTerms-one rest xs ys more back i) ∙ sym is
-
-AreTerms-one : {A : Type 0} (ps : List (List ℕ)) (a b : List (Signed A)) → AreTerms ps a → AreTerms ps b → a ≡ b
-AreTerms-one ps [] b h k = absurd h
-AreTerms-one ps (x ∷ xs) b (p, rest, e, plus, term, more) k =
-    let (y, ys, is, also, named, back) = terms-parts b e k in
-    let first = same-signed x y (plus ∙ sym also) (IsTerm-one p x.term y.term term named) in
-    (λ i. first i ∷ AreMoreTerms-one rest xs ys more back i) ∙ sym is
+    let signs : x.minus ≡ y.minus = sym (sign-is s x.minus sign) ∙ sign-is s y.minus mark in
+    (λ i. record { minus = signs i; term = IsTerm-one p x.term y.term term named i } ∷ AreMoreTerms-one rest xs ys more back i) ∙ sym is
 
 -- Expressions
 
@@ -107,17 +104,11 @@ part-is (p ∷ ps) = elim (cases_Bool (is_byte 60 p)) [
   ]
 ]
 
--- no term begins with the sign of a part
-term-part : {A : Type 0} (piece : List ℕ) (ps : List (List ℕ)) (t : Term A) → IsTerm piece t → part_of (piece ∷ ps) ≡ (Whole, piece ∷ ps)
-term-part [] ps t h = refl
-term-part (c ∷ []) ps t h = let other = term-byte c t h in grind (arith, nat_tests)
-term-part (c ∷ d ∷ ds) ps t h = refl
-
 IsExpr-part : {A : Type 0} (p : Part) (ps rest : List (List ℕ)) (ts : List (Signed A)) → IsPart p ps rest → AreTerms rest ts → part_of ps ≡ (p, rest)
 IsExpr-part Low ps rest ts e h = rw e refl
 IsExpr-part High ps rest ts e h = rw e refl
 IsExpr-part Whole ps rest [] e h = absurd h
-IsExpr-part Whole ps rest (t ∷ ts) e (piece, more, is, _, term, _) = rw (e, is) (term-part piece more t.term term)
+IsExpr-part Whole ps rest (t ∷ ts) e (piece, more, is, _, term, _) = let (_, low, high) = term-not piece t.term term in rw (e, is, low, high) refl
 
 expr-parts : {A : Type 0} (ps : List (List ℕ)) (e : Expr A) → IsExpr ps e → ((part_of ps).0 ≡ e.part) × AreTerms (part_of ps).1 e.terms
 expr-parts ps e (rest, p, h) = let same = IsExpr-part e.part ps rest e.terms p h in (ap (λ z. z.0) same, rw same h)
@@ -131,17 +122,7 @@ pub IsExpr-one : {A : Type 0} (ps : List (List ℕ)) (a b : Expr A) → IsExpr p
 IsExpr-one ps a b h k =
     let (p, ts) = expr-parts ps a h in
     let (q, us) = expr-parts ps b k in
-    λ i. record { part = (sym p ∙ q) i; terms = AreTerms-one (part_of ps).1 a.terms b.terms ts us i }
-
--- a piece that no expression has: `#`, `,`, `(`, `)` or the letter A alone
-abbrev pub is_outer : List ℕ → Bool
-is_outer (c ∷ []) = is_among (codes "#,()Aa") c
-is_outer piece = false
-
-term-inner : {A : Type 0} (piece : List ℕ) (t : Term A) → IsTerm piece t → is_outer piece ≡ false
-term-inner [] t h = refl
-term-inner (c ∷ []) t h = let other = term-byte c t h in grind (arith, nat_tests)
-term-inner (c ∷ d ∷ ds) t h = refl
+    λ i. record { part = (sym p ∙ q) i; terms = AreMoreTerms-one _ a.terms b.terms (plus-terms _ a.terms ts) (plus-terms _ b.terms us) i }
 
 sign-inner : (piece : List ℕ) (m : Bool) → IsSign piece m → is_outer piece ≡ false
 sign-inner piece false h = ap is_outer h
@@ -149,15 +130,11 @@ sign-inner piece true h = ap is_outer h
 
 more-inner : {A : Type 0} (ps : List (List ℕ)) (ts : List (Signed A)) → AreMoreTerms ps ts → list_any is_outer ps ≡ false
 more-inner ps [] h = rw h refl
-more-inner ps (t ∷ ts) (sign, piece, more, e, s, k, rest) = rw (e, sign-inner sign t.minus s, term-inner piece t.term k) (more-inner more ts rest)
+more-inner ps (t ∷ ts) (sign, piece, more, e, s, k, rest) = rw (e, sign-inner sign t.minus s, (term-not piece t.term k).0) (more-inner more ts rest)
 
 pub expr-inner : {A : Type 0} (ps : List (List ℕ)) (e : Expr A) → IsExpr ps e → list_any is_outer ps ≡ false
-expr-inner {A} ps e (rest, p, h) = by_part e.part ps p (terms-inner rest e.terms h)
+expr-inner ps e (rest, p, h) = by_part e.part ps p (more-inner (codes "+" ∷ rest) e.terms (plus-terms rest e.terms h))
   where
-    terms-inner : (rest : List (List ℕ)) (ts : List (Signed A)) → AreTerms rest ts → list_any is_outer rest ≡ false
-    terms-inner rest [] h = absurd h
-    terms-inner rest (t ∷ ts) (piece, more, e, m, k, behind) = rw (e, term-inner piece t.term k) (more-inner more ts behind)
-
     by_part : (p : Part) (ps : List (List ℕ)) → IsPart p ps rest → list_any is_outer rest ≡ false → list_any is_outer ps ≡ false
     by_part Whole ps e h = rw e h
     by_part Low ps e h = rw e h
@@ -167,11 +144,7 @@ pub outer-behind : (front back : List (List ℕ)) → list_any is_outer back ≡
 outer-behind front back h = list_any-append is_outer front back ∙ or_right _ _ h
 
 pub expr-some : {A : Type 0} (ps : List (List ℕ)) (e : Expr A) → IsExpr ps e → 0 < length ps
-expr-some {A} [] e h = absurd (none e.terms (expr-parts [] e h).1)
-  where
-    none : (ts : List (Signed A)) → AreTerms [] ts → ⊥
-    none [] h = h
-    none (t ∷ ts) h = cc (h.2)
+expr-some [] e h = absurd (no-more (codes "+" ∷ []) e.terms (plus-terms [] e.terms (expr-parts [] e h).1) (omega arith) (omega arith))
 expr-some (p ∷ ps) e h = omega arith
 
 -- Expressions with commas between them

@@ -1,6 +1,6 @@
-use Rattle.std.proofs.Common.{ap, arith, length, refl}
+use Rattle.std.proofs.Common.{◌∷◌, codes, ap, arith, length, refl}
 use Rattle.std.proofs.lemmas.List.{nil_from_length}
-use Rattle.a2_syntax.proofs.ExprLaws.{now, terms-parts}
+use Rattle.a2_syntax.proofs.ExprLaws.{now, plus-terms, more-parts}
 use Rattle.a2_syntax.proofs.expr.terms.Goals as goal
 
 pub more_terms-requires : goal.more_terms-requires
@@ -12,7 +12,7 @@ returns-then-others-eq0 g c = rw (c.of.ensures, c.push_reserved.ensures.items, c
 
 pub returns-then-not-branch : goal.returns-then-not-branch
 returns-then-not-branch g c = λ ts h.
-    (let (t, more, _, _, _, are) = terms-parts ts (ap now c.in-Some.ensures.cases.0) h in c.in_ok-more_terms.ensures.none c.if-not-branch.true more are)
+    (let (_, more, _, _, _, are) = more-parts ts (ap (λ ps. codes "+" ∷ now ps) c.in-Some.ensures.cases.0) (plus-terms _ ts h) in c.in_ok-more_terms.ensures.none c.if-not-branch.true more are)
 
 pub returns : goal.returns
 returns g c = let (more, is, are) = c.in_ok-more_terms.ensures.read c.if-not-branch.false in
