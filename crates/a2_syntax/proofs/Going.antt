@@ -1,5 +1,5 @@
 -- Loops over what is read from its front: what is left reads on behind what is read, and whatever reads all reads what is left.
-use Rattle.std.proofs.Common.{◌≡◌, List, [], ◌∷◌, ◌++◌, sym, ap, ◌∙◌, subst}
+use Rattle.std.proofs.Common.{List, [], ◌∷◌, ◌++◌, sym, subst}
 use Rattle.std.proofs.lemmas.List.{append_assoc, append-nil}
 
 pub record Leads {P X : Type 0} (R : P → List X → Type 0) (all rest : P) (done : List X) : Type 0 where
@@ -24,21 +24,3 @@ goes-end {R = R} {all = all} {done = done} g h = subst (R all) (append-nil done)
 pub goes-none : {P X : Type 0} {R : P → List X → Type 0} {all here : P} {done : List X} → Goes R all here done
     → ((more : List X) → R here more → ⊥) → (others : List X) → R all others → ⊥
 goes-none g none others h = let (more, is) = g.only others h in none more is
-
--- the same behind what was found before
-abbrev pub Continues : {P X : Type 0} (R : P → List X → Type 0) (all rest : P) (before found : List X) → Type 0
-Continues {X = X} R all rest before found = (done : List X) × (found ≡ before ++ done) × Goes R all rest done
-
-pub continues-more : {P X : Type 0} {R : P → List X → Type 0} {all here rest : P} (before : List X) {found : List X} (x : X) → Continues R all here before found
-    → ((more : List X) → R rest more → R here (x ∷ more)) → ((others : List X) → R here others → (more : List X) × R rest more)
-    → Continues R all rest before (found ++ x ∷ [])
-continues-more before x (done, e, g) to from =
-    (done ++ x ∷ [], ap (λ z. z ++ x ∷ []) e ∙ append_assoc before done (x ∷ []), goes-more x g to from)
-
-pub continues-end : {P X : Type 0} {R : P → List X → Type 0} {all here : P} (before : List X) {found : List X} → Continues R all here before found → R here []
-    → (more : List X) × (found ≡ before ++ more) × R all more
-continues-end before (done, e, g) h = (done, e, goes-end g h)
-
-pub continues-none : {P X : Type 0} {R : P → List X → Type 0} {all here : P} (before : List X) {found : List X} → Continues R all here before found
-    → ((more : List X) → R here more → ⊥) → (others : List X) → R all others → ⊥
-continues-none before (done, e, g) none = goes-none g none
