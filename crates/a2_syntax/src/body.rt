@@ -42,7 +42,7 @@ fn unquoted(piece: &[u8]) -> Option<(u8, &[u8])>
 
 // The codes of the characters in quotes of this kind.
 fn codes<A: Allocator>(alloc: A, quote: u8, text: &[u8]) -> Result<Bytes<A>, AllocError>
-    requires quotable { list_all (is_quotable quote) text.now ≡ true }
+    requires plain { All (λ c. c ≤ 127) text.now }
     requires short { length text.now ≤ 255 }
     ensures { IfOk result (λ bytes. bytes ≡ map (code_in quote) text.now) }
 {

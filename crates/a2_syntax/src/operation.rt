@@ -45,18 +45,25 @@ fn directive(letters: &[u8]) -> Option<Operation>
     }
 }
 
+// The directive that a word names, in either case.
+fn directive_named(word: &[u8]) -> Option<Operation>
+    ensures found { IfSome result (λ o. letters_of o ≡ map capital_of word.now) }
+    ensures none { IfNone result ((o : DeclaredOperation) → letters_of o ≡ map capital_of word.now → IsInstr o) }
+{
+    match word {
+        [a, b] => directive(&[capital(*a), capital(*b)]),
+        [a, b, c] => directive(&[capital(*a), capital(*b), capital(*c)]),
+        _ => None,
+    }
+}
+
 // The operation that a word names, in either case.
 pub(crate) fn named(word: &[u8]) -> Option<Operation>
     ensures found { IfSome result (λ o. letters_of o ≡ map capital_of word.now) }
     ensures only { (o : DeclaredOperation) → letters_of o ≡ map capital_of word.now → result ≡ Some o }
 {
-    let found = match word {
-        [a, b] => directive(&[capital(*a), capital(*b)]),
-        [a, b, c] => directive(&[capital(*a), capital(*b), capital(*c)]),
-        _ => None,
-    };
-    if found.is_some() {
-        return found;
+    match directive_named(word) {
+        Some(operation) => Some(operation),
+        None => Some(Operation::Instr(Mnemonic::named(word)?)),
     }
-    Some(Operation::Instr(Mnemonic::named(word)?))
 }
