@@ -125,6 +125,7 @@ fn shaped<A: Allocator>(shape: Shape, found: Option<Expr<A>>) -> Option<Operand<
 }
 
 // The operand that the pieces behind an operation are.
+#[inline(never)]
 pub(crate) fn operand<A: Allocator + Copy>(
     alloc: A,
     pieces: &[&[u8]],
