@@ -2,7 +2,7 @@
 use Rattle.std.proofs.Common.{◌≡◌, ℕ, ◌+◌, ◌-◌, ◌<◌, ◌≤◌, Bool, true, false, List, [], ◌∷◌, ◌++◌, length, take, drop, map, refl, sym, ap, ◌∙◌, inl, inr, arith, Option, Some, None, option_map, MatchOption, codes, get_or, if◌then◌else◌, Bor}
 use Rattle.std.proofs.lemmas.Bool.{false≢true, eqb-true, or_parts, or_right, cases_Bool, cases_lt, lt-ltb, le-ltb}
 use Rattle.std.proofs.lemmas.Bool.Decides.{nat_tests}
-use Rattle.std.proofs.lemmas.List.{take_all, take-append-drop, map-append, at_drop_more, take_rest}
+use Rattle.std.proofs.lemmas.List.{take_all, take-append-drop, map-append, take_rest}
 use Rattle.std.proofs.lemmas.List.Folds.{list_any-append}
 use Rattle.std.specs.Prelude.{nat_lt}
 use Rattle.std.specs.List.{list_any}
@@ -11,7 +11,7 @@ use Rattle.a2_syntax.specs.Names.{is_name}
 use Rattle.a2_syntax.specs.Numbers.{number}
 use Rattle.a2_syntax.specs.Grammar.{IsTerm, IsSign, AreMoreTerms, AreTerms, IsPart, IsExpr, AreExprs}
 use Rattle.a2_syntax.specs.Relations.{Finds}
-use Rattle.a2_syntax.specs.Reading.{is_byte, part_of, has_comma, BeginsComma}
+use Rattle.a2_syntax.specs.Reading.{is_byte, part_of, has_comma}
 use Rattle.a2_syntax.specs.declared.source.Term.{Term}
 use Rattle.a2_syntax.specs.declared.source.Term.TheVariants.{Number, Named, Here}
 use Rattle.a2_syntax.specs.declared.source.Signed.{Signed}
@@ -210,13 +210,11 @@ abbrev pub no_piece : Bor (List ℕ)
 no_piece = record { ref_ptr = (0, 0); now = [] }
 
 -- a place among pieces, at the first comma or at their end, cuts them
-pub place-cut : (ps : List (Bor (List ℕ))) (end : ℕ) → has_comma (now (take end ps)) ≡ false → BeginsComma (now (drop end ps))
+pub place-cut : (ps : List (Bor (List ℕ))) (end : ℕ) → has_comma (now (take end ps)) ≡ false → (end < length ps → now (drop end ps) ≡ codes "," ∷ now (drop (end + 1) ps))
     → IsCut (now ps) (now (take end ps)) (if nat_lt end (length ps) then Some (now (drop (end + 1) ps)) else None)
 place-cut ps end c h = elim (cases_lt end (length ps)) [
-  | inl lt ↦
-      let at = at_drop_more now ps end no_piece lt in
-      let comma = rw at at h in
-      rw (lt-ltb end (length ps) lt) (sym (ap now (take-append-drop end ps)) ∙ map-append _ (take end ps) (drop end ps) ∙ ap (λ z. now (take end ps) ++ z) (at ∙ ap (λ z. z ∷ now (drop (end + 1) ps)) comma), c)
+  | inl lt ↦ rw (lt-ltb end (length ps) lt)
+      (sym (ap now (take-append-drop end ps)) ∙ map-append _ (take end ps) (drop end ps) ∙ ap (λ z. now (take end ps) ++ z) (h lt), c)
   | inr ge ↦ rw (le-ltb end (length ps) ge) (ap now (sym (take_all end ps ge)), c)
 ]
 

@@ -21,6 +21,10 @@ pub record Placed (rest digits behind next : List ℕ) (n : ℕ) : Type 0 where
   pub is_number : number digits ≡ Some n
   pub next_is : next ≡ behind_blanks behind
 
+pub place : (rest : List ℕ) {here digits behind next : List ℕ} {n : ℕ} → here ≡ behind_blanks rest → digits ≡ take (run_len here) here → behind ≡ drop (run_len here) here
+    → number digits ≡ Some n → next ≡ behind_blanks behind → Placed rest digits behind next n
+place rest at word after is next = record { digits_are = rw (← at) word; behind_is = rw (← at) after; is_number = is; next_is = next }
+
 module _ {rest digits behind next : List ℕ} {n : ℕ} (p : Placed rest digits behind next n) where
   some-digits : 0 < run_len (behind_blanks rest)
   some-digits = omega (arith, some digits p.is_number, ap length p.digits_are, length-prefix_len is_name_byte (behind_blanks rest))

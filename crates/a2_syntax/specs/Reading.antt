@@ -1,5 +1,5 @@
 -- What stands at the front of a text, and kinds of operations. No public clause cites this file.
-use Rattle.std.specs.Prelude.{◌≡◌, ℕ, ◌+◌, Bool, ◌==◌, List, [], ◌∷◌, drop, codes, false, if◌then◌else◌}
+use Rattle.std.specs.Prelude.{ℕ, ◌+◌, Bool, ◌==◌, List, [], ◌∷◌, drop, false, if◌then◌else◌}
 use Rattle.std.specs.List.{prefix_len, list_any}
 use Rattle.a2_text.specs.Signs.{sign}
 use Rattle.a2_syntax.specs.Names.{is_name_byte}
@@ -52,11 +52,6 @@ part_of (piece ∷ pieces) =
 
 abbrev pub has_comma : List (List ℕ) → Bool
 has_comma pieces = list_any (is_byte (sign ",")) pieces
-
--- nothing, or a comma and more
-abbrev pub BeginsComma : List (List ℕ) → Type 0
-BeginsComma [] = Unit {0}
-BeginsComma (p ∷ ps) = p ≡ codes ","
 
 -- an instruction, and no directive
 abbrev pub IsInstr : Operation → Type 0

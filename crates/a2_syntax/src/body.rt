@@ -85,10 +85,13 @@ fn operand_of<A: Allocator + Copy>(
     requires { length pieces.now ≤ 255 }
     ensures { IfOk result (λ o. Finds (IsOperandOf mnemonic (map (λ x. x.now) pieces.now)) o) }
 {
-    if pieces.len() == 0 && is_shift(mnemonic) {
+    if pieces.len() > 0 {
+        return operand(alloc, pieces);
+    }
+    if is_shift(mnemonic) {
         return Ok(Some(Operand::Accumulator));
     }
-    operand(alloc, pieces)
+    Ok(Some(Operand::Nothing))
 }
 
 // What an operation does with these pieces behind it.

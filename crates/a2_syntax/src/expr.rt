@@ -1,10 +1,10 @@
 //! Expressions, alone and with commas between them.
 
-ghost use Rattle.std.specs.Prelude.{◌≡◌, ◌+◌, ◌≤◌, ◌++◌, List, take, drop, length, map, true, false, None, IfOk};
+ghost use Rattle.std.specs.Prelude.{◌<◌, ◌∷◌, codes, ◌≡◌, ◌+◌, ◌≤◌, ◌++◌, List, take, drop, length, map, true, false, None, IfOk};
 ghost use Rattle.a2_syntax.specs.Relations.{Finds};
 ghost use Rattle.a2_syntax.specs.Grammar.{AreMoreTerms, AreTerms, IsExpr, AreExprs};
 ghost use Rattle.a2_syntax.specs.Reading as reading;
-ghost use Rattle.a2_syntax.specs.Reading.{has_comma, BeginsComma};
+ghost use Rattle.a2_syntax.specs.Reading.{has_comma};
 ghost use Rattle.a2_syntax.specs.declared.source.Signed.{Signed as DeclaredSigned};
 
 use crate::source::{Expr, Exprs, Part, Signed, Terms};
@@ -111,7 +111,8 @@ pub(crate) fn expr<A: Allocator + Copy>(
 // Where the first comma is, or the end.
 fn comma_at(pieces: &[&[u8]]) -> usize
     ensures front { has_comma (map (λ x. x.now) (take result pieces.now)) ≡ false }
-    ensures comma { BeginsComma (map (λ x. x.now) (drop result pieces.now)) }
+    ensures comma { result < length pieces.now
+        → map (λ x. x.now) (drop result pieces.now) ≡ codes "," ∷ map (λ x. x.now) (drop (result + 1) pieces.now) }
     ensures within { result ≤ length pieces.now }
 {
     for (i, piece) in pieces.iter().enumerate() {

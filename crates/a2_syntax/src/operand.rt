@@ -1,6 +1,6 @@
 //! The operands of instructions.
 
-ghost use Rattle.std.specs.Prelude.{◌≡◌, ◌≤◌, length, map, IfOk, IfSome};
+ghost use Rattle.std.specs.Prelude.{◌≡◌, ◌<◌, ◌≤◌, length, map, IfOk, IfSome};
 ghost use Rattle.std.specs.Option.{option_map};
 ghost use Rattle.a2_syntax.specs.Relations.{Finds};
 ghost use Rattle.a2_syntax.specs.Reading.{is_byte};
@@ -124,18 +124,16 @@ fn shaped<A: Allocator>(shape: Shape, found: Option<Expr<A>>) -> Option<Operand<
     })
 }
 
-// The operand that the pieces behind an operation are.
+// The operand that pieces are, one or more.
 #[inline(never)]
 pub(crate) fn operand<A: Allocator + Copy>(
     alloc: A,
     pieces: &[&[u8]],
 ) -> Result<Option<Operand<A>>, AllocError>
-    requires { length pieces.now ≤ 255 }
+    requires some { 0 < length pieces.now }
+    requires few { length pieces.now ≤ 255 }
     ensures { IfOk result (λ o. Finds (IsOperand (map (λ x. x.now) pieces.now)) o) }
 {
-    if pieces.len() == 0 {
-        return Ok(Some(Operand::Nothing));
-    }
     if is_accumulator(pieces) {
         return Ok(Some(Operand::Accumulator));
     }

@@ -9,4 +9,4 @@ returns-then-is_accumulator g c = accumulator-is _ (sym c.is_accumulator.ensures
 pub returns : goal.returns
 returns g c =
     let ps = map (λ x. x.now) c.args.pieces.now in
-    rw c.shaped.ensures (operand-found ps _ _ c.shape_of-shape.ensures.is (omega (arith, length-map c.args.pieces.now (λ x. x.now), c.if-pieces-eq0.false)) (sym c.is_accumulator.ensures ∙ c.if-is_accumulator.false) c.in_ok-expr.ensures)
+    rw c.shaped.ensures (operand-found ps _ _ c.shape_of-shape.ensures.is (omega (arith, length-map c.args.pieces.now (λ x. x.now), c.requires.some)) (sym c.is_accumulator.ensures ∙ c.if-is_accumulator.false) c.in_ok-expr.ensures)

@@ -1,26 +1,19 @@
 use Rattle.std.proofs.Common.{◌∷◌, length, sym, ap, ◌∙◌, arith}
 use Rattle.std.proofs.lemmas.List.{length_push}
-use Rattle.a2_syntax.proofs.PlainLaws.{Placed, placed-shorter, numbers-end, numbers-more}
+use Rattle.a2_syntax.proofs.PlainLaws.{place, placed-shorter, numbers-end, numbers-more}
 use Rattle.a2_syntax.proofs.plain.numbers.Goals as goal
+
+pub numbers-init : goal.numbers-init
+numbers-init g c = record { reads = rw c.in_ok-found.ensures.items (record { back = λ es h. h }); count = omega (arith, ap length c.in_ok-found.ensures.items, c.requires) }
 
 pub returns-then-is_over : goal.returns-then-is_over
 returns-then-is_over g c =
-    let placed : Placed c.numbers.rest.now c.front_run.result.0.now c.front_run.result.1.now c.behind_blanks-next.result.now c.in-Some.n = record {
-      digits_are = rw (← c.behind_blanks.ensures) c.front_run.ensures.word;
-      behind_is = rw (← c.behind_blanks.ensures) c.front_run.ensures.rest;
-      is_number = sym c.number.ensures ∙ c.in-Some.is;
-      next_is = c.behind_blanks-next.ensures;
-    } in
+    let placed = place c.numbers.rest.now c.behind_blanks.ensures c.front_run.ensures.word c.front_run.ensures.rest (sym c.number.ensures ∙ c.in-Some.is) c.behind_blanks-next.ensures in
     rw (c.of.ensures, c.in_ok-push.ensures.items, c.in_ok-one_number.ensures) (numbers-end placed c.numbers.invariant.reads (sym c.is_over.ensures ∙ c.if-is_over.true))
 
 pub numbers-preserved : goal.numbers-preserved
 numbers-preserved g c =
-    let placed : Placed c.numbers.rest.now c.front_run.result.0.now c.front_run.result.1.now c.behind_blanks-next.result.now c.in-Some.n = record {
-      digits_are = rw (← c.behind_blanks.ensures) c.front_run.ensures.word;
-      behind_is = rw (← c.behind_blanks.ensures) c.front_run.ensures.rest;
-      is_number = sym c.number.ensures ∙ c.in-Some.is;
-      next_is = c.behind_blanks-next.ensures;
-    } in
+    let placed = place c.numbers.rest.now c.behind_blanks.ensures c.front_run.ensures.word c.front_run.ensures.rest (sym c.number.ensures ∙ c.in-Some.is) c.behind_blanks-next.ensures in
     let comma = c.in-Some-split_first.ensures.cases.0 ∙ ap (λ k. k ∷ c.in-Some-split_first.more.now) c.if-sign-ne44.false in
     record {
       reads = rw (c.in_ok-push.ensures.items, c.in_ok-one_number.ensures) (numbers-more placed c.numbers.invariant.reads comma);
