@@ -81,6 +81,5 @@ IsLine-bare B text line (inr (rest, label, gap, body, stands)) =
 
 pub AreLines-bare : {A : Type 0} (B : Type 0) (texts : List (List ℕ)) (lines : List (Line A)) → AreLines texts lines → AreLines {A = B} texts (map bare_line lines)
 AreLines-bare B [] [] h = h
-AreLines-bare B [] (l ∷ ls) h = absurd h
-AreLines-bare B (t ∷ ts) [] h = absurd h
 AreLines-bare B (t ∷ ts) (l ∷ ls) h = (IsLine-bare B t l h.0, AreLines-bare B ts ls h.1)
+AreLines-bare B _ _ h = absurd h

@@ -1,5 +1,5 @@
 -- A line has one reading at most.
-use Rattle.std.proofs.Common.{◌≡◌, ℕ, ◌<◌, Bool, true, false, List, [], ◌∷◌, ◌++◌, length, map, take, drop, refl, sym, ap, ◌∙◌, inl, inr, arith, Option, Some, None}
+use Rattle.std.proofs.Common.{◌≡◌, ℕ, ◌<◌, Bool, true, false, eqb, List, [], ◌∷◌, ◌++◌, length, map, take, drop, refl, sym, ap, ◌∙◌, inl, inr, arith, Option, Some, None}
 use Rattle.std.specs.List.{AllPass}
 use Rattle.std.proofs.lemmas.Bool.{false≢true, eqb-true}
 use Rattle.std.proofs.lemmas.Bool.Decides.{nat_tests}
@@ -23,16 +23,16 @@ use Rattle.a2_syntax.proofs.BodyLaws.{IsOperation-one}
 
 -- Words before a gap
 
+gap-first : (after : List ℕ) → is_gap after ≡ true → Stops is_name_byte after × (is_starred after ≡ false)
+gap-first [] h = (tt, refl)
+gap-first (c ∷ cs) h = byte c h
+  where
+    byte : (c : ℕ) → is_gap (c ∷ []) ≡ true → (is_name_byte c ≡ false) × (eqb c 42 ≡ false)
+    byte c h = (grind (arith, nat_tests), grind (arith, nat_tests))
+
 -- name bytes before a gap are the front of name bytes
 word-front : (text word after : List ℕ) → text ≡ word ++ after → AllPass is_name_byte word → is_gap after ≡ true → (take (run_len text) text ≡ word) × (drop (run_len text) text ≡ after)
-word-front text word after e h gap = let (_, front, back) = front-one is_name_byte word after h (stops after gap) in rw e (front, back)
-  where
-    stops : (after : List ℕ) → is_gap after ≡ true → Stops is_name_byte after
-    stops [] h = tt
-    stops (c ∷ cs) h = byte c h
-      where
-        byte : (c : ℕ) → is_gap (c ∷ []) ≡ true → is_name_byte c ≡ false
-        byte c h = grind (arith, nat_tests)
+word-front text word after e h gap = let (_, front, back) = front-one is_name_byte word after h (gap-first after gap).0 in rw e (front, back)
 
 -- Bodies
 
@@ -100,14 +100,7 @@ LabelIs-one word (Some x) (Some y) h k = cc
 label-at : (text rest : List ℕ) (label : Option (List ℕ)) → IsLabelled text label rest → is_gap rest ≡ true
     → (is_starred text ≡ false) × LabelIs (take (run_len text) text) label × (drop (run_len text) text ≡ rest)
 label-at text rest None e gap =
-    let (front, back) = word-front text [] rest e (All-nil (λ c. is_name_byte c ≡ true)) gap in (rw e (unstarred rest gap), front, back)
-  where
-    unstarred : (rest : List ℕ) → is_gap rest ≡ true → is_starred rest ≡ false
-    unstarred [] h = refl
-    unstarred (c ∷ cs) h = byte c h
-      where
-        byte : (c : ℕ) → is_gap (c ∷ []) ≡ true → is_starred (c ∷ []) ≡ false
-        byte c h = grind (arith, nat_tests)
+    let (front, back) = word-front text [] rest e (All-nil (λ c. is_name_byte c ≡ true)) gap in (rw e (gap-first rest gap).1, front, back)
 label-at text rest (Some []) (e, is) gap = absurd (false≢true is)
 label-at text rest (Some (c ∷ cs)) (e, is) gap =
     let bytes = name-bytes (c ∷ cs) is in

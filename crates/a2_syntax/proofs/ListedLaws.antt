@@ -1,14 +1,15 @@
 -- What a listing shows is read as what it lists.
 use Rattle.std.proofs.Common.{◌≡◌, ℕ, ◌/◌, ◌%◌, ◌<◌, ◌≤◌, true, eqb, ltb, List, [], ◌∷◌, ◌++◌, length, map, take, drop, refl, sym, ap, ◌∙◌, subst, inl, inr, arith, Option, Some, None}
 use Rattle.std.specs.Prelude.{codes, slice_index}
-use Rattle.std.specs.List.{AllPass, All}
-use Rattle.std.proofs.lemmas.Bool.{agree_below_at, eqb-true, false≢true, cases_lt, cond_both, lt-ltb}
+use Rattle.std.specs.List.{AllPass, All, list_all}
+use Rattle.std.proofs.lemmas.Bool.{agree_below_at, eqb-true, false≢true, cases_lt, cond_both, and_from}
 use Rattle.std.proofs.lemmas.Option.{cond_some}
 use Rattle.std.proofs.lemmas.List.{get_or_past, length-take}
 use Rattle.std.proofs.lemmas.List.Sums.{AllPass-from_list_all}
 use Rattle.std.proofs.lemmas.List.Elements.{All-nil, All-cons}
 use Rattle.a2_text.specs.Bytes.{is_blank, capital, digit, value_of_digits, is_digit_in}
 use Rattle.a2_text.specs.Digits.{hex_digit, hex_pair, hex_word}
+use Rattle.std.proofs.lemmas.Bool.Decides.{nat_tests}
 use Rattle.a2_opcode.specs.declared.Mnemonic.{Mnemonic}
 use Rattle.a2_opcode.specs.declared.Mnemonic.TheVariants.{Adc, Asl, Lsr, Rol, Ror}
 use Rattle.a2_opcode.specs.declared.Mode.{Mode}
@@ -43,6 +44,10 @@ hex-digit n h = (
   agree_below_at (λ n. is_name_byte (hex_digit n)) (λ _. true) 16 n refl h,
 )
 
+number-digits : (digits : List ℕ) → 0 < length digits → length digits ≤ 4 → list_all (is_digit_in 16) digits ≡ true → value_of_digits 16 digits < 65536
+    → number (36 ∷ digits) ≡ Some (value_of_digits 16 digits)
+number-digits digits some few all small = grind (arith, nat_tests)
+
 -- digits that stand for a number
 record Digits (digits : List ℕ) (n : ℕ) : Type 0 where
   some : 0 < length digits
@@ -56,8 +61,8 @@ pair-digits byte h =
     let v : value_of_digits 16 (hex_pair byte) ≡ byte = omega (arith, v1, v2) in
     record {
       some = omega arith;
-      names = AllPass-from_list_all is_name_byte (hex_pair byte) (rw (n1, n2) refl);
-      is = rw (d1, d2, v, lt-ltb byte 65536 (omega (arith, h))) refl;
+      names = AllPass-from_list_all is_name_byte (hex_pair byte) (and_from _ _ n1 (and_from _ _ n2 refl));
+      is = number-digits (hex_pair byte) (omega arith) (omega arith) (and_from _ _ d1 (and_from _ _ d2 refl)) (omega (arith, h, v)) ∙ ap Some v;
     }
 
 word-digits : (a : ℕ) → a < 65536 → Digits (hex_word a) a
@@ -69,8 +74,8 @@ word-digits a h =
     let v : value_of_digits 16 (hex_word a) ≡ a = omega (arith, v1, v2, v3, v4) in
     record {
       some = omega arith;
-      names = AllPass-from_list_all is_name_byte (hex_word a) (rw (n1, n2, n3, n4) refl);
-      is = rw (d1, d2, d3, d4, v, lt-ltb a 65536 h) refl;
+      names = AllPass-from_list_all is_name_byte (hex_word a) (and_from _ _ n1 (and_from _ _ n2 (and_from _ _ n3 (and_from _ _ n4 refl))));
+      is = number-digits (hex_word a) (omega arith) (omega arith) (and_from _ _ d1 (and_from _ _ d2 (and_from _ _ d3 (and_from _ _ d4 refl)))) (omega (arith, h, v)) ∙ ap Some v;
     }
 
 -- Operands

@@ -17,9 +17,8 @@ use Rattle.a2_syntax.proofs.ExprLaws.{now, no_piece}
 pub lines-push : {A : Type 0} (texts : List (List ℕ)) (lines : List (Line A)) (text : List ℕ) (line : Line A) → AreLines texts lines → IsLine text line
     → AreLines (texts ++ text ∷ []) (lines ++ line ∷ [])
 lines-push [] [] text line h is = (is, tt)
-lines-push [] (l ∷ ls) text line h is = absurd h
-lines-push (t ∷ ts) [] text line h is = absurd h
 lines-push (t ∷ ts) (l ∷ ls) text line h is = (h.0, lines-push ts ls text line h.1 is)
+lines-push _ _ text line h is = absurd h
 
 -- the line at a place, before which all are read, is the first that is not
 pub first-unread : {A : Type 0} (texts : List (Bor (List ℕ))) (i : ℕ) (parsed : List (Line A)) → i < length texts → AreLines (now (take i texts)) parsed

@@ -74,19 +74,15 @@ quote-stops q = grind (arith, nat_tests)
 
 -- Pieces
 
+ends-stops : (ys : List ℕ) → (EndsRun ys → Stops is_name_byte ys) × (Stops is_name_byte ys → EndsRun ys)
+ends-stops [] = (λ s. s, λ s. s)
+ends-stops (y ∷ ys) = (λ s. s, λ s. s)
+
 pub run-front : (xs : List ℕ) → 0 < run_len xs → IsNameRun (take (run_len xs) xs) (drop (run_len xs) xs)
-run-front xs h = (omega (arith, length-prefix_len is_name_byte xs), front-passes is_name_byte xs, ends (drop (run_len xs) xs) (rest-stops is_name_byte xs))
-  where
-    ends : (ys : List ℕ) → Stops is_name_byte ys → EndsRun ys
-    ends [] s = tt
-    ends (y ∷ ys) s = s
+run-front xs h = (omega (arith, length-prefix_len is_name_byte xs), front-passes is_name_byte xs, (ends-stops (drop (run_len xs) xs)).1 (rest-stops is_name_byte xs))
 
 run-length : (run rest : List ℕ) → IsNameRun run rest → run_len (run ++ rest) ≡ length run
-run-length run rest (some, passes, ends) = front-length is_name_byte run rest passes (stops rest ends)
-  where
-    stops : (ys : List ℕ) → EndsRun ys → Stops is_name_byte ys
-    stops [] s = tt
-    stops (y ∷ ys) s = s
+run-length run rest (some, passes, ends) = front-length is_name_byte run rest passes ((ends-stops rest).0 ends)
 
 quoted-length : (q : ℕ) (text rest : List ℕ) → AllPass (is_quotable q) text → quoted_len q ((text ++ q ∷ []) ++ rest) ≡ length text + 2
 quoted-length q text rest h =
