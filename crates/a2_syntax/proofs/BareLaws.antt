@@ -1,6 +1,5 @@
 -- The grammar says of a line what it says of the same line beside another allocator.
-use Rattle.std.specs.Prelude.{◌≡◌, ℕ, List, [], ◌∷◌, map, Option, None, IsTrue}
-use Rattle.std.proofs.Common.{refl, sym, ap, subst, inl, inr}
+use Rattle.std.proofs.Common.{refl, sym, ap, subst, inl, inr, ◌≡◌, ℕ, List, [], ◌∷◌, map, Option, None, IsTrue}
 use Rattle.a2_opcode.specs.declared.Mnemonic.{Mnemonic}
 use Rattle.a2_syntax.specs.Bare.{bare_term, bare_signed, bare_expr, bare_operand, bare_body, bare_line}
 use Rattle.a2_syntax.specs.Grammar.{IsTerm, AreMoreTerms, AreTerms, IsExpr, AreExprs, IsOperand, IsOperandOf, IsOperation, IsBody, may_stand, IsLine}

@@ -1,10 +1,9 @@
 -- Pieces are one expression at most, and so are those with commas between them.
-use Rattle.std.proofs.Common.{◌≡◌, ℕ, ◌+◌, ◌-◌, ◌<◌, ◌≤◌, Bool, true, false, List, [], ◌∷◌, ◌++◌, length, take, drop, map, refl, sym, ap, ◌∙◌, inl, inr, arith, Option, Some, None, option_map, MatchOption, codes, get_or, if◌then◌else◌, Bor}
+use Rattle.std.proofs.Common.{◌≡◌, ℕ, ◌+◌, ◌-◌, ◌<◌, ◌≤◌, Bool, true, false, List, [], ◌∷◌, ◌++◌, length, take, drop, map, refl, sym, ap, ◌∙◌, inl, inr, arith, Option, Some, None, option_map, MatchOption, codes, get_or, if◌then◌else◌, Bor, nat_lt}
 use Rattle.std.proofs.lemmas.Bool.{false≢true, eqb-true, or_parts, or_right, cases_Bool, cases_lt, lt-ltb, le-ltb}
 use Rattle.std.proofs.lemmas.Bool.Decides.{nat_tests}
 use Rattle.std.proofs.lemmas.List.{take_all, take-append-drop, map-append, take_rest}
 use Rattle.std.proofs.lemmas.List.Folds.{list_any-append}
-use Rattle.std.specs.Prelude.{nat_lt}
 use Rattle.std.specs.List.{list_any}
 use Rattle.a2_text.specs.Bytes.{is_among}
 use Rattle.a2_syntax.specs.Names.{is_name}

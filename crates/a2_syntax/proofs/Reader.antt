@@ -1,8 +1,7 @@
 -- A reader of source texts by recursion: for any text that it reads, the lines that it finds are the text's, by one
 -- computation. No code follows it; it is for proofs about given texts.
-use Rattle.std.specs.Prelude.{◌≡◌, ℕ, suc, zero, nat_lt, ◌==◌, true, false, List, [], ◌∷◌, ◌++◌, length, map, take, drop, codes, Option, Some, None, option_map, is_some, refl}
 use Rattle.std.specs.List.{list_all}
-use Rattle.std.proofs.Common.{sym, ap, ◌∙◌, subst, inl, inr}
+use Rattle.std.proofs.Common.{sym, ap, ◌∙◌, subst, inl, inr, ◌≡◌, ℕ, suc, zero, nat_lt, ◌==◌, true, false, List, [], ◌∷◌, ◌++◌, length, map, take, drop, codes, Option, Some, None, option_map, is_some, refl}
 use Rattle.std.specs.Str.{bytes_eq}
 use Rattle.std.proofs.lemmas.Bool.{eqb-true, ltb-true}
 use Rattle.std.proofs.lemmas.Option.{none-some, same_Some}

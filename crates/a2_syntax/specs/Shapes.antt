@@ -1,6 +1,5 @@
 -- What stands round the expression of an operand. No public clause cites this file.
-use Rattle.std.specs.Prelude.{ℕ, Bool, false, ◌==◌, List, [], ◌∷◌, Option, Some, None, if◌then◌else◌}
-use Rattle.std.specs.Option.{option_map, option_and_then}
+use Rattle.std.specs.Prelude.{ℕ, Bool, false, ◌==◌, List, [], ◌∷◌, Option, Some, None, option_map, option_and_then, if◌then◌else◌}
 use Rattle.a2_text.specs.Bytes.{capital}
 use Rattle.a2_text.specs.Signs.{sign}
 use Rattle.a2_syntax.specs.Reading.{is_byte}

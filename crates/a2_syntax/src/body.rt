@@ -5,8 +5,7 @@ ghost use Rattle.std.specs.List.{list_all, All};
 ghost use Rattle.a2_syntax.specs.Numbers.{is_quotable, code_in};
 ghost use Rattle.a2_syntax.specs.Pieces.{IsQuoted};
 ghost use Rattle.a2_syntax.specs.Relations.{Finds};
-ghost use Rattle.a2_syntax.specs.Grammar as grammar;
-ghost use Rattle.a2_syntax.specs.Grammar.{IsText, IsOperandOf, IsOperation};
+ghost use Rattle.a2_syntax.specs.Grammar.{is_shift, IsText, IsOperandOf, IsOperation};
 
 use crate::expr::{expr, exprs};
 use crate::operand::operand;
@@ -68,7 +67,7 @@ fn text<A: Allocator>(alloc: A, pieces: &[&[u8]]) -> Result<Option<Bytes<A>>, Al
 }
 
 fn is_shift(mnemonic: Mnemonic) -> bool
-    ensures { result ≡ grammar.is_shift mnemonic }
+    ensures { result ≡ is_shift mnemonic }
 {
     matches!(
         mnemonic,

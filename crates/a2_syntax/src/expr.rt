@@ -3,8 +3,7 @@
 ghost use Rattle.std.specs.Prelude.{◌<◌, ◌∷◌, codes, ◌≡◌, ◌+◌, ◌≤◌, ◌++◌, List, take, drop, length, map, true, false, None, IfOk};
 ghost use Rattle.a2_syntax.specs.Relations.{Finds};
 ghost use Rattle.a2_syntax.specs.Grammar.{AreMoreTerms, AreTerms, IsExpr, AreExprs};
-ghost use Rattle.a2_syntax.specs.Reading as reading;
-ghost use Rattle.a2_syntax.specs.Reading.{has_comma};
+ghost use Rattle.a2_syntax.specs.Reading.{is_byte, part_of, has_comma};
 ghost use Rattle.a2_syntax.specs.declared.source.Signed.{Signed as DeclaredSigned};
 
 use crate::source::{Expr, Exprs, Part, Signed, Terms};
@@ -68,7 +67,7 @@ fn terms<A: Allocator + Copy>(alloc: A, pieces: &[&[u8]]) -> Result<Option<Terms
 
 // Whether a piece is this one byte.
 pub(crate) fn is_byte(piece: &[u8], c: u8) -> bool
-    ensures { result ≡ reading.is_byte c piece.now }
+    ensures { result ≡ is_byte c piece.now }
 {
     match piece {
         [x] => *x == c,
@@ -78,7 +77,7 @@ pub(crate) fn is_byte(piece: &[u8], c: u8) -> bool
 
 // The part that an expression asks for, and the pieces of its terms.
 fn part<'a, 'b>(pieces: &'a [&'b [u8]]) -> (Part, &'a [&'b [u8]])
-    ensures is { (result.0, map (λ x. x.now) result.1.now) ≡ reading.part_of (map (λ x. x.now) pieces.now) }
+    ensures is { (result.0, map (λ x. x.now) result.1.now) ≡ part_of (map (λ x. x.now) pieces.now) }
     ensures within { length result.1.now ≤ length pieces.now }
 {
     let Some((first, rest)) = pieces.split_first() else {

@@ -2,8 +2,7 @@
 
 ghost use Rattle.std.specs.Prelude.{◌≡◌, ◌+◌, ◌≤◌, ℕ, List, true, false, take, drop, map, length, IfOk};
 ghost use Rattle.a2_syntax.specs.Numbers as numbers;
-ghost use Rattle.a2_syntax.specs.Pieces as pieces;
-ghost use Rattle.a2_syntax.specs.Pieces.{Spells};
+ghost use Rattle.a2_syntax.specs.Pieces.{is_sign, is_mark, is_over, is_gap, Spells};
 ghost use Rattle.a2_syntax.specs.Reading as reading;
 
 use crate::word::in_name;
@@ -71,7 +70,7 @@ pub(crate) fn front_run(text: &[u8]) -> (&[u8], &[u8])
 }
 
 fn is_sign(c: u8) -> bool
-    ensures { result ≡ pieces.is_sign c }
+    ensures { result ≡ is_sign c }
 {
     matches!(
         c,
@@ -80,14 +79,14 @@ fn is_sign(c: u8) -> bool
 }
 
 fn is_mark(c: u8) -> bool
-    ensures { result ≡ pieces.is_mark c }
+    ensures { result ≡ is_mark c }
 {
     c == b'$' || c == b'%'
 }
 
 // Whether there is nothing, or a comment.
 pub(crate) fn is_over(text: &[u8]) -> bool
-    ensures { result ≡ pieces.is_over text.now }
+    ensures { result ≡ is_over text.now }
 {
     match text.split_first() {
         None => true,
@@ -97,7 +96,7 @@ pub(crate) fn is_over(text: &[u8]) -> bool
 
 // Whether there is nothing, a blank or a comment.
 pub(crate) fn is_gap(text: &[u8]) -> bool
-    ensures { result ≡ pieces.is_gap text.now }
+    ensures { result ≡ is_gap text.now }
 {
     match text.split_first() {
         None => true,

@@ -1,5 +1,4 @@
-use Rattle.std.proofs.Common.{◌+◌, ◌≤◌, length, map}
-use Rattle.std.specs.Prelude.{vec_len, vec_capacity}
+use Rattle.std.proofs.Common.{◌+◌, ◌≤◌, length, map, vec_len, vec_capacity}
 use Rattle.a2_syntax.specs.Pieces.{Spells}
 use Rattle.a2_syntax.proofs.Going.{Goes}
 use Rattle.a2_syntax.proofs.piece.pieces.Given as goal
