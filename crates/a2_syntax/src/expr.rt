@@ -69,10 +69,7 @@ fn terms<A: Allocator + Copy>(alloc: A, pieces: &[&[u8]]) -> Result<Option<Terms
 pub(crate) fn is_byte(piece: &[u8], c: u8) -> bool
     ensures { result ≡ is_byte c piece.now }
 {
-    match piece {
-        [x] => *x == c,
-        _ => false,
-    }
+    matches!(piece, [x] if *x == c)
 }
 
 // The part that an expression asks for, and the pieces of its terms.

@@ -54,10 +54,7 @@ fn needs_label<A: Allocator>(body: &Body<A>) -> bool
 fn is_starred(text: &[u8]) -> bool
     ensures { result ≡ is_starred text.now }
 {
-    match text {
-        [first, ..] => *first == b'*',
-        [] => false,
-    }
+    matches!(text, [b'*', ..])
 }
 
 // A line, or None where it is not in the grammar. The pieces found before are dropped.

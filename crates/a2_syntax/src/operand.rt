@@ -27,10 +27,7 @@ pub(crate) enum Shape {
 fn is_letter(piece: &[u8], c: u8) -> bool
     ensures { result ≡ shapes.is_letter c piece.now }
 {
-    match piece {
-        [x] => capital(*x) == c,
-        _ => false,
-    }
+    matches!(piece, [x] if capital(*x) == c)
 }
 
 // What stands behind a sign at the front.
@@ -67,10 +64,7 @@ fn indexed<'a, 'b>(pieces: &'a [&'b [u8]], c: u8) -> Option<&'a [&'b [u8]]>
 fn is_accumulator(pieces: &[&[u8]]) -> bool
     ensures { result ≡ shapes.is_accumulator (map (λ x. x.now) pieces.now) }
 {
-    match pieces {
-        [a] => is_letter(*a, b'A'),
-        _ => false,
-    }
+    matches!(pieces, [a] if is_letter(*a, b'A'))
 }
 
 // What stands in parentheses.

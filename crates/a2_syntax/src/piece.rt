@@ -88,10 +88,7 @@ fn is_mark(c: u8) -> bool
 pub(crate) fn is_over(text: &[u8]) -> bool
     ensures { result ≡ is_over text.now }
 {
-    match text.split_first() {
-        None => true,
-        Some((first, _)) => *first == b';',
-    }
+    matches!(text, [] | [b';', ..])
 }
 
 // Whether there is nothing, a blank or a comment.
