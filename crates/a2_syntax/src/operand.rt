@@ -117,7 +117,7 @@ fn shaped<A: Allocator>(shape: Shape, found: Option<Expr<A>>) -> Option<Operand<
     })
 }
 
-// The operand that pieces are, one or more.
+// The operand that pieces are, one or more. Apart from the function of a line, which so keeps its registers.
 #[inline(never)]
 pub(crate) fn operand<A: Allocator + Copy>(
     alloc: A,

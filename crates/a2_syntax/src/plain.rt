@@ -3,7 +3,7 @@
 ghost use Rattle.std.specs.Prelude.{◌≡◌, ◌≤◌, List, ℕ, length, IfOk, IfSome};
 ghost use Rattle.a2_syntax.specs.Pieces.{Spells};
 ghost use Rattle.a2_syntax.specs.Grammar.{IsOperation};
-ghost use Rattle.a2_syntax.specs.Listed.{one_number as number_expr};
+ghost use Rattle.a2_syntax.specs.Listed.{one_number};
 ghost use Rattle.a2_syntax.specs.Reading.{SpellsExprs};
 
 use crate::operation::Operation;
@@ -28,7 +28,7 @@ fn commas(text: &[u8]) -> usize
 
 // The expression that is one number.
 fn one_number<A: Allocator>(alloc: A, number: u16) -> Result<Expr<A>, AllocError>
-    ensures { IfOk result (λ e. e ≡ number_expr number) }
+    ensures { IfOk result (λ e. e ≡ one_number number) }
 {
     let mut terms = Vec::with_capacity(alloc, 1)?;
     terms.push_reserved(Signed {
