@@ -109,9 +109,9 @@ pub moves-alike : (s t new next : Stored) (n : ℕ) → LookAlike s t → sessio
 moves-alike s t new next n h same a b = record {
   programs = subst (λ p. AreAlike p next.program) (sym a.program) (subst (λ p. AreAlike s.program p) (sym b.program) h.programs);
   log = a.log ∙ h.log ∙ sym b.log;
-  count = count_is new ∙ ap (λ (session : Session). length session.earlier) same ∙ sym (count_is next);
+  count = sym (count_is new) ∙ ap (λ (session : Session). length session.earlier) same ∙ count_is next;
   breaks = a.breaks ∙ h.breaks ∙ sym b.breaks;
-  oldest = oldest_is new ∙ ap (λ (session : Session). session.oldest) same ∙ sym (oldest_is next);
+  oldest = sym (oldest_is new) ∙ ap (λ (session : Session). session.oldest) same ∙ oldest_is next;
   reruns = a.reruns ∙ h.reruns ∙ sym b.reruns;
 }
 
