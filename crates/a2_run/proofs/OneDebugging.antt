@@ -2,6 +2,7 @@
 use Rattle.std.specs.Prelude.{codes}
 use Rattle.std.specs.Option.{unwrap_or}
 use Rattle.std.proofs.Common.{◌≡◌, ℕ, List, ◌++◌, Option, Some, None, refl, sym, ap, ◌∙◌, inl, inr}
+use Rattle.std.proofs.lemmas.List.Elements.{All-nil}
 use Rattle.a2_text.specs.Lines.{lines}
 use Rattle.a2_syntax.specs.declared.fault.Fault.{Fault}
 use Rattle.a2_syntax.specs.Limits.{size_refusal}
@@ -44,7 +45,7 @@ one-debug-output source script output other a b =
 
 pub debugging-output : EachDebuggingHasOutput
 debugging-output source script program is fits =
-    let (output, are) = all_met Meets (codes ">") IsPast each_line (lines script) (begun program 0) tt in
+    let (output, are) = all_met Meets (codes ">") IsPast each_line (lines script) (begun program 0) (All-nil _) in
     (output, record { program = program; is_program = is; fits = fits; answers = are })
 
 pub one-debug-refusal : OneDebugRefusal
