@@ -1,45 +1,20 @@
--- The cells of an image.
-use Rattle.std.proofs.Common.{◌≡◌, ℕ, ◌<◌, Option, Some, None, inl, inr, length, set, replicate, arith, refl}
-use Rattle.std.specs.Prelude.{IfSome}
-use Rattle.std.proofs.lemmas.Bool.{cases_lt, cases_eq}
-use Rattle.std.proofs.lemmas.List.{get_or_past, get_or-set_same, get_or-set_other, set_past, get_or-replicate, length-replicate}
-use Rattle.a2_hex.specs.Images.{Cells, held, IsImage, ram_end}
+-- The cells of a new image.
+use Rattle.std.proofs.Common.{◌≡◌, ℕ, Option, Some, None, inl, inr, refl, length, replicate, arith}
+use Rattle.std.proofs.lemmas.Bool.{cases_lt}
+use Rattle.std.proofs.lemmas.List.{get_or_past, get_or-replicate, length-replicate}
+use Rattle.a2_hex.specs.Images.{Cells, held, ram_end}
 
--- the bytes in cells
-abbrev pub HasBytes : Cells → Type 0
-HasBytes cells = (a : ℕ) → IfSome (held cells a) (λ byte. byte < 256)
-
-both : (o : Option ℕ) (a : ℕ) → IfSome o (λ byte. byte < 256) → a < ram_end → IfSome o (λ byte. (a < ram_end) × (byte < 256))
-both None a h lt = tt
-both (Some byte) a h lt = (lt, h)
-
-pub cells-image : (cells : Cells) → length cells ≡ ram_end → HasBytes cells → IsImage (held cells)
-cells-image cells n h a = elim (cases_lt a (length cells)) [
-  | inl lt ↦ both (held cells a) a (h a) (omega arith)
-  | inr ge ↦ rw (get_or_past cells a None ge) tt
-]
-
-pub set-bytes : (cells : Cells) (i byte : ℕ) → byte < 256 → HasBytes cells → HasBytes (set cells i (Some byte))
-set-bytes cells i byte small h a = elim (cases_lt i (length cells)) [
-  | inl lt ↦ elim (cases_eq a i) [
-    | inl e ↦ rw (e, get_or-set_same cells i (Some byte) None lt) small
-    | inr n ↦ rw (get_or-set_other cells i a (Some byte) None n) (h a)
-  ]
-  | inr ge ↦ rw (set_past cells i (Some byte) ge) (h a)
-]
-
--- New cells
-
--- what follows from: all of which P holds is None
-pub if_only_none : (P : Option ℕ → Type 0) (Q : Type 0) → (((o : Option ℕ) → P o → o ≡ None) → Q) → ((byte : ℕ) → P (Some byte) → ⊥) → Q
-if_only_none P Q follows never = follows only
+-- all of which P holds is None, so cells made of such have no byte
+pub empty-cells : (P : Option ℕ → Type 0) (cells : Cells) (n : ℕ) → (((o : Option ℕ) → P o → o ≡ None) → cells ≡ replicate n None) → ((byte : ℕ) → P (Some byte) → ⊥) → n ≡ ram_end
+    → (length cells ≡ ram_end) × ((a : ℕ) → held cells a ≡ None)
+empty-cells P cells n made never size = rw (made only, size) (length-replicate {A = Option ℕ} ram_end None, at)
   where
     only : (o : Option ℕ) → P o → o ≡ None
     only None p = refl
     only (Some byte) p = absurd (never byte p)
 
-pub empty_cells : (n a : ℕ) → held (replicate n None) a ≡ None
-empty_cells n a = elim (cases_lt a n) [
-  | inl lt ↦ get_or-replicate n a None None lt
-  | inr ge ↦ get_or_past (replicate n None) a None (omega (arith, length-replicate {A = Option ℕ} n None, ge))
-]
+    at : (a : ℕ) → held (replicate ram_end None) a ≡ None
+    at a = elim (cases_lt a ram_end) [
+      | inl lt ↦ get_or-replicate ram_end a None None lt
+      | inr ge ↦ get_or_past (replicate ram_end None) a None (omega (arith, length-replicate {A = Option ℕ} ram_end None, ge))
+    ]

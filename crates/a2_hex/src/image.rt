@@ -1,10 +1,10 @@
 //! Bytes at addresses of RAM.
 
-ghost use Rattle.std.specs.Prelude.{◌≡◌, ◌<◌, ◌≤◌, ℕ, None, IfOk, OnErr, length, slice_index, unwrap_or, replicate, vec_len};
+ghost use Rattle.std.specs.Prelude.{◌≡◌, ◌<◌, ◌≤◌, ℕ, None, IfOk, OnErr, length, slice_index, unwrap_or};
 ghost use Rattle.a2_hex.specs.Images.{held, put, IsImage, IsWithin, ram_end};
 
 use crate::fault::HexFault;
-use std::alloc::{AllocError, Allocator, Global};
+use std::alloc::{Allocator, Global};
 use std::boxed::BoxedSlice;
 use std::marker::Model;
 
@@ -22,9 +22,9 @@ pub struct Image<A: Allocator = Global> {
 }
 
 impl<A: Allocator> Model for Image<A> {
-    ghost use Rattle.std.specs.Prelude.{◌≡◌, ◌<◌, ◌≤◌, ℕ, length, IfSome};
+    ghost use Rattle.std.specs.Prelude.{◌≡◌, ◌≤◌, length};
     ghost use Rattle.std.specs.Box.{boxed_slice_items, boxed_slice_len};
-    ghost use Rattle.a2_hex.specs.Images.{Cells, held, IsWithin, ram_end};
+    ghost use Rattle.a2_hex.specs.Images.{Cells, held, IsImage, IsWithin, ram_end};
 
     ghost Value = { Cells };
 
@@ -32,7 +32,7 @@ impl<A: Allocator> Model for Image<A> {
 
     ghost invariant = { λ image.
         (length (boxed_slice_items image.cells) ≡ ram_end)
-        × ((a : ℕ) → IfSome (held (boxed_slice_items image.cells) a) (λ byte. byte < 256))
+        × IsImage (held (boxed_slice_items image.cells))
         × IsWithin (boxed_slice_items image.cells) image.start image.end
         × (image.end ≤ ram_end) × (boxed_slice_len image.cells ≡ ram_end) };
 }
@@ -43,7 +43,7 @@ impl<A: Allocator> Image<A> {
         ensures empty { IfOk result (λ image. (a : ℕ) → held image a ≡ None) }
         ensures refused { OnErr result (result ≡ Err HexFault.Memory) }
     {
-        let cells = no_cells(alloc)?;
+        let cells: Vec<Option<u8>, A> = vec![in alloc; None; usize::from(RAM_END)]?;
         Ok(Image {
             cells: cells.into_boxed_slice(),
             start: RAM_END,
@@ -92,14 +92,6 @@ impl<A: Allocator> Image<A> {
     {
         lay_cells(self.cells.as_slice(), self.start, self.end, ram);
     }
-}
-
-// A cell without a byte for each address of RAM.
-fn no_cells<A: Allocator>(alloc: A) -> Result<Vec<Option<u8>, A>, AllocError>
-    ensures cells { IfOk result (λ cells. cells.items ≡ replicate ram_end None) }
-    ensures len { IfOk result (λ cells. vec_len cells ≡ ram_end) }
-{
-    vec![in alloc; None; usize::from(RAM_END)]
 }
 
 // Lays over RAM the bytes of cells that have none but from `start` up to `end`.

@@ -1,6 +1,6 @@
 //! Addresses and bytes in hexadecimal digits.
 
-ghost use Rattle.std.specs.Prelude.{◌≡◌, length};
+ghost use Rattle.std.specs.Prelude.{◌≡◌};
 ghost use Rattle.a2_hex.specs.ObjectLines as lines;
 
 use a2_text::number_in;
@@ -15,26 +15,10 @@ pub fn address_of(digits: &[u8]) -> Option<u16>
 
 /// The byte that 1 or 2 hexadecimal digits of either case say; none where `digits` is anything else, blanks included.
 /// This project's profile.
+#[tactic(auto, using(crate::proofs::ByteLaws::byte_of_small), unfolding(crate::specs::ObjectLines::byte_of))]
 pub fn byte_of(digits: &[u8]) -> Option<u8>
     ensures { result ≡ lines.byte_of digits.now }
 {
-    match digits {
-        [_, _] => pair(digits),
-        _ => {
-            let byte = number_in(16, 2, digits)?;
-            Some(byte as u8)
-        }
-    }
-}
-
-// The byte that both its digits say.
-fn pair(digits: &[u8]) -> Option<u8>
-    requires { length digits.now ≡ 2 }
-    ensures { result ≡ lines.byte_of digits.now }
-{
-    let mut byte = [0u8; 1];
-    match hex::decode_to_slice(digits, &mut byte) {
-        Ok(()) => Some(byte[0]),
-        Err(_) => None,
-    }
+    let byte = number_in(16, 2, digits)?;
+    Some(byte as u8)
 }

@@ -23,6 +23,7 @@ pub struct StoreLine<'a> {
 
 /// The first byte of `text`, bytes of 1 or 2 hexadecimal digits with blanks between, and what stands behind it, which is
 /// shorter; none where the text is blank or its first word is no byte.
+#[tactic(auto, unfolding(crate::specs::ObjectLines::hex_bytes))]
 pub fn first_byte(text: &[u8]) -> Option<(u8, &[u8])>
     ensures bytes { MatchOption result (IfSome (hex_bytes text.now) (λ bytes. bytes ≡ []))
         (λ (byte, behind). hex_bytes text.now ≡ option_map (λ others. byte ∷ others) (hex_bytes behind.now)) }
@@ -37,6 +38,7 @@ pub fn first_byte(text: &[u8]) -> Option<(u8, &[u8])>
 
 /// How many bytes `text` has, 0 where it is blank; none where one of its words, which blanks part, is no byte of 1 or 2
 /// hexadecimal digits.
+#[tactic(auto, unfolding(crate::specs::ObjectLines::hex_bytes))]
 pub fn count_bytes(text: &[u8]) -> Option<usize>
     ensures { result ≡ option_map length (hex_bytes text.now) }
 {
@@ -59,6 +61,7 @@ fn colon(text: &[u8]) -> Option<usize>
 }
 
 // The address before `:`, or none where nothing stands there; or neither.
+#[tactic(auto, unfolding(crate::specs::ObjectLines::given_before))]
 fn given_before(front: &[u8]) -> Option<Option<u16>>
     ensures { result ≡ given_before front.now }
 {
@@ -72,6 +75,7 @@ fn given_before(front: &[u8]) -> Option<Option<u16>>
 /// What the line in `text` stores: an address of 1 to 4 hexadecimal digits or none, `:`, and bytes of 1 or 2 digits with
 /// blanks between. Blanks may also stand at both ends and behind `:`, and nowhere else. None where the line has another
 /// form.
+#[tactic(auto, using(crate::proofs::StoreLaws::store_of_position, std::proofs::lemmas::List::take_rest))]
 pub fn store_line(text: &[u8]) -> Option<StoreLine<'_>>
     ensures none { IsNone result → store_of text.now ≡ None }
     ensures line { IfSome result (λ line.

@@ -57,6 +57,7 @@ pub fn append_run<A: Allocator, const N: usize>(
 }
 
 // The line that begins at an address with this byte, and its line feed.
+#[tactic(auto, using(crate::proofs::WriteLaws::line_parts))]
 fn line_at<A: Allocator>(image: &Image<A>, address: u16, first: u8) -> ArrayVec<u8, LINE_LEN>
     requires inside { address < ram_end }
     requires first { held image.now address ≡ Some first }

@@ -1,17 +1,11 @@
-use Rattle.std.proofs.Common.{ap, arith, ◌∙◌, length, ℕ, None, Option}
-use Rattle.std.proofs.lemmas.List.{length-replicate}
-use Rattle.a2_hex.proofs.ImageLaws.{empty_cells}
+use Rattle.std.proofs.Common.{◌∙◌, arith}
+use Rattle.a2_hex.proofs.ImageLaws.{empty-cells}
 use Rattle.a2_hex.proofs.image.Image.new.Goals as goal
-use Rattle.a2_hex.specs.Images.{ram_end}
 
 pub returns-clause-empty : goal.returns-clause-empty
-returns-clause-empty g c = λ a. rw (c.into_boxed_slice.ensures.items, c.in_ok-cells.ensures.cells) (empty_cells ram_end a)
+returns-clause-empty g c = rw c.into_boxed_slice.ensures.items ((empty-cells _ _ _ c.in_ok-cells.ensures.items_if_clones_equal (λ byte bad. bad) c.from.ensures).1)
 
 pub invariant_of-result : goal.invariant_of-result
-invariant_of-result g c = (
-  ap length (c.into_boxed_slice.ensures.items ∙ c.in_ok-cells.ensures.cells) ∙ length-replicate {A = Option ℕ} ram_end None,
-  λ a. rw (c.into_boxed_slice.ensures.items, c.in_ok-cells.ensures.cells, empty_cells ram_end a) tt,
-  (λ a _. rw (c.into_boxed_slice.ensures.items, c.in_ok-cells.ensures.cells) (empty_cells ram_end a)),
-  omega arith,
-  c.into_boxed_slice.ensures.len ∙ c.in_ok-cells.ensures.len,
-)
+invariant_of-result g c =
+    let (size, none) = empty-cells _ _ _ c.in_ok-cells.ensures.items_if_clones_equal (λ byte bad. bad) c.from.ensures in
+    rw c.into_boxed_slice.ensures.items (size, (λ a. rw (none a) tt), (λ a _. none a), omega arith, c.into_boxed_slice.ensures.len ∙ c.in_ok-cells.ensures.len ∙ c.from.ensures)
