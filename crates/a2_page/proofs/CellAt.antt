@@ -1,6 +1,6 @@
 -- What is found at an address, from its arithmetic.
-use Rattle.std.specs.Prelude.{◌≡◌, ℕ, ◌+◌, ◌*◌, ◌/◌, ◌%◌, ◌<◌, ◌≤◌, Option, Some, None, refl}
-use Rattle.std.proofs.Common.{ap, ◌∙◌, arith}
+use Rattle.std.specs.Prelude.{◌≡◌, ℕ, ◌+◌, ◌*◌, ◌/◌, ◌%◌, ◌<◌, ◌≤◌, ◌⊎◌, Option, Some, None, refl}
+use Rattle.std.proofs.Common.{arith, inl, inr}
 use Rattle.a2_page.specs.declared.Page.{Page}
 use Rattle.a2_page.specs.declared.Page.TheVariants.{One, Two}
 use Rattle.a2_page.specs.Cells.{Cell, cell_at, address_of, base_of}
@@ -10,43 +10,27 @@ use Rattle.a2_page.proofs.Finding.{finds_each_cell, cell_at-stands, StandsAt}
 pub found_behind : (page : Page) (offset : ℕ) → offset < 1024 → offset % 128 < 120
     → cell_at (base_of page + offset) ≡ Some (record { page = page; row = offset / 128 + 8 * (offset % 128 / 40); column = offset % 128 % 40 })
 found_behind page offset small shown =
-    ap cell_at (is_address page)
-    ∙ finds_each_cell page (offset / 128 + 8 * (offset % 128 / 40)) (offset % 128 % 40) (omega arith) (omega arith)
-  where
-    is_address : (page : Page) → base_of page + offset ≡ address_of page (offset / 128 + 8 * (offset % 128 / 40)) (offset % 128 % 40)
-    is_address One = omega arith
-    is_address Two = omega arith
+    let is : base_of page + offset ≡ address_of page (offset / 128 + 8 * (offset % 128 / 40)) (offset % 128 % 40) = omega arith in
+    rw is (finds_each_cell page (offset / 128 + 8 * (offset % 128 / 40)) (offset % 128 % 40) (omega arith) (omega arith))
 
 -- what no cell's address is finds nothing
-nothing_at : (address : ℕ) → ((page : Page) (row column : ℕ) → row < 24 → column < 40 → address_of page row column ≡ address → ⊥) → cell_at address ≡ None
+nothing_at : (address : ℕ) → ((cell : Cell) → StandsAt address cell → ⊥) → cell_at address ≡ None
 nothing_at address differs = go (cell_at address) refl
   where
     go : (found : Option Cell) → cell_at address ≡ found → cell_at address ≡ None
     go None is = is
-    go (Some cell) is =
-        let h : StandsAt address cell = cell_at-stands address cell is in
-        absurd (differs cell.page cell.row cell.column h.row_ok h.column_ok h.address_is)
+    go (Some cell) is = absurd (differs cell (cell_at-stands address cell is))
+
+bases : (page : Page) → (base_of page ≡ 0x400) ⊎ (base_of page ≡ 0x800)
+bases One = inl refl
+bases Two = inr refl
 
 -- the last eight bytes of each 128 are in the gap
 pub gap_behind : (page : Page) (offset : ℕ) → offset < 1024 → 120 ≤ offset % 128 → cell_at (base_of page + offset) ≡ None
-gap_behind page offset small gap = nothing_at (base_of page + offset) (differs page)
-  where
-    differs : (p q : Page) (row column : ℕ) → row < 24 → column < 40 → address_of q row column ≡ base_of p + offset → ⊥
-    differs One One row column row_ok column_ok is = omega arith
-    differs One Two row column row_ok column_ok is = omega arith
-    differs Two One row column row_ok column_ok is = omega arith
-    differs Two Two row column row_ok column_ok is = omega arith
+gap_behind page offset small gap = nothing_at (base_of page + offset) (λ cell stands. grind (arith, bases page, bases cell.page))
 
 pub nothing_before : (address : ℕ) → address < 0x400 → cell_at address ≡ None
-nothing_before address low = nothing_at address differs
-  where
-    differs : (page : Page) (row column : ℕ) → row < 24 → column < 40 → address_of page row column ≡ address → ⊥
-    differs One row column row_ok column_ok is = omega arith
-    differs Two row column row_ok column_ok is = omega arith
+nothing_before address low = nothing_at address (λ cell stands. grind (arith, bases cell.page))
 
 pub nothing_after : (address : ℕ) → 0xC00 ≤ address → cell_at address ≡ None
-nothing_after address high = nothing_at address differs
-  where
-    differs : (page : Page) (row column : ℕ) → row < 24 → column < 40 → address_of page row column ≡ address → ⊥
-    differs One row column row_ok column_ok is = omega arith
-    differs Two row column row_ok column_ok is = omega arith
+nothing_after address high = nothing_at address (λ cell stands. grind (arith, bases cell.page))

@@ -1,5 +1,5 @@
 -- A piece that goes out in parts, as far as it has gone.
-use Rattle.std.proofs.Common.{◌≡◌, ℕ, List, [], ◌++◌, append_assoc, Result, Ok, Err, IsErr, refl, sym, ap, ◌∙◌, subst}
+use Rattle.std.proofs.Common.{◌≡◌, ℕ, List, [], ◌++◌, append_assoc, Result, Ok, Err, IsErr, refl, sym, ap, ◌∙◌}
 use Rattle.std.proofs.lemmas.List.{append-nil}
 use Rattle.a2_stream.specs.Stream.{Taker, Sends, Breaks, SendsOrBreaks}
 use Rattle.a2_stream.proofs.Joined.{Sends-nil, Sends-then, Breaks-then, Breaks-more}
@@ -23,14 +23,12 @@ left_more a b c whole rest part more is h p = record {
 
 -- nothing is left
 pub left_none : (a b : Taker) (whole rest : List ℕ) → rest ≡ [] → IsLeft a b whole rest → Sends a b whole
-left_none a b whole rest is h =
-    subst (Sends a b) (sym (append-nil h.sent) ∙ ap (λ xs. h.sent ++ xs) (sym is) ∙ h.parts) h.sends
+left_none a b whole rest is h = rw (← h.parts, is, append-nil) h.sends
 
 -- the next part broke off
 pub left_broken : (a b c : Taker) (whole rest part more : List ℕ) → rest ≡ part ++ more → IsLeft a b whole rest → Breaks b c part → Breaks a c whole
 left_broken a b c whole rest part more is h p =
-    subst (Breaks a c) (append_assoc h.sent part more ∙ ap (λ xs. h.sent ++ xs) (sym is) ∙ h.parts)
-    (Breaks-more a c (h.sent ++ part) more (Breaks-then a b c h.sent part h.sends p))
+    rw (← h.parts, is, ← append_assoc h.sent part more) (Breaks-more a c (h.sent ++ part) more (Breaks-then a b c h.sent part h.sends p))
 
 pub left_broke_off : {T E : Type 0} → (a b c : Taker) (r : Result T E) (whole rest part more : List ℕ) → IsErr r
     → rest ≡ part ++ more → IsLeft a b whole rest → Breaks b c part → SendsOrBreaks a c r whole
