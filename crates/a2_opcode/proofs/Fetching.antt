@@ -1,12 +1,13 @@
 -- Where a memory shows an instruction's bytes, the instruction is fetched.
-use Rattle.std.specs.Prelude.{◌≡◌, ℕ, zero, suc, ◌+◌, ◌-◌, ◌%◌, ◌<◌, ◌≤◌, List, [], ◌∷◌, length, true, Option, Some, None, slice_get, refl}
-use Rattle.std.proofs.Common.{sym, ap, ap₂, ◌∙◌, subst, arith}
+use Rattle.std.specs.Prelude.{◌≡◌, ℕ, zero, suc, ◌+◌, ◌-◌, ◌%◌, ◌<◌, ◌≤◌, List, [], ◌∷◌, length, Option, Some, None, IfSome, MatchOption, slice_get, refl}
+use Rattle.std.proofs.Common.{ap, ap₂, ◌∙◌, subst, arith}
 use Rattle.a2_opcode.specs.declared.Row.{Row}
 use Rattle.a2_opcode.specs.declared.Instr.{Instr}
-use Rattle.a2_opcode.specs.Table.{row_of, length_of, IsRowFor}
-use Rattle.a2_opcode.specs.Encoding.{value_of, can_have, operand_bytes, encoded, Fetched, no_byte, undocumented, instruction, bytes_from, fetched, Shows, IsFetchedFrom}
+use Rattle.a2_opcode.specs.Table.{row_of, length_of}
+use Rattle.arrayvec.specs.ArrayVec.{ArrayVec}
+use Rattle.a2_opcode.specs.Encoding.{value_of, operand_bytes, encoded, decoded, Fetched, no_byte, undocumented, instruction, bytes_from, fetched, Shows, IsFetchedFrom}
 use Rattle.a2_opcode.proofs.Lookup.{row-only, row_of-own}
-use Rattle.a2_opcode.proofs.RoundTrip.{coded, operand-length, value-back}
+use Rattle.a2_opcode.proofs.RoundTrip.{coded, decodes-back, operand-length, value-back}
 
 -- a memory that shows bytes without wrap
 pub shows-below : (peek : ℕ → Option ℕ) (at : ℕ) (bytes : List ℕ) → at + length bytes ≤ 65536
@@ -38,26 +39,31 @@ row_found peek at found =
 abbrev opcode_found : (ℕ → Option ℕ) → ℕ → Option ℕ → Fetched
 opcode_found peek at found = elim found [ None ↦ no_byte | Some opcode ↦ row_found peek at (row_of opcode) ]
 
-fetched-shown : (i : Instr) (at : ℕ) (r : Row) → at < 65536 → i.value < 65536 → IsRowFor i.mnemonic i.mode r
-    → can_have i.mode at i.value ≡ true → (peek : ℕ → Option ℕ) → Shows peek at (r.opcode ∷ operand_bytes i.mode at i.value)
-    → fetched peek at ≡ instruction r i.value
-unfolding fetched
-fetched-shown i at r a v is fits peek shown =
-    let operand : List ℕ = operand_bytes i.mode at i.value in
-    let first : peek at ≡ Some r.opcode = ap peek (omega (arith, a)) ∙ shown zero (omega arith) in
-    let many : length_of r.mode - 1 ≡ length operand = ap (λ m. length_of m - 1) is.mode_is ∙ sym (operand-length i.mode at i.value) in
-    let rest : bytes_from peek (at + 1) (length operand) ≡ Some operand =
-    shown-bytes peek operand (at + 1) (λ k lt. ap (λ j. peek (j % 65536)) (omega arith) ∙ shown (suc k) (omega (arith, lt))) in
-    ap (opcode_found peek at) first
-    ∙ ap (row_found peek at) (row_of-own r is.listed)
-    ∙ ap (λ n. operand_found r at (bytes_from peek (at + 1) n)) many
-    ∙ ap (operand_found r at) rest
-    ∙ ap (λ m. instruction r (value_of m at operand)) is.mode_is
-    ∙ ap (instruction r) (value-back i.mode at i.value a v fits)
-
 -- an instruction is fetched from where its bytes stand
 pub fetched-back : (i : Instr) (at : ℕ) (bytes : List ℕ) → at < 65536 → i.value < 65536 → encoded i at ≡ Some bytes → IsFetchedFrom i at bytes
+unfolding fetched
 fetched-back i at bytes a v e peek shown =
     let is = coded i at bytes e in
-    let shown' = subst (Shows peek at) is.bytes_are shown in
-    (is.row, row-only i.mnemonic i.mode is.row is.row_is, fetched-shown i at is.row a v is.row_is is.fits peek shown')
+    let operand : List ℕ = operand_bytes i.mode at i.value in
+    let shows : Shows peek at (is.row.opcode ∷ operand) = subst (Shows peek at) is.bytes_are shown in
+    let first : peek at ≡ Some is.row.opcode = ap peek (omega (arith, a)) ∙ shows zero (omega arith) in
+    let rest : bytes_from peek (at + 1) (length operand) ≡ Some operand =
+    shown-bytes peek operand (at + 1) (λ k lt. ap (λ j. peek (j % 65536)) (omega arith) ∙ shows (suc k) (omega (arith, lt))) in (
+      is.row,
+      row-only i.mnemonic i.mode is.row is.row_is,
+      ap (opcode_found peek at) first ∙ ap (row_found peek at) (row_of-own is.row is.row_is.listed)
+          ∙ rw (is.row_is.mode_is, ← operand-length i.mode at i.value) (ap (operand_found is.row at) rest ∙ rw (is.row_is.mode_is, value-back i.mode at i.value a v is.fits)),
+    )
+
+-- what is answered of an instruction, if it has bytes
+abbrev pub IsEncoding : Instr → ℕ → Option (ArrayVec ℕ) → Type 0
+IsEncoding i at result = MatchOption result (encoded i at ≡ None) (λ b. encoded i at ≡ Some b.items)
+
+module _ (i : Instr) (at : ℕ) (a : at < 65536) (v : i.value < 65536) where
+  pub decodes-told : (result : Option (ArrayVec ℕ)) → IsEncoding i at result → IfSome result (λ b. decoded b.items at ≡ Some i)
+  decodes-told None h = tt
+  decodes-told (Some b) h = decodes-back i at b.items a v h
+
+  pub fetched-told : (result : Option (ArrayVec ℕ)) → IsEncoding i at result → IfSome result (λ b. IsFetchedFrom i at b.items)
+  fetched-told None h = tt
+  fetched-told (Some b) h = fetched-back i at b.items a v h

@@ -1,84 +1,111 @@
--- The table's look-ups: what they find, and that they find each row.
-use Rattle.std.specs.Prelude.{◌≡◌, ℕ, ◌+◌, ◌*◌, ◌<◌, List, [], ◌∷◌, nat_eq, slice_index_or, Contains, Option, Some, None, IfSome, refl}
-use Rattle.std.proofs.Common.{sym, ap, ap₂, ◌∙◌, arith}
+-- The table's look-ups: what they find, that they find each row, and that the arrays are the lists of them.
+use Rattle.std.specs.Prelude.{◌≡◌, ℕ, ◌<◌, List, [], ◌∷◌, Bool, true, nat_eq, map, length, find, slice_get, slice_index_or, Contains, Option, Some, None, IfSome, option_map, refl}
+use Rattle.std.specs.List.{range_with_len, position_or_len}
+use Rattle.std.proofs.Common.{sym, ap, ◌∙◌, arith}
+use Rattle.std.proofs.lemmas.List.{get_or-map}
+use Rattle.std.proofs.lemmas.List.Folds.{find_at}
+use Rattle.std.proofs.lemmas.List.FromFn.{get_or-map-range_with_len}
+use Rattle.std.proofs.lemmas.List.Sums.{passes_at_first}
+use Rattle.std.proofs.lemmas.Option.{slice_get_within, get_or_from_slice_get}
 use Rattle.a2_opcode.specs.declared.Mnemonic.{Mnemonic}
 use Rattle.a2_opcode.specs.declared.Mnemonic.TheVariants.{Adc}
 use Rattle.a2_opcode.specs.declared.Mode.{Mode}
 use Rattle.a2_opcode.specs.declared.Mode.TheVariants.{Implied, Accumulator, Immediate, ZeroPage, ZeroPageX, ZeroPageY, Absolute, AbsoluteX, AbsoluteY, IndexedIndirect, IndirectIndexed, Indirect, Relative}
 use Rattle.a2_opcode.specs.declared.Row.{Row}
 use Rattle.a2_opcode.specs.declared.names.TheConstants.{MNEMONICS}
-use Rattle.a2_opcode.specs.Table.{table, row, row_of, mnemonic_number, mode_number, form_number, IsRowOf, IsRowFor}
-use Rattle.a2_opcode.proofs.Distinct.{opcodes_distinct, forms_distinct}
-use Rattle.a2_opcode.proofs.Finding.{found-is, found-by}
+use Rattle.a2_opcode.specs.declared.table.TheConstants.{ROWS, OPCODES}
+use Rattle.a2_opcode.specs.Table.{table, row, row_of, mnemonic_number, mode_number, form_number, IsRowOf, IsRowFor, DistinctOpcodes, DistinctForms}
+use Rattle.a2_opcode.specs.Entries.{opcode_in_table}
 use Rattle.a2_opcode.proofs.Comparing.{same-key}
+
+rows_count : length table ≡ 151
+unfolding table
+rows_count = refl
 
 -- a mnemonic stands at its number
 pub mnemonic-at : (m : Mnemonic) → slice_index_or MNEMONICS (mnemonic_number m) Adc ≡ m
 mnemonic-at Adc = refl
 mnemonic-at _ = refl
 
-abbrev pub modes : List Mode
+mnemonic_few : (m : Mnemonic) → mnemonic_number m < 56
+mnemonic_few Adc = omega arith
+mnemonic_few _ = omega arith
+
+abbrev modes : List Mode
 modes =
     Implied ∷ Accumulator ∷ Immediate ∷ ZeroPage ∷ ZeroPageX ∷ ZeroPageY ∷ Absolute ∷ AbsoluteX ∷ AbsoluteY
     ∷ IndexedIndirect ∷ IndirectIndexed ∷ Indirect ∷ Relative ∷ []
 
-pub mode-at : (m : Mode) → slice_index_or modes (mode_number m) Implied ≡ m
+mode-at : (m : Mode) → slice_index_or modes (mode_number m) Implied ≡ m
 mode-at Implied = refl
 mode-at _ = refl
 
-pub mode_few : (m : Mode) → mode_number m < 13
+mode_few : (m : Mode) → mode_number m < 13
 mode_few Implied = omega arith
 mode_few _ = omega arith
 
-pub mnemonic_few : (m : Mnemonic) → mnemonic_number m < 56
-mnemonic_few Adc = omega arith
-mnemonic_few _ = omega arith
-
 -- a number stands for one mnemonic and one mode
-same_mnemonic : (m n : Mnemonic) → mnemonic_number m ≡ mnemonic_number n → m ≡ n
+pub same_mnemonic : (m n : Mnemonic) → mnemonic_number m ≡ mnemonic_number n → m ≡ n
 same_mnemonic m n e = sym (mnemonic-at m) ∙ ap (λ k. slice_index_or MNEMONICS k Adc) e ∙ mnemonic-at n
 
 same_mode : (m n : Mode) → mode_number m ≡ mode_number n → m ≡ n
 same_mode m n e = sym (mode-at m) ∙ ap (λ k. slice_index_or modes k Implied) e ∙ mode-at n
 
--- what is found for a mnemonic and a mode
-split : (a b c d : ℕ) → b < 13 → d < 13 → 13 * a + b ≡ 13 * c + d → (a ≡ c) × (b ≡ d)
-split a b c d h k e = (omega (arith, h, k, e), omega (arith, h, k, e))
+-- what is found is in the table and passes the test
+found-is : (p : Row → Bool) (r : Row) → find p table ≡ Some r → Contains table r × (p r ≡ true)
+found-is p r e =
+    let k : ℕ = position_or_len p table in
+    let at : slice_get table k ≡ Some r = sym (find_at p table) ∙ e in
+    let inside = slice_get_within table k r at in
+    let same = get_or_from_slice_get table k r r at in
+    ((k, inside, same), ap p (sym same) ∙ passes_at_first p table r inside)
 
 pub row-is : (mnemonic : Mnemonic) (mode : Mode) (r : Row) → row mnemonic mode ≡ Some r → IsRowFor mnemonic mode r
 unfolding row
 row-is mnemonic mode r e =
-    let found = found-is (λ s. nat_eq (form_number s.mnemonic s.mode) (form_number mnemonic mode)) table r e in
-    let parts = split (mnemonic_number r.mnemonic) (mode_number r.mode) (mnemonic_number mnemonic) (mode_number mode)
-    (mode_few r.mode) (mode_few mode) (same-key (form_number r.mnemonic r.mode) (form_number mnemonic mode) found.1) in
-    record {
-      listed = found.0;
-      mnemonic_is = same_mnemonic r.mnemonic mnemonic parts.0;
-      mode_is = same_mode r.mode mode parts.1;
-    }
+    let (listed, passes) = found-is (λ s. nat_eq (form_number s.mnemonic s.mode) (form_number mnemonic mode)) r e in
+    let same = same-key (form_number r.mnemonic r.mode) (form_number mnemonic mode) passes in
+    let few = mode_few mode in
+    let r_few = mode_few r.mode in
+    record { listed = listed; mnemonic_is = same_mnemonic r.mnemonic mnemonic (omega arith); mode_is = same_mode r.mode mode (omega arith) }
 
--- what is found for an opcode
 pub row_of-is : (opcode : ℕ) (r : Row) → row_of opcode ≡ Some r → IsRowOf opcode r
 unfolding row_of
 row_of-is opcode r e =
-    let found = found-is (λ s. nat_eq s.opcode opcode) table r e in
-    record { listed = found.0; opcode_is = same-key r.opcode opcode found.1 }
+    let (listed, passes) = found-is (λ s. nat_eq s.opcode opcode) r e in
+    record { listed = listed; opcode_is = same-key r.opcode opcode passes }
 
--- each row is found by its form and by its opcode
+-- each row is found by its form and by its opcode: computed of all rows
+own : (look : Row → Option Row) → map look table ≡ map Some table → (r : Row) → Contains table r → look r ≡ Some r
+own look same r (k, inside, is) =
+    ap look (sym is) ∙ sym (get_or-map look table k r None inside) ∙ ap (λ l. slice_index_or l k None) same ∙ get_or-map Some table k r None inside ∙ ap Some is
+
+all-by-form : map (λ r. row r.mnemonic r.mode) table ≡ map Some table
+unfolding row table
+all-by-form = refl
+
+all-by-opcode : map (λ r. row_of r.opcode) table ≡ map Some table
+unfolding row_of table
+all-by-opcode = refl
+
 pub row-own : (r : Row) → Contains table r → row r.mnemonic r.mode ≡ Some r
-unfolding row
-row-own r at = found-by (λ s. form_number s.mnemonic s.mode) table forms_distinct r at
+row-own r at = own (λ r. row r.mnemonic r.mode) all-by-form r at
 
 pub row_of-own : (r : Row) → Contains table r → row_of r.opcode ≡ Some r
-unfolding row_of
-row_of-own r at = found-by (λ s. s.opcode) table opcodes_distinct r at
+row_of-own r at = own (λ r. row_of r.opcode) all-by-opcode r at
 
--- no other is found
+-- so no two share one, and no other is found
+pub distinct_opcodes : DistinctOpcodes
+distinct_opcodes r s at_r at_s same = (let r_own = row_of-own r at_r in let s_own = row_of-own s at_s in cc)
+
+pub distinct_forms : DistinctForms
+distinct_forms r s at_r at_s mnemonic mode = (let r_own = row-own r at_r in let s_own = row-own s at_s in cc)
+
 pub row_of-only : (opcode : ℕ) (r : Row) → IsRowOf opcode r → row_of opcode ≡ Some r
-row_of-only opcode r is = ap row_of (sym is.opcode_is) ∙ row_of-own r is.listed
+row_of-only opcode r is = rw (← is.opcode_is) (row_of-own r is.listed)
 
 pub row-only : (mnemonic : Mnemonic) (mode : Mode) (r : Row) → IsRowFor mnemonic mode r → row mnemonic mode ≡ Some r
-row-only mnemonic mode r is = ap₂ row (sym is.mnemonic_is) (sym is.mode_is) ∙ row-own r is.listed
+row-only mnemonic mode r is = rw (← is.mnemonic_is, ← is.mode_is) (row-own r is.listed)
 
 -- what an answer that is the look-up says
 pub row_of-told : (opcode : ℕ) (found : Option Row) → found ≡ row_of opcode → IfSome found (IsRowOf opcode)
@@ -88,3 +115,34 @@ row_of-told opcode (Some r) e = row_of-is opcode r (sym e)
 pub row-told : (mnemonic : Mnemonic) (mode : Mode) (found : Option Row) → found ≡ row mnemonic mode → IfSome found (IsRowFor mnemonic mode)
 row-told mnemonic mode None e = tt
 row-told mnemonic mode (Some r) e = row-is mnemonic mode r (sym e)
+
+-- the arrays
+
+rows_listed : ROWS ≡ map row_of (range_with_len 0 256)
+unfolding row_of table
+rows_listed = refl
+
+pub row-at : (opcode : ℕ) → opcode < 256 → slice_index_or ROWS opcode None ≡ row_of opcode
+row-at opcode few = ap (λ l. slice_index_or l opcode None) rows_listed ∙ get_or-map-range_with_len row_of 0 256 opcode opcode None few (omega arith)
+
+opcodes_listed : OPCODES ≡ map (λ mnemonic. map (opcode_in_table mnemonic) modes) MNEMONICS
+unfolding row table
+opcodes_listed = refl
+
+pub opcode-at : (mnemonic : Mnemonic) (mode : Mode) → slice_index_or (slice_index_or OPCODES (mnemonic_number mnemonic) []) (mode_number mode) None ≡ opcode_in_table mnemonic mode
+opcode-at mnemonic mode =
+    rw (
+      opcodes_listed,
+      get_or-map (λ m. map (opcode_in_table m) modes) MNEMONICS (mnemonic_number mnemonic) Adc [] (mnemonic_few mnemonic),
+      mnemonic-at mnemonic,
+      get_or-map (opcode_in_table mnemonic) modes (mode_number mode) Implied None (mode_few mode),
+      mode-at mode,
+    )
+
+-- a form's row is that of its opcode, if it has one
+pub row-by-opcode : (mnemonic : Mnemonic) (mode : Mode) (opcode : Option ℕ) → opcode ≡ opcode_in_table mnemonic mode → elim opcode [ None ↦ None | Some opcode ↦ row_of opcode ] ≡ row mnemonic mode
+row-by-opcode mnemonic mode opcode e = rw e (by (row mnemonic mode) refl)
+  where
+    by : (found : Option Row) → row mnemonic mode ≡ found → elim (option_map (λ (r : Row). r.opcode) found) [ None ↦ None | Some opcode ↦ row_of opcode ] ≡ found
+    by None is = refl
+    by (Some r) is = row_of-own r (row-is mnemonic mode r is).listed

@@ -17,13 +17,7 @@ impl Mode {
         match self {
             Mode::Implied | Mode::Accumulator => 1,
             Mode::Absolute | Mode::AbsoluteX | Mode::AbsoluteY | Mode::Indirect => 3,
-            Mode::Immediate
-            | Mode::ZeroPage
-            | Mode::ZeroPageX
-            | Mode::ZeroPageY
-            | Mode::IndexedIndirect
-            | Mode::IndirectIndexed
-            | Mode::Relative => 2,
+            _ => 2,
         }
     }
 }
@@ -64,12 +58,7 @@ fn value(mode: Mode, address: u16, operand: &[u8]) -> u16
             u16::from(operand[0]) + 256 * u16::from(operand[1])
         }
         Mode::Relative => branch_target(address, operand[0]),
-        Mode::Immediate
-        | Mode::ZeroPage
-        | Mode::ZeroPageX
-        | Mode::ZeroPageY
-        | Mode::IndexedIndirect
-        | Mode::IndirectIndexed => u16::from(operand[0]),
+        _ => u16::from(operand[0]),
     }
 }
 
@@ -92,32 +81,14 @@ fn with_operand(opcode: u8, mode: Mode, address: u16, value: u16) -> Option<Arra
         (λ b. (can_have mode address value ≡ true) × (b.items ≡ opcode ∷ operand_bytes mode address value)) }
 {
     match mode {
-        Mode::Implied | Mode::Accumulator => {
-            if value == 0 {
-                Some(joined(opcode, &[]))
-            } else {
-                None
-            }
-        }
+        Mode::Implied | Mode::Accumulator if value == 0 => Some(joined(opcode, &[])),
+        Mode::Implied | Mode::Accumulator => None,
         Mode::Absolute | Mode::AbsoluteX | Mode::AbsoluteY | Mode::Indirect => {
             Some(joined(opcode, &[(value % 256) as u8, (value / 256) as u8]))
         }
-        Mode::Relative => {
-            let offset = branch_offset(address, value)?;
-            Some(joined(opcode, &[offset]))
-        }
-        Mode::Immediate
-        | Mode::ZeroPage
-        | Mode::ZeroPageX
-        | Mode::ZeroPageY
-        | Mode::IndexedIndirect
-        | Mode::IndirectIndexed => {
-            if value < 256 {
-                Some(joined(opcode, &[value as u8]))
-            } else {
-                None
-            }
-        }
+        Mode::Relative => Some(joined(opcode, &[branch_offset(address, value)?])),
+        _ if value < 256 => Some(joined(opcode, &[value as u8])),
+        _ => None,
     }
 }
 
@@ -127,6 +98,7 @@ fn with_operand(opcode: u8, mode: Mode, address: u16, value: u16) -> Option<Arra
 /// instruction. None where the table has no row for its mnemonic and mode, where its value is out of range (0 alone for
 /// the implied and accumulator modes, 0 to 255 for the immediate and the zero-page modes), and where the distance of a
 /// branch's target from the following instruction, modulo 65,536, is outside -128 to 127.
+#[tactic(auto, unfolding(crate::specs::Encoding::encoded))]
 pub fn encode(instr: Instr, address: u16) -> Option<ArrayVec<u8, 3>>
     ensures bytes { MatchOption result (encoded instr address ≡ None) (λ b. encoded instr address ≡ Some b.items) }
     ensures length { IfSome result (λ b. length b.items ≡ length_of instr.mode) }
@@ -143,6 +115,7 @@ pub fn encode(instr: Instr, address: u16) -> Option<ArrayVec<u8, 3>>
 /// 65,536.
 ///
 /// None where there is no byte, where the first is no documented opcode, and where its operand is not whole.
+#[tactic(auto, unfolding(crate::specs::Encoding::decoded))]
 pub fn decode(bytes: &[u8], address: u16) -> Option<Instr>
     ensures value { result ≡ decoded bytes.now address }
     ensures whole { IfSome result (λ i. length_of i.mode ≤ length bytes.now) }

@@ -57,10 +57,12 @@ fn put_spaced(text: &mut ArrayString<32>, bytes: &[u8])
     ensures bytes { text.new.bytes ≡ text.old.bytes ++ join_with_byte 32 (map hex_pair_of bytes.now) }
     ensures length { array_string_len text.new ≡ array_string_len text.old + (3 * length bytes.now - 1) }
 {
-    for (index, byte) in bytes.iter().enumerate() {
-        if index > 0 {
-            text.push_str(" ");
-        }
+    let Some((first, rest)) = bytes.split_first() else {
+        return;
+    };
+    put_pair(text, *first);
+    for byte in rest {
+        text.push_str(" ");
         put_pair(text, *byte);
     }
 }
@@ -127,6 +129,7 @@ fn put_operand(text: &mut ArrayString<32>, mode: Mode, value: u16)
 /// Four digits of the address, `-`, three blanks, the instruction's bytes with one blank between, filled with blanks
 /// to eight places, three blanks, the mnemonic, and, where there is an operand, three blanks and the operand; of a
 /// branch its target. Bytes that are no whole documented instruction show the first of them as `???`.
+#[tactic(auto, unfolding(crate::specs::Listing::listing, crate::specs::Listing::listing_length))]
 pub fn list_line(bytes: &[u8], address: u16) -> Listed
     requires { 0 < length bytes.now }
     ensures text { result.text.bytes ≡ listing bytes.now address }

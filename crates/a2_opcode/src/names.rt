@@ -9,65 +9,16 @@ ghost use Rattle.a2_opcode.specs.Entries.{place_by};
 use crate::Mnemonic;
 use a2_text::capital;
 
+macro_rules! mnemonics {
+    ($($mnemonic:ident)*) => { [$(Mnemonic::$mnemonic),*] };
+}
+
 // The mnemonics in the order of the alphabet.
-static MNEMONICS: [Mnemonic; 56] = [
-    Mnemonic::Adc,
-    Mnemonic::And,
-    Mnemonic::Asl,
-    Mnemonic::Bcc,
-    Mnemonic::Bcs,
-    Mnemonic::Beq,
-    Mnemonic::Bit,
-    Mnemonic::Bmi,
-    Mnemonic::Bne,
-    Mnemonic::Bpl,
-    Mnemonic::Brk,
-    Mnemonic::Bvc,
-    Mnemonic::Bvs,
-    Mnemonic::Clc,
-    Mnemonic::Cld,
-    Mnemonic::Cli,
-    Mnemonic::Clv,
-    Mnemonic::Cmp,
-    Mnemonic::Cpx,
-    Mnemonic::Cpy,
-    Mnemonic::Dec,
-    Mnemonic::Dex,
-    Mnemonic::Dey,
-    Mnemonic::Eor,
-    Mnemonic::Inc,
-    Mnemonic::Inx,
-    Mnemonic::Iny,
-    Mnemonic::Jmp,
-    Mnemonic::Jsr,
-    Mnemonic::Lda,
-    Mnemonic::Ldx,
-    Mnemonic::Ldy,
-    Mnemonic::Lsr,
-    Mnemonic::Nop,
-    Mnemonic::Ora,
-    Mnemonic::Pha,
-    Mnemonic::Php,
-    Mnemonic::Pla,
-    Mnemonic::Plp,
-    Mnemonic::Rol,
-    Mnemonic::Ror,
-    Mnemonic::Rti,
-    Mnemonic::Rts,
-    Mnemonic::Sbc,
-    Mnemonic::Sec,
-    Mnemonic::Sed,
-    Mnemonic::Sei,
-    Mnemonic::Sta,
-    Mnemonic::Stx,
-    Mnemonic::Sty,
-    Mnemonic::Tax,
-    Mnemonic::Tay,
-    Mnemonic::Tsx,
-    Mnemonic::Txa,
-    Mnemonic::Txs,
-    Mnemonic::Tya,
-];
+static MNEMONICS: [Mnemonic; 56] = mnemonics!(
+    Adc And Asl Bcc Bcs Beq Bit Bmi Bne Bpl Brk Bvc Bvs Clc Cld Cli Clv Cmp Cpx Cpy Dec
+    Dex Dey Eor Inc Inx Iny Jmp Jsr Lda Ldx Ldy Lsr Nop Ora Pha Php Pla Plp Rol Ror Rti
+    Rts Sbc Sec Sed Sei Sta Stx Sty Tax Tay Tsx Txa Txs Tya
+);
 
 // Where the mnemonic with a name stands among all, by its letters as `place_of` weighs them, in which no two have the same
 // weight; 0 where none has.
@@ -106,69 +57,27 @@ fn spelled(letters: [u8; 3]) -> Option<Mnemonic>
     }
 }
 
+macro_rules! spellings {
+    ($self:expr; $($mnemonic:ident $name:literal)*) => {
+        match $self { $(Mnemonic::$mnemonic => $name),* }
+    };
+}
+
 impl Mnemonic {
     /// The three capital letters of the mnemonic.
     pub fn name(self) -> &'static str
         ensures { result.now ≡ name_of self }
     {
-        match self {
-            Mnemonic::Adc => "ADC",
-            Mnemonic::And => "AND",
-            Mnemonic::Asl => "ASL",
-            Mnemonic::Bcc => "BCC",
-            Mnemonic::Bcs => "BCS",
-            Mnemonic::Beq => "BEQ",
-            Mnemonic::Bit => "BIT",
-            Mnemonic::Bmi => "BMI",
-            Mnemonic::Bne => "BNE",
-            Mnemonic::Bpl => "BPL",
-            Mnemonic::Brk => "BRK",
-            Mnemonic::Bvc => "BVC",
-            Mnemonic::Bvs => "BVS",
-            Mnemonic::Clc => "CLC",
-            Mnemonic::Cld => "CLD",
-            Mnemonic::Cli => "CLI",
-            Mnemonic::Clv => "CLV",
-            Mnemonic::Cmp => "CMP",
-            Mnemonic::Cpx => "CPX",
-            Mnemonic::Cpy => "CPY",
-            Mnemonic::Dec => "DEC",
-            Mnemonic::Dex => "DEX",
-            Mnemonic::Dey => "DEY",
-            Mnemonic::Eor => "EOR",
-            Mnemonic::Inc => "INC",
-            Mnemonic::Inx => "INX",
-            Mnemonic::Iny => "INY",
-            Mnemonic::Jmp => "JMP",
-            Mnemonic::Jsr => "JSR",
-            Mnemonic::Lda => "LDA",
-            Mnemonic::Ldx => "LDX",
-            Mnemonic::Ldy => "LDY",
-            Mnemonic::Lsr => "LSR",
-            Mnemonic::Nop => "NOP",
-            Mnemonic::Ora => "ORA",
-            Mnemonic::Pha => "PHA",
-            Mnemonic::Php => "PHP",
-            Mnemonic::Pla => "PLA",
-            Mnemonic::Plp => "PLP",
-            Mnemonic::Rol => "ROL",
-            Mnemonic::Ror => "ROR",
-            Mnemonic::Rti => "RTI",
-            Mnemonic::Rts => "RTS",
-            Mnemonic::Sbc => "SBC",
-            Mnemonic::Sec => "SEC",
-            Mnemonic::Sed => "SED",
-            Mnemonic::Sei => "SEI",
-            Mnemonic::Sta => "STA",
-            Mnemonic::Stx => "STX",
-            Mnemonic::Sty => "STY",
-            Mnemonic::Tax => "TAX",
-            Mnemonic::Tay => "TAY",
-            Mnemonic::Tsx => "TSX",
-            Mnemonic::Txa => "TXA",
-            Mnemonic::Txs => "TXS",
-            Mnemonic::Tya => "TYA",
-        }
+        spellings!(self;
+            Adc "ADC" And "AND" Asl "ASL" Bcc "BCC" Bcs "BCS" Beq "BEQ" Bit "BIT"
+            Bmi "BMI" Bne "BNE" Bpl "BPL" Brk "BRK" Bvc "BVC" Bvs "BVS" Clc "CLC"
+            Cld "CLD" Cli "CLI" Clv "CLV" Cmp "CMP" Cpx "CPX" Cpy "CPY" Dec "DEC"
+            Dex "DEX" Dey "DEY" Eor "EOR" Inc "INC" Inx "INX" Iny "INY" Jmp "JMP"
+            Jsr "JSR" Lda "LDA" Ldx "LDX" Ldy "LDY" Lsr "LSR" Nop "NOP" Ora "ORA"
+            Pha "PHA" Php "PHP" Pla "PLA" Plp "PLP" Rol "ROL" Ror "ROR" Rti "RTI"
+            Rts "RTS" Sbc "SBC" Sec "SEC" Sed "SED" Sei "SEI" Sta "STA" Stx "STX"
+            Sty "STY" Tax "TAX" Tay "TAY" Tsx "TSX" Txa "TXA" Txs "TXS" Tya "TYA"
+        )
     }
 
     /// The mnemonic whose name a text is, in either case, if it is one.

@@ -1,7 +1,10 @@
-use Rattle.std.proofs.Common.{◌≡◌, ◌++◌, map, take}
-use Rattle.std.specs.List.{join_with_byte}
-use Rattle.a2_text.specs.Digits.{hex_pair}
+use Rattle.std.proofs.Common.{◌≡◌, ◌+◌, ◌*◌, ◌++◌, take, length}
+use Rattle.a2_opcode.proofs.Spacing.{spaced}
 use Rattle.a2_opcode.proofs.listing.put_spaced.Given as goal
 
-abbrev pub invariant-loop-index : goal.invariant-loop-index
-invariant-loop-index l = l.text.bytes ≡ l.initial.text.bytes ++ join_with_byte 32 (map hex_pair (take l.index l.bytes))
+abbrev pub invariant-loop-byte : goal.invariant-loop-byte
+invariant-loop-byte l = record {
+  bytes : l.text.bytes ≡ l.fn.text.bytes ++ spaced (take (l.byte-index + 1) l.bytes);
+  long : length l.text.bytes ≡ length l.fn.text.bytes + (3 * l.byte-index + 2);
+  some : length l.bytes ≡ length l.rest + 1;
+}

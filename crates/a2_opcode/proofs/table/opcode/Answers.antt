@@ -1,6 +1,6 @@
-use Rattle.std.proofs.Common.{◌∙◌}
-use Rattle.a2_opcode.proofs.Arrays.{opcode_at-listed}
+use Rattle.std.proofs.Common.{◌∙◌, rules}
+use Rattle.a2_opcode.proofs.Lookup.{opcode-at}
 use Rattle.a2_opcode.proofs.table.opcode.Goals as goal
 
 pub returns : goal.returns
-returns c = c.form_entry.ensures ∙ opcode_at-listed c.args.mnemonic c.args.mode
+returns c = search rules ∙ opcode-at c.args.mnemonic c.args.mode
