@@ -1,6 +1,6 @@
 -- The byte at an address of the memory that bytes and devices stand for, and of the memory at the start.
-use Rattle.std.specs.Prelude.{◌≡◌, ℕ, ◌<◌, List, Option, Some, None, refl}
-use Rattle.std.proofs.Common.{ap, ◌∙◌}
+use Rattle.std.specs.Prelude.{◌≡◌, ℕ, ◌<◌, List, Option, Some, None}
+use Rattle.std.proofs.Common.{ap, ◌∙◌, refl}
 use Rattle.a2_page.specs.declared.Page.{Page}
 use Rattle.a2_page.specs.declared.Page.TheVariants.{One, Two}
 use Rattle.a2_page.specs.Cells.{Cell, cell_at, address_of}
@@ -9,24 +9,20 @@ use Rattle.a2_page.proofs.Parts.{grid_of-byte}
 use Rattle.a2_page.proofs.Finding.{StandsAt, cell_at-stands}
 use Rattle.a2_bus.specs.Devices.{Devices}
 use Rattle.a2_bus.specs.Memory.{grid, ram_byte}
-use Rattle.a2_bus.specs.View.{memory_from, plain_from}
+use Rattle.a2_bus.specs.View.{memory_from}
 use Rattle.a2_bus.specs.PowerOn.{first_devices, loaded_byte, start_memory}
+use Rattle.a2_bus.proofs.Frame.{byte_of}
 
 -- a memory made from a function shows it
 pub ram_byte-from : (byte_at : ℕ → ℕ) (devices : Devices) (a : ℕ) → ram_byte (memory_from byte_at devices) a ≡ byte_at a
 unfolding ram_byte
 ram_byte-from byte_at devices a = go (cell_at a) refl
   where
-    in_page : (page : Page) (r c : ℕ) → r < 24 → c < 40
-        → byte_in (grid (memory_from byte_at devices) page) r c ≡ byte_at (address_of page r c)
-    in_page One r c low narrow = grid_of-byte (λ row column. byte_at (address_of One row column)) r c low narrow
-    in_page Two r c low narrow = grid_of-byte (λ row column. byte_at (address_of Two row column)) r c low narrow
+    in_page : (page : Page) (r c : ℕ) → r < 24 → c < 40 → byte_in (grid (memory_from byte_at devices) page) r c ≡ byte_at (address_of page r c)
+    in_page One = grid_of-byte (λ row column. byte_at (address_of One row column))
+    in_page Two = grid_of-byte (λ row column. byte_at (address_of Two row column))
 
-    go : (found : Option Cell) → cell_at a ≡ found
-        → (elim found [
-          | Some cell ↦ byte_in (grid (memory_from byte_at devices) cell.page) cell.row cell.column
-          | None ↦ plain_from byte_at a
-        ]) ≡ byte_at a
+    go : (found : Option Cell) → cell_at a ≡ found → byte_of (memory_from byte_at devices) a found ≡ byte_at a
     go (Some cell) is =
         let stands : StandsAt a cell = cell_at-stands a cell is in
         in_page cell.page cell.row cell.column stands.row_ok stands.column_ok ∙ ap byte_at stands.address_is

@@ -1,7 +1,7 @@
 -- What a view of a board's memory shows is what the memory does.
 use Rattle.std.specs.Prelude.{◌≡◌}
 use Rattle.a2_page.specs.declared.View.{View}
-use Rattle.a2_page.specs.Picture.{page_grid, shown_by, shown_page, picture, attribute_rows}
+use Rattle.a2_page.specs.Picture.{page_grid, shown_by, shown_page, picture}
 use Rattle.a2_bus.specs.BusState.{BusState}
 use Rattle.a2_bus.specs.BoardState.{page_shown}
 use Rattle.a2_bus.specs.View.{memory_of}
@@ -20,9 +20,3 @@ pub picture_seen : (view : View) (bus : BusState) → IsView view bus
     ≡ (let memory = memory_of bus in picture memory.devices.switches memory.page1 memory.page2)
 unfolding memory_of
 picture_seen view bus is = λ i. picture (is.switches i) (is.page1 i) (is.page2 i)
-
-pub attributes_seen : (view : View) (bus : BusState) → IsView view bus
-    → attribute_rows view.switches (page_grid view.page1.now) (page_grid view.page2.now)
-    ≡ (let memory = memory_of bus in attribute_rows memory.devices.switches memory.page1 memory.page2)
-unfolding memory_of
-attributes_seen view bus is = λ i. attribute_rows (is.switches i) (is.page1 i) (is.page2 i)
