@@ -1,7 +1,7 @@
 -- What a run writes is below 4,096 bytes.
 use Rattle.std.specs.Prelude.{codes, Some, slice_index}
 use Rattle.std.specs.Fmt.{decimal}
-use Rattle.std.proofs.Common.{◌≡◌, ℕ, zero, suc, ◌*◌, ◌^◌, ◌<◌, ◌≤◌, Bool, true, false, if◌then◌else◌, List, [], ◌∷◌, ◌++◌, length, map, take, drop, ap, ◌∙◌, subst, refl, arith, lit≤, lit<, length-append, length-take, length-drop}
+use Rattle.std.proofs.Common.{◌≡◌, ℕ, zero, suc, ◌*◌, ◌^◌, ◌<◌, ◌≤◌, Bool, true, false, if◌then◌else◌, List, [], ◌∷◌, ◌++◌, length, map, take, drop, ap, subst, arith, lit≤, lit<, length-append, length-take, length-drop}
 use Rattle.std.proofs.lemmas.List.{length-map}
 use Rattle.std.proofs.lemmas.Fmt.{length-decimal-le}
 use Rattle.a2_page.specs.Cells.{numbers_from, address_of}
@@ -10,11 +10,12 @@ use Rattle.a2_page.specs.Grid.{Grid, grid_of}
 use Rattle.a2_page.specs.declared.Switches.{Switches}
 use Rattle.a2_page.specs.Text.{row_line, lines_of, blocks_of, text_lines, block_lines, glyph, attribute_mark, block_digit}
 use Rattle.a2_page.specs.Picture as page
+use Rattle.a2_page.proofs.Parts.{mapped-length}
 use Rattle.a2_bus.specs.BusState.{BusState}
 use Rattle.a2_bus.specs.View.{memory_of}
 use Rattle.a2_core.specs.Registers.{Registers}
 use Rattle.a2_machine.specs.declared.Cause.{Cause}
-use Rattle.a2_machine.specs.declared.Cause.TheVariants.{Returned, CodeWrite, Window, Keys, OffStatement, Rom, Opcode, Brk, Decimal, Limit}
+use Rattle.a2_machine.specs.declared.Cause.TheVariants.{Returned}
 use Rattle.a2_machine.specs.Output.{line_of_digits, register_line, cause_line}
 use Rattle.a2_stream.specs.Stream.{Taker, Breaks}
 use Rattle.a2_run.specs.Meaning.{picture_of, attributes_of, screen}
@@ -52,13 +53,6 @@ length-lines character (row ∷ rows) h =
     omega (arith, length-append (row_line character row) (lines_of character rows), length-append (map character row) (10 ∷ []), length-map row character, h.0, length-lines character rows h.1)
 
 -- Two pages of 24 rows
-
-numbers-length : (first count : ℕ) → length (numbers_from first count) ≡ count
-numbers-length first zero = refl
-numbers-length first (suc count) = ap suc (numbers-length (suc first) count)
-
-mapped-length : {X : Type 0} (f : ℕ → X) (count : ℕ) → length (map f (numbers_from 0 count)) ≡ count
-mapped-length f count = length-map (numbers_from 0 count) f ∙ numbers-length 0 count
 
 record IsPage (rows : Grid) : Type 0 where
   narrow : AreNarrow rows
@@ -133,15 +127,7 @@ registers-few registers steps cycles s c =
 
 cause-few : (cause : Cause) → length (cause_line cause) ≤ 20
 cause-few Returned = lit≤ tt
-cause-few CodeWrite = lit≤ tt
-cause-few Window = lit≤ tt
-cause-few Keys = lit≤ tt
-cause-few OffStatement = lit≤ tt
-cause-few Rom = lit≤ tt
-cause-few Opcode = lit≤ tt
-cause-few Brk = lit≤ tt
-cause-few Decimal = lit≤ tt
-cause-few Limit = lit≤ tt
+cause-few _ = lit≤ tt
 
 -- screen, register line and cause line together
 pub output-few : (attr : Bool) (bus : BusState) (registers : Registers) (steps cycles : ℕ) (cause : Cause) → steps < 2 ^ 64 → cycles < 2 ^ 64

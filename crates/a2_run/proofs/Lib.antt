@@ -1,5 +1,4 @@
 pub mod Reading
-pub mod Fronts
 pub mod Screens
 pub mod Runs
 pub mod OneText
@@ -7,7 +6,6 @@ pub mod FreeText
 pub mod EachText
 pub mod Refusing
 pub mod Scripting
-pub mod ScriptReading
 pub mod Lengths
 pub mod Replying
 pub mod DebugScripting

@@ -21,7 +21,6 @@ use Rattle.a2_run.proofs.Replying.{all_met, all_one}
 use Rattle.a2_run.proofs.DebugScripting.{IsPast, each_line}
 use Rattle.a2_run.proofs.OneText.{alike, first-refusal-one, refused-no-program}
 use Rattle.a2_run.proofs.EachText.{refused-or-program}
-use Rattle.a2_run.proofs.Fronts.{none≢some}
 
 -- a line has one text, and what it leaves looks alike
 meets-one : (line text words : List ℕ) (old other new next : Stored) → LookAlike old other
@@ -60,7 +59,7 @@ one-debug-refusal source script why other a b = absurd a
 
 pub refused-undebugged : RefusedDebuggingHasNoOutput
 refused-undebugged source script output (Source f) a is = refused-no-program source f is.program a is.is_program
-refused-undebugged source script output (Script f) a is = none≢some f (sym is.fits ∙ a.1)
+refused-undebugged source script output (Script f) a is = (let refused = a.1 in let fits = is.fits in cc)
 refused-undebugged source script output why a is = absurd a
 
 pub refused-or-debugged : RefusedOrDebugged

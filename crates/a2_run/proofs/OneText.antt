@@ -10,7 +10,6 @@ use Rattle.a2_asm.specs.Refusals.{IsLayoutRefusal}
 use Rattle.a2_asm.proofs.MadeLaws.{one-layout_refusal, programs-alike}
 use Rattle.a2_asm.proofs.MadeLaws as asm
 use Rattle.a2_machine.specs.declared.Cause.{Cause}
-use Rattle.a2_machine.specs.Meaning.{IsEnd}
 use Rattle.a2_machine.specs.ProgramGuard.{guard_of_program}
 use Rattle.a2_machine.specs.Start.{start_world}
 use Rattle.a2_machine.proofs.Runs.{end-unique}
@@ -37,11 +36,7 @@ same-start keys p q h = ap (λ im. start_world im p.entry keys) (held-same p q h
 one-end : (text keys : List ℕ) (limit : ℕ) (options : Options) (c d : Cause) (o u : List ℕ) (a : IsRun text keys limit options c o) (b : IsRun text keys limit options d u) → a.end ≡ b.end
 one-end text keys limit options c d o u a b =
     let h = alike text a.program b.program a.is_program b.is_program in
-    let moved : IsEnd (code_of_run options.free b.program) (start_of_run a.program keys) limit a.end =
-    subst (λ code. IsEnd code (start_of_run a.program keys) limit a.end) (same-code options.free a.program b.program h) a.is_end in
-    let both : IsEnd (code_of_run options.free b.program) (start_of_run b.program keys) limit a.end =
-    subst (λ start. IsEnd (code_of_run options.free b.program) start limit a.end) (same-start keys a.program b.program h) moved in
-    end-unique _ _ limit a.end b.end both b.is_end
+    end-unique _ _ limit a.end b.end (rw (same-code options.free a.program b.program h, same-start keys a.program b.program h) at a.is_end) b.is_end
 
 pub one-cause : OneCause
 one-cause text keys limit options c d o u a b = a.cause_is ∙ ap (λ e. e.cause) (one-end text keys limit options c d o u a b) ∙ sym b.cause_is

@@ -33,10 +33,10 @@ impl<A: Allocator> Answering for Debugger<A> {
         let Err(fault) = self.line(line, writer) else {
             return Ok(());
         };
-        if fault == DebugFault::Write {
-            return Err(WriteFault);
+        match fault {
+            DebugFault::Write => Err(WriteFault),
+            _ => put_all(&[fault.text().as_bytes(), b"\n"], writer),
         }
-        put_all(&[fault.text().as_bytes(), b"\n"], writer)
     }
 }
 

@@ -39,10 +39,10 @@ impl<A: Allocator> Answering for Session<A> {
         let Err(fault) = self.line(line, writer) else {
             return Ok(());
         };
-        if fault == MonFault::Write {
-            return Err(WriteFault);
+        match fault {
+            MonFault::Write => Err(WriteFault),
+            _ => put_all(&[fault.text().as_bytes(), b"\n"], writer),
         }
-        put_all(&[fault.text().as_bytes(), b"\n"], writer)
     }
 }
 
@@ -64,10 +64,7 @@ pub fn answer_script<A: Allocator + Copy, W: Output>(
         (W.taker writer.old) (W.taker writer.new) result }
     ensures no_reader { is_read_fault result ≡ false }
 {
-    let lines = match lines(alloc, script) {
-        Ok(lines) => lines,
-        Err(fault) => return Err(refusal(fault)),
-    };
+    let lines = lines(alloc, script).map_err(refusal)?;
     let mut session = opened(alloc)?;
     answer_all(&mut session, b"*", lines.as_slice(), writer)?;
     Ok(())
