@@ -1,7 +1,7 @@
 //! Why object lines are refused.
 
-ghost use Rattle.std.specs.Prelude.{◌≡◌, ◌≤◌, Some, length};
-ghost use Rattle.a2_hex.specs.Texts.{hex_fault_line, hex_fault_words, hex_fault_text};
+ghost use Rattle.std.specs.Prelude.{◌≡◌, Some};
+ghost use Rattle.a2_hex.specs.Texts.{hex_fault_text};
 
 use a2_text::{RefusalText, refusal_text};
 use std::alloc::{AllocError, AllocFailed};
@@ -22,34 +22,16 @@ pub enum HexFault {
 }
 
 impl HexFault {
-    // The line of a refusal, or 0 where it is of no line.
-    fn line(&self) -> usize
-        ensures { result ≡ hex_fault_line self.now }
-    {
-        match self {
-            HexFault::Digit(line) | HexFault::NoAddress(line) | HexFault::Outside(line) => *line,
-            HexFault::Memory => 0,
-        }
-    }
-
-    // What a refusal says behind its line.
-    fn words(&self) -> &'static str
-        ensures said { result.now ≡ hex_fault_words self.now }
-        ensures short { length result.now ≤ 22 }
-    {
-        match self {
-            HexFault::Digit(_) => "H1 NOT HEX",
-            HexFault::NoAddress(_) => "H2 NO ADDRESS",
-            HexFault::Outside(_) => "H3 OUTSIDE RAM",
-            HexFault::Memory => "NO MEMORY",
-        }
-    }
-
     /// How the refusal is spelt: `LINE `, the line and a blank, where it is of a line, and what it says.
     pub fn text(&self) -> RefusalText
         ensures { result.bytes ≡ hex_fault_text self.now }
     {
-        refusal_text(self.line(), self.words())
+        match *self {
+            HexFault::Digit(line) => refusal_text(line, "H1 NOT HEX"),
+            HexFault::NoAddress(line) => refusal_text(line, "H2 NO ADDRESS"),
+            HexFault::Outside(line) => refusal_text(line, "H3 OUTSIDE RAM"),
+            HexFault::Memory => refusal_text(0, "NO MEMORY"),
+        }
     }
 }
 

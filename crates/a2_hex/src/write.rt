@@ -27,11 +27,7 @@ fn begun<A: Allocator>(image: &Image<A>, address: u16) -> Option<u8>
         (λ byte. (text.begins_line (held image.now) address ≡ true) × (held image.now address ≡ Some byte)) }
 {
     let byte = image.get(address)?;
-    if address % 8 == 0 || image.get(address - 1).is_none() {
-        Some(byte)
-    } else {
-        None
-    }
+    (address % 8 == 0 || image.get(address - 1).is_none()).then_some(byte)
 }
 
 /// Adds the bytes of `image` from `address` up to a gap, but at most `most`, behind `line`, each as two digits with a blank

@@ -2,7 +2,7 @@
 
 ghost use Rattle.std.specs.Prelude.{◌≡◌, ◌<◌, ◌≤◌, length, slice_index_or, take, drop, []};
 ghost use Rattle.a2_stream.specs.Stream.{SendsOrBreaks};
-ghost use Rattle.a2_page.specs.Text.{row_line, lines_of, block, block_digit, block_lines, mark_of};
+ghost use Rattle.a2_page.specs.Text.{row_line, lines_of, block_lines};
 ghost use Rattle.a2_page.specs.Picture as screen;
 ghost use Rattle.a2_page.specs.Picture.{page_grid, graphics_lines, picture, attribute_rows};
 ghost use Rattle.a2_page.specs.Marks as marks;
@@ -154,28 +154,13 @@ fn character(byte: u8, mark: Mark) -> u8
 {
     match mark {
         Mark::Glyph => glyph(byte),
-        Mark::Attribute => letter(attribute_of(byte)),
-        Mark::Block(half) => digit(byte, half),
-    }
-}
-
-fn letter(attribute: Attribute) -> u8
-    ensures { result ≡ mark_of attribute }
-{
-    match attribute {
-        Attribute::Inverse => b'I',
-        Attribute::Flashing => b'F',
-        Attribute::Normal => b'.',
-    }
-}
-
-// The hexadecimal digit of a block.
-fn digit(byte: u8, half: Half) -> u8
-    ensures { result ≡ block_digit (block byte half) }
-{
-    let [below, above] = hex_pair(byte);
-    match half {
-        Half::Above => above,
-        Half::Below => below,
+        Mark::Attribute => match attribute_of(byte) {
+            Attribute::Inverse => b'I',
+            Attribute::Flashing => b'F',
+            Attribute::Normal => b'.',
+        },
+        // The hexadecimal digit of a block.
+        Mark::Block(Half::Below) => hex_pair(byte)[0],
+        Mark::Block(Half::Above) => hex_pair(byte)[1],
     }
 }
