@@ -116,9 +116,9 @@ impl<A: Allocator + Copy> Machine<A> {
         Ok(machine)
     }
 
-    /// The machine as [`Machine::new`] makes it, in 192 KB less: without the room in which a [`Machine::run`] with a limit of
-    /// 8,192 steps and more notes what makes it fast, and that for a guard which was taken away. It makes the same steps. For
-    /// copies of a machine that runs. This project's profile. Refused only for want of memory.
+    /// The machine as [`Machine::new`] makes it, in 192 KB less: without the room in which a long [`Machine::run`] notes what makes
+    /// it fast, and that for a guard which was taken away. It makes the same steps. For copies of a machine that runs. This project's
+    /// profile. Refused only for want of memory.
     pub fn for_copies(alloc: A) -> Result<Machine<A>, AllocError>
         ensures world { IfOk result (λ m. world_of_state m.state ≡ start_world (λ _. None) 768 []) }
         ensures steps { IfOk result (λ m. m.state.steps ≡ 0) }
