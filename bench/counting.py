@@ -5,7 +5,8 @@ import os
 # The sources of loads/ that call no service: those that were among the programs by which pairs of instructions were chosen to be one
 # kind, and those that were not.
 CHOSEN_BY = ("primes", "memcopy", "calls", "page", "sort", "rule", "search")
-OTHERS = ("sieve", "mult", "text", "divide", "crc", "digits", "queue")
+OTHERS = (
+    "sieve", "mult", "text", "divide", "crc", "digits", "queue", "gcd", "hex", "life", "numbers", "pack", "queens", "random", "strings", "wide")
 
 
 def environment():
