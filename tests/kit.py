@@ -109,13 +109,13 @@ def share_processors(made):
     made.Crate.ci = ci
 
 
-def take_what_is_kept(made):
-    """Gives each library of the checkout what `rt ci` keeps of the very same files, and tells of which it could: a check above them begins
-    there, and proves none of them. A toolchain that keeps nothing by itself gives none."""
+def take_what_is_kept(made, kept_of):
+    """Gives each library of the checkout what `rt ci` keeps of the very same files, as `kept_of` the crates gives it, and tells of which it
+    could: a check above them begins there, and proves none of them."""
     crates = [it for it in made.rtlib.crates_below(os.getcwd()) if not it.is_program]
-    made.Crate.allowed = made.handles_of(os.getcwd())
-    kept, taken = made.Kept(crates) if hasattr(made, "Kept") else None, []
-    for it in crates if kept else []:
+    made.Crate.allowed = made.rtlib.Crate.allowed = made.handles_of(os.getcwd())
+    kept, taken = kept_of(crates), []
+    for it in crates:
         is_over_taken = all(below in taken for below in it.below())
         if is_over_taken and (it.is_built() or give_library(kept, it)):
             kept.is_built(it)
