@@ -4,8 +4,8 @@ An edit has the form of rt's must-fail edits. A check names each function that i
 that failed: a caller's goals rest on the contracts of what it calls alone, so they say nothing of a callee that is not proved. So
 the faults of a crate are tried in rounds: each stands in a copy of its function beside it, with a copy of its proof, and is refused
 where its copy has a failed goal. A round checks these alone: each function of the crate, which `rt ci` proves beside that, has a
-hole for its proof there, which stands for its contract; so nothing is said of a function that no fault edits, and callers of an edited one
-rest on what it promises. A trait's methods, which no copy can stand beside, and circles of calls are edited in their place, and have a
+hole for its proof there, which stands for its contract, and no code; so nothing is said of a function that no fault edits, and callers of an
+edited one rest on what it promises. A trait's methods, which no copy can stand beside, and circles of calls are edited in their place, and have a
 round for each further fault; what a check says nothing of, as of a caller of such a one, is tried in further ones. An edit of a constant,
 or of what no function has, names by a line `refused: PATH` the function that is not proved with it; nothing stands beside one of a
 definition that may rest on it. What is not refused so is tried alone, as rt does, and is refused where that check is.
@@ -80,7 +80,7 @@ class Toolchain:
                     shutil.copytree(f"{crate.folder}/{part}", f"{room}/{part}")
             proved = {it.circle for it in edited}
             left = [it for it in functions if it not in edited and it.has_body and (it.circle is None or it.circle not in proved)]
-            for path, text in together(crate, faults).items():
+            for path, text in together(crate, faults, left).items():
                 Path(room, path).write_bytes(text)
             for it in faults:
                 if it.number:
@@ -140,14 +140,16 @@ def calls_itself(function):
 
 
 def leave_open(crate, path, proofs):
-    """Puts a hole in the place of the proof of a function, or of a circle of calls."""
+    """Puts a hole in the place of the proof of a function, or of a circle of calls. It is a hole for anything, since a check prints the
+    goal of each hole, and to write out a statement takes up to a second."""
     folder = proofs.joinpath(*path)
     folder.mkdir(parents=True, exist_ok=True)
     for name in ("Answers", "Invariants"):
         (folder / f"{name}.antt").unlink(missing_ok=True)
     proof, name = ".".join(["Rattle", crate.name, "proofs", *path]), f"{path[-1]}_spec"
     stated = proof if path[-1].startswith("+") else f"{proof}.Statement"
-    (folder / "Proof.antt").write_text(f"use {stated} as stated\npub {name} : {{M : Type 1}} → stated.statement M\n{name} = ?\n")
+    anything = "anything {ℓ} : {A : Type ℓ} → A\nanything = ?\n"
+    (folder / "Proof.antt").write_text(f"use {stated} as stated\n{anything}pub {name} : {{M : Type 1}} → stated.statement M\n{name} = anything\n")
 
 
 def ask_for_no_proof(folder):
@@ -234,15 +236,30 @@ def alike(old, new):
     return before, len(os.path.commonprefix([old[before:][::-1], new[before:][::-1]]))
 
 
-def together(crate, faults):
-    """The texts of the crate with all these faults in them."""
+def together(crate, faults, left):
+    """The texts of the crate with all these faults in them, and with no code in the functions that are left."""
     texts = {}
-    for file in {it[0] for fault in faults for it in fault.changes}:
+    for file in {it[0] for fault in faults for it in fault.changes} | {it.file for it in left}:
         texts[file] = text = Path(crate.folder, file).read_bytes()
         changes = [it for fault in faults if fault.changes[0][0] == file or not fault.number for it in fault.replaced(text)]
-        for _, at, end, new in sorted((it for it in changes if it[0] == file), reverse=True):
+        changes = [it for it in changes if it[0] == file]
+        changes += [it for it in emptied(left, file, text) if all(other[2] <= it[1] or it[2] <= other[1] for other in changes)]
+        for _, at, end, new in sorted(changes, reverse=True):
             texts[file] = texts[file][:at] + new + texts[file][end:]
     return texts
+
+
+def emptied(functions, file, text):
+    """The changes that leave functions of a file no code. A check follows the borrows of a function that a copy calls, though its proof is
+    a hole, and those of its closures, which takes seconds; the copy rests on its contract alone. Left as they are those of a circle of
+    calls, which would be none without these, what a constant may call, what has a type that only its code tells, laws, and each `drop`,
+    whose proof has another path than its hole."""
+
+    def can_be(it):
+        is_called_plainly = it.circle is None and it.name != "drop" and "impl" not in it.ret
+        return is_called_plainly and text[it.opens : it.end].strip(b"{} \n") and b"const " not in text[it.first : it.named[0]]
+
+    return [(file, it.opens, it.end, b"{ unreachable!() }") for it in functions if it.file == file and can_be(it)]
 
 
 def are_apart(fault, other):
