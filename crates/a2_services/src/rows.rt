@@ -1,6 +1,6 @@
 //! The services' rows: the name of each, where it is called, what it needs, where it may store and how long it takes.
 
-ghost use Rattle.std.specs.Prelude.{◌≡◌, ◌≤◌, length};
+ghost use Rattle.std.specs.Prelude.{◌≢◌, ◌≡◌, ◌≤◌, length};
 ghost use Rattle.a2_services.specs.Rows.{service_row as row_by, row_at as entry_of, service_name as name_of};
 ghost use Rattle.a2_services.specs.Services.{service_at as service_at_of};
 
@@ -161,6 +161,22 @@ pub fn service_at(address: u16) -> Option<Service>
     match address {
         COUT => Some(Service::Cout),
         COUT1 => Some(Service::Cout1),
+        PLOT => Some(Service::Plot),
+        _ => seldom_at(address),
+    }
+}
+
+// The services that are not called for each character or block. (Not inlined: the compiler would make one search of both matches, in which
+// those take longer.)
+#[inline(never)]
+#[tactic(auto, unfolding(crate::specs::Services::service_at))]
+fn seldom_at(address: u16) -> Option<Service>
+    requires cout { address ≢ COUT }
+    requires cout1 { address ≢ COUT1 }
+    requires plot { address ≢ PLOT }
+    ensures { result ≡ service_at_of address }
+{
+    match address {
         CROUT => Some(Service::Crout),
         HOME => Some(Service::Home),
         PRBYTE => Some(Service::Prbyte),
@@ -175,7 +191,6 @@ pub fn service_at(address: u16) -> Option<Service>
         GETLN => Some(Service::Getln),
         WAIT => Some(Service::Wait),
         SETCOL => Some(Service::Setcol),
-        PLOT => Some(Service::Plot),
         HLINE => Some(Service::Hline),
         VLINE => Some(Service::Vline),
         SCRN => Some(Service::Scrn),
