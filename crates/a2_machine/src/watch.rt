@@ -7,7 +7,7 @@ ghost use Rattle.std.specs.List.{list_any};
 ghost use Rattle.a2_bus.specs.Memory.{ram_end};
 ghost use Rattle.a2_services.specs.Services.{reach as reach_of};
 ghost use Rattle.a2_machine.specs.ByteRun.{addresses_below};
-ghost use Rattle.a2_machine.specs.Marks.{begins, begins_by, lies, first_mark, AreStarted};
+ghost use Rattle.a2_machine.specs.Marks.{begins, begins_by, lies, first_mark, AreStarted, EndBy};
 ghost use Rattle.a2_machine.specs.Watches.{ArePlainMarks};
 ghost use Rattle.a2_machine.specs.Blocking.{is_blocked, BlocksBy};
 ghost use Rattle.a2_machine.specs.Outcome.{admits as admits_of, protected_by};
@@ -53,11 +53,19 @@ const NONE_BLOCKED: Blocked = Blocked {
     by: [false; Service::COUNT],
 };
 
+/// What a program's marks come with: the services that it blocks, and the end of the addresses where its instructions begin.
+#[derive(Clone, Copy)]
+struct Marked {
+    blocked: Blocked,
+    end: u16,
+}
+
 /// The guard, or none. Contracts see it as an option of the addresses at which instructions begin and lie.
 #[derive(Drop)]
 pub struct Watch<A: Allocator = Global> {
     marks: Vec<u8, A>,
     blocked: Blocked,
+    end: u16,
     on: bool,
 }
 
@@ -72,7 +80,7 @@ impl<A: Allocator> Model for Watch<A> {
 
     ghost view = { λ w. guard_if w.on w.marks.items };
 
-    ghost invariant = { λ w. IsWatch w.on w.marks.items w.blocked };
+    ghost invariant = { λ w. IsWatch w.on w.marks.items w.blocked w.end };
 }
 
 // Whether an instruction may begin where a mark stands.
@@ -177,49 +185,64 @@ fn mark_bytes(marks: &mut [u8], blocked: &mut Blocked, start: usize, end: usize)
 
 // An instruction of so many bytes is marked; what lies behind RAM is left out.
 #[tactic(auto, using(crate::proofs::Guarding::same_addresses))]
-fn mark_instruction(marks: &mut [u8], blocked: &mut Blocked, address: u16, bytes: u16)
+fn mark_instruction(marks: &mut [u8], marked: &mut Marked, address: u16, bytes: u16)
     requires started { AreStarted marks.old }
-    requires blocks { BlocksBy blocked.old (addresses_below ram_end (lies marks.old)) }
+    requires ends { EndBy marks.old marked.old.end }
+    requires blocks { BlocksBy marked.old.blocked (addresses_below ram_end (lies marks.old)) }
     ensures started { AreStarted marks.new }
+    ensures ends { EndBy marks.new marked.new.end }
     ensures begins { (a : ℕ) → a < ram_end → begins marks.new a ≡ (begins marks.old a || address == a) }
     ensures lies { (a : ℕ) → a < ram_end → lies marks.new a
         ≡ (lies marks.old a || (nat_le address a && nat_lt a (address + bytes))) }
-    ensures blocks { BlocksBy blocked.new (addresses_below ram_end (lies marks.new)) }
+    ensures blocks { BlocksBy marked.new.blocked (addresses_below ram_end (lies marks.new)) }
 {
     if address < RAM_END {
         let start = usize::from(address);
         let end = start + usize::from(bytes);
         mark_begin(marks, start);
-        mark_bytes(marks, blocked, start, end.min(usize::from(RAM_END)));
+        mark_bytes(
+            marks,
+            &mut marked.blocked,
+            start,
+            end.min(usize::from(RAM_END)),
+        );
+        if marked.end <= address {
+            marked.end = address + 1;
+        }
     }
 }
 
-// The marks of a program's instruction statements, and the services that these block.
-#[tactic(auto, using(crate::proofs::Marking::any_none, crate::proofs::Watching::first_started, crate::proofs::Watching::first_lies, crate::proofs::Watching::first_begins, crate::proofs::Watching::none_blocked))]
-fn mark_statements(marks: &mut [u8], statements: &[Statement]) -> Blocked
+// The marks of a program's instruction statements, and what comes with them.
+#[tactic(auto, using(crate::proofs::Marking::any_none, crate::proofs::Watching::first_started, crate::proofs::Watching::first_lies, crate::proofs::Watching::first_begins, crate::proofs::Watching::first_ends, crate::proofs::Watching::none_blocked))]
+fn mark_statements(marks: &mut [u8], statements: &[Statement]) -> Marked
     requires { length marks.old ≡ 65536 }
     ensures started { AreStarted marks.new }
     ensures begins { (a : ℕ) → a < ram_end → begins marks.new a ≡ list_any (begins_at a) statements.now }
     ensures lies { (a : ℕ) → a < ram_end → lies marks.new a ≡ is_code statements.now a }
-    ensures blocks { BlocksBy result (addresses_below ram_end (lies marks.new)) }
+    ensures ends { EndBy marks.new result.end }
+    ensures blocks { BlocksBy result.blocked (addresses_below ram_end (lies marks.new)) }
 {
     start_marks(marks, false);
-    let mut blocked = NONE_BLOCKED;
+    let mut marked = Marked {
+        blocked: NONE_BLOCKED,
+        end: 0,
+    };
     for statement in statements {
         if statement.instr.is_some() {
-            mark_instruction(marks, &mut blocked, statement.addr, statement.length);
+            mark_instruction(marks, &mut marked, statement.addr, statement.length);
         }
     }
-    blocked
+    marked
 }
 
 // The same in a machine's own marks.
-fn mark_all<A: Allocator>(marks: &mut Vec<u8, A>, statements: &[Statement]) -> Blocked
+fn mark_all<A: Allocator>(marks: &mut Vec<u8, A>, statements: &[Statement]) -> Marked
     requires { length marks.old.items ≡ 65536 }
     ensures started { AreStarted marks.new.items }
     ensures begins { (a : ℕ) → a < ram_end → begins marks.new.items a ≡ list_any (begins_at a) statements.now }
     ensures lies { (a : ℕ) → a < ram_end → lies marks.new.items a ≡ is_code statements.now a }
-    ensures blocks { BlocksBy result (addresses_below ram_end (lies marks.new.items)) }
+    ensures ends { EndBy marks.new.items result.end }
+    ensures blocks { BlocksBy result.blocked (addresses_below ram_end (lies marks.new.items)) }
 {
     mark_statements(marks.as_mut_slice(), statements)
 }
@@ -250,6 +273,7 @@ impl<A: Allocator> Watch<A> {
         Ok(Watch {
             marks,
             blocked: NONE_BLOCKED,
+            end: RAM_END,
             on: false,
         })
     }
@@ -259,7 +283,9 @@ impl<A: Allocator> Watch<A> {
     pub fn set<C: Allocator>(&mut self, program: &Program<C>)
         ensures { self.new ≡ Some (guard_of_program program.now) }
     {
-        self.blocked = mark_all(&mut self.marks, program.statements());
+        let marked = mark_all(&mut self.marks, program.statements());
+        self.blocked = marked.blocked;
+        self.end = marked.end;
         self.on = true;
     }
 
@@ -269,6 +295,7 @@ impl<A: Allocator> Watch<A> {
     {
         free_all(&mut self.marks);
         self.blocked = NONE_BLOCKED;
+        self.end = RAM_END;
         self.on = false;
     }
 
@@ -280,6 +307,7 @@ impl<A: Allocator> Watch<A> {
             .as_mut_slice()
             .copy_from_slice(other.marks.as_slice());
         self.blocked = other.blocked;
+        self.end = other.end;
         self.on = other.on;
     }
 
@@ -296,6 +324,14 @@ impl<A: Allocator> Watch<A> {
         ensures { result ≡ admits_of self.now address }
     {
         has_begin(self.marks[address as usize])
+    }
+
+    /// The end of the addresses of RAM at which an instruction may begin, 0 to $C000.
+    #[inline(always)]
+    pub fn end(&self) -> u16
+        ensures { (a : ℕ) → a < ram_end → admits_of self.now a ≡ true → a < result }
+    {
+        self.end
     }
 
     /// The marks, a byte for each address, on which plain steps may rest.
