@@ -1,149 +1,97 @@
 -- How steps of a reader follow one another.
-use Rattle.std.specs.Prelude.{◌≡◌, ◌≤◌, ℕ, suc, min, nat_le, ◌==◌, Bool, true, false, ◌&&◌, IsTrue, List, [], ◌∷◌, ◌++◌, codes, Option, Some, None, refl}
+use Rattle.std.specs.Prelude.{◌≡◌, ◌≤◌, ℕ, suc, min, nat_le, Bool, true, false, ◌&&◌, IsTrue, List, [], ◌∷◌, ◌++◌, None, refl}
 use Rattle.std.proofs.Common.{ap, sym, subst, ◌∙◌, arith, append_assoc}
 use Rattle.std.proofs.lemmas.List.{append-nil}
-use Rattle.std.proofs.lemmas.Bool.{leb-true}
+use Rattle.std.proofs.lemmas.Bool.{false≢true, leb-true}
 use Rattle.std.proofs.lemmas.Bool.Decides.{Decides-eqb}
 use Rattle.a2_promise.specs.declared.expr.Operation.{Operation}
 use Rattle.a2_promise.specs.declared.expr.Operation.TheVariants as operation
 use Rattle.a2_promise.specs.declared.words.Infix.{Infix}
 use Rattle.a2_promise.specs.declared.words.Infix.TheVariants.{Iff, Or, And, Compare, Apply}
 use Rattle.a2_promise.specs.declared.parts.Part.{Part}
+use Rattle.a2_promise.specs.declared.words.Kind.{Kind}
 use Rattle.a2_promise.specs.declared.parsing.Piece.{Piece}
-use Rattle.a2_promise.specs.declared.reader.Span.{Span}
 use Rattle.a2_promise.specs.Phrases.{Phrase}
-use Rattle.a2_promise.specs.Tokens.{Token, word}
+use Rattle.a2_promise.specs.Tokens.{Token}
 use Rattle.a2_promise.specs.Written.{Written, joined, spelled, said, meant}
-use Rattle.a2_promise.specs.Written.{minus, magnitude, signed, before, there, bit, negated, sum_of}
-use Rattle.a2_promise.specs.Grammar.{Scope, fits, infix_rank, operation_rank, is_one, rank, tightest, takes_from, takes_else}
-use Rattle.a2_promise.specs.Reading.{State, Takes, Puts, Goes, Reads, ReadsKind, ReadsPiece, IsLast, Makes, Stops, first, made}
-use Rattle.a2_promise.proofs.Making.{made_both}
+use Rattle.a2_promise.specs.Written.{minus, magnitude, signed, before, there, bit}
+use Rattle.a2_promise.specs.Grammar.{Scope, fits, infix_rank, operation_rank, is_one, kind, rank, tightest, takes_from, takes_else}
+use Rattle.a2_promise.specs.Reading.{State, Takes, Puts, Goes, Steps, Reads, ReadsKind, ReadsPiece, Stops, NoElse, made}
+use Rattle.a2_promise.proofs.Making.{none_made, made_both}
 
--- Tests
-
-pub all2 : (a b : Bool) → IsTrue a → IsTrue b → IsTrue (a && b)
-all2 true true p q = refl
-all2 true false p q = q
-all2 false b p q = p
-
-pub left_of : (a b : Bool) → IsTrue (a && b) → IsTrue a
-left_of true b p = refl
-left_of false b p = p
-
-pub right_of : (a b : Bool) → IsTrue (a && b) → IsTrue b
-right_of true b p = p
-right_of false b p = absurd (let no : ⊥ = cc in no)
-
-pub never : IsTrue false → ⊥
-never h = let no : ⊥ = cc in no
+pub also : {a b : Bool} → IsTrue a → IsTrue b → IsTrue (a && b)
+also {a = true} p q = q
+also {a = false} p q = p
 
 -- Steps
 
-pub goes_take : (token : Token) (tokens : List Token) (parts : List Part) (a b c : State) → Takes token a b → Goes tokens parts b c
-    → Goes (token ∷ tokens) parts a c
-goes_take token tokens parts a b c t g = record {
-  left = t.left ∙ ap (λ more. token ∷ more) g.left;
-  parts = g.parts ∙ ap (λ before. before ++ parts) t.parts;
-  scope = g.scope ∙ t.scope;
+pub went : {taken : List Token} {put : List Part} {a b : State} → Goes taken put a b → Steps taken (made put) a b
+went {put = put} g = record { left = g.left; parts = put; puts = g.parts; makes = λ phrases. refl; scope = g.scope }
+
+pub took : {token : Token} {a b : State} → Takes token a b → Steps (token ∷ []) (λ phrases. phrases) a b
+took {a = a} t = record {
+  left = t.left;
+  parts = [];
+  puts = t.parts ∙ sym (append-nil a.parts);
+  makes = none_made;
+  scope = t.scope;
 }
 
-pub goes_put : (put : List Part) (tokens : List Token) (parts : List Part) (a b c : State) → Puts put a b → Goes tokens parts b c
-    → Goes tokens (put ++ parts) a c
-goes_put put tokens parts a b c p g = record {
-  left = sym p.left ∙ g.left;
-  parts = g.parts ∙ ap (λ before. before ++ parts) p.parts ∙ append_assoc a.parts put parts;
-  scope = g.scope ∙ p.scope;
+pub put : {parts : List Part} {a b : State} → Puts parts a b → Steps [] (made parts) a b
+put {parts} p = record { left = sym p.left; parts = parts; puts = p.parts; makes = λ phrases. refl; scope = p.scope }
+
+-- one behind another
+infixr 20 ◌>>◌
+pub ◌>>◌ : {taken more : List Token} {f g : List Phrase → List Phrase} {a b c : State} → Steps taken f a b → Steps more g b c
+    → Steps (taken ++ more) (λ phrases. g (f phrases)) a c
+◌>>◌ {taken} {more} {f} {g} {a} {b} {c} s t = record {
+  left = s.left ∙ ap (λ left. taken ++ left) t.left ∙ sym (append_assoc taken more c.left);
+  parts = s.parts ++ t.parts;
+  puts = t.puts ∙ ap (λ before. before ++ t.parts) s.puts ∙ append_assoc a.parts s.parts t.parts;
+  makes = λ phrases. made_both s.parts t.parts phrases ∙ ap (made t.parts) (s.makes phrases) ∙ t.makes (f phrases);
+  scope = t.scope ∙ s.scope;
 }
 
-pub goes_read : (e : Written) (tokens : List Token) (parts : List Part) (a b c : State) (r : Reads e a b) → Goes tokens parts b c
-    → Goes (spelled e ++ tokens) (r.parts ++ parts) a c
-goes_read e tokens parts a b c r g = record {
-  left = r.left ∙ ap (λ more. spelled e ++ more) g.left ∙ sym (append_assoc (spelled e) tokens c.left);
-  parts = g.parts ∙ ap (λ before. before ++ parts) r.puts ∙ append_assoc a.parts r.parts parts;
-  scope = g.scope ∙ r.scope;
-}
+-- the last of them, behind which parts are put
+pub last : {taken : List Token} {f : List Phrase → List Phrase} {more : List Part} {a b c : State} → Steps taken f a b → Puts more b c
+    → Steps taken (λ phrases. made more (f phrases)) a c
+last {taken} {f} {more} {a} {b} {c} s p =
+    subst (λ (tokens : List Token). Steps tokens (λ phrases. made more (f phrases)) a c) (append-nil taken) (s >> put p)
 
-pub goes_on : (taken tokens : List Token) (put parts : List Part) (a b c : State) → Goes taken put a b → Goes tokens parts b c
-    → Goes (taken ++ tokens) (put ++ parts) a c
-goes_on taken tokens put parts a b c h g = record {
-  left = h.left ∙ ap (λ more. taken ++ more) g.left ∙ sym (append_assoc taken tokens c.left);
-  parts = g.parts ∙ ap (λ before. before ++ parts) h.parts ∙ append_assoc a.parts put parts;
-  scope = g.scope ∙ h.scope;
-}
-
-pub goes_then : (taken : List Token) (put more : List Part) (a b c : State) → Goes taken put a b → Puts more b c → Goes taken (put ++ more) a c
-goes_then taken put more a b c h p = record {
-  left = h.left ∙ ap (λ left. taken ++ left) (sym p.left);
-  parts = p.parts ∙ ap (λ before. before ++ more) h.parts ∙ append_assoc a.parts put more;
-  scope = p.scope ∙ h.scope;
-}
-
-pub put_last : (put : List Part) (a b : State) → Puts put a b → Goes [] put a b
-put_last put a b p = record { left = sym p.left; parts = p.parts; scope = p.scope }
-
-pub take_last : (token : Token) (a b : State) → Takes token a b → Goes (token ∷ []) [] a b
-take_last token a b t = record { left = t.left; parts = t.parts ∙ sym (append-nil a.parts); scope = t.scope }
-
-pub read_last : (e : Written) (a b : State) (r : Reads e a b) → Goes (spelled e) r.parts a b
-read_last e a b r = record { left = r.left; parts = r.puts; scope = r.scope }
-
-pub read_put : (e : Written) (put : List Part) (a b c : State) (r : Reads e a b) → Puts put b c → Goes (spelled e) (r.parts ++ put) a c
-read_put e put a b c r p = goes_then (spelled e) r.parts put a b c (read_last e a b r) p
-
-pub puts_both : (put more : List Part) (a b c : State) → Puts put a b → Puts more b c → Puts (put ++ more) a c
-puts_both put more a b c p q = record {
-  left = q.left ∙ p.left;
-  parts = q.parts ∙ ap (λ before. before ++ more) p.parts ∙ append_assoc a.parts put more;
-  scope = q.scope ∙ p.scope;
-}
-
--- What parts make
-
-pub then_makes : (parts more : List Part) (p q : Phrase) → Makes parts p → ((phrases : List Phrase) → made more (p ∷ phrases) ≡ q ∷ phrases)
-    → Makes (parts ++ more) q
-then_makes parts more p q m h = λ phrases. made_both parts more phrases ∙ ap (λ stack. made more stack) (m phrases) ∙ h phrases
-
-pub two_make : (parts others more : List Part) (p q r : Phrase) → Makes parts p → Makes others q
-    → ((phrases : List Phrase) → made more (q ∷ p ∷ phrases) ≡ r ∷ phrases) → Makes (parts ++ (others ++ more)) r
-two_make parts others more p q r m n h = λ phrases.
-    made_both parts (others ++ more) phrases ∙ ap (λ stack. made (others ++ more) stack) (m phrases)
-    ∙ made_both others more (p ∷ phrases) ∙ ap (λ stack. made more stack) (n (p ∷ phrases)) ∙ h phrases
+pub as_made : {taken : List Token} {f g : List Phrase → List Phrase} {a b : State} → Steps taken f a b → ((phrases : List Phrase) → f phrases ≡ g phrases)
+    → Steps taken g a b
+as_made s h = record { left = s.left; parts = s.parts; puts = s.puts; makes = λ phrases. s.makes phrases ∙ h phrases; scope = s.scope }
 
 -- What may stand behind
 
-pub stops_at : (limit : ℕ) (left more : List Token) → more ≡ left → Stops limit left → Stops limit more
-stops_at limit left more e s = let P : List Token → Type 0 = λ left. Stops limit left in subst P (sym e) s
+pub stops_both : {limit other : ℕ} (left : List Token) → Stops limit left → Stops other left → Stops (min limit other) left
+stops_both left s t = λ join f l. let x = s join f l in let y = t join f l in omega (arith, x, y)
 
-pub stops_both : (limit bound_ : ℕ) (left : List Token) → Stops limit left → Stops bound_ left → Stops (min limit bound_) left
-stops_both limit bound_ left s t = λ join f l. let x = s join f l in let y = t join f l in omega (arith, x, y)
+-- What was read
 
-pub stops_any : (left : List Token) → Stops tightest left
-stops_any left = λ join f l. l
+pub fits_at : {e : Written} {scope : Scope} {a b : State} → Reads e a b → a.scope ≡ scope → IsTrue (fits scope e)
+fits_at {e} r h = subst (λ (scope : Scope). IsTrue (fits scope e)) h r.fits
 
-abbrev pub NoElse : Bool → List Token → Type 0
-NoElse takes left = IsTrue takes → first left ≡ Some (word (codes "else")) → ⊥
-
-pub no_else_at : (takes : Bool) (left more : List Token) → more ≡ left → NoElse takes left → NoElse takes more
-no_else_at takes left more e n = let P : List Token → Type 0 = λ left. NoElse takes left in subst P (sym e) n
-
-pub no_else_any : (left : List Token) → NoElse false left
-no_else_any left = λ h f. never h
-
-pub fits_at : (scope other : Scope) (e : Written) → other ≡ scope → IsTrue (fits other e) → IsTrue (fits scope e)
-fits_at scope other e h f = let P : Scope → Type 0 = λ scope. IsTrue (fits scope e) in subst P h f
-
-pub reads_it : (e : Written) (parts : List Part) (a b : State) → Goes (spelled e) parts a b → Makes parts (said e) → IsTrue (fits a.scope e)
+-- an expression that fits where its first part was read
+pub reads_it : (e : Written) {scope : Scope} {a b : State} → Steps (spelled e) (λ phrases. said e ∷ phrases) a b → scope ≡ a.scope → IsTrue (fits scope e)
     → Stops (takes_from e) b.left → NoElse (takes_else e) b.left → Reads e a b
-reads_it e parts a b g m f s n = record {
-  left = g.left;
-  parts = parts;
-  puts = g.parts;
-  makes = m;
-  scope = g.scope;
-  fits = f;
-  stops = s;
-  no_else = n;
+reads_it e s h f stops no_else = record {
+  steps = s;
+  fits = subst (λ (scope : Scope). IsTrue (fits scope e)) h f;
+  stops = stops;
+  no_else = no_else;
 }
+
+-- the same of one that begins with no joint
+pub one_read : (e : Written) {scope : Scope} {k : Kind} {a b : State} → Steps (spelled e) (λ phrases. said e ∷ phrases) a b → scope ≡ a.scope
+    → IsTrue (fits scope e) → Stops (takes_from e) b.left → NoElse (takes_else e) b.left → IsTrue (nat_le tightest (rank e)) → kind e ≡ k
+    → ReadsKind k a b
+one_read e s h f stops no_else r k = record { e = e; reads = reads_it e s h f stops no_else; rank = r; kind = k }
+
+-- or to which nothing that stands behind it can belong
+pub closed_read : (e : Written) {scope : Scope} {k : Kind} {a b : State} → Steps (spelled e) (λ phrases. said e ∷ phrases) a b → scope ≡ a.scope
+    → IsTrue (fits scope e) → takes_from e ≡ tightest → takes_else e ≡ false → IsTrue (nat_le tightest (rank e)) → kind e ≡ k → ReadsKind k a b
+closed_read e s h f limit takes r k = one_read e s h f (λ join g below. rw limit below) (λ yes g. false≢true (sym takes ∙ yes)) r k
 
 -- Ranks
 
@@ -159,23 +107,16 @@ operation_most operation.Modulo = omega arith
 operation_most _ = omega arith
 
 infix_most : (join : Infix) → infix_rank join ≤ 10
-infix_most Iff = omega arith
-infix_most Or = omega arith
-infix_most And = omega arith
-infix_most (Compare relation) = omega arith
 infix_most (Apply op) = operation_most op
-
-same_number : (n : ℕ) → n ≤ 10 → IsTrue (nat_le 10 n) → IsTrue (n == 10)
-same_number n l h = (Decides-eqb n 10).1 (omega (arith, l, leb-true 10 n h))
+infix_most _ = omega arith
 
 pub one_by_rank : (e : Written) → IsTrue (nat_le tightest (rank e)) → IsTrue (is_one e)
-one_by_rank (joined join e f) h = same_number (infix_rank join) (infix_most join) h
+one_by_rank (joined join e f) h =
+    let most = infix_most join in (Decides-eqb (infix_rank join) 10).1 (omega (arith, most, leb-true 10 (infix_rank join) h))
 one_by_rank _ h = refl
 
 takes_most : (e : Written) → takes_from e ≤ 10
 takes_most (joined join e f) = let h = takes_most f in omega (arith, h)
-takes_most (negated e) = omega arith
-takes_most (sum_of name k e f) = omega arith
 takes_most (minus e) = takes_most e
 takes_most (magnitude e) = takes_most e
 takes_most (signed e) = takes_most e
@@ -189,7 +130,7 @@ takes_rank (joined join e f) = omega arith
 takes_rank e = let h = takes_most e in omega (arith, h)
 
 -- what is one is no comparison
-pub no_last : (e : Written) → IsTrue (nat_le tightest (rank e)) → (meant e).last ≡ None
+no_last : (e : Written) → IsTrue (nat_le tightest (rank e)) → (meant e).last ≡ None
 unfolding meant
 no_last (joined (Compare relation) e f) h = absurd (omega (arith, leb-true 10 5 h))
 no_last (joined Iff e f) h = refl
@@ -198,11 +139,11 @@ no_last (joined And e f) h = refl
 no_last (joined (Apply op) e f) h = refl
 no_last _ h = refl
 
-pub piece_of : (piece : Piece) (a b : State) (k : ReadsKind piece.kind a b) → piece.last ≡ None → ReadsPiece tightest piece a b
-piece_of piece a b k n = record {
-  e = k.e;
-  reads = k.reads;
-  rank = k.rank;
-  piece_is = record { kind = k.kind; last = let P : Option Span → Type 0 = λ last. IsLast b.parts last k.e in subst P (sym n) (no_last k.e k.rank) };
-  stops = stops_any b.left;
+pub kind_piece : {k : Kind} {piece : Piece} {a b : State} → ReadsKind k a b → piece.kind ≡ k → piece.last ≡ None → ReadsPiece tightest piece a b
+kind_piece r h n = record {
+  e = r.e;
+  reads = r.reads;
+  rank = r.rank;
+  is = record { kind = r.kind ∙ sym h; last = rw n (no_last r.e r.rank) };
+  stops = λ join f below. below;
 }

@@ -1,11 +1,11 @@
 -- What is put for a text that stands in memory, character by character.
-use Rattle.std.specs.Prelude.{◌≡◌, ◌<◌, ◌≤◌, ℕ, zero, suc, ◌+◌, ◌%◌, pos, nat_le, nat_lt, ◌==◌, Bool, true, false, not, ◌&&◌, IsTrue, List, [], ◌∷◌, ◌++◌, length, take, ℤ, Result, Ok, Err, OnOk, refl, if◌then◌else◌}
+use Rattle.std.specs.Prelude.{◌≡◌, ◌<◌, ◌≤◌, ℕ, zero, suc, ◌+◌, ◌%◌, pos, ◌==◌, Bool, true, false, IsTrue, List, [], ◌∷◌, ◌++◌, length, take, ℤ, Result, Ok, Err, OnOk, refl, if◌then◌else◌}
 use Rattle.std.specs.List.{slice_range, list_all}
-use Rattle.std.proofs.Common.{ap, ap₂, sym, subst, ◌∙◌, get_or, arith, length-append}
-use Rattle.std.proofs.lemmas.List.{append-nil, take_more, take_all, length-take-le}
+use Rattle.std.proofs.Common.{ap, ap₂, sym, ◌∙◌, get_or, arith}
+use Rattle.std.proofs.lemmas.List.{take_more, take_all, length-take-le}
 use Rattle.std.proofs.lemmas.List.Folds.{list_all_at}
-use Rattle.std.proofs.lemmas.Bool.{leb-true}
-use Rattle.a2_syntax.specs.Numbers.{is_quote, is_quotable}
+use Rattle.std.proofs.lemmas.Bool.{false≢true, and_parts, leb-true}
+use Rattle.a2_syntax.specs.Numbers.{is_quotable}
 use Rattle.a2_promise.specs.declared.expr.Function.TheVariants as function
 use Rattle.a2_promise.specs.declared.expr.Operation.TheVariants as operation
 use Rattle.a2_promise.specs.declared.parts.Part.{Part}
@@ -17,9 +17,8 @@ use Rattle.a2_promise.specs.Phrases.{Phrase, pair, of, number}
 use Rattle.a2_promise.specs.Written.{both, is_laid, are_laid, are_laid_behind}
 use Rattle.a2_promise.specs.Grammar.{is_text}
 use Rattle.a2_promise.specs.Reading.{State, Puts, PutsOf, IsMade, IsPlaced, IsTop, pushed, made, joining}
-use Rattle.a2_promise.proofs.Making.{made_both}
-use Rattle.a2_promise.proofs.Goings.{puts_both, left_of, right_of, never}
-use Rattle.a2_promise.proofs.Joinings.{slice_kept}
+use Rattle.a2_promise.proofs.Making.{none_made, made_both}
+use Rattle.a2_promise.proofs.Joinings.{nothing_put, puts_both, made_kept, joins_both}
 
 abbrev pub laid_stack : ℕ → (ℕ → Phrase) → List Phrase → List ℕ → List Phrase
 laid_stack quote place top [] = top
@@ -30,19 +29,8 @@ pub record LaidSoFar (quote : ℕ) (place : ℕ → Phrase) (top : List Phrase) 
   pub puts : Puts parts a b
   pub makes : (phrases : List Phrase) → made parts (top ++ phrases) ≡ laid_stack quote place top text ++ phrases
 
-pub none_laid : (quote : ℕ) (place : ℕ → Phrase) (top : List Phrase) (a : State) → LaidSoFar quote place top [] a a
-unfolding made
-none_laid quote place top a = record {
-  parts = [];
-  puts = record { left = refl; parts = sym (append-nil a.parts); scope = refl };
-  makes = λ phrases. refl;
-}
-
-pub made_kept : (span : Span) (e : Phrase) (parts more all : List Part) → all ≡ parts ++ more → IsMade span e parts → IsMade span e all
-made_kept span e parts more all h p =
-    let same : slice_range all span.begun span.ended ≡ slice_range parts span.begun span.ended =
-    ap (λ parts. slice_range parts span.begun span.ended) h ∙ slice_kept parts more span.begun span.ended p.0 in
-    (omega (arith, p.0, ap length h, length-append parts more), λ phrases. ap (λ parts. made parts phrases) same ∙ p.1 phrases)
+pub none_laid : {quote : ℕ} {place : ℕ → Phrase} {top : List Phrase} {a : State} → LaidSoFar quote place top [] a a
+none_laid {top = top} = record { parts = []; puts = nothing_put; makes = λ phrases. none_made (top ++ phrases) }
 
 pub placed_kept : (place : Place) (phrase : ℕ → Phrase) (top : List Phrase) (parts more all : List Part) → all ≡ parts ++ more
     → IsPlaced place phrase top parts → IsPlaced place phrase top all
@@ -50,67 +38,57 @@ placed_kept (Fixed a) phrase top parts more all e p = p
 placed_kept (Made span) phrase top parts more all e p = (p.0, p.1, p.2, made_kept span p.0 parts more all e p.3)
 
 -- what a call put, where it did
-pub on_ok : {T E : Type 0} (r : Result T E) (P Q : Type 0) → (P → Q) → OnOk r P → OnOk r Q
-on_ok (Ok x) P Q f h = f h
-on_ok (Err e) P Q f h = tt
+pub on_ok : {T E : Type 0} (r : Result T E) {P Q : Type 0} → OnOk r P → (P → Q) → OnOk r Q
+on_ok (Ok x) h f = f h
+on_ok (Err e) h f = tt
 
-pub ok_always : {T E : Type 0} (r : Result T E) (Q : Type 0) → Q → OnOk r Q
-ok_always (Ok x) Q q = q
-ok_always (Err e) Q q = tt
+pub ok_always : {T E : Type 0} (r : Result T E) {Q : Type 0} → Q → OnOk r Q
+ok_always (Ok x) q = q
+ok_always (Err e) q = tt
 
-pub nothing_of : (e : Phrase) (a : State) → PutsOf (pushed 0 (e ∷ [])) e a a
-unfolding made
-nothing_of e a = record { parts = []; puts = record { left = refl; parts = sym (append-nil a.parts); scope = refl }; makes = λ phrases. refl }
+pub nothing_of : {e : Phrase} {a : State} → PutsOf (pushed 0 (e ∷ [])) e a a
+nothing_of {e} = record { parts = []; puts = nothing_put; makes = λ phrases. none_made (e ∷ phrases) }
 
-pub again_of : (span : Span) (e : Phrase) (n : ℕ) (a b : State) → 0 < n → IsMade span e a.parts
+pub again_of : (span : Span) {e : Phrase} (n : ℕ) {a b : State} → 0 < n → IsMade span e a.parts
     → Puts (slice_range a.parts span.begun span.ended) a b → PutsOf (pushed n (e ∷ [])) e a b
-again_of span e zero a b l m p = absurd (omega (arith, l))
-again_of span e (suc n) a b l m p = record { parts = slice_range a.parts span.begun span.ended; puts = p; makes = m.1 }
+again_of span zero l m p = absurd (omega (arith, l))
+again_of span (suc n) {a} l m p = record { parts = slice_range a.parts span.begun span.ended; puts = p; makes = m.1 }
 
-pub put_then : (top : List Phrase) (e f : Phrase) (put : List Part) (a m b : State) → PutsOf top e a m → Puts put m b
+pub put_then : (top : List Phrase) {e : Phrase} (f : Phrase) {put : List Part} {a m b : State} → PutsOf top e a m → Puts put m b
     → ((phrases : List Phrase) → made put (e ∷ phrases) ≡ f ∷ phrases) → PutsOf top f a b
-put_then top e f put a m b p q h = record {
+put_then top f {put} p q h = record {
   parts = p.parts ++ put;
-  puts = puts_both p.parts put a m b p.puts q;
-  makes = λ phrases. made_both p.parts put (top ++ phrases) ∙ ap (λ stack. made put stack) (p.makes phrases) ∙ h phrases;
+  puts = puts_both p.puts q;
+  makes = λ phrases. made_both p.parts put (top ++ phrases) ∙ ap (made put) (p.makes phrases) ∙ h phrases;
 }
 
 no_top : (n : ℕ) (top : List Phrase) → top ≡ [] → pushed n top ≡ []
 no_top zero top e = e
 no_top (suc n) top e = refl
 
-pub laid_fixed : (address : ℕ) (phrase : ℕ → Phrase) (top : List Phrase) (n code : ℕ) (z w : ℤ) (parts : List Part) (a b : State)
-    → IsPlaced (Fixed address) phrase top parts → z ≡ pos (address + n) → w ≡ pos code
+pub laid_fixed : (address : ℕ) {phrase : ℕ → Phrase} {top : List Phrase} (n code : ℕ) {z w : ℤ} {a b : State}
+    → ((k : ℕ) → phrase k ≡ number (pos (address + k))) × (top ≡ []) → z ≡ pos (address + n) → w ≡ pos code
     → Puts (part.Number z ∷ part.Of function.Byte ∷ part.Number w ∷ part.Pair operation.Equal ∷ []) a b
     → PutsOf (pushed n top) (pair operation.Equal (of function.Byte (phrase n)) (number (pos code))) a b
 unfolding made
-laid_fixed address phrase top n code z w parts a b p e f h =
-    let put = part.Number z ∷ part.Of function.Byte ∷ part.Number w ∷ part.Pair operation.Equal ∷ [] in
-    let is : Phrase → ℤ → Phrase = λ e w. pair operation.Equal (of function.Byte e) (number w) in
+laid_fixed address {phrase} {top} n code p e f h =
+    let put = part.Number (pos (address + n)) ∷ part.Of function.Byte ∷ part.Number (pos code) ∷ part.Pair operation.Equal ∷ [] in
     record {
       parts = put;
-      puts = h;
+      puts = rw (e, f) at h;
       makes = λ phrases.
           ap (λ top. made put (top ++ phrases)) (no_top n top p.1)
-          ∙ ap₂ (λ z w. is (number z) w ∷ phrases) e f ∙ ap (λ e. is e (pos code) ∷ phrases) (sym (p.0 n));
+          ∙ ap (λ e. pair operation.Equal (of function.Byte e) (number (pos code)) ∷ phrases) (sym (p.0 n));
     }
 
-pub laid_made : (span : Span) (phrase : ℕ → Phrase) (top : List Phrase) (n code : ℕ) (z w : ℤ) (a m b : State)
+pub laid_made : (span : Span) {phrase : ℕ → Phrase} {top : List Phrase} (n code : ℕ) {z w : ℤ} {a m b : State}
     → (placed : IsPlaced (Made span) phrase top a.parts) → PutsOf (pushed n (placed.0 ∷ [])) placed.0 a m → z ≡ pos n → w ≡ pos code
     → Puts (part.Number z ∷ part.Pair operation.Plus ∷ part.Of function.Byte ∷ part.Number w ∷ part.Pair operation.Equal ∷ []) m b
     → PutsOf (pushed n top) (pair operation.Equal (of function.Byte (phrase n)) (number (pos code))) a b
 unfolding made
-laid_made span phrase top n code z w a m b p h e f k =
-    let put = part.Number (pos n) ∷ part.Pair operation.Plus ∷ part.Of function.Byte ∷ part.Number (pos code) ∷ part.Pair operation.Equal ∷ [] in
+laid_made span n code p h e f k =
     let is : Phrase → Phrase = λ e. pair operation.Equal (of function.Byte e) (number (pos code)) in
-    let S : ℤ → ℤ → Type 0 = λ z w.
-    Puts (part.Number z ∷ part.Pair operation.Plus ∷ part.Of function.Byte ∷ part.Number w ∷ part.Pair operation.Equal ∷ []) m b in
-    let there : S (pos n) w = (let T : ℤ → Type 0 = λ z. S z w in subst T e k) in
-    let all : S (pos n) (pos code) = subst (S (pos n)) f there in
-    let it = put_then (pushed n (p.0 ∷ [])) p.0 (is (pair operation.Plus p.0 (number (pos n)))) put a m b h all (λ phrases. refl) in
-    let Q : List Phrase → Type 0 = λ top. PutsOf (pushed n top) (is (phrase n)) a b in
-    let R : Phrase → Type 0 = λ e. PutsOf (pushed n (p.0 ∷ [])) (is e) a b in
-    subst Q (sym p.2) (subst R (sym (p.1 n)) it)
+    rw (p.2, p.1 n) (put_then (pushed n (p.0 ∷ [])) (is (pair operation.Plus p.0 (number (pos n)))) h (rw (e, f) at k) (λ phrases. refl))
 
 behind_more : (quote : ℕ) (place : ℕ → Phrase) (said : Phrase) (k : ℕ) (text : List ℕ) (c : ℕ)
     → are_laid_behind quote place said k (text ++ c ∷ []) ≡ both (are_laid_behind quote place said k text) (is_laid quote (place (k + length text)) c)
@@ -133,94 +111,83 @@ laid_at : (quote top c k n code : ℕ) (place : ℕ → Phrase) → IsTop quote 
     → pair operation.Equal (of function.Byte (place n)) (number (pos code)) ≡ is_laid quote (place k) c
 laid_at quote top c k n code place t e f = ap₂ (λ n code. pair operation.Equal (of function.Byte (place n)) (number (pos code))) e (f ∙ sym (t c))
 
-pub first_laid : (quote add c code : ℕ) (place : ℕ → Phrase) (top : List Phrase) (n : ℕ) (a m b : State) → LaidSoFar quote place top [] a m
+-- the first character, and the next, behind those so far
+first_laid : (quote add c code : ℕ) (place : ℕ → Phrase) (top : List Phrase) (n : ℕ) {a m b : State} → LaidSoFar quote place top [] a m
     → IsTop quote add → n ≡ 0 → code ≡ c + add
     → PutsOf (pushed n top) (pair operation.Equal (of function.Byte (place n)) (number (pos code))) m b → LaidSoFar quote place top (c ∷ []) a b
-first_laid quote add c code place top zero a m b s t e f p = record {
+first_laid quote add c code place top zero s t e f p = record {
   parts = s.parts ++ p.parts;
-  puts = puts_both s.parts p.parts a m b s.puts p.puts;
-  makes = λ phrases. made_both s.parts p.parts (top ++ phrases) ∙ ap (λ stack. made p.parts stack) (s.makes phrases) ∙ p.makes phrases
+  puts = puts_both s.puts p.puts;
+  makes = λ phrases. made_both s.parts p.parts (top ++ phrases) ∙ ap (made p.parts) (s.makes phrases) ∙ p.makes phrases
       ∙ ap (λ phrase. phrase ∷ phrases) (laid_at quote add c 0 0 code place t refl f);
 }
-first_laid quote add c code place top (suc n) a m b s t e f p = absurd (omega (arith, e))
+first_laid quote add c code place top (suc n) s t e f p = absurd (omega (arith, e))
 
-both_made : (e f : Phrase) (phrases : List Phrase) → made joining (f ∷ e ∷ phrases) ≡ both e f ∷ phrases
-unfolding made
-both_made e f phrases = refl
-
-pub next_laid : (quote add c code : ℕ) (place : ℕ → Phrase) (top : List Phrase) (d : ℕ) (text : List ℕ) (n : ℕ) (a m o b : State)
+next_laid : (quote add c code : ℕ) (place : ℕ → Phrase) (top : List Phrase) (d : ℕ) (text : List ℕ) (n : ℕ) {a m o b : State}
     → LaidSoFar quote place top (d ∷ text) a m → IsTop quote add → n ≡ suc (length text) → code ≡ c + add
     → PutsOf (pushed n top) (pair operation.Equal (of function.Byte (place n)) (number (pos code))) m o → Puts joining o b
     → LaidSoFar quote place top (d ∷ (text ++ c ∷ [])) a b
-next_laid quote add c code place top d text zero a m o b s t e f p j = absurd (omega (arith, e))
-next_laid quote add c code place top d text (suc n) a m o b s t e f p j =
-    let is = laid_at quote add c (suc (length text)) (suc n) code place t e f in
+next_laid quote add c code place top d text zero s t e f p j = absurd (omega (arith, e))
+next_laid quote add c code place top d text (suc n) s t e f p j =
+    let so_far = are_laid quote place (d ∷ text) in
     record {
       parts = s.parts ++ (p.parts ++ joining);
-      puts = puts_both s.parts (p.parts ++ joining) a m b s.puts (puts_both p.parts joining m o b p.puts j);
+      puts = puts_both s.puts (puts_both p.puts j);
       makes = λ phrases.
-          made_both s.parts (p.parts ++ joining) (top ++ phrases) ∙ ap (λ stack. made (p.parts ++ joining) stack) (s.makes phrases)
-          ∙ made_both p.parts joining (are_laid quote place (d ∷ text) ∷ phrases)
-          ∙ ap (λ stack. made joining stack) (p.makes (are_laid quote place (d ∷ text) ∷ phrases))
-          ∙ both_made (are_laid quote place (d ∷ text)) (pair operation.Equal (of function.Byte (place (suc n))) (number (pos code))) phrases
-          ∙ ap (λ phrase. both (are_laid quote place (d ∷ text)) phrase ∷ phrases) is
+          made_both s.parts (p.parts ++ joining) (top ++ phrases) ∙ ap (made (p.parts ++ joining)) (s.makes phrases)
+          ∙ made_both p.parts joining (so_far ∷ phrases) ∙ ap (made joining) (p.makes (so_far ∷ phrases))
+          ∙ joins_both so_far (pair operation.Equal (of function.Byte (place (suc n))) (number (pos code))) phrases
+          ∙ ap (λ phrase. both so_far phrase ∷ phrases) (laid_at quote add c (suc (length text)) (suc n) code place t e f)
           ∙ ap (λ phrase. phrase ∷ phrases) (sym (laid_more quote place d text c));
     }
-
-empty : (quote : ℕ) → IsTrue (is_text quote []) → IsTrue false
-empty quote t = right_of (is_quote quote) false (left_of (is_quote quote && false) true t)
-
-pub all_laid : (quote : ℕ) (place : ℕ → Phrase) (top : List Phrase) (text : List ℕ) (a b : State) → LaidSoFar quote place top text a b
-    → IsTrue (is_text quote text) → PutsOf top (are_laid quote place text) a b
-all_laid quote place top [] a b s t = absurd (never (empty quote t))
-all_laid quote place top (c ∷ text) a b s t = record { parts = s.parts; puts = s.puts; makes = s.makes }
 
 at_true : (p : ℕ → Bool) (text : List ℕ) (k : ℕ) (b : Bool) → k < length text → list_all p text ≡ true → p (get_or text k 0) ≡ b → b ≡ true
 at_true p text k true l h e = refl
 at_true p text k false l h e = sym (list_all_at p text k 0 l e) ∙ h
 
-top_small : (b : Bool) (top : ℕ) → (if b then 0 + 128 else 0) ≡ 0 + top → top ≤ 128
-top_small true top e = omega (arith, e)
-top_small false top e = omega (arith, e)
-
 -- a character that is laid is a byte
-pub laid_code : (quote top k code : ℕ) (text : List ℕ) → IsTop quote top → IsTrue (is_text quote text) → k < length text
+laid_code : (quote top k code : ℕ) (text : List ℕ) → IsTop quote top → IsTrue (is_text quote text) → k < length text
     → code ≡ (get_or text k 0 + top) % 256 → code ≡ get_or text k 0 + top
 laid_code quote top k code text t good l e =
-    let c = get_or text k 0 in
-    let all = right_of (is_quote quote && nat_lt 0 (length text)) (list_all (is_quotable quote) text) good in
-    let is = at_true (is_quotable quote) text k (is_quotable quote c) l all refl in
-    let low = leb-true c 126 (right_of (nat_le 32 c) (nat_le c 126) (left_of (nat_le 32 c && nat_le c 126) (not (c == quote)) is)) in
+    let all = and_parts _ _ good in
+    let is = at_true (is_quotable quote) text k (is_quotable quote (get_or text k 0)) l all.1 refl in
     let most = top_small (quote == 34) top (t 0) in
+    let low = leb-true (get_or text k 0) 126 (and_parts _ _ (and_parts _ _ is).0).1 in
     omega (arith, e, low, most)
+  where
+    top_small : (b : Bool) (top : ℕ) → (if b then 0 + 128 else 0) ≡ 0 + top → top ≤ 128
+    top_small true top e = omega (arith, e)
+    top_small false top e = omega (arith, e)
 
-pub laid_first : (quote add n k code : ℕ) (place : ℕ → Phrase) (top : List Phrase) (text : List ℕ) (a m b : State)
+pub laid_first : (quote add n k code : ℕ) {place : ℕ → Phrase} {top : List Phrase} (text : List ℕ) {a m b : State}
     → LaidSoFar quote place top (take k text) a m → IsTop quote add → IsTrue (is_text quote text) → n ≡ k → n ≤ 0 → k < length text
     → code ≡ (get_or text k 0 + add) % 256 → PutsOf (pushed n top) (pair operation.Equal (of function.Byte (place n)) (number (pos code))) m b
     → LaidSoFar quote place top (take (k + 1) text) a b
-laid_first quote add n k code place top [] a m b s t g e z l f p = absurd (omega (arith, l))
-laid_first quote add n zero code place top (c ∷ text) a m b s t g e z l f p =
-    first_laid quote add c code place top n a m b s t e (laid_code quote add 0 code (c ∷ text) t g l f) p
-laid_first quote add n (suc k) code place top (c ∷ text) a m b s t g e z l f p = absurd (omega (arith, e, z))
+laid_first quote add n k code [] s t g e z l f p = absurd (omega (arith, l))
+laid_first quote add n zero code {place} {top} (c ∷ text) s t g e z l f p =
+    first_laid quote add c code place top n s t e (laid_code quote add 0 code (c ∷ text) t g l f) p
+laid_first quote add n (suc k) code (c ∷ text) s t g e z l f p = absurd (omega (arith, e, z))
 
-pub laid_next : (quote add n k code : ℕ) (place : ℕ → Phrase) (top : List Phrase) (text : List ℕ) (a m o b : State)
+pub laid_next : (quote add n k code : ℕ) {place : ℕ → Phrase} {top : List Phrase} (text : List ℕ) {a m o b : State}
     → LaidSoFar quote place top (take k text) a m → IsTop quote add → IsTrue (is_text quote text) → n ≡ k → 0 < n → k < length text
     → code ≡ (get_or text k 0 + add) % 256 → PutsOf (pushed n top) (pair operation.Equal (of function.Byte (place n)) (number (pos code))) m o
     → Puts joining o b → LaidSoFar quote place top (take (k + 1) text) a b
-laid_next quote add n k code place top [] a m o b s t g e z l f p j = absurd (omega (arith, l))
-laid_next quote add n zero code place top (d ∷ text) a m o b s t g e z l f p j = absurd (omega (arith, e, z))
-laid_next quote add n (suc k) code place top (d ∷ text) a m o b s t g e z l f p j =
+laid_next quote add n k code [] s t g e z l f p j = absurd (omega (arith, l))
+laid_next quote add n zero code (d ∷ text) s t g e z l f p j = absurd (omega (arith, e, z))
+laid_next quote add n (suc k) code {place} {top} (d ∷ text) s t g e z l f p j =
     let within : k < length text = omega (arith, l) in
     let many = length-take-le k text (omega (arith, within)) in
     let more : suc k + 1 ≡ suc (k + 1) = omega arith in
-    let same : d ∷ (take k text ++ get_or text k 0 ∷ []) ≡ take (suc k + 1) (d ∷ text) =
-    ap (λ rest. d ∷ rest) (sym (take_more text k 0 within)) ∙ ap (λ n. take n (d ∷ text)) (sym more) in
-    let P : List ℕ → Type 0 = λ text. LaidSoFar quote place top text a b in
-    subst P same (next_laid quote add (get_or text k 0) code place top d (take k text) n a m o b s t (omega (arith, e, many))
+    let same : take (suc k + 1) (d ∷ text) ≡ d ∷ (take k text ++ get_or text k 0 ∷ []) =
+    ap (λ n. take n (d ∷ text)) more ∙ ap (λ rest. d ∷ rest) (take_more text k 0 within) in
+    rw same (next_laid quote add (get_or text k 0) code place top d (take k text) n s t (omega (arith, e, many))
     (laid_code quote add (suc k) code (d ∷ text) t g l f) p j)
 
-pub laid_whole : (quote k : ℕ) (place : ℕ → Phrase) (top : List Phrase) (text : List ℕ) (a b : State) → LaidSoFar quote place top (take k text) a b
-    → length text ≤ k → IsTrue (is_text quote text) → PutsOf top (are_laid quote place text) a b
-laid_whole quote k place top text a b s l t =
-    let P : List ℕ → Type 0 = λ text. LaidSoFar quote place top text a b in
-    all_laid quote place top text a b (subst P (take_all k text l) s) t
+all_laid : {quote : ℕ} {place : ℕ → Phrase} {top : List Phrase} (text : List ℕ) {a b : State} → LaidSoFar quote place top text a b
+    → IsTrue (is_text quote text) → PutsOf top (are_laid quote place text) a b
+all_laid [] s t = absurd (false≢true (and_parts _ _ (and_parts _ _ t).0).1)
+all_laid (c ∷ text) s t = record { parts = s.parts; puts = s.puts; makes = s.makes }
+
+pub laid_whole : {quote : ℕ} (k : ℕ) {place : ℕ → Phrase} {top : List Phrase} (text : List ℕ) {a b : State}
+    → LaidSoFar quote place top (take k text) a b → length text ≤ k → IsTrue (is_text quote text) → PutsOf top (are_laid quote place text) a b
+laid_whole k text s l t = all_laid text (rw (take_all k text l) at s) t

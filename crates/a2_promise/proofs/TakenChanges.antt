@@ -1,6 +1,7 @@
 -- What may change, as it is read.
-use Rattle.std.specs.Prelude.{◌≡◌, ◌≤◌, ℕ, nat_le, Bool, true, false, not, ◌&&◌, ◌||◌, IsTrue, List, [], ◌∷◌, ◌++◌, map, codes, Some, refl}
+use Rattle.std.specs.Prelude.{◌≡◌, ◌≤◌, ℕ, Bool, true, false, not, ◌||◌, IsTrue, List, [], ◌∷◌, ◌++◌, map, codes, Some, refl}
 use Rattle.std.specs.List.{list_any, list_all, flat_map}
+use Rattle.std.proofs.lemmas.List.{append-nil}
 use Rattle.std.proofs.Common.{ap, ap₂, sym, subst, ◌∙◌, inl, inr, append_assoc}
 use Rattle.std.proofs.lemmas.List.{map-append}
 use Rattle.std.proofs.lemmas.Bool.{le-leb}
@@ -9,11 +10,11 @@ use Rattle.a2_promise.specs.declared.promises.Range.{Range}
 use Rattle.a2_promise.specs.declared.reading.Class.{Class}
 use Rattle.a2_promise.specs.declared.reading.Class.TheVariants as classes
 use Rattle.a2_promise.specs.Tokens.{Token, word, sign}
-use Rattle.a2_promise.specs.Grammar.{Scope, address_of, is_just, is_name_among}
+use Rattle.a2_promise.specs.Grammar.{Scope, address_of, is_name_among}
 use Rattle.a2_promise.specs.Told.{Change, byte, bytes, change_names, is_other_name, change_fits, change_spelled, is_a, is_x, is_y, ranges_in}
-use Rattle.a2_promise.specs.Reading.{State, Takes, Goes, LetsChange, IsUpTo, AddsChange, AddsChanges, ranges_of, first, token_of}
+use Rattle.a2_promise.specs.Reading.{State, Takes, LetsChange, IsUpTo, AddsChange, AddsChanges, ranges_of, first, token_of}
 use Rattle.a2_promise.proofs.Names.{word_class}
-use Rattle.a2_promise.proofs.Goings.{all2, goes_take, take_last}
+use Rattle.a2_promise.proofs.Goings.{also}
 use Rattle.a2_promise.proofs.Formers.{just}
 
 not_false : (b : Bool) → b ≡ false → IsTrue (not b)
@@ -48,37 +49,36 @@ ranges_let change before after range r e in_ a x y = record {
       ∙ ap (λ more. ranges_of before ++ more) (sym in_);
 }
 
-pub change_read : (from to : ℕ) (class : Class) (text : List ℕ) (a m b : State) (before after : Changes) (range : Range)
+pub change_read : (from to : ℕ) (class : Class) (text : List ℕ) {a m b : State} {before after : Changes} (range : Range)
     → token_of class text ≡ first a.left → (class ≡ classes.Word → is_name_among change_names text ≡ false)
     → (it : (token : Token) × Takes token a m × (address_of a.scope.names token ≡ Some from)) → IsUpTo from to m b → from ≤ to
     → (after.a ≡ before.a) × (after.x ≡ before.x) × (after.y ≡ before.y)
     → after.ranges.items ≡ before.ranges.items ++ range ∷ [] → range.first ≡ from → range.last ≡ to → AddsChange a b before after
-change_read from to class text a m b before after range f o it up l r e i j =
+change_read from to class text {a} {before = before} {after} range f o it up l r e i j =
     let t = it.0 in
     let other = other_by class text t (f ∙ ap first it.1.left) o in
-    let value = just from _ it.2 in
     elim up [
       | inl far ↦ record {
         change = bytes t from far.0 to;
-        goes = goes_take t (sign (codes "..") ∷ far.0 ∷ []) [] a m b it.1 far.1;
-        fit = all2 (is_other_name change_names t && is_just from (address_of a.scope.names t) && is_just to (address_of a.scope.names far.0)) (nat_le from to)
-            (all2 (is_other_name change_names t && is_just from (address_of a.scope.names t)) (is_just to (address_of a.scope.names far.0))
-            (all2 (is_other_name change_names t) (is_just from (address_of a.scope.names t)) other value)
-            (just to _ (ap (λ (scope : Scope). address_of scope.names far.0) (sym it.1.scope) ∙ far.2)))
-            (le-leb from to l);
+        goes = record {
+          left = it.1.left ∙ ap (λ left. t ∷ left) far.1.left;
+          parts = far.1.parts ∙ ap (λ parts. parts ++ []) it.1.parts;
+          scope = far.1.scope ∙ it.1.scope;
+        };
+        fit = also (also (also other (just it.2)) (just (ap (λ (scope : Scope). address_of scope.names far.0) (sym it.1.scope) ∙ far.2))) (le-leb from to l);
         lets = ranges_let (bytes t from far.0 to) before after range r e (ap₂ (λ x y. (x, y) ∷ []) (sym i) (sym j)) refl refl refl;
       }
       | inr near ↦ record {
         change = byte t from;
-        goes = let P : State → Type 0 = λ s. Goes (t ∷ []) [] a s in subst P (sym near.1) (take_last t a m it.1);
-        fit = all2 (is_other_name change_names t) (is_just from (address_of a.scope.names t)) other value;
+        goes = rw near.1 (record { left = it.1.left; parts = it.1.parts ∙ sym (append-nil a.parts); scope = it.1.scope });
+        fit = also other (just it.2);
         lets = ranges_let (byte t from) before after range r e (ap₂ (λ x y. (x, y) ∷ []) (sym i) (near.0 ∙ sym j)) refl refl refl;
       }
     ]
 
-pub more_read : (a m n : State) (before middle after : Changes) → AddsChange a m before middle → Takes (sign (codes ",")) m n
+pub more_read : {a m n : State} {before middle after : Changes} → AddsChange a m before middle → Takes (sign (codes ",")) m n
     → AddsChanges n middle after → AddsChanges a before after
-more_read a m n before middle after one t all =
+more_read {a} {n = n} {before} one t all =
     let c = one.change in
     let more = all.change ∷ all.more in
     let scope : n.scope ≡ a.scope = t.scope ∙ one.goes.scope in
@@ -87,7 +87,7 @@ more_read a m n before middle after one t all =
       change = c;
       more = more;
       are_spelled = one.goes.left ∙ ap (λ left. change_spelled c ++ left) (t.left ∙ ap (λ left. sign (codes ",") ∷ left) all.are_spelled);
-      fit = all2 (change_fits a.scope.names c) (list_all (change_fits a.scope.names) more) one.fit (subst P scope all.fit);
+      fit = also one.fit (subst P scope all.fit);
       let_all = record {
         a = all.let_all.a ∙ ap (λ b. b || list_any is_a more) one.lets.a ∙ or_assoc before.a (is_a c) (list_any is_a more);
         x = all.let_all.x ∙ ap (λ b. b || list_any is_x more) one.lets.x ∙ or_assoc before.x (is_x c) (list_any is_x more);

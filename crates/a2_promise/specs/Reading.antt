@@ -40,7 +40,7 @@ use Rattle.a2_promise.specs.declared.words.Opening.TheVariants as opening
 use Rattle.a2_promise.specs.Tokens.{Token, word, decimal, place, sign, quoted, is_letter, front, behind, quoted_from, tokens}
 use Rattle.a2_promise.specs.Phrases.{Phrase, phrase_of, number, held, bound, old, at, of, pair, choice, each, sum}
 use Rattle.a2_promise.specs.Written.{Written, atom_name, infix_token, spelled, meant, said, enclosed, bracketed, joined}
-use Rattle.a2_promise.specs.Grammar.{Scope, fits, inside, infix_rank, is_comparison, is_number, is_fact, may_be_number, may_be_fact, address_of, may_count, kind, rank as rank_of, takes_else, takes_from, tightest}
+use Rattle.a2_promise.specs.Grammar.{Scope, fits, inside, infix_rank, is_comparison, is_number, is_fact, may_be_number, may_be_fact, address_of, counts, kind, rank as rank_of, takes_else, takes_from, tightest}
 use Rattle.a2_promise.specs.Told.{Change, Line, IsLine, wanted_in, promised_in, changes_in, printed_in, taken_in, is_promising, change_fits, change_spelled, more_spelled, AreChanges, is_a, is_x, is_y, ranges_in}
 
 -- the token of a class and a text, none at the end
@@ -197,28 +197,9 @@ Makes parts phrase = (phrases : List Phrase) → made parts phrases ≡ phrase �
 abbrev pub Stops : ℕ → List Token → Type 0
 Stops limit left = (join : Infix) → first left ≡ Some (infix_token join) → infix_rank join < tightest → infix_rank join < limit
 
--- from one state to another an expression was read, and nothing stands there that would belong to it
-pub record Reads (e : Written) (before after : State) : Type 0 where
-  pub left : before.left ≡ spelled e ++ after.left
-  pub parts : List Part
-  pub puts : after.parts ≡ before.parts ++ parts
-  pub makes : Makes parts (said e)
-  pub scope : after.scope ≡ before.scope
-  pub fits : IsTrue (fits before.scope e)
-  pub stops : Stops (takes_from e) after.left
-  pub no_else : IsTrue (takes_else e) → first after.left ≡ Some (word (codes "else")) → ⊥
-
--- the parts of the last number of a comparison, from which one more may go on
-abbrev pub IsLast : List Part → Option Span → Written → Type 0
-IsLast parts None e = (meant e).last ≡ None
-IsLast parts (Some span) e =
-    IsTrue (is_comparison e)
-    × ((phrase : Phrase) × ((meant e).last ≡ Some phrase) × (span.ended ≤ length parts) × Makes (slice_range parts span.begun span.ended) phrase)
-
--- what is said of an expression that was read
-pub record IsPiece (piece : Piece) (e : Written) (after : State) : Type 0 where
-  pub kind : kind e ≡ piece.kind
-  pub last : IsLast after.parts piece.last e
+-- no `else` stands first that would belong to what was read
+abbrev pub NoElse : Bool → List Token → Type 0
+NoElse takes left = IsTrue takes → first left ≡ Some (word (codes "else")) → ⊥
 
 -- from one state to another tokens were taken and parts put
 pub record Goes (taken : List Token) (put : List Part) (before after : State) : Type 0 where
@@ -226,20 +207,49 @@ pub record Goes (taken : List Token) (put : List Part) (before after : State) : 
   pub parts : after.parts ≡ before.parts ++ put
   pub scope : after.scope ≡ before.scope
 
--- an expression was read that binds at least so tight, and no joint stands there that does
-pub record ReadsOne (limit : ℕ) (test : Written → Bool) (before after : State) : Type 0 where
+-- or parts that make this of what was made before them
+pub record Steps (taken : List Token) (making : List Phrase → List Phrase) (before after : State) : Type 0 where
+  pub left : before.left ≡ taken ++ after.left
+  pub parts : List Part
+  pub puts : after.parts ≡ before.parts ++ parts
+  pub makes : (phrases : List Phrase) → made parts phrases ≡ making phrases
+  pub scope : after.scope ≡ before.scope
+
+-- or an expression was read, and nothing stands there that would belong to it
+pub record Reads (e : Written) (before after : State) : Type 0 where
+  pub steps : Steps (spelled e) (λ phrases. said e ∷ phrases) before after
+  pub fits : IsTrue (fits before.scope e)
+  pub stops : Stops (takes_from e) after.left
+  pub no_else : NoElse (takes_else e) after.left
+
+-- the parts of a span make this
+abbrev pub IsMade : Span → Phrase → List Part → Type 0
+IsMade span e parts = (span.ended ≤ length parts) × Makes (slice_range parts span.begun span.ended) e
+
+-- the parts of the last number of a comparison, from which one more may go on
+abbrev pub IsLast : List Part → Option Span → Written → Type 0
+IsLast parts None e = (meant e).last ≡ None
+IsLast parts (Some span) e =
+    IsTrue (is_comparison e) × ((phrase : Phrase) × ((meant e).last ≡ Some phrase) × IsMade span phrase parts)
+
+-- what is said of an expression that was read
+pub record IsPiece (piece : Piece) (e : Written) (after : State) : Type 0 where
+  pub kind : kind e ≡ piece.kind
+  pub last : IsLast after.parts piece.last e
+
+-- an expression was read of which this holds, that binds at least so tight, and no joint stands there that does
+pub record ReadsSuch (limit : ℕ) (holds : Written → Type 0) (before after : State) : Type 0 where
   pub e : Written
   pub reads : Reads e before after
   pub rank : IsTrue (nat_le limit (rank_of e))
-  pub is : IsTrue (test e)
+  pub is : holds e
   pub stops : Stops limit after.left
 
-pub record ReadsPiece (limit : ℕ) (piece : Piece) (before after : State) : Type 0 where
-  pub e : Written
-  pub reads : Reads e before after
-  pub rank : IsTrue (nat_le limit (rank_of e))
-  pub piece_is : IsPiece piece e after
-  pub stops : Stops limit after.left
+abbrev pub ReadsOne : ℕ → (Written → Bool) → State → State → Type 0
+ReadsOne limit test before after = ReadsSuch limit (λ e. IsTrue (test e)) before after
+
+abbrev pub ReadsPiece : ℕ → Piece → State → State → Type 0
+ReadsPiece limit piece before after = ReadsSuch limit (λ e. IsPiece piece e after) before after
 
 -- or one of this kind, which begins with no joint
 pub record ReadsKind (as_kind : Kind) (before after : State) : Type 0 where
@@ -248,13 +258,11 @@ pub record ReadsKind (as_kind : Kind) (before after : State) : Type 0 where
   pub rank : IsTrue (nat_le tightest (rank_of e))
   pub kind : kind e ≡ as_kind
 
--- or one and what closes it
-pub record ReadsClosed (last : Token) (test : Written → Bool) (before after : State) : Type 0 where
+-- or a number and the ] that closes it
+pub record ReadsAddress (before after : State) : Type 0 where
   pub e : Written
-  pub middle : State
-  pub reads : Reads e before middle
-  pub is : IsTrue (test e)
-  pub closes : Takes last middle after
+  pub steps : Steps (spelled e ++ sign (codes "]") ∷ []) (λ phrases. said e ∷ phrases) before after
+  pub fit : IsTrue (is_number e && fits before.scope e)
 
 -- or the one to which this joint joins another
 pub record ReadsJoined (join : Infix) (e : Written) (piece : Piece) (before after : State) : Type 0 where
@@ -266,9 +274,7 @@ pub record ReadsJoined (join : Infix) (e : Written) (piece : Piece) (before afte
 pub record ReadsTwo (before after : State) : Type 0 where
   pub e : Written
   pub f : Written
-  pub parts : List Part
-  pub goes : Goes (enclosed (spelled e ++ sign (codes ",") ∷ spelled f)) parts before after
-  pub makes : (phrases : List Phrase) → made parts phrases ≡ said f ∷ said e ∷ phrases
+  pub steps : Steps (enclosed (spelled e ++ sign (codes ",") ∷ spelled f)) (λ phrases. said f ∷ said e ∷ phrases) before after
   pub fit : IsTrue (is_number e && is_number f && fits before.scope e && fits before.scope f)
 
 -- or an address or a number, and these parts put that are made of it
@@ -280,32 +286,25 @@ pub record ReadsToken (value_of : Names → Token → Option ℕ) (parts_of : �
 
 -- or the last number of a comparison, whose parts are these
 pub record ReadsLast (span : Span) (before after : State) : Type 0 where
-  pub f : Written
-  pub reads : Reads f before after
-  pub rank : IsTrue (nat_le 6 (rank_of f))
-  pub is : IsTrue (is_number f)
-  pub stops : Stops 6 after.left
-  pub room : span.ended ≤ length after.parts
-  pub makes : Makes (slice_range after.parts span.begun span.ended) (said f)
+  pub one : ReadsOne 6 is_number before after
+  pub is_made : IsMade span (said one.e) after.parts
 
 -- or what is counted: a name, <, a number and a :
 pub record ReadsCounted (k : ℕ) (before after : State) : Type 0 where
   pub name : List ℕ
   pub e : Written
   pub middle : State
-  pub parts : List Part
-  pub goes : Goes (word name ∷ sign (codes "<") ∷ (spelled e ++ sign (codes ":") ∷ [])) parts before middle
-  pub makes : Makes parts (said e)
+  pub steps : Steps (word name ∷ sign (codes "<") ∷ (spelled e ++ sign (codes ":") ∷ [])) (λ phrases. said e ∷ phrases) before middle
   pub binds : Binds name k middle after
-  pub fit : IsTrue (may_count name && nat_le 6 (rank_of e) && is_number e && fits before.scope e)
+  pub fit : IsTrue (counts before.scope name k && nat_le 6 (rank_of e) && is_number e)
+  pub fits : IsTrue (fits before.scope e)
 
 -- or the place of a text
 abbrev pub ReadsPlace : Place → State → State → Type 0
 ReadsPlace (Fixed a) before after = (token : Token) × Takes token before after × (address_of before.scope.names token ≡ Some a)
 ReadsPlace (Made span) before after =
-    (e : Written) × (parts : List Part) × Goes (bracketed (spelled e)) parts before after × Makes parts (said e)
-    × IsTrue (is_number e && fits before.scope e)
-    × (span.ended ≤ length after.parts) × (slice_range after.parts span.begun span.ended ≡ parts)
+    (e : Written) × Steps (bracketed (spelled e)) (λ phrases. said e ∷ phrases) before after
+    × IsTrue (is_number e && fits before.scope e) × IsMade span (said e) after.parts
 
 -- the parts that make of what was made what does not hold, both of two, and a comparison
 abbrev pub negating : List Part
@@ -337,10 +336,6 @@ byte_parts a = part.Number (pos a) ∷ part.Of function.Byte ∷ []
 
 abbrev pub number_parts : ℕ → List Part
 number_parts n = part.Number (pos n) ∷ []
-
--- the parts of a span make this
-abbrev pub IsMade : Span → Phrase → List Part → Type 0
-IsMade span e parts = (span.ended ≤ length parts) × Makes (slice_range parts span.begun span.ended) e
 
 -- a place that was read says this of each byte behind it, and what of it stands on top for the first one
 abbrev pub IsPlaced : Place → (ℕ → Phrase) → List Phrase → List Part → Type 0

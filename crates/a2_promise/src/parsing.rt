@@ -9,7 +9,7 @@ ghost use Rattle.a2_promise.specs.Grammar.{number_of, tightest};
 ghost use Rattle.a2_promise.specs.Phrases.{Phrase, number, of, pair};
 ghost use Rattle.a2_promise.specs.declared.expr.Function.TheVariants as function;
 ghost use Rattle.a2_promise.specs.declared.expr.Operation.TheVariants as operation;
-ghost use Rattle.a2_promise.specs.Reading.{IsEither, IsMade, IsPiece, IsPlaced, IsTop, Puts, PutsOf, pushed, Reads, ReadsClosed};
+ghost use Rattle.a2_promise.specs.Reading.{IsEither, IsMade, IsPiece, IsPlaced, IsTop, Puts, PutsOf, pushed, Reads, ReadsAddress};
 ghost use Rattle.a2_promise.specs.Reading.{ReadsCounted, ReadsJoined, ReadsKind, ReadsLast, ReadsOne, ReadsPiece, ReadsPlace};
 ghost use Rattle.a2_promise.specs.Reading.{ReadsToken, ReadsTwo, State, Takes, byte_parts, comparing as parts_comparing, first, made};
 ghost use Rattle.a2_promise.specs.Reading.{making_token, number_parts, opening_token, parts_before, parts_behind, state_of};
@@ -423,7 +423,7 @@ fn two_numbers<'a>(reader: &mut Reader<'a, '_>, depth: u8) -> Result<(), ReadFau
 // The address behind a [, up to its ].
 #[cycle(expression)]
 fn bracketed<'a>(reader: &mut Reader<'a, '_>, depth: u8) -> Result<(), ReadFault<'a>>
-    ensures { OnOk result (ReadsClosed (sign (codes "]")) is_number (state_of reader.old) (state_of reader.new)) }
+    ensures { OnOk result (ReadsAddress (state_of reader.old) (state_of reader.new)) }
 {
     let less = depth.saturating_sub(1);
     number_in(reader, LOOSEST, less)?;
