@@ -132,18 +132,16 @@ place_made {a} {b = b} begun ended i t r j =
       (omega (arith, j), λ phrases. ap (λ parts. made parts phrases) same ∙ steps.makes phrases),
     )
 
-pub text_read : {T E : Type 0} (result : Result T E) (place : Place) {quote : ℕ} {characters : List ℕ} {z a m n o : State} (b : State)
-    → Takes (word (codes "text")) z a → ReadsPlace place a m → Takes (sign (codes "=")) m n → Takes (quoted quote characters) n o
-    → IsTrue (is_text quote characters)
-    → ((phrase : ℕ → Phrase) (top : List Phrase) → IsPlaced place phrase top o.parts → OnOk result (PutsOf top (are_laid quote phrase characters) o b))
-    → OnOk result (ReadsKind kinds.Fact z b)
+pub text_read : (place : Place) {quote : ℕ} {characters : List ℕ} {z a m n o b : State} → Takes (word (codes "text")) z a → ReadsPlace place a m
+    → Takes (sign (codes "=")) m n → Takes (quoted quote characters) n o → IsTrue (is_text quote characters)
+    → ((phrase : ℕ → Phrase) (top : List Phrase) → IsPlaced place phrase top o.parts → PutsOf top (are_laid quote phrase characters) o b)
+    → ReadsKind kinds.Fact z b
 unfolding spelled meant fits made
-text_read (Err e) place b w r t u good lay = tt
-text_read (Ok x) (Fixed address) {quote} {characters} b w r t u good lay =
+text_read (Fixed address) {quote} {characters} w r t u good lay =
     let laid = lay (λ k. phrase.number (pos (address + k))) [] (λ k. refl, refl) in
     closed_read (text r.0 address quote characters) (as_made (took w >> took r.1 >> took t >> took u >> put laid.puts) laid.makes)
     w.scope (also (just r.2) good) refl refl refl refl
-text_read (Ok x) (Made span) {quote} {characters} {m = m} {o = o} b w r t u good lay =
+text_read (Made span) {quote} {characters} {m = m} {o = o} w r t u good lay =
     let e = r.0 in
     let kept = made_kept span (said e) m.parts [] o.parts (u.parts ∙ t.parts ∙ sym (append-nil m.parts)) r.3 in
     let laid = lay (λ k. phrase.pair operation.Plus (said e) (phrase.number (pos k))) (said e ∷ []) (said e, λ k. refl, refl, kept) in
@@ -196,6 +194,12 @@ rank_joined limit n join h l = le-leb (min limit tightest) (infix_rank join) (om
 pub if_ok : {T E : Type 0} (r : Result T E) {P Q : T → Type 0} → ((x : T) → P x → Q x) → IfOk r P → IfOk r Q
 if_ok (Ok x) f h = f x h
 if_ok (Err e) f h = tt
+
+-- what was made, where it was, of a kind that is told
+pub kind_ok : {E : Type 0} (r : Result Kind E) {k : Kind} {P : Type 0} {a b : State} → IfOk r (λ made. (made ≡ k) × P) → (P → ReadsKind k a b)
+    → IfOk r (λ made. ReadsKind made a b)
+kind_ok (Ok made) h f = rw h.0 (f h.1)
+kind_ok (Err e) h f = tt
 
 pub none_by : {X : Type 0} (found : Option X) → ((x : X) → found ≡ Some x → ⊥) → found ≡ None
 none_by None h = refl

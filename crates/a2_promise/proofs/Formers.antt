@@ -7,6 +7,7 @@ use Rattle.a2_asm.specs.Values.{name_value}
 use Rattle.a2_promise.specs.declared.expr.Atom.{Atom}
 use Rattle.a2_promise.specs.declared.expr.Function.TheVariants as function
 use Rattle.a2_promise.specs.declared.expr.Operation.TheVariants as operation
+use Rattle.a2_promise.specs.declared.words.Kind.{Kind}
 use Rattle.a2_promise.specs.declared.words.Kind.TheVariants as kinds
 use Rattle.a2_promise.specs.declared.parts.Part.TheVariants as part
 use Rattle.a2_promise.specs.declared.parsing.Piece.{Piece}
@@ -75,12 +76,11 @@ group_read t r u = closed_read (group r.e) (took t >> r.reads.steps >> took u) t
 
 -- what one number or fact is made into, by a word before it
 
-pub before_read : {piece : Piece} {a m n b : State} → Takes (word (codes "old")) a m → ReadsPiece tightest piece m n → Puts (part.Old ∷ []) n b
-    → ReadsKind piece.kind a b
+pub before_read : {k : Kind} {a m n b : State} → Takes (word (codes "old")) a m → ReadsKind k m n → Puts (part.Old ∷ []) n b → ReadsKind k a b
 unfolding spelled meant fits made
 before_read t r p =
     one_read (before r.e) (took t >> last r.reads.steps p) t.scope (also (one_by_rank r.e r.rank) r.reads.fits)
-    (rw p.left r.reads.stops) (rw p.left r.reads.no_else) refl r.is.kind
+    (rw p.left r.reads.stops) (rw p.left r.reads.no_else) refl r.kind
 
 pub magnitude_read : {a m n b : State} → Takes (word (codes "abs")) a m → ReadsOne tightest is_number m n → Puts (part.Of function.Abs ∷ []) n b
     → ReadsKind kinds.Number a b
@@ -102,14 +102,14 @@ negated_read t r p =
     one_read (negated r.e) (took t >> last r.reads.steps p) t.scope (also (also r.rank r.is) r.reads.fits)
     (rw p.left (stops_both _ r.stops r.reads.stops)) (rw p.left r.reads.no_else) refl refl
 
-pub there_read : {piece : Piece} {label : List ℕ} {address : ℕ} {a m n o b : State} → Takes (word (codes "at")) a m → Takes (word label) m n
-    → IsTrue m.scope.is_within → name_value m.scope.names label ≡ Some address → ReadsPiece tightest piece n o → Puts (part.At address ∷ []) o b
-    → ReadsKind piece.kind a b
+pub there_read : {k : Kind} {label : List ℕ} {address : ℕ} {a m n o b : State} → Takes (word (codes "at")) a m → Takes (word label) m n
+    → IsTrue m.scope.is_within → name_value m.scope.names label ≡ Some address → ReadsKind k n o → Puts (part.At address ∷ []) o b
+    → ReadsKind k a b
 unfolding spelled meant fits made
 there_read {label = label} {address} t u w v r p =
     one_read (there label address r.e) (took t >> took u >> last r.reads.steps p) t.scope
     (also (also (also w (just v)) (one_by_rank r.e r.rank)) (fits_at r.reads u.scope))
-    (rw p.left r.reads.stops) (rw p.left r.reads.no_else) refl r.is.kind
+    (rw p.left r.reads.stops) (rw p.left r.reads.no_else) refl r.kind
 
 pub minus_read : {a m n o b : State} → Takes (sign (codes "-")) a m → Puts (part.Number (pos 0) ∷ []) m n → ReadsOne tightest is_number n o
     → Puts (part.Pair operation.Minus ∷ []) o b → ReadsKind kinds.Number a b

@@ -12,14 +12,14 @@ pub struct Refusal {
 
 /// Why a line is not read.
 #[derive(Clone, Copy)]
-pub(crate) enum ReadFault<'a> {
-    /// What is meant can't stand from here on, and why.
-    Says(&'static str, &'a [u8]),
+pub(crate) enum ReadFault {
+    /// Why what is meant can't stand where so many bytes of the line are left.
+    Says(&'static str, usize),
     Memory,
 }
 
-impl<'a> From<AllocError> for ReadFault<'a> {
-    fn from(_error: AllocError) -> ReadFault<'a> {
+impl From<AllocError> for ReadFault {
+    fn from(_error: AllocError) -> ReadFault {
         ReadFault::Memory
     }
 }

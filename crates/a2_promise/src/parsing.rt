@@ -28,60 +28,60 @@ use crate::words::{
 
 /// An expression as it was read.
 #[derive(Clone, Copy)]
-pub(crate) struct Piece<'a> {
+pub(crate) struct Piece {
     kind: Kind,
-    /// Where it begins.
-    at: &'a [u8],
+    /// How many bytes of the line are left from where it begins.
+    bytes_left: usize,
     /// The parts of the last number of a comparison, from which one more may go on.
     last: Option<Span>,
 }
 
-impl<'a> Piece<'a> {
+impl Piece {
     // What is of this kind and begins here.
-    fn at(at: &'a [u8], kind: Kind) -> Piece<'a>
+    fn at(bytes_left: usize, kind: Kind) -> Piece
         ensures kind { result.kind ≡ kind }
         ensures last { result.last ≡ None }
     {
         Piece {
             kind,
-            at,
+            bytes_left,
             last: None,
         }
     }
 
     // What compares two numbers, the last of which has these parts.
-    fn compared(at: &'a [u8], last: Span) -> Piece<'a>
+    fn compared(bytes_left: usize, last: Span) -> Piece
         ensures kind { result.kind ≡ kinds.Fact }
         ensures last { result.last ≡ Some last }
     {
         Piece {
             kind: Kind::Fact,
-            at,
+            bytes_left,
             last: Some(last),
         }
     }
 
     /// Refuses what says that something holds.
-    pub fn number(self) -> Result<(), ReadFault<'a>>
-        ensures { OnOk result (IsTrue (may_be_number self.entry.kind)) }
+    pub fn number(self) -> Result<(), ReadFault>
+        ensures { OnOk result (IsTrue (may_be_number self.kind)) }
     {
         match self.kind {
             Kind::Fact => Err(ReadFault::Says(
                 "a number is wanted here, and this says that something holds",
-                self.at,
+                self.bytes_left,
             )),
             _ => Ok(()),
         }
     }
 
     /// Refuses a number.
-    pub fn fact(self) -> Result<(), ReadFault<'a>>
-        ensures { OnOk result (IsTrue (may_be_fact self.entry.kind)) }
+    pub fn fact(self) -> Result<(), ReadFault>
+        ensures { OnOk result (IsTrue (may_be_fact self.kind)) }
     {
         match self.kind {
             Kind::Number => Err(ReadFault::Says(
                 "something that holds or not is wanted here, as A = 3, and this is a number",
-                self.at,
+                self.bytes_left,
             )),
             _ => Ok(()),
         }
@@ -92,12 +92,12 @@ impl<'a> Piece<'a> {
 const TOO_DEEP: &str = "this is too deep within other things: take it apart";
 
 // One level less.
-fn deeper<'a>(rest: &'a [u8], depth: u8) -> Result<u8, ReadFault<'a>>
+fn deeper(reader: &Reader, depth: u8) -> Result<u8, ReadFault>
     ensures { IfOk result (λ less. less < depth) }
 {
     match depth.checked_sub(1) {
         Some(less) => Ok(less),
-        None => Err(ReadFault::Says(TOO_DEEP, rest)),
+        None => reader.refuse(TOO_DEEP),
     }
 }
 
@@ -139,31 +139,30 @@ fn joining(join: Infix) -> (&'static [Part], &'static [Part])
 }
 
 // The byte at an address that stands next.
-fn byte_here<'a>(reader: &mut Reader<'a, '_>) -> Result<(), ReadFault<'a>>
-    ensures { OnOk result (ReadsToken address_of byte_parts (state_of reader.old) (state_of reader.new)) }
+fn byte_here(reader: &mut Reader) -> Result<Kind, ReadFault>
+    ensures { IfOk result (λ kind. (kind ≡ kinds.Number) × ReadsToken address_of byte_parts (state_of reader.old) (state_of reader.new)) }
 {
     let address = reader.address()?;
-    reader.puts(&[Part::Number(i64::from(address)), Part::Of(Function::Byte)])
+    reader.makes(
+        &[Part::Number(i64::from(address)), Part::Of(Function::Byte)],
+        Kind::Number,
+    )
 }
 
 // A number that stands next.
-fn number_here<'a>(reader: &mut Reader<'a, '_>) -> Result<(), ReadFault<'a>>
-    ensures { OnOk result (ReadsToken number_of number_parts (state_of reader.old) (state_of reader.new)) }
+fn number_here(reader: &mut Reader) -> Result<Kind, ReadFault>
+    ensures { IfOk result (λ kind. (kind ≡ kinds.Number) × ReadsToken number_of number_parts (state_of reader.old) (state_of reader.new)) }
 {
     let number = reader.number()?;
-    reader.puts(&[Part::Number(i64::from(number))])
+    reader.makes(&[Part::Number(i64::from(number))], Kind::Number)
 }
 
 /// An expression in which nothing binds looser than this rank, as far as it goes. Of what stands in it nothing is deeper than this.
 #[cycle(expression)]
-pub(crate) fn expression<'a>(
-    reader: &mut Reader<'a, '_>,
-    rank: u8,
-    depth: u8,
-) -> Result<Piece<'a>, ReadFault<'a>>
+pub(crate) fn expression(reader: &mut Reader, rank: u8, depth: u8) -> Result<Piece, ReadFault>
     ensures { IfOk result (λ piece. ReadsPiece (min rank tightest) piece (state_of reader.old) (state_of reader.new)) }
 {
-    let less = deeper(reader.rest, depth)?;
+    let less = deeper(reader, depth)?;
     let mut left = beginning(reader, less)?;
     while let Some(join) = infix_of(reader.next()) {
         if rank_of(join) < rank {
@@ -176,7 +175,7 @@ pub(crate) fn expression<'a>(
 
 // A number in which nothing binds looser than this rank.
 #[cycle(expression)]
-fn number_in<'a>(reader: &mut Reader<'a, '_>, rank: u8, depth: u8) -> Result<(), ReadFault<'a>>
+fn number_in(reader: &mut Reader, rank: u8, depth: u8) -> Result<(), ReadFault>
     ensures { OnOk result (ReadsOne (min rank tightest) is_number (state_of reader.old) (state_of reader.new)) }
 {
     let less = depth.saturating_sub(1);
@@ -185,7 +184,7 @@ fn number_in<'a>(reader: &mut Reader<'a, '_>, rank: u8, depth: u8) -> Result<(),
 
 // What holds, in which nothing binds looser than this rank.
 #[cycle(expression)]
-fn fact_in<'a>(reader: &mut Reader<'a, '_>, rank: u8, depth: u8) -> Result<(), ReadFault<'a>>
+fn fact_in(reader: &mut Reader, rank: u8, depth: u8) -> Result<(), ReadFault>
     ensures { OnOk result (ReadsOne (min rank tightest) is_fact (state_of reader.old) (state_of reader.new)) }
 {
     let less = depth.saturating_sub(1);
@@ -194,7 +193,7 @@ fn fact_in<'a>(reader: &mut Reader<'a, '_>, rank: u8, depth: u8) -> Result<(), R
 
 // The number that stands next, alone or in parentheses.
 #[cycle(expression)]
-fn next_number<'a>(reader: &mut Reader<'a, '_>, depth: u8) -> Result<(), ReadFault<'a>>
+fn next_number(reader: &mut Reader, depth: u8) -> Result<(), ReadFault>
     ensures { OnOk result (ReadsOne tightest is_number (state_of reader.old) (state_of reader.new)) }
 {
     let less = depth.saturating_sub(1);
@@ -203,17 +202,12 @@ fn next_number<'a>(reader: &mut Reader<'a, '_>, depth: u8) -> Result<(), ReadFau
 
 // An expression joined to what stands behind it.
 #[cycle(expression)]
-fn joined<'a>(
-    reader: &mut Reader<'a, '_>,
-    left: Piece<'a>,
-    join: Infix,
-    depth: u8,
-) -> Result<Piece<'a>, ReadFault<'a>>
-    ensures { (before : State) (e : Written) → Reads e before (state_of reader.old) → IsPiece left.entry e (state_of reader.old)
+fn joined(reader: &mut Reader, left: Piece, join: Infix, depth: u8) -> Result<Piece, ReadFault>
+    ensures { (before : State) (e : Written) → Reads e before (state_of reader.old) → IsPiece left e (state_of reader.old)
         → first (tokens reader.old.rest.now) ≡ Some (infix_token join) → infix_rank join < tightest
         → IfOk result (λ piece. ReadsJoined join e piece before (state_of reader.new)) }
 {
-    let less = deeper(reader.rest, depth)?;
+    let less = deeper(reader, depth)?;
     reader.take();
     let rank = rank_of(join).saturating_add(1);
     match join {
@@ -222,7 +216,7 @@ fn joined<'a>(
             left.number()?;
             number_in(reader, rank, less)?;
             reader.puts(&[Part::Pair(operation)])?;
-            Ok(Piece::at(left.at, Kind::Number))
+            Ok(Piece::at(left.bytes_left, Kind::Number))
         }
         Infix::Or | Infix::And | Infix::Iff => {
             left.fact()?;
@@ -230,14 +224,14 @@ fn joined<'a>(
             reader.puts(before)?;
             fact_in(reader, rank, less)?;
             reader.puts(behind)?;
-            Ok(Piece::at(left.at, Kind::Fact))
+            Ok(Piece::at(left.bytes_left, Kind::Fact))
         }
     }
 }
 
 // The last number of a comparison; its parts.
 #[cycle(expression)]
-fn last_number<'a>(reader: &mut Reader<'a, '_>, depth: u8) -> Result<Span, ReadFault<'a>>
+fn last_number(reader: &mut Reader, depth: u8) -> Result<Span, ReadFault>
     ensures { IfOk result (λ span. ReadsLast span (state_of reader.old) (state_of reader.new)) }
 {
     let less = depth.saturating_sub(1);
@@ -249,170 +243,152 @@ fn last_number<'a>(reader: &mut Reader<'a, '_>, depth: u8) -> Result<Span, ReadF
 
 // A comparison, of a number or of what a comparison before ended with.
 #[cycle(expression)]
-fn comparison<'a>(
-    reader: &mut Reader<'a, '_>,
-    left: Piece<'a>,
+fn comparison(
+    reader: &mut Reader,
+    left: Piece,
     relation: Relation,
     depth: u8,
-) -> Result<Piece<'a>, ReadFault<'a>>
-    ensures { (before middle : State) (e : Written) → Reads e before middle → IsPiece left.entry e middle
+) -> Result<Piece, ReadFault>
+    ensures { (before middle : State) (e : Written) → Reads e before middle → IsPiece left e middle
         → Takes (infix_token (infixes.Compare relation)) middle (state_of reader.old)
         → IfOk result (λ piece. ReadsJoined (infixes.Compare relation) e piece before (state_of reader.new)) }
 {
-    let less = deeper(reader.rest, depth)?;
+    let less = deeper(reader, depth)?;
     let Some(chained) = left.last else {
         left.number()?;
         let last = last_number(reader, less)?;
         reader.puts(comparing(relation))?;
-        return Ok(Piece::compared(left.at, last));
+        return Ok(Piece::compared(left.bytes_left, last));
     };
     reader.again(chained)?;
     let last = last_number(reader, less)?;
     reader.puts(comparing(relation))?;
     reader.puts(&BOTH)?;
-    Ok(Piece::compared(left.at, last))
+    Ok(Piece::compared(left.bytes_left, last))
 }
 
-// What an expression begins with: a number, a byte, or what a word or sign opens.
+// What an expression begins with.
 #[cycle(expression)]
-fn beginning<'a>(reader: &mut Reader<'a, '_>, depth: u8) -> Result<Piece<'a>, ReadFault<'a>>
+fn beginning(reader: &mut Reader, depth: u8) -> Result<Piece, ReadFault>
     ensures { IfOk result (λ piece. ReadsPiece tightest piece (state_of reader.old) (state_of reader.new)) }
 {
-    let less = deeper(reader.rest, depth)?;
-    let at = reader.rest;
+    let bytes_left = reader.bytes_left();
+    let kind = operand(reader, depth)?;
+    Ok(Piece::at(bytes_left, kind))
+}
+
+// A number, a byte, or what a word or sign opens; the kind of it.
+#[cycle(expression)]
+fn operand(reader: &mut Reader, depth: u8) -> Result<Kind, ReadFault>
+    ensures { IfOk result (λ kind. ReadsKind kind (state_of reader.old) (state_of reader.new)) }
+{
+    let less = deeper(reader, depth)?;
+    let bytes_left = reader.bytes_left();
     let token = reader.next();
     if let Some(opening) = opening_of(token) {
         reader.take();
-        return opened(reader, opening, at, less);
+        return opened(reader, opening, bytes_left, less);
     }
     if let Some(name) = reader.bound(token) {
         reader.take();
-        reader.puts(&[Part::Bound(name)])?;
-        return Ok(Piece::at(at, Kind::Number));
+        return reader.makes(&[Part::Bound(name)], Kind::Number);
     }
     match token.class {
-        Class::Decimal => {
-            number_here(reader)?;
-            Ok(Piece::at(at, Kind::Number))
-        }
-        _ => {
-            byte_here(reader)?;
-            Ok(Piece::at(at, Kind::Number))
-        }
+        Class::Decimal => number_here(reader),
+        _ => byte_here(reader),
     }
 }
 
-// What an expression is that begins so.
+// The kind of an operand that begins so, from which on so many bytes were left.
 #[cycle(expression)]
-fn opened<'a>(
-    reader: &mut Reader<'a, '_>,
+fn opened(
+    reader: &mut Reader,
     opening: Opening,
-    at: &'a [u8],
+    bytes_left: usize,
     depth: u8,
-) -> Result<Piece<'a>, ReadFault<'a>>
+) -> Result<Kind, ReadFault>
     ensures { (before : State) → Takes (opening_token opening) before (state_of reader.old)
-        → IfOk result (λ piece. ReadsPiece tightest piece before (state_of reader.new)) }
+        → IfOk result (λ kind. ReadsKind kind before (state_of reader.new)) }
 {
-    let less = deeper(reader.rest, depth)?;
+    let less = deeper(reader, depth)?;
     match opening {
-        Opening::Held(atom) => {
-            reader.puts(&[Part::Held(atom)])?;
-            Ok(Piece::at(at, kind_of(atom)))
-        }
+        Opening::Held(atom) => reader.makes(&[Part::Held(atom)], kind_of(atom)),
         Opening::Group => {
             let within = expression(reader, LOOSEST, less)?;
             reader.expect(b")", "a ) is wanted here")?;
-            Ok(Piece::at(at, within.kind))
+            Ok(within.kind)
         }
         Opening::Old => {
-            let within = beginning(reader, less)?;
-            reader.puts(&[Part::Old])?;
-            Ok(Piece::at(at, within.kind))
+            let kind = operand(reader, less)?;
+            reader.makes(&[Part::Old], kind)
         }
         Opening::At => {
-            let address = reader.label(at)?;
-            let within = beginning(reader, less)?;
-            reader.puts(&[Part::At(address)])?;
-            Ok(Piece::at(at, within.kind))
+            let address = reader.label(bytes_left)?;
+            let kind = operand(reader, less)?;
+            reader.makes(&[Part::At(address)], kind)
         }
-        Opening::Sum => {
-            sum_of(reader, less)?;
-            Ok(Piece::at(at, Kind::Number))
-        }
-        Opening::Make(making) => {
-            make(reader, making, less)?;
-            Ok(Piece::at(at, Kind::Number))
-        }
-        Opening::Text => {
-            text_at(reader, less)?;
-            Ok(Piece::at(at, Kind::Fact))
-        }
+        Opening::Sum => sum_of(reader, less),
+        Opening::Make(making) => make(reader, making, less),
+        Opening::Text => text_at(reader, less),
         Opening::Not => {
             fact_in(reader, BEHIND_AND, less)?;
-            reader.puts(&NEGATED)?;
-            Ok(Piece::at(at, Kind::Fact))
+            reader.makes(&NEGATED, Kind::Fact)
         }
-        Opening::If => {
-            let kind = conditional(reader, less)?;
-            Ok(Piece::at(at, kind))
-        }
-        Opening::Each => {
-            for_all(reader, less)?;
-            Ok(Piece::at(at, Kind::Fact))
-        }
+        Opening::If => conditional(reader, less),
+        Opening::Each => for_all(reader, less),
     }
 }
 
 // The number that a word or sign makes of what stands behind it.
 #[cycle(expression)]
-fn make<'a>(reader: &mut Reader<'a, '_>, making: Making, depth: u8) -> Result<(), ReadFault<'a>>
+fn make(reader: &mut Reader, making: Making, depth: u8) -> Result<Kind, ReadFault>
     ensures { (before : State) → Takes (making_token making) before (state_of reader.old)
-        → OnOk result (ReadsKind kinds.Number before (state_of reader.new)) }
+        → IfOk result (λ kind. ReadsKind kind before (state_of reader.new)) }
 {
-    let less = deeper(reader.rest, depth)?;
+    let less = deeper(reader, depth)?;
     match making {
         Making::Least => {
             two_numbers(reader, less)?;
-            reader.puts(&[Part::Pair(Operation::Min)])
+            reader.makes(&[Part::Pair(Operation::Min)], Kind::Number)
         }
         Making::Greatest => {
             two_numbers(reader, less)?;
-            reader.puts(&[Part::Pair(Operation::Max)])
+            reader.makes(&[Part::Pair(Operation::Max)], Kind::Number)
         }
         Making::Abs => {
             next_number(reader, less)?;
-            reader.puts(&[Part::Of(Function::Abs)])
+            reader.makes(&[Part::Of(Function::Abs)], Kind::Number)
         }
         Making::Bit => {
             next_number(reader, less)?;
             reader.expect(b"of", "of is wanted here, as in bit 3 of A")?;
             next_number(reader, less)?;
-            reader.puts(&[Part::Pair(Operation::Bit)])
+            reader.makes(&[Part::Pair(Operation::Bit)], Kind::Number)
         }
         Making::Signed => {
             next_number(reader, less)?;
-            reader.puts(&[Part::Of(Function::Signed)])
+            reader.makes(&[Part::Of(Function::Signed)], Kind::Number)
         }
         Making::Word => word_at(reader, less),
         Making::Byte => {
             bracketed(reader, less)?;
-            reader.puts(&[Part::Of(Function::Byte)])
+            reader.makes(&[Part::Of(Function::Byte)], Kind::Number)
         }
         Making::Literal => number_here(reader),
         Making::Minus => {
             reader.puts(&[Part::Number(0)])?;
             next_number(reader, less)?;
-            reader.puts(&[Part::Pair(Operation::Minus)])
+            reader.makes(&[Part::Pair(Operation::Minus)], Kind::Number)
         }
     }
 }
 
 // Two numbers in parentheses, with a comma between them.
 #[cycle(expression)]
-fn two_numbers<'a>(reader: &mut Reader<'a, '_>, depth: u8) -> Result<(), ReadFault<'a>>
+fn two_numbers(reader: &mut Reader, depth: u8) -> Result<(), ReadFault>
     ensures { OnOk result (ReadsTwo (state_of reader.old) (state_of reader.new)) }
 {
-    let less = deeper(reader.rest, depth)?;
+    let less = deeper(reader, depth)?;
     reader.expect(b"(", "a ( is wanted here, as in min(A, X)")?;
     number_in(reader, LOOSEST, less)?;
     reader.expect(b",", "a comma is wanted here, as in min(A, X)")?;
@@ -422,7 +398,7 @@ fn two_numbers<'a>(reader: &mut Reader<'a, '_>, depth: u8) -> Result<(), ReadFau
 
 // The address behind a [, up to its ].
 #[cycle(expression)]
-fn bracketed<'a>(reader: &mut Reader<'a, '_>, depth: u8) -> Result<(), ReadFault<'a>>
+fn bracketed(reader: &mut Reader, depth: u8) -> Result<(), ReadFault>
     ensures { OnOk result (ReadsAddress (state_of reader.old) (state_of reader.new)) }
 {
     let less = depth.saturating_sub(1);
@@ -432,17 +408,20 @@ fn bracketed<'a>(reader: &mut Reader<'a, '_>, depth: u8) -> Result<(), ReadFault
 
 // The two bytes at the address behind `word`.
 #[cycle(expression)]
-fn word_at<'a>(reader: &mut Reader<'a, '_>, depth: u8) -> Result<(), ReadFault<'a>>
+fn word_at(reader: &mut Reader, depth: u8) -> Result<Kind, ReadFault>
     ensures { (before : State) → Takes (word (codes "word")) before (state_of reader.old)
-        → OnOk result (ReadsKind kinds.Number before (state_of reader.new)) }
+        → IfOk result (λ kind. ReadsKind kind before (state_of reader.new)) }
 {
-    let less = deeper(reader.rest, depth)?;
+    let less = deeper(reader, depth)?;
     if reader.took(b"[") {
         bracketed(reader, less)?;
-        return reader.puts(&[Part::Of(Function::Word)]);
+        return reader.makes(&[Part::Of(Function::Word)], Kind::Number);
     }
     let address = reader.address()?;
-    reader.puts(&[Part::Number(i64::from(address)), Part::Of(Function::Word)])
+    reader.makes(
+        &[Part::Number(i64::from(address)), Part::Of(Function::Word)],
+        Kind::Number,
+    )
 }
 
 // Where a text stands in memory: from an address on, or from one that was made.
@@ -454,10 +433,10 @@ enum Place {
 
 // The place behind `text`.
 #[cycle(expression)]
-fn place_next<'a>(reader: &mut Reader<'a, '_>, depth: u8) -> Result<Place, ReadFault<'a>>
+fn place_next(reader: &mut Reader, depth: u8) -> Result<Place, ReadFault>
     ensures { IfOk result (λ place. ReadsPlace place (state_of reader.old) (state_of reader.new)) }
 {
-    let less = deeper(reader.rest, depth)?;
+    let less = deeper(reader, depth)?;
     let begun = reader.count();
     if reader.took(b"[") {
         bracketed(reader, less)?;
@@ -468,7 +447,7 @@ fn place_next<'a>(reader: &mut Reader<'a, '_>, depth: u8) -> Result<Place, ReadF
 }
 
 // The parts of a place that was made once more, but for the first byte: there they stand.
-fn put_place<'a>(reader: &mut Reader<'a, '_>, span: Span, further: u16) -> Result<(), ReadFault<'a>>
+fn put_place(reader: &mut Reader, span: Span, further: u16) -> Result<(), ReadFault>
     ensures { (e : Phrase) → IsMade span e reader.old.parts.items
         → OnOk result (PutsOf (pushed further (e ∷ [])) e (state_of reader.old) (state_of reader.new)) }
 {
@@ -479,12 +458,7 @@ fn put_place<'a>(reader: &mut Reader<'a, '_>, span: Span, further: u16) -> Resul
 }
 
 // That the byte so far behind a place is this one.
-fn is_laid<'a>(
-    reader: &mut Reader<'a, '_>,
-    place: Place,
-    further: u16,
-    code: u8,
-) -> Result<(), ReadFault<'a>>
+fn is_laid(reader: &mut Reader, place: Place, further: u16, code: u8) -> Result<(), ReadFault>
     ensures { (phrase : ℕ → Phrase) (top : List Phrase) → IsPlaced place phrase top reader.old.parts.items
         → OnOk result (PutsOf (pushed further top) (pair operation.Equal (of function.Byte (phrase further)) (number (pos code)))
         (state_of reader.old) (state_of reader.new)) }
@@ -510,12 +484,7 @@ fn is_laid<'a>(
 }
 
 // That the bytes from a place on are those of a text, one after another.
-fn are_laid<'a>(
-    reader: &mut Reader<'a, '_>,
-    place: Place,
-    text: &[u8],
-    top: u8,
-) -> Result<(), ReadFault<'a>>
+fn are_laid(reader: &mut Reader, place: Place, text: &[u8], top: u8) -> Result<(), ReadFault>
     ensures { (phrase : ℕ → Phrase) (on_top : List Phrase) (quote : ℕ) → IsPlaced place phrase on_top reader.old.parts.items
         → IsTrue (is_text quote text.now) → IsTop quote top
         → OnOk result (PutsOf on_top (laid_of quote phrase text.now) (state_of reader.old) (state_of reader.new)) }
@@ -534,20 +503,21 @@ fn are_laid<'a>(
 
 // Whether the bytes from the place behind `text` on are those of the text behind its =: one after another, and all of them.
 #[cycle(expression)]
-fn text_at<'a>(reader: &mut Reader<'a, '_>, depth: u8) -> Result<(), ReadFault<'a>>
+fn text_at(reader: &mut Reader, depth: u8) -> Result<Kind, ReadFault>
     ensures { (before : State) → Takes (word (codes "text")) before (state_of reader.old)
-        → OnOk result (ReadsKind kinds.Fact before (state_of reader.new)) }
+        → IfOk result (λ kind. ReadsKind kind before (state_of reader.new)) }
 {
     let less = depth.saturating_sub(1);
     let place = place_next(reader, less)?;
     reader.expect(b"=", TEXT_WANTED)?;
     let (text, top) = reader.laid_text()?;
-    are_laid(reader, place, text, top)
+    are_laid(reader, place, text, top)?;
+    Ok(Kind::Fact)
 }
 
 // The kind of one of two: a fact where both are, and else a number, which both have to be.
-fn either<'a>(one: Piece<'a>, other: Piece<'a>) -> Result<Kind, ReadFault<'a>>
-    ensures { IfOk result (λ kind. IsEither one.entry.kind other.entry.kind kind) }
+fn either(one: Piece, other: Piece) -> Result<Kind, ReadFault>
+    ensures { IfOk result (λ kind. IsEither one.kind other.kind kind) }
 {
     match (one.kind, other.kind) {
         (Kind::Number, _) | (_, Kind::Number) => {
@@ -561,7 +531,7 @@ fn either<'a>(one: Piece<'a>, other: Piece<'a>) -> Result<Kind, ReadFault<'a>>
 
 // What behind `if` is one of two, or where there is no `else`, holds if the condition does; the kind of it.
 #[cycle(expression)]
-fn conditional<'a>(reader: &mut Reader<'a, '_>, depth: u8) -> Result<Kind, ReadFault<'a>>
+fn conditional(reader: &mut Reader, depth: u8) -> Result<Kind, ReadFault>
     ensures { (before : State) → Takes (word (codes "if")) before (state_of reader.old)
         → IfOk result (λ kind. ReadsKind kind before (state_of reader.new)) }
 {
@@ -574,8 +544,7 @@ fn conditional<'a>(reader: &mut Reader<'a, '_>, depth: u8) -> Result<Kind, ReadF
     let one = expression(reader, LOOSEST, less)?;
     if !reader.took(b"else") {
         one.fact()?;
-        reader.puts(&[Part::Number(1), Part::Choice])?;
-        return Ok(Kind::Fact);
+        return reader.makes(&[Part::Number(1), Part::Choice], Kind::Fact);
     }
     let other = expression(reader, LOOSEST, less)?;
     reader.puts(&[Part::Choice])?;
@@ -587,10 +556,10 @@ const COUNTED: &str = "here stands what is counted, as in for all i < 8: [#$2000
 
 // What is counted behind `for all` or `sum`: a name, <, a number and a :. The number of the name, which is counted from here on.
 #[cycle(expression)]
-fn counted<'a>(reader: &mut Reader<'a, '_>, depth: u8) -> Result<u8, ReadFault<'a>>
+fn counted(reader: &mut Reader, depth: u8) -> Result<u8, ReadFault>
     ensures { IfOk result (λ name. ReadsCounted name (state_of reader.old) (state_of reader.new)) }
 {
-    let less = deeper(reader.rest, depth)?;
+    let less = deeper(reader, depth)?;
     let name = reader.next();
     if !may_name(name) {
         return reader.refuse(COUNTED);
@@ -604,11 +573,11 @@ fn counted<'a>(reader: &mut Reader<'a, '_>, depth: u8) -> Result<u8, ReadFault<'
 
 // What holds for each number below one.
 #[cycle(expression)]
-fn for_all<'a>(reader: &mut Reader<'a, '_>, depth: u8) -> Result<(), ReadFault<'a>>
+fn for_all(reader: &mut Reader, depth: u8) -> Result<Kind, ReadFault>
     ensures { (before : State) → Takes (word (codes "for")) before (state_of reader.old)
-        → OnOk result (ReadsKind kinds.Fact before (state_of reader.new)) }
+        → IfOk result (λ kind. ReadsKind kind before (state_of reader.new)) }
 {
-    let less = deeper(reader.rest, depth)?;
+    let less = deeper(reader, depth)?;
     reader.expect(
         b"all",
         "all is wanted here, as in for all i < 8: [#$2000 + i] = 0",
@@ -616,18 +585,18 @@ fn for_all<'a>(reader: &mut Reader<'a, '_>, depth: u8) -> Result<(), ReadFault<'
     let name = counted(reader, less)?;
     fact_in(reader, LOOSEST, less)?;
     reader.unbind(name);
-    reader.puts(&[Part::Each(name)])
+    reader.makes(&[Part::Each(name)], Kind::Fact)
 }
 
 // The sum of what is for each number below one.
 #[cycle(expression)]
-fn sum_of<'a>(reader: &mut Reader<'a, '_>, depth: u8) -> Result<(), ReadFault<'a>>
+fn sum_of(reader: &mut Reader, depth: u8) -> Result<Kind, ReadFault>
     ensures { (before : State) → Takes (word (codes "sum")) before (state_of reader.old)
-        → OnOk result (ReadsKind kinds.Number before (state_of reader.new)) }
+        → IfOk result (λ kind. ReadsKind kind before (state_of reader.new)) }
 {
     let less = depth.saturating_sub(1);
     let name = counted(reader, less)?;
     number_in(reader, BEHIND_COMPARISON, less)?;
     reader.unbind(name);
-    reader.puts(&[Part::Sum(name)])
+    reader.makes(&[Part::Sum(name)], Kind::Number)
 }

@@ -166,7 +166,7 @@ fn new_block<'a>(alloc: Global) -> Block<'a> {
 }
 
 // Nothing stands behind what was read.
-fn ended<'a>(reader: &Reader<'a, '_>) -> Result<(), ReadFault<'a>>
+fn ended(reader: &Reader) -> Result<(), ReadFault>
     ensures { OnOk result (tokens reader.now.rest.now ≡ []) }
 {
     match reader.next().class {
@@ -186,11 +186,7 @@ fn push_range(changes: &mut Changes, range: Range) -> Result<(), AllocError>
 }
 
 // Lets a register or a flag change, which was taken.
-fn let_change<'a>(
-    reader: &Reader<'a, '_>,
-    changes: &mut Changes,
-    atom: Atom,
-) -> Result<(), ReadFault<'a>>
+fn let_change(reader: &Reader, changes: &mut Changes, atom: Atom) -> Result<(), ReadFault>
     ensures ranges { changes.new.ranges ≡ changes.old.ranges }
     ensures registers { IsTrue (is_listed atom)
         → OnOk result (IsTrue (may_change atom) × LetsChange (change.held atom) changes.old changes.new) }
@@ -210,7 +206,7 @@ fn let_change<'a>(
 }
 
 // Takes the last of several addresses, which .. stands before, or there is one alone.
-fn last_address<'a>(reader: &mut Reader<'a, '_>, first: u16) -> Result<u16, ReadFault<'a>>
+fn last_address(reader: &mut Reader, first: u16) -> Result<u16, ReadFault>
     ensures { IfOk result (λ last. IsUpTo first last (state_of reader.old) (state_of reader.new)) }
 {
     if reader.took(b"..") {
@@ -220,7 +216,7 @@ fn last_address<'a>(reader: &mut Reader<'a, '_>, first: u16) -> Result<u16, Read
 }
 
 // Takes what may change: a register, or bytes from one address to another.
-fn take_change<'a>(reader: &mut Reader<'a, '_>, changes: &mut Changes) -> Result<(), ReadFault<'a>>
+fn take_change(reader: &mut Reader, changes: &mut Changes) -> Result<(), ReadFault>
     ensures { OnOk result (AddsChange (state_of reader.old) (state_of reader.new) changes.old changes.new) }
 {
     if let Some(atom) = held_by(reader.next()) {
@@ -237,7 +233,7 @@ fn take_change<'a>(reader: &mut Reader<'a, '_>, changes: &mut Changes) -> Result
 }
 
 // Takes all that may change, with commas between, up to the line's end.
-fn more_changes<'a>(reader: &mut Reader<'a, '_>, changes: &mut Changes) -> Result<(), ReadFault<'a>>
+fn more_changes(reader: &mut Reader, changes: &mut Changes) -> Result<(), ReadFault>
     ensures { OnOk result (AddsChanges (state_of reader.old) changes.old changes.new) }
 {
     take_change(reader, changes)?;
@@ -248,7 +244,7 @@ fn more_changes<'a>(reader: &mut Reader<'a, '_>, changes: &mut Changes) -> Resul
 }
 
 // Takes all that may change, or the word that says nothing does.
-fn take_changes<'a>(reader: &mut Reader<'a, '_>, changes: &mut Changes) -> Result<(), ReadFault<'a>>
+fn take_changes(reader: &mut Reader, changes: &mut Changes) -> Result<(), ReadFault>
     ensures { OnOk result (IsChanges (state_of reader.old) changes.old changes.new) }
 {
     if reader.took(b"nothing") {
@@ -294,7 +290,7 @@ const NO_VERB: &str =
 
 impl<'a> Block<'a> {
     // Takes up a line of this number.
-    fn take(&mut self, reader: &mut Reader<'a, '_>, line: usize) -> Result<(), ReadFault<'a>>
+    fn take(&mut self, reader: &mut Reader<'a, '_>, line: usize) -> Result<(), ReadFault>
         ensures { reader.old.parts.items ≡ [] → around_of reader.old ≡ []
             → OnOk result (AddsLine reader.old.program.now.names reader.old.rest.now self.old self.new) }
     {
@@ -343,7 +339,7 @@ fn push_fact<'a>(
     clauses: &mut Vec<Clause<'a>>,
     line: usize,
     text: &'a [u8],
-) -> Result<(), ReadFault<'a>>
+) -> Result<(), ReadFault>
     ensures { reader.old.parts.items ≡ [] → OnOk result (AddsFact (state_of reader.old) clauses.old.items clauses.new.items) }
 {
     expression(reader, LOOSEST, MOST_LEVELS)?.fact()?;
@@ -356,7 +352,7 @@ fn push_measure<'a>(
     clauses: &mut Vec<Clause<'a>>,
     line: usize,
     text: &'a [u8],
-) -> Result<(), ReadFault<'a>> {
+) -> Result<(), ReadFault> {
     expression(reader, LOOSEST, MOST_LEVELS)?.number()?;
     push_whole(reader, clauses, line, text)
 }
@@ -367,7 +363,7 @@ fn push_whole<'a>(
     clauses: &mut Vec<Clause<'a>>,
     line: usize,
     text: &'a [u8],
-) -> Result<(), ReadFault<'a>>
+) -> Result<(), ReadFault>
     ensures { OnOk result (AddsWhole (state_of reader.now) clauses.old.items clauses.new.items) }
 {
     ended(reader)?;
@@ -406,11 +402,9 @@ fn label_of(line: &[u8]) -> &[u8] {
     }
 }
 
-// The column, from 1, of a part of a line that goes up to its end.
-fn column_of(line: &[u8], rest: &[u8]) -> usize {
-    line.len()
-        .saturating_sub(behind_blanks(rest).len())
-        .saturating_add(1)
+// The column, from 1, where so many bytes of a line are left.
+fn column_of(line: &[u8], bytes_left: usize) -> usize {
+    line.len().saturating_sub(bytes_left).saturating_add(1)
 }
 
 // Notes the labels that `at` names in a line of this number.
@@ -423,7 +417,7 @@ fn note_labels(
     for label in named {
         let refusal = Refusal {
             line,
-            column: column_of(whole, label.at),
+            column: column_of(whole, label.bytes_left),
             says: NO_LABEL,
         };
         labels.push(Label {
@@ -450,11 +444,11 @@ fn take_line<'a>(
     match block.take(&mut reader, line) {
         Ok(()) => note_labels(&mut block.labels, reader.labels.as_slice(), whole, line),
         Err(ReadFault::Memory) => Err(AllocError),
-        Err(ReadFault::Says(says, at)) => {
+        Err(ReadFault::Says(says, bytes_left)) => {
             if block.refused.is_none() {
                 block.refused = Some(Refusal {
                     line,
-                    column: column_of(whole, at),
+                    column: column_of(whole, bytes_left),
                     says,
                 });
             }

@@ -16,7 +16,9 @@ use crate::expr::Expr;
 use crate::fault::ReadFault;
 use crate::parts::{Part, expr_of};
 use crate::reading::{Class, Token, address_of, decimal_of, token_in};
+use crate::words::Kind;
 use a2_asm::Program;
+use a2_text::behind_blanks;
 use std::alloc::{AllocError, Global};
 
 // The most names that are counted within one another.
@@ -26,11 +28,11 @@ const MOST_NAMES: usize = 4;
 pub(crate) const TEXT_WANTED: &str =
     "a text in quotes is wanted here, as in text $0400 = \"HI\", which ASC \"HI\" lays";
 
-/// A label that is named behind `at`: its address, and where it stands.
+/// A label that is named behind `at`: its address, and how many bytes are left of the line from it on.
 #[derive(Clone, Copy)]
-pub(crate) struct Named<'a> {
+pub(crate) struct Named {
     pub address: u16,
-    pub at: &'a [u8],
+    pub bytes_left: usize,
 }
 
 /// Parts that were made: where they begin among all, and where those behind them do.
@@ -51,7 +53,7 @@ pub(crate) struct Reader<'a, 'p> {
     /// Whether `at` may stand in the line.
     pub is_within: bool,
     /// The labels that it names.
-    pub labels: Vec<Named<'a>>,
+    pub labels: Vec<Named>,
 }
 
 // Not derived, for the prover alone: it follows this as one call, and a derived one field by field.
@@ -103,11 +105,16 @@ impl<'a, 'p> Reader<'a, 'p> {
         self.rest = token_in(self.rest).1;
     }
 
+    /// How many bytes of the line are left, from what stands next on.
+    pub fn bytes_left(&self) -> usize {
+        behind_blanks(self.rest).len()
+    }
+
     /// Refuses what stands next.
-    pub fn refuse<T>(&self, says: &'static str) -> Result<T, ReadFault<'a>>
+    pub fn refuse<T>(&self, says: &'static str) -> Result<T, ReadFault>
         ensures { OnOk result ⊥ }
     {
-        Err(ReadFault::Says(says, self.rest))
+        Err(ReadFault::Says(says, self.bytes_left()))
     }
 
     /// Takes this word or sign, if it stands next.
@@ -124,7 +131,7 @@ impl<'a, 'p> Reader<'a, 'p> {
     }
 
     /// Takes this word or sign.
-    pub fn expect(&mut self, text: &[u8], says: &'static str) -> Result<(), ReadFault<'a>>
+    pub fn expect(&mut self, text: &[u8], says: &'static str) -> Result<(), ReadFault>
         ensures { OnOk result (Takes (spelling text.now) (state_of self.old) (state_of self.new)) }
     {
         if self.took(text) {
@@ -146,7 +153,7 @@ impl<'a, 'p> Reader<'a, 'p> {
     }
 
     /// Takes a number: decimal, `$` and digits, or a name of the source.
-    pub fn number(&mut self) -> Result<u32, ReadFault<'a>>
+    pub fn number(&mut self) -> Result<u32, ReadFault>
         ensures { IfOk result (λ number. (token : ReadToken) × Takes token (state_of self.old) (state_of self.new)
             × (number_of self.old.program.now.names token ≡ Some number)) }
     {
@@ -184,7 +191,7 @@ impl<'a, 'p> Reader<'a, 'p> {
     }
 
     /// Takes an address: `$` and digits, or a name of the source.
-    pub fn address(&mut self) -> Result<u16, ReadFault<'a>>
+    pub fn address(&mut self) -> Result<u16, ReadFault>
         ensures { IfOk result (λ address. (token : ReadToken) × Takes token (state_of self.old) (state_of self.new)
             × (grammar.address_of self.old.program.now.names token ≡ Some address)) }
     {
@@ -210,21 +217,24 @@ impl<'a, 'p> Reader<'a, 'p> {
         }
     }
 
-    /// Takes the label behind an `at` that begins here; its address.
-    pub fn label(&mut self, at: &'a [u8]) -> Result<u16, ReadFault<'a>>
+    /// Takes the label behind an `at`, from which on so many bytes were left; its address.
+    pub fn label(&mut self, bytes_left: usize) -> Result<u16, ReadFault>
         ensures { IfOk result (λ address. (name : List ℕ) × Takes (word name) (state_of self.old) (state_of self.new)
             × IsTrue self.old.is_within × (name_value self.old.program.now.names name ≡ Some address)) }
     {
         if !self.is_within {
             return Err(ReadFault::Says(
                 "at stands only in lines invariant, decreases and note",
-                at,
+                bytes_left,
             ));
         }
         match self.label_at(self.next()) {
             Some(address) => {
-                let at = self.rest;
-                self.labels.extend_from_slice(&[Named { address, at }])?;
+                let bytes_left = self.bytes_left();
+                self.labels.extend_from_slice(&[Named {
+                    address,
+                    bytes_left,
+                }])?;
                 self.take();
                 Ok(address)
             }
@@ -233,7 +243,7 @@ impl<'a, 'p> Reader<'a, 'p> {
     }
 
     /// Takes a text between quotes as ASC lays it: its characters, and what each has more than its code.
-    pub fn laid_text(&mut self) -> Result<(&'a [u8], u8), ReadFault<'a>>
+    pub fn laid_text(&mut self) -> Result<(&'a [u8], u8), ReadFault>
         ensures { IfOk result (λ (text, top). (quote : ℕ) × Takes (quoted quote text.now) (state_of self.old) (state_of self.new)
             × IsTrue (is_text quote text.now) × IsTop quote top) }
     {
@@ -252,7 +262,7 @@ impl<'a, 'p> Reader<'a, 'p> {
     }
 
     /// Lets a name be counted; its number.
-    pub fn bind(&mut self, name: &'a [u8]) -> Result<u8, ReadFault<'a>>
+    pub fn bind(&mut self, name: &'a [u8]) -> Result<u8, ReadFault>
         ensures { IfOk result (λ number. Binds name.now number (state_of self.old) (state_of self.new)) }
     {
         let number = self.named;
@@ -301,7 +311,7 @@ impl<'a, 'p> Reader<'a, 'p> {
     }
 
     /// Puts parts that were made behind all once more.
-    pub fn again(&mut self, span: Span) -> Result<(), ReadFault<'a>>
+    pub fn again(&mut self, span: Span) -> Result<(), ReadFault>
         ensures { span.ended ≤ length self.old.parts.items
             → OnOk result (Puts (slice_range self.old.parts.items span.begun span.ended) (state_of self.old) (state_of self.new)) }
     {
@@ -310,14 +320,22 @@ impl<'a, 'p> Reader<'a, 'p> {
     }
 
     /// Puts parts behind those of the expression.
-    pub fn puts(&mut self, parts: &[Part]) -> Result<(), ReadFault<'a>>
+    pub fn puts(&mut self, parts: &[Part]) -> Result<(), ReadFault>
         ensures { OnOk result (Puts parts.now (state_of self.old) (state_of self.new)) }
     {
         Ok(self.parts.extend_from_slice(parts)?)
     }
 
+    /// Puts the last parts of an expression of this kind.
+    pub fn makes(&mut self, parts: &[Part], kind: Kind) -> Result<Kind, ReadFault>
+        ensures { IfOk result (λ made. (made ≡ kind) × Puts parts.now (state_of self.old) (state_of self.new)) }
+    {
+        self.parts.extend_from_slice(parts)?;
+        Ok(kind)
+    }
+
     /// The expression that was read.
-    pub fn expr(&self) -> Result<Expr, ReadFault<'a>>
+    pub fn expr(&self) -> Result<Expr, ReadFault>
         ensures { IfOk result (λ expr. (more : List Phrase) × (made self.now.parts.items [] ≡ phrase_of expr ∷ more)) }
     {
         match expr_of(self.alloc, self.parts.as_slice())? {

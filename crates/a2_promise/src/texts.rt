@@ -69,7 +69,7 @@ pub(crate) fn push_text<'a>(
     reader: &mut Reader<'a, '_>,
     texts: &mut Vec<Text<'a>>,
     line: usize,
-) -> Result<(), ReadFault<'a>>
+) -> Result<(), ReadFault>
     ensures { OnOk result (AddsText (behind_blanks_of reader.old.rest.now) texts.old.items texts.new.items) }
 {
     let written = behind_blanks(reader.rest);

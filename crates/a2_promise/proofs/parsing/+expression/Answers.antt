@@ -9,7 +9,7 @@ use Rattle.a2_promise.proofs.Goings.{kind_piece}
 use Rattle.a2_promise.proofs.Joinings.{bit_read, provided_read, apply_read, logic_read, logic_kind, comparison_read, chain_read, last_read, nothing_put}
 use Rattle.a2_promise.proofs.Countings.{two_read, least_read, greatest_read, address_read, byte_in_read, word_in_read, word_of_read, counted_head}
 use Rattle.a2_promise.proofs.Countings.{for_all_read, sum_read, place_made, text_read, number_one, fact_one, either_read, stops_under}
-use Rattle.a2_promise.proofs.Countings.{shorter_joined, rank_min, rank_joined, if_ok, none_by, limit_of, of_none, byte_free}
+use Rattle.a2_promise.proofs.Countings.{shorter_joined, rank_min, rank_joined, if_ok, kind_ok, none_by, limit_of, of_none, byte_free}
 use Rattle.a2_promise.proofs.Laying.{on_ok}
 use Rattle.a2_promise.proofs.parsing.+expression.Goals as goal
 use Rattle.a2_promise.proofs.parsing.+expression.Goals.{expression-in-Some+then-rank_of-rank, expression-in_default}
@@ -36,11 +36,11 @@ two_numbers-returns t c =
 
 pub for_all-returns : goal.for_all-returns
 for_all-returns t c = λ before h.
-    on_ok c.puts.result c.puts.ensures (for_all_read h c.in_ok-expect.ensures c.in_ok-name.ensures c.in_ok-fact_in.ensures c.unbind.ensures)
+    kind_ok c.makes.result c.makes.ensures (for_all_read h c.in_ok-expect.ensures c.in_ok-name.ensures c.in_ok-fact_in.ensures c.unbind.ensures)
 
 pub sum_of-returns : goal.sum_of-returns
 sum_of-returns t c = λ before h.
-    on_ok c.puts.result c.puts.ensures (sum_read h c.in_ok-name.ensures c.in_ok-number_in.ensures c.unbind.ensures)
+    kind_ok c.makes.result c.makes.ensures (sum_read h c.in_ok-name.ensures c.in_ok-number_in.ensures c.unbind.ensures)
 
 pub counted-returns : goal.counted-returns
 counted-returns t c =
@@ -63,29 +63,29 @@ place_next-returns-then-took t c =
 pub text_at-returns : goal.text_at-returns
 text_at-returns t c = λ before h.
     let it = c.in_ok-text.ensures in
-    text_read c.are_laid.result c.in_ok-place.place _ h c.in_ok-place.ensures c.in_ok-expect.ensures it.1 it.2
-    (λ phrase top p. c.are_laid.ensures phrase top it.0 p it.2 it.3)
+    text_read c.in_ok-place.place h c.in_ok-place.ensures c.in_ok-expect.ensures it.1 it.2
+    (λ phrase top p. c.in_ok-are_laid.ensures phrase top it.0 p it.2 it.3)
 
 pub word_at-returns : goal.word_at-returns
 word_at-returns t c = λ before h.
     let same = c.took.ensures.same c.if-took.false in
     let it = c.in_ok-address.ensures in
-    on_ok c.puts-2.result c.puts-2.ensures (word_of_read (rw (← same) at h) it.1 it.2 (search rules))
+    kind_ok c.makes-2.result c.makes-2.ensures (word_of_read (rw (← same) at h) it.1 it.2 (search rules))
 
 pub word_at-returns-then-took : goal.word_at-returns-then-took
 word_at-returns-then-took t c = λ before h.
-    on_ok c.puts.result c.puts.ensures (word_in_read h (c.took.ensures.took c.if-took.true) c.in_ok-bracketed.ensures)
+    kind_ok c.makes.result c.makes.ensures (word_in_read h (c.took.ensures.took c.if-took.true) c.in_ok-bracketed.ensures)
 
 pub conditional-returns : goal.conditional-returns
 conditional-returns t c = λ before h.
     if_ok c.either.result (λ k. either_read h c.in_ok-fact_in.ensures c.in_ok-expect.ensures c.in_ok-one.ensures
-    (c.took.ensures.took c.if-not-took.false) c.in_ok-other.ensures c.in_ok-puts-2.ensures) c.either.ensures
+    (c.took.ensures.took c.if-not-took.false) c.in_ok-other.ensures c.in_ok-puts.ensures) c.either.ensures
 
 pub conditional-returns-then-not-took : goal.conditional-returns-then-not-took
 conditional-returns-then-not-took t c = λ before h.
     let no = c.if-not-took.true in
-    provided_read h c.in_ok-fact_in.ensures c.in_ok-expect.ensures (fact_one c.in_ok-one.ensures c.in_ok-fact.ensures) (c.took.ensures.none no)
-    (rw (c.took.ensures.same no) at c.in_ok-puts.ensures)
+    kind_ok c.makes.result c.makes.ensures (λ p. provided_read h c.in_ok-fact_in.ensures c.in_ok-expect.ensures
+    (fact_one c.in_ok-one.ensures c.in_ok-fact.ensures) (c.took.ensures.none no) (rw (c.took.ensures.same no) at p))
 
 pub comparison-returns : goal.comparison-returns
 comparison-returns t c = λ before middle e r l u.
@@ -151,106 +151,97 @@ expression-returns t c =
           absurd (of_none c.infix_of.result w.in_default.not-Some none join (c.next.ensures.first ∙ f) below))
     ]
 
-pub beginning-returns-in-Some : goal.beginning-returns-in-Some
-beginning-returns-in-Some t c = c.opened.ensures _ (c.take.ensures _ (sym c.next-token.ensures.first ∙ c.in-Some.ensures.found))
+pub beginning-returns : goal.beginning-returns
+beginning-returns t c = kind_piece c.in_ok-kind.ensures c.at.ensures.kind c.at.ensures.last
+
+pub operand-returns-in-Some : goal.operand-returns-in-Some
+operand-returns-in-Some t c = c.opened.ensures _ (c.take.ensures _ (sym c.next-token.ensures.first ∙ c.in-Some.ensures.found))
+
+pub operand-returns-in-Some-bound : goal.operand-returns-in-Some-bound
+operand-returns-in-Some-bound t c =
+    let found = c.in-Some-bound.ensures.found in
+    let taken = c.take-in-Some-bound.ensures _ (sym c.next-token.ensures.first ∙ found.0) in
+    kind_ok c.makes.result c.makes.ensures (counted_read taken found.1)
+
+pub operand-returns-in-Decimal : goal.operand-returns-in-Decimal
+operand-returns-in-Decimal t c =
+    let digits = c.next-token.result.text.now in
+    kind_ok c.number_here.result c.number_here.ensures (decimal_read (sym c.next-token.ensures.first ∙ ap (λ it. token_of it digits) c.in-Decimal.is))
+
+pub operand-returns-in_default-class : goal.operand-returns-in_default-class
+operand-returns-in_default-class t c =
+    let token = c.next-token.result in
+    kind_ok c.byte_here.result c.byte_here.ensures (λ read. byte_read read (byte_free token.class token.text.now read c.next-token.ensures.first
+    (of_none c.opening_of.result c.in_default.not-Some c.opening_of.ensures.none) (of_none c.bound.result c.in_default-bound.not-Some c.bound.ensures.none)))
 
 pub make-returns-in_ok-two_numbers-in-Least : goal.make-returns-in_ok-two_numbers-in-Least
 make-returns-in_ok-two_numbers-in-Least t c = λ before h.
-    on_ok c.puts.result c.puts.ensures (least_read (rw c.in-Least.is at h) c.in_ok-two_numbers-in-Least.ensures)
+    kind_ok c.makes.result c.makes.ensures (least_read (rw c.in-Least.is at h) c.in_ok-two_numbers-in-Least.ensures)
 
 pub make-returns-in_ok-two_numbers-in-Greatest : goal.make-returns-in_ok-two_numbers-in-Greatest
 make-returns-in_ok-two_numbers-in-Greatest t c = λ before h.
-    on_ok c.puts-in-Greatest.result c.puts-in-Greatest.ensures (greatest_read (rw c.in-Greatest.is at h) c.in_ok-two_numbers-in-Greatest.ensures)
+    kind_ok c.makes-in-Greatest.result c.makes-in-Greatest.ensures (greatest_read (rw c.in-Greatest.is at h) c.in_ok-two_numbers-in-Greatest.ensures)
 
 pub make-returns-in_ok-next_number-in-Bit-2 : goal.make-returns-in_ok-next_number-in-Bit-2
 make-returns-in_ok-next_number-in-Bit-2 t c = λ before h.
-    on_ok c.puts-in-Bit.result c.puts-in-Bit.ensures (bit_read (rw c.in-Bit.is at h) c.in_ok-next_number-in-Bit.ensures c.in_ok-expect-in-Bit.ensures
-    c.in_ok-next_number-in-Bit-2.ensures)
+    kind_ok c.makes-in-Bit.result c.makes-in-Bit.ensures (bit_read (rw c.in-Bit.is at h) c.in_ok-next_number-in-Bit.ensures
+    c.in_ok-expect-in-Bit.ensures c.in_ok-next_number-in-Bit-2.ensures)
 
 pub make-returns-in-Word : goal.make-returns-in-Word
 make-returns-in-Word t c = λ before h. c.word_at.ensures before (rw c.in-Word.is at h)
 
 pub make-returns-in-Literal : goal.make-returns-in-Literal
-make-returns-in-Literal t c = λ before h. on_ok c.number_here.result c.number_here.ensures (literal_read (rw c.in-Literal.is at h))
+make-returns-in-Literal t c = λ before h. kind_ok c.number_here.result c.number_here.ensures (literal_read (rw c.in-Literal.is at h))
 
 pub make-returns-in_ok-next_number-in-Minus : goal.make-returns-in_ok-next_number-in-Minus
 make-returns-in_ok-next_number-in-Minus t c = λ before h.
-    on_ok c.puts-in-Minus-2.result c.puts-in-Minus-2.ensures
-    (minus_read (rw c.in-Minus.is at h) c.in_ok-puts-in-Minus.ensures c.in_ok-next_number-in-Minus.ensures)
+    kind_ok c.makes-in-Minus.result c.makes-in-Minus.ensures (minus_read (rw c.in-Minus.is at h) c.in_ok-puts-in-Minus.ensures
+    c.in_ok-next_number-in-Minus.ensures)
 
 pub make-returns-in_ok-next_number-in-Abs : goal.make-returns-in_ok-next_number-in-Abs
 make-returns-in_ok-next_number-in-Abs t c = λ before h.
-    on_ok c.puts-in-Abs.result c.puts-in-Abs.ensures (magnitude_read (rw c.in-Abs.is at h) c.in_ok-next_number-in-Abs.ensures)
+    kind_ok c.makes-in-Abs.result c.makes-in-Abs.ensures (magnitude_read (rw c.in-Abs.is at h) c.in_ok-next_number-in-Abs.ensures)
 
 pub make-returns-in_ok-next_number-in-Signed : goal.make-returns-in_ok-next_number-in-Signed
 make-returns-in_ok-next_number-in-Signed t c = λ before h.
-    on_ok c.puts-in-Signed.result c.puts-in-Signed.ensures (signed_read (rw c.in-Signed.is at h) c.in_ok-next_number-in-Signed.ensures)
+    kind_ok c.makes-in-Signed.result c.makes-in-Signed.ensures (signed_read (rw c.in-Signed.is at h) c.in_ok-next_number-in-Signed.ensures)
 
 pub make-returns-in_ok-bracketed-in-Byte : goal.make-returns-in_ok-bracketed-in-Byte
 make-returns-in_ok-bracketed-in-Byte t c = λ before h.
-    on_ok c.puts-in-Byte.result c.puts-in-Byte.ensures (byte_in_read (rw c.in-Byte.is at h) c.in_ok-bracketed-in-Byte.ensures)
+    kind_ok c.makes-in-Byte.result c.makes-in-Byte.ensures (byte_in_read (rw c.in-Byte.is at h) c.in_ok-bracketed-in-Byte.ensures)
 
-pub opened-returns-in_ok-puts-in-Held : goal.opened-returns-in_ok-puts-in-Held
-opened-returns-in_ok-puts-in-Held t c = λ before h.
-    kind_piece (atom_read (rw c.in-Held.is at h) c.in_ok-puts-in-Held.ensures) (c.at.ensures.kind ∙ c.kind_of.ensures) c.at.ensures.last
+pub opened-returns-in-Held : goal.opened-returns-in-Held
+opened-returns-in-Held t c = λ before h.
+    kind_ok c.makes.result c.makes.ensures (λ p. rw c.kind_of.ensures (atom_read (rw c.in-Held.is at h) p))
 
 pub opened-returns-in_ok-expect-in-Group : goal.opened-returns-in_ok-expect-in-Group
 opened-returns-in_ok-expect-in-Group t c = λ before h.
-    kind_piece (group_read (rw c.in-Group.is at h) c.in_ok-within-in-Group.ensures c.in_ok-expect-in-Group.ensures)
-    c.at-in-Group.ensures.kind c.at-in-Group.ensures.last
+    group_read (rw c.in-Group.is at h) c.in_ok-within-in-Group.ensures c.in_ok-expect-in-Group.ensures
 
-pub opened-returns-in_ok-puts-in-Old : goal.opened-returns-in_ok-puts-in-Old
-opened-returns-in_ok-puts-in-Old t c = λ before h.
-    kind_piece (before_read (rw c.in-Old.is at h) c.in_ok-within-in-Old.ensures c.in_ok-puts-in-Old.ensures)
-    c.at-in-Old.ensures.kind c.at-in-Old.ensures.last
+pub opened-returns-in_ok-kind-in-Old : goal.opened-returns-in_ok-kind-in-Old
+opened-returns-in_ok-kind-in-Old t c = λ before h.
+    kind_ok c.makes-in-Old.result c.makes-in-Old.ensures (before_read (rw c.in-Old.is at h) c.in_ok-kind-in-Old.ensures)
 
-pub opened-returns-in_ok-puts-in-At : goal.opened-returns-in_ok-puts-in-At
-opened-returns-in_ok-puts-in-At t c = λ before h.
+pub opened-returns-in_ok-kind-in-At : goal.opened-returns-in_ok-kind-in-At
+opened-returns-in_ok-kind-in-At t c = λ before h.
     let it = c.in_ok-address-in-At.ensures in
-    kind_piece (there_read (rw c.in-At.is at h) it.1 it.2 it.3 c.in_ok-within-in-At.ensures c.in_ok-puts-in-At.ensures)
-    c.at-in-At.ensures.kind c.at-in-At.ensures.last
+    kind_ok c.makes-in-At.result c.makes-in-At.ensures (there_read (rw c.in-At.is at h) it.1 it.2 it.3 c.in_ok-kind-in-At.ensures)
 
-pub opened-returns-in_ok-text_at-in-Text : goal.opened-returns-in_ok-text_at-in-Text
-opened-returns-in_ok-text_at-in-Text t c = λ before h.
-    kind_piece (c.in_ok-text_at-in-Text.ensures before (rw c.in-Text.is at h)) c.at-in-Text.ensures.kind c.at-in-Text.ensures.last
+pub opened-returns-in-Text : goal.opened-returns-in-Text
+opened-returns-in-Text t c = λ before h. c.text_at.ensures before (rw c.in-Text.is at h)
 
-pub opened-returns-in_ok-puts-in-Not : goal.opened-returns-in_ok-puts-in-Not
-opened-returns-in_ok-puts-in-Not t c = λ before h.
-    kind_piece (negated_read (rw c.in-Not.is at h) c.in_ok-fact_in-in-Not.ensures c.in_ok-puts-in-Not.ensures)
-    c.at-in-Not.ensures.kind c.at-in-Not.ensures.last
+pub opened-returns-in_ok-fact_in-in-Not : goal.opened-returns-in_ok-fact_in-in-Not
+opened-returns-in_ok-fact_in-in-Not t c = λ before h.
+    kind_ok c.makes-in-Not.result c.makes-in-Not.ensures (negated_read (rw c.in-Not.is at h) c.in_ok-fact_in-in-Not.ensures)
 
-pub opened-returns-in_ok-kind-in-If : goal.opened-returns-in_ok-kind-in-If
-opened-returns-in_ok-kind-in-If t c = λ before h.
-    kind_piece (c.in_ok-kind-in-If.ensures before (rw c.in-If.is at h)) c.at-in-If.ensures.kind c.at-in-If.ensures.last
+pub opened-returns-in-If : goal.opened-returns-in-If
+opened-returns-in-If t c = λ before h. c.conditional.ensures before (rw c.in-If.is at h)
 
-pub opened-returns-in_ok-for_all-in-Each : goal.opened-returns-in_ok-for_all-in-Each
-opened-returns-in_ok-for_all-in-Each t c = λ before h.
-    kind_piece (c.in_ok-for_all-in-Each.ensures before (rw c.in-Each.is at h)) c.at-in-Each.ensures.kind c.at-in-Each.ensures.last
+pub opened-returns-in-Each : goal.opened-returns-in-Each
+opened-returns-in-Each t c = λ before h. c.for_all.ensures before (rw c.in-Each.is at h)
 
-pub opened-returns-in_ok-sum_of-in-Sum : goal.opened-returns-in_ok-sum_of-in-Sum
-opened-returns-in_ok-sum_of-in-Sum t c = λ before h.
-    kind_piece (c.in_ok-sum_of-in-Sum.ensures before (rw c.in-Sum.is at h)) c.at-in-Sum.ensures.kind c.at-in-Sum.ensures.last
+pub opened-returns-in-Sum : goal.opened-returns-in-Sum
+opened-returns-in-Sum t c = λ before h. c.sum_of.ensures before (rw c.in-Sum.is at h)
 
-pub opened-returns-in_ok-make-in-Make : goal.opened-returns-in_ok-make-in-Make
-opened-returns-in_ok-make-in-Make t c = λ before h.
-    kind_piece (c.in_ok-make-in-Make.ensures before (rw c.in-Make.is at h)) c.at-in-Make.ensures.kind c.at-in-Make.ensures.last
-
-pub beginning-returns-in-Some-bound : goal.beginning-returns-in-Some-bound
-beginning-returns-in-Some-bound t c =
-    let found = c.in-Some-bound.ensures.found in
-    kind_piece (counted_read (c.take-in-Some-bound.ensures _ (sym c.next-token.ensures.first ∙ found.0)) found.1 c.in_ok-puts.ensures)
-    c.at.ensures.kind c.at.ensures.last
-
-pub beginning-returns-in_ok-number_here-in-Decimal : goal.beginning-returns-in_ok-number_here-in-Decimal
-beginning-returns-in_ok-number_here-in-Decimal t c =
-    let digits = c.next-token.result.text.now in
-    kind_piece (decimal_read (sym c.next-token.ensures.first ∙ ap (λ it. token_of it digits) c.in-Decimal.is) c.in_ok-number_here-in-Decimal.ensures)
-    c.at-in-Decimal.ensures.kind c.at-in-Decimal.ensures.last
-
-pub beginning-returns-in_ok-byte_here-in_default-class : goal.beginning-returns-in_ok-byte_here-in_default-class
-beginning-returns-in_ok-byte_here-in_default-class t c =
-    let read = c.in_ok-byte_here-in_default-class.ensures in
-    let token = c.next-token.result in
-    kind_piece (byte_read read (byte_free token.class token.text.now read c.next-token.ensures.first
-    (of_none c.opening_of.result c.in_default.not-Some c.opening_of.ensures.none) (of_none c.bound.result c.in_default-bound.not-Some c.bound.ensures.none)))
-    c.at-in_default-class.ensures.kind c.at-in_default-class.ensures.last
+pub opened-returns-in-Make : goal.opened-returns-in-Make
+opened-returns-in-Make t c = λ before h. c.make.ensures before (rw c.in-Make.is at h)

@@ -16,7 +16,7 @@ abbrev pub decreases-fact_in : goal.decreases-fact_in
 decreases-fact_in l = 3 * l.depth + 1
 
 abbrev pub decreases-next_number : goal.decreases-next_number
-decreases-next_number l = 3 * l.depth + 1
+decreases-next_number l = 3 * l.depth + 2
 
 abbrev pub decreases-joined : goal.decreases-joined
 decreases-joined l = 3 * l.depth
@@ -28,7 +28,10 @@ abbrev pub decreases-comparison : goal.decreases-comparison
 decreases-comparison l = 3 * l.depth
 
 abbrev pub decreases-beginning : goal.decreases-beginning
-decreases-beginning l = 3 * l.depth
+decreases-beginning l = 3 * l.depth + 1
+
+abbrev pub decreases-operand : goal.decreases-operand
+decreases-operand l = 3 * l.depth
 
 abbrev pub decreases-opened : goal.decreases-opened
 decreases-opened l = 3 * l.depth
