@@ -54,11 +54,11 @@ spelt_of {rest = rest} b f = record { rest = rest; inner = f.inner; begins = b.f
 
 -- what a line says, and what a block says behind it of each thing
 pub says : {names : Names} {text : List ℕ} {before after : Block} (line : Line) → IsLine names text line
-    → said_by after.wanted.items ≡ said_by before.wanted.items ++ wanted_in line
-    → said_by after.promised.items ≡ said_by before.promised.items ++ promised_in line
-    → LetAllChange (changes_in line) before.changes after.changes
-    → characters_of after.texts.prints.items ≡ characters_of before.texts.prints.items ++ printed_in line
-    → characters_of after.texts.takes.items ≡ characters_of before.texts.takes.items ++ taken_in line
+    → said_by after.promise.wanted.items ≡ said_by before.promise.wanted.items ++ wanted_in line
+    → said_by after.promise.promised.items ≡ said_by before.promise.promised.items ++ promised_in line
+    → LetAllChange (changes_in line) before.promise.changes after.promise.changes
+    → characters_of after.promise.texts.prints.items ≡ characters_of before.promise.texts.prints.items ++ printed_in line
+    → characters_of after.promise.texts.takes.items ≡ characters_of before.promise.texts.takes.items ++ taken_in line
     → after.is_within ≡ (before.is_within && not (is_promising line)) → AddsLine names text before after
 says line is wanted promised let_all prints takes within = record {
   line = line;

@@ -457,9 +457,9 @@ characters_of texts = map (λ text. text.characters.items) texts
 pub record AddsLine (names : Names) (text : List ℕ) (before after : Block) : Type 0 where
   pub line : Line
   pub is_line : IsLine names text line
-  pub wanted : said_by after.wanted.items ≡ said_by before.wanted.items ++ wanted_in line
-  pub promised : said_by after.promised.items ≡ said_by before.promised.items ++ promised_in line
-  pub let_all : LetAllChange (changes_in line) before.changes after.changes
-  pub prints : characters_of after.texts.prints.items ≡ characters_of before.texts.prints.items ++ printed_in line
-  pub takes : characters_of after.texts.takes.items ≡ characters_of before.texts.takes.items ++ taken_in line
+  pub wanted : said_by after.promise.wanted.items ≡ said_by before.promise.wanted.items ++ wanted_in line
+  pub promised : said_by after.promise.promised.items ≡ said_by before.promise.promised.items ++ promised_in line
+  pub let_all : LetAllChange (changes_in line) before.promise.changes after.promise.changes
+  pub prints : characters_of after.promise.texts.prints.items ≡ characters_of before.promise.texts.prints.items ++ printed_in line
+  pub takes : characters_of after.promise.texts.takes.items ≡ characters_of before.promise.texts.takes.items ++ taken_in line
   pub is_within : after.is_within ≡ (before.is_within && not (is_promising line))

@@ -143,10 +143,8 @@ fn byte_here(reader: &mut Reader) -> Result<Kind, ReadFault>
     ensures { IfOk result (λ kind. (kind ≡ kinds.Number) × ReadsToken address_of byte_parts (state_of reader.old) (state_of reader.new)) }
 {
     let address = reader.address()?;
-    reader.makes(
-        &[Part::Number(i64::from(address)), Part::Of(Function::Byte)],
-        Kind::Number,
-    )
+    reader.puts(&[Part::Number(i64::from(address)), Part::Of(Function::Byte)])?;
+    Ok(Kind::Number)
 }
 
 // A number that stands next.
@@ -154,7 +152,7 @@ fn number_here(reader: &mut Reader) -> Result<Kind, ReadFault>
     ensures { IfOk result (λ kind. (kind ≡ kinds.Number) × ReadsToken number_of number_parts (state_of reader.old) (state_of reader.new)) }
 {
     let number = reader.number()?;
-    reader.makes(&[Part::Number(i64::from(number))], Kind::Number)
+    reader.makes(Part::Number(i64::from(number)), Kind::Number)
 }
 
 /// An expression in which nothing binds looser than this rank, as far as it goes. Of what stands in it nothing is deeper than this.
@@ -291,7 +289,7 @@ fn operand(reader: &mut Reader, depth: u8) -> Result<Kind, ReadFault>
     }
     if let Some(name) = reader.bound(token) {
         reader.take();
-        return reader.makes(&[Part::Bound(name)], Kind::Number);
+        return reader.makes(Part::Bound(name), Kind::Number);
     }
     match token.class {
         Class::Decimal => number_here(reader),
@@ -312,7 +310,7 @@ fn opened(
 {
     let less = deeper(reader, depth)?;
     match opening {
-        Opening::Held(atom) => reader.makes(&[Part::Held(atom)], kind_of(atom)),
+        Opening::Held(atom) => reader.makes(Part::Held(atom), kind_of(atom)),
         Opening::Group => {
             let within = expression(reader, LOOSEST, less)?;
             reader.expect(b")", "a ) is wanted here")?;
@@ -320,19 +318,20 @@ fn opened(
         }
         Opening::Old => {
             let kind = operand(reader, less)?;
-            reader.makes(&[Part::Old], kind)
+            reader.makes(Part::Old, kind)
         }
         Opening::At => {
             let address = reader.label(bytes_left)?;
             let kind = operand(reader, less)?;
-            reader.makes(&[Part::At(address)], kind)
+            reader.makes(Part::At(address), kind)
         }
         Opening::Sum => sum_of(reader, less),
         Opening::Make(making) => make(reader, making, less),
         Opening::Text => text_at(reader, less),
         Opening::Not => {
             fact_in(reader, BEHIND_AND, less)?;
-            reader.makes(&NEGATED, Kind::Fact)
+            reader.puts(&NEGATED)?;
+            Ok(Kind::Fact)
         }
         Opening::If => conditional(reader, less),
         Opening::Each => for_all(reader, less),
@@ -349,36 +348,36 @@ fn make(reader: &mut Reader, making: Making, depth: u8) -> Result<Kind, ReadFaul
     match making {
         Making::Least => {
             two_numbers(reader, less)?;
-            reader.makes(&[Part::Pair(Operation::Min)], Kind::Number)
+            reader.makes(Part::Pair(Operation::Min), Kind::Number)
         }
         Making::Greatest => {
             two_numbers(reader, less)?;
-            reader.makes(&[Part::Pair(Operation::Max)], Kind::Number)
+            reader.makes(Part::Pair(Operation::Max), Kind::Number)
         }
         Making::Abs => {
             next_number(reader, less)?;
-            reader.makes(&[Part::Of(Function::Abs)], Kind::Number)
+            reader.makes(Part::Of(Function::Abs), Kind::Number)
         }
         Making::Bit => {
             next_number(reader, less)?;
             reader.expect(b"of", "of is wanted here, as in bit 3 of A")?;
             next_number(reader, less)?;
-            reader.makes(&[Part::Pair(Operation::Bit)], Kind::Number)
+            reader.makes(Part::Pair(Operation::Bit), Kind::Number)
         }
         Making::Signed => {
             next_number(reader, less)?;
-            reader.makes(&[Part::Of(Function::Signed)], Kind::Number)
+            reader.makes(Part::Of(Function::Signed), Kind::Number)
         }
         Making::Word => word_at(reader, less),
         Making::Byte => {
             bracketed(reader, less)?;
-            reader.makes(&[Part::Of(Function::Byte)], Kind::Number)
+            reader.makes(Part::Of(Function::Byte), Kind::Number)
         }
         Making::Literal => number_here(reader),
         Making::Minus => {
             reader.puts(&[Part::Number(0)])?;
             next_number(reader, less)?;
-            reader.makes(&[Part::Pair(Operation::Minus)], Kind::Number)
+            reader.makes(Part::Pair(Operation::Minus), Kind::Number)
         }
     }
 }
@@ -415,13 +414,11 @@ fn word_at(reader: &mut Reader, depth: u8) -> Result<Kind, ReadFault>
     let less = deeper(reader, depth)?;
     if reader.took(b"[") {
         bracketed(reader, less)?;
-        return reader.makes(&[Part::Of(Function::Word)], Kind::Number);
+        return reader.makes(Part::Of(Function::Word), Kind::Number);
     }
     let address = reader.address()?;
-    reader.makes(
-        &[Part::Number(i64::from(address)), Part::Of(Function::Word)],
-        Kind::Number,
-    )
+    reader.puts(&[Part::Number(i64::from(address)), Part::Of(Function::Word)])?;
+    Ok(Kind::Number)
 }
 
 // Where a text stands in memory: from an address on, or from one that was made.
@@ -544,7 +541,8 @@ fn conditional(reader: &mut Reader, depth: u8) -> Result<Kind, ReadFault>
     let one = expression(reader, LOOSEST, less)?;
     if !reader.took(b"else") {
         one.fact()?;
-        return reader.makes(&[Part::Number(1), Part::Choice], Kind::Fact);
+        reader.puts(&[Part::Number(1), Part::Choice])?;
+        return Ok(Kind::Fact);
     }
     let other = expression(reader, LOOSEST, less)?;
     reader.puts(&[Part::Choice])?;
@@ -585,7 +583,7 @@ fn for_all(reader: &mut Reader, depth: u8) -> Result<Kind, ReadFault>
     let name = counted(reader, less)?;
     fact_in(reader, LOOSEST, less)?;
     reader.unbind(name);
-    reader.makes(&[Part::Each(name)], Kind::Fact)
+    reader.makes(Part::Each(name), Kind::Fact)
 }
 
 // The sum of what is for each number below one.
@@ -598,5 +596,5 @@ fn sum_of(reader: &mut Reader, depth: u8) -> Result<Kind, ReadFault>
     let name = counted(reader, less)?;
     number_in(reader, BEHIND_COMPARISON, less)?;
     reader.unbind(name);
-    reader.makes(&[Part::Sum(name)], Kind::Number)
+    reader.makes(Part::Sum(name), Kind::Number)
 }

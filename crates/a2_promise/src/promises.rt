@@ -120,14 +120,11 @@ struct Label {
 }
 
 // The lines before a label.
-#[derive(Drop)]
 struct Block<'a> {
     /// The number of its first line; 0 where there is none yet.
     first: usize,
-    wanted: Vec<Clause<'a>>,
-    promised: Vec<Clause<'a>>,
-    changes: Changes,
-    texts: Texts<'a>,
+    /// What is promised, of which name, line and address come with the label.
+    promise: Promise<'a>,
     /// What is said at the label, of which the line and the address come with it.
     said: Within<'a>,
     labels: Vec<Label>,
@@ -136,10 +133,26 @@ struct Block<'a> {
     is_within: bool,
 }
 
-// No lines yet.
-fn new_block<'a>(alloc: Global) -> Block<'a> {
-    Block {
-        first: 0,
+// Not derived, for the prover alone: it follows this as one call, and a derived one field by field.
+impl<'a> Drop for Block<'a> {
+    fn drop(self) {
+        let Block {
+            first: _,
+            promise: _,
+            said: _,
+            labels: _,
+            refused: _,
+            is_within: _,
+        } = self;
+    }
+}
+
+// Nothing promised yet.
+fn new_promise<'a>(alloc: Global) -> Promise<'a> {
+    Promise {
+        name: b"",
+        line: 0,
+        address: 0,
         wanted: Vec::new(alloc),
         promised: Vec::new(alloc),
         changes: Changes {
@@ -152,13 +165,27 @@ fn new_block<'a>(alloc: Global) -> Block<'a> {
             prints: Vec::new(alloc),
             takes: Vec::new(alloc),
         },
-        said: Within {
-            line: 0,
-            address: 0,
-            invariants: Vec::new(alloc),
-            measures: Vec::new(alloc),
-            is_named: false,
-        },
+        within: Vec::new(alloc),
+    }
+}
+
+// Nothing said yet.
+fn new_within<'a>(alloc: Global) -> Within<'a> {
+    Within {
+        line: 0,
+        address: 0,
+        invariants: Vec::new(alloc),
+        measures: Vec::new(alloc),
+        is_named: false,
+    }
+}
+
+// No lines yet.
+fn new_block<'a>(alloc: Global) -> Block<'a> {
+    Block {
+        first: 0,
+        promise: new_promise(alloc),
+        said: new_within(alloc),
         labels: Vec::new(alloc),
         refused: None,
         is_within: true,
@@ -303,11 +330,11 @@ impl<'a> Block<'a> {
         self.is_within = still_within(self.is_within, verb);
         let text = behind_blanks(reader.rest);
         match verb {
-            Verb::Requires => push_fact(reader, &mut self.wanted, line, text),
-            Verb::Ensures => push_fact(reader, &mut self.promised, line, text),
-            Verb::Changes => take_changes(reader, &mut self.changes),
-            Verb::Prints => push_text(reader, &mut self.texts.prints, line),
-            Verb::Takes => push_text(reader, &mut self.texts.takes, line),
+            Verb::Requires => push_fact(reader, &mut self.promise.wanted, line, text),
+            Verb::Ensures => push_fact(reader, &mut self.promise.promised, line, text),
+            Verb::Changes => take_changes(reader, &mut self.promise.changes),
+            Verb::Prints => push_text(reader, &mut self.promise.texts.prints, line),
+            Verb::Takes => push_text(reader, &mut self.promise.texts.takes, line),
             Verb::Decreases => push_measure(reader, &mut self.said.measures, line, text),
             Verb::Invariant | Verb::Note => push_fact(
                 reader,
@@ -487,34 +514,31 @@ fn at_line(line: usize, says: &'static str) -> Refusal {
     }
 }
 
-// Adds what is said at a label.
-fn push_within<'a>(within: &mut Vec<Within<'a>>, said: Within<'a>) -> Result<(), AllocError> {
+// Adds what is said at a label, if anything is.
+fn push_said<'a>(
+    alloc: Global,
+    within: &mut Vec<Within<'a>>,
+    said: &mut Within<'a>,
+) -> Result<(), AllocError> {
     if said.invariants.is_empty() && said.measures.is_empty() {
         return Ok(());
     }
-    Ok(within.push(said)?)
+    Ok(within.push(std::mem::replace(said, new_within(alloc)))?)
 }
 
 // Adds what lines before a label promise.
 fn push_promise<'a>(
     alloc: Global,
     found: &mut Vec<Found<'a>>,
-    block: Block<'a>,
+    block: &mut Block<'a>,
     name: &'a [u8],
 ) -> Result<(), AllocError> {
-    let (line, address) = (block.said.line, block.said.address);
-    let mut within = Vec::new(alloc);
-    push_within(&mut within, block.said)?;
-    Ok(found.push(Found::Promise(Promise {
-        name,
-        line,
-        address,
-        wanted: block.wanted,
-        promised: block.promised,
-        changes: block.changes,
-        texts: block.texts,
-        within,
-    }))?)
+    block.promise.name = name;
+    block.promise.line = block.said.line;
+    block.promise.address = block.said.address;
+    push_said(alloc, &mut block.promise.within, &mut block.said)?;
+    let promise = std::mem::replace(&mut block.promise, new_promise(alloc));
+    Ok(found.push(Found::Promise(promise))?)
 }
 
 const OUTSIDE: &str =
@@ -522,12 +546,13 @@ const OUTSIDE: &str =
 
 // Adds what is said at a label within a routine to what the last one promises; where that is refused, nothing.
 fn attach<'a>(
+    alloc: Global,
     found: &mut Vec<Found<'a>>,
-    block: Block<'a>,
+    block: &mut Block<'a>,
     name: &'a [u8],
 ) -> Result<(), AllocError> {
     match found.as_mut_slice().last_mut() {
-        Some(Found::Promise(promise)) => push_within(&mut promise.within, block.said),
+        Some(Found::Promise(promise)) => push_said(alloc, &mut promise.within, &mut block.said),
         Some(Found::Refused(_, _)) => Ok(()),
         None => Ok(found.push(Found::Refused(at_line(block.first, OUTSIDE), name))?),
     }
@@ -540,7 +565,7 @@ fn close<'a>(
     found: &mut Vec<Found<'a>>,
     labels: &mut Vec<(usize, Label)>,
     program: &Program<Global>,
-    mut block: Block<'a>,
+    block: &mut Block<'a>,
     name: &'a [u8],
     line: usize,
 ) -> Result<(), AllocError> {
@@ -548,7 +573,7 @@ fn close<'a>(
         return Ok(());
     }
     block.said.line = line;
-    block.said.address = match entry_of(program, &block, name) {
+    block.said.address = match entry_of(program, block, name) {
         Err(refusal) => return Ok(found.push(Found::Refused(refusal, name))?),
         Ok(address) => address,
     };
@@ -557,7 +582,7 @@ fn close<'a>(
         labels.push((place, *label))?;
     }
     if block.is_within {
-        attach(found, block, name)
+        attach(alloc, found, block, name)
     } else {
         push_promise(alloc, found, block, name)
     }
@@ -604,16 +629,16 @@ pub fn promises_of<'a>(
         if let Some(rest) = promise_in(*line) {
             take_line(alloc, &mut block, program, *line, index + 1, rest)?;
         } else if !is_silent(*line) {
-            let closed = std::mem::replace(&mut block, new_block(alloc));
             close(
                 alloc,
                 &mut found,
                 &mut labels,
                 program,
-                closed,
+                &mut block,
                 label_of(*line),
                 index + 1,
             )?;
+            block = new_block(alloc);
         }
     }
     close(
@@ -621,7 +646,7 @@ pub fn promises_of<'a>(
         &mut found,
         &mut labels,
         program,
-        block,
+        &mut block,
         b"",
         lines.len(),
     )?;

@@ -326,11 +326,11 @@ impl<'a, 'p> Reader<'a, 'p> {
         Ok(self.parts.extend_from_slice(parts)?)
     }
 
-    /// Puts the last parts of an expression of this kind.
-    pub fn makes(&mut self, parts: &[Part], kind: Kind) -> Result<Kind, ReadFault>
-        ensures { IfOk result (λ made. (made ≡ kind) × Puts parts.now (state_of self.old) (state_of self.new)) }
+    /// Puts the last part of an expression of this kind.
+    pub fn makes(&mut self, last: Part, kind: Kind) -> Result<Kind, ReadFault>
+        ensures { IfOk result (λ made. (made ≡ kind) × Puts (last ∷ []) (state_of self.old) (state_of self.new)) }
     {
-        self.parts.extend_from_slice(parts)?;
+        self.parts.extend_from_slice(&[last])?;
         Ok(kind)
     }
 

@@ -70,7 +70,7 @@ pub word_at-returns : goal.word_at-returns
 word_at-returns t c = λ before h.
     let same = c.took.ensures.same c.if-took.false in
     let it = c.in_ok-address.ensures in
-    kind_ok c.makes-2.result c.makes-2.ensures (word_of_read (rw (← same) at h) it.1 it.2 (search rules))
+    word_of_read (rw (← same) at h) it.1 it.2 (search rules) c.in_ok-puts.ensures
 
 pub word_at-returns-then-took : goal.word_at-returns-then-took
 word_at-returns-then-took t c = λ before h.
@@ -79,13 +79,13 @@ word_at-returns-then-took t c = λ before h.
 pub conditional-returns : goal.conditional-returns
 conditional-returns t c = λ before h.
     if_ok c.either.result (λ k. either_read h c.in_ok-fact_in.ensures c.in_ok-expect.ensures c.in_ok-one.ensures
-    (c.took.ensures.took c.if-not-took.false) c.in_ok-other.ensures c.in_ok-puts.ensures) c.either.ensures
+    (c.took.ensures.took c.if-not-took.false) c.in_ok-other.ensures c.in_ok-puts-2.ensures) c.either.ensures
 
 pub conditional-returns-then-not-took : goal.conditional-returns-then-not-took
 conditional-returns-then-not-took t c = λ before h.
     let no = c.if-not-took.true in
-    kind_ok c.makes.result c.makes.ensures (λ p. provided_read h c.in_ok-fact_in.ensures c.in_ok-expect.ensures
-    (fact_one c.in_ok-one.ensures c.in_ok-fact.ensures) (c.took.ensures.none no) (rw (c.took.ensures.same no) at p))
+    provided_read h c.in_ok-fact_in.ensures c.in_ok-expect.ensures (fact_one c.in_ok-one.ensures c.in_ok-fact.ensures) (c.took.ensures.none no)
+    (rw (c.took.ensures.same no) at c.in_ok-puts.ensures)
 
 pub comparison-returns : goal.comparison-returns
 comparison-returns t c = λ before middle e r l u.
@@ -230,9 +230,9 @@ opened-returns-in_ok-kind-in-At t c = λ before h.
 pub opened-returns-in-Text : goal.opened-returns-in-Text
 opened-returns-in-Text t c = λ before h. c.text_at.ensures before (rw c.in-Text.is at h)
 
-pub opened-returns-in_ok-fact_in-in-Not : goal.opened-returns-in_ok-fact_in-in-Not
-opened-returns-in_ok-fact_in-in-Not t c = λ before h.
-    kind_ok c.makes-in-Not.result c.makes-in-Not.ensures (negated_read (rw c.in-Not.is at h) c.in_ok-fact_in-in-Not.ensures)
+pub opened-returns-in_ok-puts-in-Not : goal.opened-returns-in_ok-puts-in-Not
+opened-returns-in_ok-puts-in-Not t c = λ before h.
+    negated_read (rw c.in-Not.is at h) c.in_ok-fact_in-in-Not.ensures c.in_ok-puts-in-Not.ensures
 
 pub opened-returns-in-If : goal.opened-returns-in-If
 opened-returns-in-If t c = λ before h. c.conditional.ensures before (rw c.in-If.is at h)
