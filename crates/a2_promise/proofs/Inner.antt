@@ -57,10 +57,9 @@ parts4 a b c d h = let w = and_parts (a && b && c) d h in let v = parts3 a b c w
 pub parts6 : (a b c d e f : Bool) → (a && b && c && d && e && f) ≡ true
     → (a ≡ true) × (b ≡ true) × (c ≡ true) × (d ≡ true) × (e ≡ true) × (f ≡ true)
 parts6 a b c d e f h =
-    let w = and_parts (a && b && c && d && e) f h in
-    let v = and_parts (a && b && c && d) e w.0 in
-    let u = parts4 a b c d v.0 in
-    (u.0, u.1, u.2, u.3, v.1, w.1)
+    let w = parts3 (a && b && c && d) e f h in
+    let u = parts4 a b c d w.0 in
+    (u.0, u.1, u.2, u.3, w.1, w.2)
 
 pub then_is : {X Y : Type 0} → (o : Option X) (x : X) (f : X → Option Y) → o ≡ Some x → then_by o f ≡ f x
 then_is o x f h = ap (λ o. then_by o f) h
@@ -88,9 +87,7 @@ module _ (given : Reading) (n : ℕ) (found : Finds n given) where
       → one_behind given scope tightest (spelled e ++ rest) f ≡ Some (f e, rest)
   one_last e scope f rest small clean fit one ends =
       let same = eqb-true (rank e) tightest one in
-      then_is (given scope tightest (spelled e ++ rest)) (e, rest) (λ e. Some (f e.0, e.1))
-      (found e scope tightest (spelled e ++ rest) rest refl small clean fit (omega (arith, same))
-      (past_mono (takes_from e) tightest rest (takes_le e) ends.joints) ends)
+      rw (found e scope tightest _ rest refl small clean fit (omega (arith, same)) (past_mono (takes_from e) tightest rest (takes_le e) ends.joints) ends)
 
   -- one within parentheses or brackets
   pub one_within : (e : Written) (scope : Scope) (f : Written → Written) (closing : Token) (rest : List Token)
@@ -98,9 +95,7 @@ module _ (given : Reading) (n : ℕ) (found : Finds n given) where
       → is_else (closing ∷ rest) ≡ false → size e < n → IsClean scope → fits scope e ≡ true
       → one_up_to given scope ((spelled e ++ closing ∷ []) ++ rest) f ≡ Some (f e, rest)
   one_within e scope f closing rest h k small clean fit =
-      then_is (given scope 1 ((spelled e ++ closing ∷ []) ++ rest)) (e, closing ∷ rest) _
-      (up_to e scope 1 ((spelled e ++ closing ∷ []) ++ rest) closing rest
-      (append_assoc (spelled e) (closing ∷ []) rest) h k small clean fit (one_le_rank e))
+      rw (up_to e scope 1 _ closing rest (append_assoc (spelled e) (closing ∷ []) rest) h k small clean fit (one_le_rank e))
 
   -- two with a comma between them
   pub two_within : (e f : Written) (scope : Scope) (make : Written → Written
@@ -110,11 +105,8 @@ module _ (given : Reading) (n : ℕ) (found : Finds n given) where
       → size e < n → size f < n → IsClean scope → fits scope e ≡ true → fits scope f ≡ true
       → two_up_to given scope (((spelled e ++ comma ∷ spelled f) ++ closing ∷ []) ++ rest) make ≡ Some (make e f, rest)
   two_within e f scope make comma closing rest h k h' k' small small' clean fit fit' =
-      then_is (given scope 1 (((spelled e ++ comma ∷ spelled f) ++ closing ∷ []) ++ rest))
-      (e, comma ∷ spelled f ++ closing ∷ rest) _
-      (up_to e scope 1 (((spelled e ++ comma ∷ spelled f) ++ closing ∷ []) ++ rest) comma (spelled f ++ closing ∷ rest)
-      (append_assoc (spelled e ++ comma ∷ spelled f) (closing ∷ []) rest ∙ append_assoc (spelled e) (comma ∷ spelled f)
-      (closing ∷ rest))
-      h k small clean fit (one_le_rank e))
-      ∙ then_is (given scope 1 (spelled f ++ closing ∷ rest)) (f, closing ∷ rest) _
-      (up_to f scope 1 (spelled f ++ closing ∷ rest) closing rest refl h' k' small' clean fit' (one_le_rank f))
+      let behind = append_assoc (spelled e ++ comma ∷ spelled f) (closing ∷ []) rest ∙ append_assoc (spelled e) (comma ∷ spelled f) (closing ∷ rest) in
+      rw (
+        up_to e scope 1 _ comma (spelled f ++ closing ∷ rest) behind h k small clean fit (one_le_rank e),
+        up_to f scope 1 _ closing rest refl h' k' small' clean fit' (one_le_rank f),
+      )

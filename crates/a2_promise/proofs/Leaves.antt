@@ -17,13 +17,13 @@ module _ (given : Reading) where
       → operand given scope (spelled (decimal token n) ++ rest) ≡ Some (decimal token n, rest)
   unfolding fits spelled
   decimal_found (digits decimals) n scope rest fit =
-      then_is (number_of scope.names (digits decimals)) n _ (just n (number_of scope.names (digits decimals)) fit)
+      rw (just n (number_of scope.names (digits decimals)) fit)
   decimal_found token n scope rest fit = absurd (false≢true fit)
 
   pub literal_found : (token : Token) (n : ℕ) (scope : Scope) (rest : List Token) → fits scope (literal token n) ≡ true
       → operand given scope (spelled (literal token n) ++ rest) ≡ Some (literal token n, rest)
   unfolding fits spelled
-  literal_found token n scope rest fit = then_is (number_of scope.names token) n _ (just n (number_of scope.names token) fit)
+  literal_found token n scope rest fit = rw (just n (number_of scope.names token) fit)
 
   byte_named : (name : List ℕ) (a : ℕ) (scope : Scope) (rest : List Token) → is_name_among openings name ≡ false
       → is_name_among scope.around name ≡ false → name_value scope.names name ≡ Some a
@@ -37,7 +37,7 @@ module _ (given : Reading) where
       → operand given scope (spelled (byte token a) ++ rest) ≡ Some (byte token a, rest)
   unfolding fits spelled
   byte_found (place hexadecimal) a scope rest fit =
-      then_is (address_of scope.names (place hexadecimal)) a _ (just a (address_of scope.names (place hexadecimal)) fit)
+      rw (just a (address_of scope.names (place hexadecimal)) fit)
   byte_found (word name) a scope rest fit =
       let w =
       parts3 (not (is_name_among openings name)) (not (is_name_among scope.around name))
@@ -50,9 +50,8 @@ module _ (given : Reading) where
       → operand given scope (spelled (word_of token a) ++ rest) ≡ Some (word_of token a, rest)
   unfolding fits spelled
   word_of_found (place hexadecimal) a scope rest fit =
-      then_is (address_of scope.names (place hexadecimal)) a _ (just a (address_of scope.names (place hexadecimal)) fit)
-  word_of_found (word name) a scope rest fit = then_is (name_value scope.names name) a _
-      (just a (name_value scope.names name) fit)
+      rw (just a (address_of scope.names (place hexadecimal)) fit)
+  word_of_found (word name) a scope rest fit = rw (just a (name_value scope.names name) fit)
   word_of_found token a scope rest fit = absurd (false≢true fit)
 
   pub text_found : (token : Token) (a quote : ℕ) (characters : List ℕ) (scope : Scope) (rest : List Token)
@@ -61,10 +60,10 @@ module _ (given : Reading) where
   unfolding fits spelled
   text_found (place hexadecimal) a quote characters scope rest fit =
       let w = and_parts (is_just a (address_of scope.names (place hexadecimal))) (is_text quote characters) fit in
-      then_is (address_of scope.names (place hexadecimal)) a _ (just a (address_of scope.names (place hexadecimal)) w.0)
+      rw (just a (address_of scope.names (place hexadecimal)) w.0)
   text_found (word name) a quote characters scope rest fit =
       let w = and_parts (is_just a (name_value scope.names name)) (is_text quote characters) fit in
-      then_is (name_value scope.names name) a _ (just a (name_value scope.names name) w.0)
+      rw (just a (name_value scope.names name) w.0)
   text_found token a quote characters scope rest fit = absurd (false≢true fit)
 
   pub atom_found : (it : Atom) (scope : Scope) (rest : List Token) → fits scope (atom it) ≡ true
@@ -89,8 +88,5 @@ module _ (given : Reading) (n : ℕ) (found : Finds n given) where
   text_in_found e quote characters scope rest small clean fit =
       let a = parts3 (is_number e) (fits scope e) (is_text quote characters) fit in
       let laid = laid_text quote characters in
-      then_is (given scope 1 (((spelled e ++ sign (codes "]") ∷ []) ++ laid) ++ rest)) (e, sign (codes "]") ∷ laid ++ rest) _
-      (up_to given n found e scope 1 (((spelled e ++ sign (codes "]") ∷ []) ++ laid) ++ rest) (sign (codes "]")) (laid ++ rest)
-      (append_assoc (spelled e ++ sign (codes "]") ∷ []) laid rest ∙ append_assoc (spelled e) (sign (codes "]") ∷ [])
-      (laid ++ rest))
-      refl refl small clean a.1 (one_le_rank e))
+      let behind = append_assoc (spelled e ++ sign (codes "]") ∷ []) laid rest ∙ append_assoc (spelled e) (sign (codes "]") ∷ []) (laid ++ rest) in
+      rw (up_to given n found e scope 1 _ (sign (codes "]")) (laid ++ rest) behind refl refl small clean a.1 (one_le_rank e))

@@ -2,8 +2,9 @@
 use Rattle.std.specs.Prelude.{◌≡◌, ℕ, ◌<◌, Bool, true, false, not, ◌&&◌, ◌||◌, IsTrue, List, [], ◌∷◌, ◌++◌, map, take, Option, Some, None, IfSome, IfNone, refl}
 use Rattle.std.specs.List.{AllByRecursion as ByRecursion, Contains, list_any}
 use Rattle.std.specs.Str.{bytes_eq}
-use Rattle.std.proofs.Common.{ap, ap₂, sym, subst, ◌∙◌, arith}
+use Rattle.std.proofs.Common.{ap, sym, subst, ◌∙◌, arith}
 use Rattle.std.proofs.lemmas.List.Elements.{All-contains, All-contains_itself, All-from_recursion, All-take, recursion_from_All}
+use Rattle.std.proofs.lemmas.Bool.{or_parts}
 use Rattle.std.proofs.lemmas.Slice.Eq.{bytes_eq-Decides}
 use Rattle.a2_promise.specs.declared.reading.Class.{Class}
 use Rattle.a2_promise.specs.declared.reading.Class.TheVariants as classes
@@ -30,12 +31,10 @@ pub differs : (text name : List ℕ) → (name ≡ text → ⊥) → bytes_eq te
 differs text name h = unequal (bytes_eq text name) (λ e. h (sym ((bytes_eq-Decides text name).0 e)))
 
 pub two : (b c : Bool) → b ≡ false → c ≡ false → (b || c) ≡ false
-two b c p q = cc
+two b c p q = rw (p, q) refl
 
 both : (b c : Bool) → b ≡ false → c ≡ false → IsTrue (not b && not c)
-both false false p q = refl
-both true c p q = cc
-both false true p q = cc
+both b c p q = rw (p, q) refl
 
 pub if_some : {X : Type 0} (found : Option X) (P Q : X → Type 0) → ((x : X) → P x → Q x) → IfSome found P → IfSome found Q
 if_some None P Q f h = tt
@@ -70,24 +69,14 @@ token_by {T} P rows class text it all listed =
 none_among : {T : Type 0} (rows some : List (Row T)) (text : List ℕ) → ByRecursion (Contains rows) some → ByRecursion (λ row. row.0 ≡ classes.Word) some
     → ((it : T) → Contains rows (classes.Word, text, it) → ⊥) → list_any (bytes_eq text) (map (λ row. row.1) some) ≡ false
 none_among rows [] text within words none = refl
-none_among {T} rows (row ∷ some) text within words none =
-    let P : Row T → Type 0 = λ row. Contains rows row in
-    two _ _ (differs text row.1 (λ e. none row.2 (subst P (ap₂ (λ c t. (c, t, row.2)) words.0 e) within.0)))
-    (none_among rows some text within.1 words.1 none)
-
-left_false : (b c : Bool) → (b || c) ≡ false → b ≡ false
-left_false true c e = e
-left_false false c e = refl
-
-right_false : (b c : Bool) → (b || c) ≡ false → c ≡ false
-right_false true c e = cc
-right_false false c e = e
+none_among rows (row ∷ some) text within words none =
+    two _ _ (differs text row.1 (λ e. none row.2 (rw (words.0, e) at within.0))) (none_among rows some text within.1 words.1 none)
 
 none_of_both : (test : List ℕ → Bool) (names more : List (List ℕ)) → list_any test names ≡ false → list_any test more ≡ false
     → list_any test (names ++ more) ≡ false
 none_of_both test [] more p q = q
 none_of_both test (name ∷ names) more p q =
-    two _ _ (left_false (test name) (list_any test names) p) (none_of_both test names more (right_false (test name) (list_any test names) p) q)
+    let parts = or_parts (test name) (list_any test names) p in two _ _ parts.0 (none_of_both test names more parts.1 q)
 
 -- Joints
 
@@ -108,17 +97,11 @@ IsNone class text = (join : Infix) → Contains joints (class, text, join) → �
 -- a token that is not among them is none in a place of theirs
 no_word : (class : Class) (text name : List ℕ) (join : Infix) → IsNone class text → Contains joints (classes.Word, name, join)
     → token_of class text ≡ Some (word name) → ⊥
-no_word class text name join none listed e =
-    let w = word_class class text name e in
-    let P : Row Infix → Type 0 = λ row. Contains joints row in
-    none join (subst P (ap₂ (λ c t. (c, t, join)) (sym w.0) (sym w.1)) listed)
+no_word class text name join none listed e = let w = word_class class text name e in none join (rw (w.0, w.1) listed)
 
 no_sign : (class : Class) (text name : List ℕ) (join : Infix) → IsNone class text → Contains joints (classes.Sign, name, join)
     → token_of class text ≡ Some (sign name) → ⊥
-no_sign class text name join none listed e =
-    let w = sign_class class text name e in
-    let P : Row Infix → Type 0 = λ row. Contains joints row in
-    none join (subst P (ap₂ (λ c t. (c, t, join)) (sym w.0) (sym w.1)) listed)
+no_sign class text name join none listed e = let w = sign_class class text name e in none join (rw (w.0, w.1) listed)
 
 no_comparison : (class : Class) (text : List ℕ) → IsNone class text → (by : Relation) → token_of class text ≡ Some (infix_token (Compare by)) → ⊥
 no_comparison class text n relation.Equal e = no_sign class text _ (Compare relation.Equal) n (3, omega arith, refl) e

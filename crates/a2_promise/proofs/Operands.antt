@@ -1,6 +1,6 @@
 -- The reader finds each operand.
-use Rattle.std.specs.Prelude.{ℕ, ◌<◌, nat_le, List, ◌++◌, codes}
-use Rattle.std.proofs.Common.{refl, ◌∙◌, leb-true}
+use Rattle.std.specs.Prelude.{ℕ, ◌<◌, nat_le, List, codes}
+use Rattle.std.proofs.Common.{refl, leb-true}
 use Rattle.std.proofs.lemmas.Bool.{and_parts}
 use Rattle.a2_asm.specs.Values.{name_value}
 use Rattle.a2_promise.specs.Tokens.{Token, sign}
@@ -9,7 +9,7 @@ use Rattle.a2_promise.specs.Grammar.{rank, takes_from, is_one, is_number, is_fac
 use Rattle.a2_promise.proofs.Finder.{Reading}
 use Rattle.a2_promise.proofs.Stopping.{past_min_left, past_min_right}
 use Rattle.a2_promise.proofs.Meanings.{just}
-use Rattle.a2_promise.proofs.Inner.{IsFound, size, Finds, parts3, parts4, then_is, one_last, one_within, two_within}
+use Rattle.a2_promise.proofs.Inner.{IsFound, size, Finds, parts3, parts4, one_last, one_within, two_within}
 
 module _ (given : Reading) (n : ℕ) (found : Finds n given) where
   pub minus_found : (e : Written) (scope : Scope) (rest : List Token) → size e < n
@@ -45,9 +45,8 @@ module _ (given : Reading) (n : ℕ) (found : Finds n given) where
   unfolding fits spelled
   there_found label a e scope rest small clean fit ends =
       let w = parts4 scope.is_within (is_just a (name_value scope.names label)) (is_one e) (fits scope e) fit in
-      then_is (name_value scope.names label) a _ (just a (name_value scope.names label) w.1)
-      ∙ one_last given n found e scope (λ e. there label a e) rest small clean w.3 w.2
-      (record { joints = ends.joints; choice = ends.choice })
+      rw (just a (name_value scope.names label) w.1) (one_last given n found e scope (λ e. there label a e) rest small clean w.3 w.2
+      (record { joints = ends.joints; choice = ends.choice }))
 
   pub group_found : (e : Written) (scope : Scope) (rest : List Token) → size e < n
       → IsFound given (group e) scope rest
@@ -90,7 +89,5 @@ module _ (given : Reading) (n : ℕ) (found : Finds n given) where
   unfolding fits spelled
   negated_found e scope rest small clean fit ends =
       let a = parts3 (nat_le 4 (rank e)) (is_fact e) (fits scope e) fit in
-      then_is (given scope 4 (spelled e ++ rest)) (e, rest) _
-      (found e scope 4 (spelled e ++ rest) rest refl small clean a.2 (leb-true 4 (rank e) a.0)
-      (past_min_left 4 (takes_from e) rest ends.joints)
+      rw (found e scope 4 _ rest refl small clean a.2 (leb-true 4 (rank e) a.0) (past_min_left 4 (takes_from e) rest ends.joints)
       (record { joints = past_min_right 4 (takes_from e) rest ends.joints; choice = ends.choice }))

@@ -1,18 +1,19 @@
 -- The tokens of a text, one after another.
-use Rattle.std.specs.Prelude.{◌≡◌, ◌<◌, ◌≤◌, ℕ, zero, suc, ◌+◌, Bool, true, false, ◌==◌, ◌&&◌, cond, nat_lt, List, [], ◌∷◌, length, take, drop, Option, Some, None, refl, if◌then◌else◌}
+use Rattle.std.specs.Prelude.{◌≡◌, ◌<◌, ◌≤◌, ℕ, zero, suc, ◌+◌, Bool, true, false, ◌==◌, ◌&&◌, nat_lt, List, [], ◌∷◌, length, take, drop, Option, Some, None, refl, if◌then◌else◌}
 use Rattle.std.specs.List.{prefix_len}
-use Rattle.std.proofs.Common.{ap, ap₂, sym, subst, ◌∙◌, get_or, arith, length-drop}
+use Rattle.std.proofs.Common.{ap, sym, ◌∙◌, get_or, arith, length-drop}
 use Rattle.a2_text.specs.Bytes.{is_blank, is_digit, is_hex_digit}
 use Rattle.a2_text.specs.Signs.{sign as code}
 use Rattle.a2_text.specs.Words.{behind_blanks}
 use Rattle.a2_syntax.specs.Names.{is_name_byte}
 use Rattle.a2_syntax.specs.Numbers.{is_quote, is_quotable}
+use Rattle.std.proofs.lemmas.Bool.{false≢true}
 use Rattle.std.proofs.lemmas.Bool.Decides.{Decides-eqb}
 use Rattle.a2_promise.specs.declared.reading.Class.{Class}
 use Rattle.a2_promise.specs.declared.reading.Class.TheVariants as class_of
-use Rattle.a2_promise.specs.Reading.{spelling, token_of, with_rest, IsWritten}
+use Rattle.a2_promise.specs.Reading.{token_of, with_rest, IsWritten}
 use Rattle.a2_promise.proofs.Names.{unequal}
-use Rattle.a2_promise.specs.Tokens.{Token, word, decimal, place, sign, is_letter, is_double, front, behind, sign_from, quoted_from, token_from, tokens_up_to, tokens}
+use Rattle.a2_promise.specs.Tokens.{Token, word, decimal, sign, is_letter, is_double, front, behind, sign_from, quoted_from, token_from, tokens_up_to, tokens}
 
 -- what stands behind a front is no longer
 no_longer : (p : ℕ → Bool) (text : List ℕ) → length (behind p text) ≤ length text
@@ -98,78 +99,28 @@ tokens_are text = tokens_of text (length text) (omega arith)
 
 -- Tokens by their first byte
 
-cons_front : (p : ℕ → Bool) (c : ℕ) (rest : List ℕ) → p c ≡ true → take (prefix_len p (c ∷ rest)) (c ∷ rest) ≡ c ∷ front p rest
-cons_front p c rest h =
-    ap (λ b. take (cond b (1 + prefix_len p rest) 0) (c ∷ rest)) h
-    ∙ (let n : 1 + prefix_len p rest ≡ suc (prefix_len p rest) = omega arith in ap (λ n. take n (c ∷ rest)) n)
-
-cons_behind : (p : ℕ → Bool) (c : ℕ) (rest : List ℕ) → p c ≡ true → drop (prefix_len p (c ∷ rest)) (c ∷ rest) ≡ behind p rest
-cons_behind p c rest h =
-    ap (λ b. drop (cond b (1 + prefix_len p rest) 0) (c ∷ rest)) h
-    ∙ (let n : 1 + prefix_len p rest ≡ suc (prefix_len p rest) = omega arith in ap (λ n. drop n (c ∷ rest)) n)
+one_more : (n : ℕ) → 1 + n ≡ suc n
+one_more n = omega arith
 
 not_dollar : (c : ℕ) (p : ℕ → Bool) → p c ≡ true → p 36 ≡ false → (c == 36) ≡ false
-not_dollar c p h l = unequal (c == 36) (λ e. let same : c ≡ 36 = (Decides-eqb c 36).0 e in no (sym h ∙ ap p same ∙ l))
-  where
-    no : true ≡ false → ⊥
-    no e = cc
-
-digit_first : (c : ℕ) (rest : List ℕ) → is_digit c ≡ true
-    → Some (decimal (take (prefix_len is_digit (c ∷ rest)) (c ∷ rest)), drop (prefix_len is_digit (c ∷ rest)) (c ∷ rest)) ≡ token_from (c ∷ rest)
-digit_first c rest h =
-    ap₂ (λ text more. Some (decimal text, more)) (cons_front is_digit c rest h) (cons_behind is_digit c rest h) ∙ sym (
-    ap (λ b. Some (if b then (place (front is_hex_digit rest), behind is_hex_digit rest)
-    else if is_digit c then (decimal (c ∷ front is_digit rest), behind is_digit rest)
-    else if is_letter c then (word (c ∷ front is_name_byte rest), behind is_name_byte rest)
-    else if is_quote c then quoted_from c (front (is_quotable c) rest) (behind (is_quotable c) rest) rest
-    else sign_from c rest)) (not_dollar c is_digit h refl)
-    ∙ ap (λ b. Some (if b then (decimal (c ∷ front is_digit rest), behind is_digit rest)
-    else if is_letter c then (word (c ∷ front is_name_byte rest), behind is_name_byte rest)
-    else if is_quote c then quoted_from c (front (is_quotable c) rest) (behind (is_quotable c) rest) rest
-    else sign_from c rest)) h)
+not_dollar c p h l = unequal (c == 36) (λ e. let same : c ≡ 36 = (Decides-eqb c 36).0 e in false≢true (sym l ∙ ap p (sym same) ∙ h))
 
 letter_stands : (c : ℕ) → is_letter c ≡ true → is_name_byte c ≡ true
 letter_stands c h = grind arith
 
-letter_first : (c : ℕ) (rest : List ℕ) → is_digit c ≡ false → is_letter c ≡ true
-    → Some (word (take (prefix_len is_name_byte (c ∷ rest)) (c ∷ rest)), drop (prefix_len is_name_byte (c ∷ rest)) (c ∷ rest)) ≡ token_from (c ∷ rest)
-letter_first c rest d h =
-    ap₂ (λ text more. Some (word text, more)) (cons_front is_name_byte c rest (letter_stands c h)) (cons_behind is_name_byte c rest (letter_stands c h)) ∙ sym (
-    ap (λ b. Some (if b then (place (front is_hex_digit rest), behind is_hex_digit rest)
-    else if is_digit c then (decimal (c ∷ front is_digit rest), behind is_digit rest)
-    else if is_letter c then (word (c ∷ front is_name_byte rest), behind is_name_byte rest)
-    else if is_quote c then quoted_from c (front (is_quotable c) rest) (behind (is_quotable c) rest) rest
-    else sign_from c rest)) (not_dollar c is_letter h refl)
-    ∙ ap (λ b. Some (if b then (decimal (c ∷ front is_digit rest), behind is_digit rest)
-    else if is_letter c then (word (c ∷ front is_name_byte rest), behind is_name_byte rest)
-    else if is_quote c then quoted_from c (front (is_quotable c) rest) (behind (is_quotable c) rest) rest
-    else sign_from c rest)) d
-    ∙ ap (λ b. Some (if b then (word (c ∷ front is_name_byte rest), behind is_name_byte rest)
-    else if is_quote c then quoted_from c (front (is_quotable c) rest) (behind (is_quotable c) rest) rest
-    else sign_from c rest)) h)
-
--- a word is spelt as one
-pub letter_written : (here : List ℕ) → 0 < length here → is_letter (get_or here 0 0) ≡ true
-    → spelling (take (prefix_len is_name_byte here) here) ≡ word (take (prefix_len is_name_byte here) here)
-letter_written [] l h = absurd (omega (arith, l))
-letter_written (c ∷ rest) l h =
-    ap spelling (cons_front is_name_byte c rest (letter_stands c h)) ∙ ap (λ b. if b then word (c ∷ front is_name_byte rest) else sign (c ∷ front is_name_byte rest)) h
-    ∙ ap (λ text. word text) (sym (cons_front is_name_byte c rest (letter_stands c h)))
+no_quote : (c : ℕ) → (c ≡ 39 → ⊥) → (c ≡ 34 → ⊥) → is_quote c ≡ false
+no_quote c q r = unequal (is_quote c) (λ e. grind arith)
 
 pub digit_found : (text more here : List ℕ) (n : ℕ) → text ≡ take n here → more ≡ drop n here → n ≡ prefix_len is_digit here → 0 < length here
     → is_digit (get_or here 0 0) ≡ true → Some (decimal text, more) ≡ token_from here
 digit_found text more [] n t m e l h = absurd (omega (arith, l))
-digit_found text more (c ∷ rest) n t m e l h =
-    ap₂ (λ text more. Some (decimal text, more)) (t ∙ ap (λ n. take n (c ∷ rest)) e) (m ∙ ap (λ n. drop n (c ∷ rest)) e) ∙ digit_first c rest h
+digit_found text more (c ∷ rest) n t m e l h = rw (t, m, e, not_dollar c is_digit h refl, h, one_more (prefix_len is_digit rest))
 
 pub letter_found : (text more here : List ℕ) (n : ℕ) → text ≡ take n here → more ≡ drop n here → n ≡ prefix_len is_name_byte here → 0 < length here
     → is_digit (get_or here 0 0) ≡ false → is_letter (get_or here 0 0) ≡ true → Some (word text, more) ≡ token_from here
 letter_found text more [] n t m e l d h = absurd (omega (arith, l))
 letter_found text more (c ∷ rest) n t m e l d h =
-    ap₂ (λ text more. Some (word text, more)) (t ∙ ap (λ n. take n (c ∷ rest)) e) (m ∙ ap (λ n. drop n (c ∷ rest)) e) ∙ letter_first c rest d h
-
-no_quote : (c : ℕ) → (c ≡ 39 → ⊥) → (c ≡ 34 → ⊥) → is_quote c ≡ false
-no_quote c q r = unequal (is_quote c) (λ e. grind arith)
+    rw (t, m, e, letter_stands c h, one_more (prefix_len is_name_byte rest), not_dollar c is_letter h refl, d, h)
 
 pub sign_found : (class : Class) (text more here : List ℕ) (n : ℕ) → class ≡ class_of.Sign → text ≡ take n here → more ≡ drop n here
     → ((c : ℕ) (rest : List ℕ) → here ≡ c ∷ rest → sign_from c rest ≡ (sign (take n here), drop n here)) → 0 < length here
@@ -177,27 +128,10 @@ pub sign_found : (class : Class) (text more here : List ℕ) (n : ℕ) → class
     → is_digit (get_or here 0 0) ≡ false → is_letter (get_or here 0 0) ≡ false → with_rest (token_of class text) more ≡ token_from here
 sign_found class text more [] n k t m by l p q r d h = absurd (omega (arith, l))
 sign_found class text more (c ∷ rest) n k t m by l p q r d h =
-    ap (λ it. with_rest (token_of it text) more) k
-    ∙ ap₂ (λ text more. Some (sign text, more)) t m ∙ sym (
-    ap (λ b. Some (if b then (place (front is_hex_digit rest), behind is_hex_digit rest)
-    else if is_digit c then (decimal (c ∷ front is_digit rest), behind is_digit rest)
-    else if is_letter c then (word (c ∷ front is_name_byte rest), behind is_name_byte rest)
-    else if is_quote c then quoted_from c (front (is_quotable c) rest) (behind (is_quotable c) rest) rest
-    else sign_from c rest)) (unequal (c == 36) (λ e. p ((Decides-eqb c 36).0 e)))
-    ∙ ap (λ b. Some (if b then (decimal (c ∷ front is_digit rest), behind is_digit rest)
-    else if is_letter c then (word (c ∷ front is_name_byte rest), behind is_name_byte rest)
-    else if is_quote c then quoted_from c (front (is_quotable c) rest) (behind (is_quotable c) rest) rest
-    else sign_from c rest)) d
-    ∙ ap (λ b. Some (if b then (word (c ∷ front is_name_byte rest), behind is_name_byte rest)
-    else if is_quote c then quoted_from c (front (is_quotable c) rest) (behind (is_quotable c) rest) rest
-    else sign_from c rest)) h
-    ∙ ap (λ b. Some (if b then quoted_from c (front (is_quotable c) rest) (behind (is_quotable c) rest) rest else sign_from c rest))
-    (no_quote c q r)
-    ∙ ap (λ found. Some found) (by c rest refl))
+    rw (k, t, m, unequal (c == 36) (λ e. p ((Decides-eqb c 36).0 e)), d, h, no_quote c q r, by c rest refl)
 
+-- a word is spelt as one
 pub word_written : (class : Class) (text here : List ℕ) (n : ℕ) → class ≡ class_of.Word → text ≡ take n here → n ≡ prefix_len is_name_byte here
     → 0 < length here → is_letter (get_or here 0 0) ≡ true → IsWritten class text
-word_written class text here n k t e l h =
-    let P : Class → Type 0 = λ it. IsWritten it text in
-    let same = t ∙ ap (λ n. take n here) e in
-    subst P (sym k) (ap spelling same ∙ letter_written here l h ∙ ap (λ text. word text) (sym same))
+word_written class text [] n k t e l h = absurd (omega (arith, l))
+word_written class text (c ∷ rest) n k t e l h = rw (k, t, e, letter_stands c h, one_more (prefix_len is_name_byte rest), h)
