@@ -6,7 +6,7 @@ use Rattle.std.proofs.lemmas.Option.{same_Some}
 use Rattle.std.proofs.lemmas.Bool.{false≢true, and_parts}
 use Rattle.a2_asm.specs.Values.{Names}
 use Rattle.a2_promise.specs.declared.expr.Atom.{Atom}
-use Rattle.a2_promise.specs.declared.expr.Atom.TheVariants.{A, X, Y, S, Carry, Zero, Negative, Overflow, Decimal, Interrupt, Cycles, Steps}
+use Rattle.a2_promise.specs.declared.expr.Atom.TheVariants.{A, Cycles, Steps}
 use Rattle.a2_promise.specs.Tokens.{Token, word, sign}
 use Rattle.a2_promise.specs.Written.{atom_name}
 use Rattle.a2_promise.specs.Grammar.{address_of, is_just}
@@ -27,18 +27,9 @@ same_atom a b h =
     ap atom_in is
 
 held_named : (a : Atom) → may_change a ≡ true → is_other_name change_names (word (atom_name a)) ≡ true → ⊥
-held_named A h k = false≢true k
-held_named X h k = false≢true k
-held_named Y h k = false≢true k
-held_named S h k = false≢true k
-held_named Carry h k = false≢true k
-held_named Zero h k = false≢true k
-held_named Negative h k = false≢true k
-held_named Overflow h k = false≢true k
-held_named Decimal h k = false≢true k
-held_named Interrupt h k = false≢true k
 held_named Cycles h k = false≢true h
 held_named Steps h k = false≢true h
+held_named _ h k = false≢true k
 
 -- a token that is an address has another name
 not_held : (a : Atom) (token : Token) → may_change a ≡ true → is_other_name change_names token ≡ true
@@ -71,9 +62,7 @@ first_same names (held a) (byte token b) more others h k e =
     let named : word (atom_name a) ≡ token = cc in
     absurd (not_held a token h w.0 named)
 first_same names (held a) (bytes token b last c) more others h k e =
-    let w =
-    parts4 (is_other_name change_names token) (is_just b (address_of names token)) (is_just c (address_of names last))
-    (nat_le b c) k in
+    let w = parts4 (is_other_name change_names token) (is_just b (address_of names token)) (is_just c (address_of names last)) (nat_le b c) k in
     let named : word (atom_name a) ≡ token = cc in
     absurd (not_held a token h w.0 named)
 first_same names (byte token a) (held b) more others h k e =
@@ -91,21 +80,15 @@ first_same names (byte token a) (bytes other b last c) more others h k e =
     let range : more_spelled more ≡ sign (codes "..") ∷ last ∷ more_spelled others = cc in
     absurd (no_range more last (more_spelled others) range)
 first_same names (bytes token a last c) (held b) more others h k e =
-    let w =
-    parts4 (is_other_name change_names token) (is_just a (address_of names token)) (is_just c (address_of names last))
-    (nat_le a c) h in
+    let w = parts4 (is_other_name change_names token) (is_just a (address_of names token)) (is_just c (address_of names last)) (nat_le a c) h in
     let named : word (atom_name b) ≡ token = cc in
     absurd (not_held b token k w.0 named)
 first_same names (bytes token a last c) (byte other b) more others h k e =
     let range : more_spelled others ≡ sign (codes "..") ∷ last ∷ more_spelled more = cc in
     absurd (no_range others last (more_spelled more) range)
 first_same names (bytes token a last c) (bytes other b end d) more others h k e =
-    let w =
-    parts4 (is_other_name change_names token) (is_just a (address_of names token)) (is_just c (address_of names last))
-    (nat_le a c) h in
-    let v =
-    parts4 (is_other_name change_names other) (is_just b (address_of names other)) (is_just d (address_of names end))
-    (nat_le b d) k in
+    let w = parts4 (is_other_name change_names token) (is_just a (address_of names token)) (is_just c (address_of names last)) (nat_le a c) h in
+    let v = parts4 (is_other_name change_names other) (is_just b (address_of names other)) (is_just d (address_of names end)) (nat_le b d) k in
     let same : token ≡ other = cc in
     let same_end : last ≡ end = cc in
     let number : a ≡ b = same_number names token other a b same w.1 v.1 in

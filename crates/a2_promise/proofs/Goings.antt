@@ -1,12 +1,9 @@
 -- How steps of a reader follow one another.
-use Rattle.std.specs.Prelude.{◌≡◌, ◌≤◌, ℕ, suc, min, nat_le, Bool, true, false, ◌&&◌, IsTrue, List, [], ◌∷◌, ◌++◌, None, refl}
+use Rattle.std.specs.Prelude.{◌≡◌, ℕ, min, nat_le, Bool, true, false, ◌&&◌, IsTrue, List, [], ◌∷◌, ◌++◌, None, refl}
 use Rattle.std.proofs.Common.{ap, sym, subst, ◌∙◌, arith, append_assoc}
 use Rattle.std.proofs.lemmas.List.{append-nil}
 use Rattle.std.proofs.lemmas.Bool.{false≢true, leb-true}
 use Rattle.std.proofs.lemmas.Bool.Decides.{Decides-eqb}
-use Rattle.a2_promise.specs.declared.expr.Operation.{Operation}
-use Rattle.a2_promise.specs.declared.expr.Operation.TheVariants as operation
-use Rattle.a2_promise.specs.declared.words.Infix.{Infix}
 use Rattle.a2_promise.specs.declared.words.Infix.TheVariants.{Iff, Or, And, Compare, Apply}
 use Rattle.a2_promise.specs.declared.parts.Part.{Part}
 use Rattle.a2_promise.specs.declared.words.Kind.{Kind}
@@ -14,10 +11,10 @@ use Rattle.a2_promise.specs.declared.parsing.Piece.{Piece}
 use Rattle.a2_promise.specs.Phrases.{Phrase}
 use Rattle.a2_promise.specs.Tokens.{Token}
 use Rattle.a2_promise.specs.Written.{Written, joined, spelled, said, meant}
-use Rattle.a2_promise.specs.Written.{minus, magnitude, signed, before, there, bit}
-use Rattle.a2_promise.specs.Grammar.{Scope, fits, infix_rank, operation_rank, is_one, kind, rank, tightest, takes_from, takes_else}
+use Rattle.a2_promise.specs.Grammar.{Scope, fits, infix_rank, is_one, kind, rank, tightest, takes_from, takes_else}
 use Rattle.a2_promise.specs.Reading.{State, Takes, Puts, Goes, Steps, Reads, ReadsKind, ReadsPiece, Stops, NoElse, made}
 use Rattle.a2_promise.proofs.Making.{none_made, made_both}
+use Rattle.a2_promise.proofs.Ranks.{infix_within}
 
 pub also : {a b : Bool} → IsTrue a → IsTrue b → IsTrue (a && b)
 also {a = true} p q = q
@@ -95,39 +92,10 @@ closed_read e s h f limit takes r k = one_read e s h f (λ join g below. rw limi
 
 -- Ranks
 
-operation_most : (op : Operation) → operation_rank op ≤ 10
-operation_most operation.BitOr = omega arith
-operation_most operation.BitXor = omega arith
-operation_most operation.BitAnd = omega arith
-operation_most operation.Plus = omega arith
-operation_most operation.Minus = omega arith
-operation_most operation.Times = omega arith
-operation_most operation.Over = omega arith
-operation_most operation.Modulo = omega arith
-operation_most _ = omega arith
-
-infix_most : (join : Infix) → infix_rank join ≤ 10
-infix_most (Apply op) = operation_most op
-infix_most _ = omega arith
-
 pub one_by_rank : (e : Written) → IsTrue (nat_le tightest (rank e)) → IsTrue (is_one e)
 one_by_rank (joined join e f) h =
-    let most = infix_most join in (Decides-eqb (infix_rank join) 10).1 (omega (arith, most, leb-true 10 (infix_rank join) h))
+    let most = infix_within join in (Decides-eqb (infix_rank join) 10).1 (omega (arith, most.1, leb-true 10 (infix_rank join) h))
 one_by_rank _ h = refl
-
-takes_most : (e : Written) → takes_from e ≤ 10
-takes_most (joined join e f) = let h = takes_most f in omega (arith, h)
-takes_most (minus e) = takes_most e
-takes_most (magnitude e) = takes_most e
-takes_most (signed e) = takes_most e
-takes_most (before e) = takes_most e
-takes_most (there label a e) = takes_most e
-takes_most (bit e f) = takes_most f
-takes_most _ = omega arith
-
-pub takes_rank : (e : Written) → takes_from e ≤ suc (rank e)
-takes_rank (joined join e f) = omega arith
-takes_rank e = let h = takes_most e in omega (arith, h)
 
 -- what is one is no comparison
 no_last : (e : Written) → IsTrue (nat_le tightest (rank e)) → (meant e).last ≡ None

@@ -7,7 +7,8 @@ use Rattle.a2_promise.specs.Tokens.{Token}
 use Rattle.a2_promise.specs.Written.{Written, byte_in, word_in, text_in, group, minus, magnitude, signed, before, there, bit, least, greatest, negated, joined, provided, one_of, for_all, sum_of, spelled}
 use Rattle.a2_promise.specs.Grammar.{tightest, rank, takes_from, takes_else, is_one, Scope, may_count, fits}
 use Rattle.a2_promise.proofs.Finder.{Reading, then_by, joint_of, is_else, one_behind, one_up_to, two_up_to, operand}
-use Rattle.a2_promise.proofs.Stopping.{Ends, is_looser, is_past, past_mono, takes_le, one_le_rank}
+use Rattle.a2_promise.proofs.Stopping.{Ends, is_looser, is_past, past_mono}
+use Rattle.a2_promise.proofs.Ranks.{takes_le, one_le_rank}
 
 -- how many expressions stand within one
 abbrev pub size : Written → ℕ

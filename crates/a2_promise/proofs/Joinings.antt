@@ -21,8 +21,9 @@ use Rattle.a2_promise.specs.Tokens.{word}
 use Rattle.a2_promise.specs.Written.{Written, Meant, joined, bit, provided, one_of, spelled, said, meant, infix_token, comparison, compared, both}
 use Rattle.a2_promise.specs.Grammar.{fits, joins, kind, infix_kind, infix_rank, is_comparison, is_number, is_fact, may_be_number, may_be_fact, tightest, takes_else}
 use Rattle.a2_promise.specs.Reading.{State, Takes, Puts, Reads, ReadsKind, ReadsOne, ReadsJoined, ReadsLast, IsPiece, IsLast, IsMade, Stops, first, made, comparing, joining, parts_before, parts_behind}
-use Rattle.a2_promise.proofs.Goings.{also, took, put, last, ◌>>◌, as_made, stops_both, fits_at, reads_it, one_read, one_by_rank, takes_rank}
+use Rattle.a2_promise.proofs.Goings.{also, took, put, last, ◌>>◌, as_made, stops_both, fits_at, reads_it, one_read, one_by_rank}
 use Rattle.a2_promise.proofs.Making.{none_made, made_both}
+use Rattle.a2_promise.proofs.Ranks.{takes_rank}
 
 -- One, a token, and another
 
@@ -134,11 +135,7 @@ logic_kind join is = elim is [
 compares : (relation : Relation) (e f : Phrase) (phrases : List Phrase) → made (comparing relation) (f ∷ e ∷ phrases) ≡ compared relation e f ∷ phrases
 unfolding made
 compares relations.Equal e f phrases = refl
-compares relations.Other e f phrases = refl
-compares relations.Less e f phrases = refl
-compares relations.AtMost e f phrases = refl
-compares relations.More e f phrases = refl
-compares relations.AtLeast e f phrases = refl
+compares _ e f phrases = refl
 
 pub joins_both : (e f : Phrase) (phrases : List Phrase) → made joining (f ∷ e ∷ phrases) ≡ both e f ∷ phrases
 unfolding made

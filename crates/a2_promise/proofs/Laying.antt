@@ -1,11 +1,11 @@
 -- What is put for a text that stands in memory, character by character.
-use Rattle.std.specs.Prelude.{◌≡◌, ◌<◌, ◌≤◌, ℕ, zero, suc, ◌+◌, ◌%◌, pos, ◌==◌, Bool, true, false, IsTrue, List, [], ◌∷◌, ◌++◌, length, take, ℤ, Result, Ok, Err, OnOk, refl, if◌then◌else◌}
+use Rattle.std.specs.Prelude.{◌≡◌, ◌<◌, ◌≤◌, ℕ, zero, suc, ◌+◌, ◌&&◌, ◌%◌, pos, nat_lt, ◌==◌, Bool, true, false, IsTrue, List, [], ◌∷◌, ◌++◌, length, take, ℤ, Result, Ok, Err, OnOk, refl, if◌then◌else◌}
 use Rattle.std.specs.List.{slice_range, list_all}
 use Rattle.std.proofs.Common.{ap, ap₂, sym, ◌∙◌, get_or, arith}
 use Rattle.std.proofs.lemmas.List.{take_more, take_all, length-take-le}
 use Rattle.std.proofs.lemmas.List.Folds.{list_all_at}
 use Rattle.std.proofs.lemmas.Bool.{false≢true, and_parts, leb-true}
-use Rattle.a2_syntax.specs.Numbers.{is_quotable}
+use Rattle.a2_syntax.specs.Numbers.{is_quote, is_quotable}
 use Rattle.a2_promise.specs.declared.expr.Function.TheVariants as function
 use Rattle.a2_promise.specs.declared.expr.Operation.TheVariants as operation
 use Rattle.a2_promise.specs.declared.parts.Part.{Part}
@@ -149,10 +149,10 @@ at_true p text k false l h e = sym (list_all_at p text k 0 l e) ∙ h
 laid_code : (quote top k code : ℕ) (text : List ℕ) → IsTop quote top → IsTrue (is_text quote text) → k < length text
     → code ≡ (get_or text k 0 + top) % 256 → code ≡ get_or text k 0 + top
 laid_code quote top k code text t good l e =
-    let all = and_parts _ _ good in
+    let all = and_parts (is_quote quote && nat_lt 0 (length text)) (list_all (is_quotable quote) text) good in
     let is = at_true (is_quotable quote) text k (is_quotable quote (get_or text k 0)) l all.1 refl in
     let most = top_small (quote == 34) top (t 0) in
-    let low = leb-true (get_or text k 0) 126 (and_parts _ _ (and_parts _ _ is).0).1 in
+    let low : get_or text k 0 ≤ 126 = leb-true (get_or text k 0) 126 (and_parts _ _ (and_parts _ _ is).0).1 in
     omega (arith, e, low, most)
   where
     top_small : (b : Bool) (top : ℕ) → (if b then 0 + 128 else 0) ≡ 0 + top → top ≤ 128

@@ -1,16 +1,14 @@
 -- The reader finds each operand that is a number, a name, a place or a text.
-use Rattle.std.specs.Prelude.{◌≡◌, ℕ, ◌<◌, true, false, not, List, [], ◌∷◌, ◌++◌, codes, Some}
-use Rattle.std.proofs.Common.{refl, ap, ◌∙◌, append_assoc}
+use Rattle.std.specs.Prelude.{◌≡◌, ℕ, true, false, not, List, ◌∷◌, ◌++◌, Some}
+use Rattle.std.proofs.Common.{ap, ◌∙◌}
 use Rattle.std.proofs.lemmas.Bool.{false≢true, and_parts, not-true}
 use Rattle.a2_asm.specs.Values.{name_value}
-use Rattle.a2_promise.specs.declared.expr.Atom.{Atom}
-use Rattle.a2_promise.specs.Tokens.{Token, word, decimal as digits, place, sign}
-use Rattle.a2_promise.specs.Written.{Written, decimal, literal, byte, word_of, text, text_in, atom, counted, spelled, atom_name, laid_text}
-use Rattle.a2_promise.specs.Grammar.{is_number, is_text, is_just, is_name_among, openings, Scope, number_of, address_of, number_among, fits}
+use Rattle.a2_promise.specs.Tokens.{Token, word, decimal as digits, place}
+use Rattle.a2_promise.specs.Written.{decimal, byte, word_of, text, spelled}
+use Rattle.a2_promise.specs.Grammar.{is_text, is_just, is_name_among, openings, Scope, number_of, address_of, fits}
 use Rattle.a2_promise.proofs.Finder.{Reading, worded, plain, operand}
-use Rattle.a2_promise.proofs.Stopping.{one_le_rank}
-use Rattle.a2_promise.proofs.Meanings.{no_opening, atom_opens, counted_opens, not_counted, just}
-use Rattle.a2_promise.proofs.Inner.{IsClean, size, Finds, parts3, then_is, up_to}
+use Rattle.a2_promise.proofs.Meanings.{no_opening, not_counted, just}
+use Rattle.a2_promise.proofs.Inner.{parts3, then_is}
 
 module _ (given : Reading) where
   pub decimal_found : (token : Token) (n : ℕ) (scope : Scope) (rest : List Token) → fits scope (decimal token n) ≡ true
@@ -19,11 +17,6 @@ module _ (given : Reading) where
   decimal_found (digits decimals) n scope rest fit =
       rw (just n (number_of scope.names (digits decimals)) fit)
   decimal_found token n scope rest fit = absurd (false≢true fit)
-
-  pub literal_found : (token : Token) (n : ℕ) (scope : Scope) (rest : List Token) → fits scope (literal token n) ≡ true
-      → operand given scope (spelled (literal token n) ++ rest) ≡ Some (literal token n, rest)
-  unfolding fits spelled
-  literal_found token n scope rest fit = rw (just n (number_of scope.names token) fit)
 
   byte_named : (name : List ℕ) (a : ℕ) (scope : Scope) (rest : List Token) → is_name_among openings name ≡ false
       → is_name_among scope.around name ≡ false → name_value scope.names name ≡ Some a
@@ -65,28 +58,3 @@ module _ (given : Reading) where
       let w = and_parts (is_just a (name_value scope.names name)) (is_text quote characters) fit in
       rw (just a (name_value scope.names name) w.0)
   text_found token a quote characters scope rest fit = absurd (false≢true fit)
-
-  pub atom_found : (it : Atom) (scope : Scope) (rest : List Token) → fits scope (atom it) ≡ true
-      → operand given scope (spelled (atom it) ++ rest) ≡ Some (atom it, rest)
-  unfolding fits spelled
-  atom_found it scope rest fit = ap (λ o. worded given scope (atom_name it) rest o) (atom_opens it)
-
-  pub counted_found : (name : List ℕ) (k : ℕ) (scope : Scope) (rest : List Token) → IsClean scope
-      → fits scope (counted name k) ≡ true
-      → operand given scope (spelled (counted name k) ++ rest) ≡ Some (counted name k, rest)
-  unfolding fits spelled
-  counted_found name k scope rest clean fit =
-      let is = just k (number_among scope.around name) fit in
-      ap (λ o. worded given scope name rest o) (no_opening name (counted_opens scope.around name k clean is))
-      ∙ ap (λ o. plain given scope name rest o) is
-
-module _ (given : Reading) (n : ℕ) (found : Finds n given) where
-  pub text_in_found : (e : Written) (quote : ℕ) (characters : List ℕ) (scope : Scope) (rest : List Token) → size e < n
-      → IsClean scope → fits scope (text_in e quote characters) ≡ true
-      → operand given scope (spelled (text_in e quote characters) ++ rest) ≡ Some (text_in e quote characters, rest)
-  unfolding fits spelled
-  text_in_found e quote characters scope rest small clean fit =
-      let a = parts3 (is_number e) (fits scope e) (is_text quote characters) fit in
-      let laid = laid_text quote characters in
-      let behind = append_assoc (spelled e ++ sign (codes "]") ∷ []) laid rest ∙ append_assoc (spelled e) (sign (codes "]") ∷ []) (laid ++ rest) in
-      rw (up_to given n found e scope 1 _ (sign (codes "]")) (laid ++ rest) behind refl refl small clean a.1 (one_le_rank e))

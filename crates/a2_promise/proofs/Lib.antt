@@ -1,10 +1,9 @@
 mod Looking
+mod Ranks
 mod Finder
 mod Stopping
 mod Meanings
 mod Inner
-mod Operands
-mod Clauses
 mod Leaves
 mod Joints
 mod Changing

@@ -4,7 +4,7 @@ use Rattle.std.specs.Str.{bytes_eq}
 use Rattle.std.proofs.Common.{arith, ap, sym, ◌∙◌}
 use Rattle.a2_promise.specs.declared.expr.Operation.TheVariants as operation
 use Rattle.a2_promise.specs.declared.words.Infix.{Infix}
-use Rattle.a2_promise.specs.declared.words.Infix.TheVariants.{Iff, Or, And, Compare, Apply}
+use Rattle.a2_promise.specs.declared.words.Infix.TheVariants.{Compare, Apply}
 use Rattle.a2_promise.specs.declared.words.Relation.TheVariants as relation
 use Rattle.a2_promise.specs.Tokens.{Token, word, sign}
 use Rattle.a2_promise.specs.Written.{infix_token}
@@ -19,24 +19,14 @@ mark (sign s) =
 mark _ = 0
 
 marked : (join : Infix) → infix_rank join < tightest → mark (infix_token join) ≡ infix_rank join
-marked Iff l = refl
-marked Or l = refl
-marked And l = refl
+marked (Apply operation.Min) l = absurd (omega (arith, l))
+marked (Apply operation.Max) l = absurd (omega (arith, l))
+marked (Apply operation.Bit) l = absurd (omega (arith, l))
+marked (Apply operation.Equal) l = absurd (omega (arith, l))
+marked (Apply operation.Less) l = absurd (omega (arith, l))
+marked (Apply operation.AtMost) l = absurd (omega (arith, l))
 marked (Compare relation.Equal) l = refl
-marked (Compare relation.Other) l = refl
-marked (Compare relation.Less) l = refl
-marked (Compare relation.AtMost) l = refl
-marked (Compare relation.More) l = refl
-marked (Compare relation.AtLeast) l = refl
-marked (Apply operation.BitOr) l = refl
-marked (Apply operation.BitXor) l = refl
-marked (Apply operation.BitAnd) l = refl
-marked (Apply operation.Plus) l = refl
-marked (Apply operation.Minus) l = refl
-marked (Apply operation.Times) l = refl
-marked (Apply operation.Over) l = refl
-marked (Apply operation.Modulo) l = refl
-marked (Apply _) l = absurd (omega (arith, l))
+marked _ l = refl
 
 pub same_rank : (one other : Infix) → infix_token one ≡ infix_token other → infix_rank one < tightest → infix_rank other < tightest
     → infix_rank one ≡ infix_rank other

@@ -6,7 +6,7 @@ use Rattle.std.proofs.Common.{refl, sym, ap, subst, ◌∙◌, eqb-true}
 use Rattle.std.proofs.lemmas.Bool.{false≢true, and_parts, or_parts, cond-false, not-true}
 use Rattle.std.proofs.lemmas.Slice.Eq.{bytes_eq-Decides}
 use Rattle.a2_promise.specs.declared.expr.Atom.{Atom}
-use Rattle.a2_promise.specs.declared.expr.Atom.TheVariants.{A, X, Y, S, Carry, Zero, Negative, Overflow, Decimal, Interrupt, Cycles, Steps}
+use Rattle.a2_promise.specs.declared.expr.Atom.TheVariants.{A}
 use Rattle.a2_promise.specs.Written.{atom_name}
 use Rattle.a2_promise.specs.Grammar.{openings, is_name_among, may_count, number_among, is_just}
 use Rattle.a2_promise.proofs.Finder.{named, it, opening_words}
@@ -28,17 +28,7 @@ no_opening name h = none_named opening_words name (ap (λ names. list_any (bytes
 
 pub atom_opens : (a : Atom) → named opening_words (atom_name a) ≡ Some (it a)
 atom_opens A = refl
-atom_opens X = refl
-atom_opens Y = refl
-atom_opens S = refl
-atom_opens Carry = refl
-atom_opens Zero = refl
-atom_opens Negative = refl
-atom_opens Overflow = refl
-atom_opens Decimal = refl
-atom_opens Interrupt = refl
-atom_opens Cycles = refl
-atom_opens Steps = refl
+atom_opens _ = refl
 
 pub may_count_opens : (name : List ℕ) → may_count name ≡ true → is_name_among openings name ≡ false
 may_count_opens name h =

@@ -4,11 +4,11 @@ use Rattle.std.proofs.Common.{refl, arith}
 use Rattle.std.proofs.lemmas.Bool.{cond-false, ltb-true, lt-ltb, lt-leb}
 use Rattle.a2_promise.specs.declared.expr.Operation.TheVariants as operation
 use Rattle.a2_promise.specs.declared.words.Infix.{Infix}
-use Rattle.a2_promise.specs.declared.words.Infix.TheVariants.{Iff, Or, And, Compare, Apply}
-use Rattle.a2_promise.specs.declared.words.Relation.TheVariants.{Equal, Other, Less, AtMost, More, AtLeast}
+use Rattle.a2_promise.specs.declared.words.Infix.TheVariants.{Iff, Compare, Apply}
+use Rattle.a2_promise.specs.declared.words.Relation.TheVariants.{Equal}
 use Rattle.a2_promise.specs.Tokens.{Token}
-use Rattle.a2_promise.specs.Written.{Written, minus, magnitude, signed, before, there, bit, negated, joined, provided, one_of, for_all, sum_of, infix_token}
-use Rattle.a2_promise.specs.Grammar.{infix_rank, tightest, rank, takes_from, takes_else}
+use Rattle.a2_promise.specs.Written.{Written, infix_token}
+use Rattle.a2_promise.specs.Grammar.{infix_rank, tightest, takes_from, takes_else}
 use Rattle.a2_promise.proofs.Finder.{joint_of, if_tight, joint_next, is_else}
 
 -- no joint stands next that binds as tight as this
@@ -51,84 +51,15 @@ none_next r (token ∷ more) h = not_tight r (joint_of token) h
 
 -- a joint that something fits behind is told by its token
 pub joint_is : (join : Infix) → infix_rank join < tightest → joint_of (infix_token join) ≡ Some join
-joint_is Iff l = refl
-joint_is Or l = refl
-joint_is And l = refl
+joint_is (Apply operation.Min) l = absurd (omega (arith, l))
+joint_is (Apply operation.Max) l = absurd (omega (arith, l))
+joint_is (Apply operation.Bit) l = absurd (omega (arith, l))
+joint_is (Apply operation.Equal) l = absurd (omega (arith, l))
+joint_is (Apply operation.Less) l = absurd (omega (arith, l))
+joint_is (Apply operation.AtMost) l = absurd (omega (arith, l))
 joint_is (Compare Equal) l = refl
-joint_is (Compare Other) l = refl
-joint_is (Compare Less) l = refl
-joint_is (Compare AtMost) l = refl
-joint_is (Compare More) l = refl
-joint_is (Compare AtLeast) l = refl
-joint_is (Apply operation.BitOr) l = refl
-joint_is (Apply operation.BitXor) l = refl
-joint_is (Apply operation.BitAnd) l = refl
-joint_is (Apply operation.Plus) l = refl
-joint_is (Apply operation.Minus) l = refl
-joint_is (Apply operation.Times) l = refl
-joint_is (Apply operation.Over) l = refl
-joint_is (Apply operation.Modulo) l = refl
-joint_is (Apply op) l = absurd (omega (arith, l))
+joint_is _ l = refl
 
 pub no_else : (join : Infix) (rest : List Token) → is_else (infix_token join ∷ rest) ≡ false
 no_else Iff rest = refl
-no_else Or rest = refl
-no_else And rest = refl
-no_else (Compare relation) rest = refl
-no_else (Apply op) rest = refl
-
-pub rank_le : (e : Written) → rank e ≤ tightest
-rank_le (joined Iff e f) = omega arith
-rank_le (joined Or e f) = omega arith
-rank_le (joined And e f) = omega arith
-rank_le (joined (Compare relation) e f) = omega arith
-rank_le (joined (Apply operation.BitOr) e f) = omega arith
-rank_le (joined (Apply operation.BitXor) e f) = omega arith
-rank_le (joined (Apply operation.BitAnd) e f) = omega arith
-rank_le (joined (Apply operation.Plus) e f) = omega arith
-rank_le (joined (Apply operation.Minus) e f) = omega arith
-rank_le (joined (Apply op) e f) = omega arith
-rank_le e = omega arith
-
-pub one_le_rank : (e : Written) → 1 ≤ rank e
-one_le_rank (joined Iff e f) = omega arith
-one_le_rank (joined Or e f) = omega arith
-one_le_rank (joined And e f) = omega arith
-one_le_rank (joined (Compare relation) e f) = omega arith
-one_le_rank (joined (Apply operation.BitOr) e f) = omega arith
-one_le_rank (joined (Apply operation.BitXor) e f) = omega arith
-one_le_rank (joined (Apply operation.BitAnd) e f) = omega arith
-one_le_rank (joined (Apply operation.Plus) e f) = omega arith
-one_le_rank (joined (Apply operation.Minus) e f) = omega arith
-one_le_rank (joined (Apply op) e f) = omega arith
-one_le_rank e = omega arith
-
-pub takes_le : (e : Written) → takes_from e ≤ tightest
-takes_le (joined join e f) = let l = takes_le f in omega (arith, l)
-takes_le (negated e) = omega arith
-takes_le (provided e f) = omega arith
-takes_le (one_of e f g) = omega arith
-takes_le (for_all name k e f) = omega arith
-takes_le (sum_of name k e f) = omega arith
-takes_le (minus e) = takes_le e
-takes_le (magnitude e) = takes_le e
-takes_le (signed e) = takes_le e
-takes_le (before e) = takes_le e
-takes_le (there label a e) = takes_le e
-takes_le (bit e f) = takes_le f
-takes_le e = omega arith
-
-pub one_le_takes : (e : Written) → 1 ≤ takes_from e
-one_le_takes (joined join e f) = let l = one_le_takes f in omega (arith, l)
-one_le_takes (negated e) = let l = one_le_takes e in omega (arith, l)
-one_le_takes (provided e f) = omega arith
-one_le_takes (one_of e f g) = omega arith
-one_le_takes (for_all name k e f) = omega arith
-one_le_takes (sum_of name k e f) = let l = one_le_takes f in omega (arith, l)
-one_le_takes (minus e) = one_le_takes e
-one_le_takes (magnitude e) = one_le_takes e
-one_le_takes (signed e) = one_le_takes e
-one_le_takes (before e) = one_le_takes e
-one_le_takes (there label a e) = one_le_takes e
-one_le_takes (bit e f) = one_le_takes f
-one_le_takes e = omega arith
+no_else _ rest = refl
