@@ -39,235 +39,89 @@ pub(crate) enum Turn {
     Nothing,
 }
 
-// Operations that become the same.
-#[derive(Clone, Copy)]
-struct Rule {
-    // The words, in capitals, with blanks between them.
-    words: &'static [u8],
-    turn: Turn,
-}
-
-static SC: [Rule; 10] = [
-    Rule {
-        words: b".OR",
-        turn: Turn::As(b"ORG"),
-    },
-    Rule {
-        words: b".EQ",
-        turn: Turn::As(b"EQU"),
-    },
-    Rule {
-        words: b".DA",
-        turn: Turn::List(List::Marked),
-    },
-    Rule {
-        words: b".AS",
-        turn: Turn::Text,
-    },
-    Rule {
-        words: b".AT",
-        turn: Turn::LastTurned,
-    },
-    Rule {
-        words: b".HS",
-        turn: Turn::Hex,
-    },
-    Rule {
-        words: b".BS",
-        turn: Turn::As(b"DS"),
-    },
-    Rule {
-        words: b".TF .TA .EN .LI .LIST .TI .TITLE .PG",
-        turn: Turn::Nothing,
-    },
-    Rule {
-        words: b"BLT",
-        turn: Turn::As(b"BCC"),
-    },
-    Rule {
-        words: b"BGE",
-        turn: Turn::As(b"BCS"),
-    },
-];
-
-static LISA: [Rule; 15] = [
-    Rule {
-        words: b"EPZ =",
-        turn: Turn::As(b"EQU"),
-    },
-    Rule {
-        words: b"BYT",
-        turn: Turn::List(List::Low),
-    },
-    Rule {
-        words: b"HBY",
-        turn: Turn::List(List::High),
-    },
-    Rule {
-        words: b"ADR",
-        turn: Turn::List(List::Words),
-    },
-    Rule {
-        words: b"DFS",
-        turn: Turn::As(b"DS"),
-    },
-    Rule {
-        words: b"HEX",
-        turn: Turn::Hex,
-    },
-    Rule {
-        words: b"ASC",
-        turn: Turn::Text,
-    },
-    Rule {
-        words: b"DCI",
-        turn: Turn::LastTurned,
-    },
-    Rule {
-        words: b"STR",
-        turn: Turn::Counted,
-    },
-    Rule {
-        words: b"OBJ END LST NLS TTL PAG PAU DCM",
-        turn: Turn::Nothing,
-    },
-    Rule {
-        words: b"BTR",
-        turn: Turn::As(b"BNE"),
-    },
-    Rule {
-        words: b"BFL",
-        turn: Turn::As(b"BEQ"),
-    },
-    Rule {
-        words: b"XOR",
-        turn: Turn::As(b"EOR"),
-    },
-    Rule {
-        words: b"BLT",
-        turn: Turn::As(b"BCC"),
-    },
-    Rule {
-        words: b"BGE",
-        turn: Turn::As(b"BCS"),
-    },
-];
-
-static MERLIN: [Rule; 10] = [
-    Rule {
-        words: b"=",
-        turn: Turn::As(b"EQU"),
-    },
-    Rule {
-        words: b"DFB DB",
-        turn: Turn::List(List::Bytes),
-    },
-    Rule {
-        words: b"DA DW",
-        turn: Turn::List(List::Words),
-    },
-    Rule {
-        words: b"HEX",
-        turn: Turn::Hex,
-    },
-    Rule {
-        words: b"ASC",
-        turn: Turn::Text,
-    },
-    Rule {
-        words: b"DCI",
-        turn: Turn::LastTurned,
-    },
-    Rule {
-        words: b"STR",
-        turn: Turn::Counted,
-    },
-    Rule {
-        words: b"OBJ END LST LSTDO EXP PAG PAU TTL SKP TR AST SAV DSK TYP",
-        turn: Turn::Nothing,
-    },
-    Rule {
-        words: b"BLT",
-        turn: Turn::As(b"BCC"),
-    },
-    Rule {
-        words: b"BGE",
-        turn: Turn::As(b"BCS"),
-    },
-];
-
-static EDASM: [Rule; 6] = [
-    Rule {
-        words: b"DFB DB",
-        turn: Turn::List(List::Bytes),
-    },
-    Rule {
-        words: b"DW",
-        turn: Turn::List(List::Words),
-    },
-    Rule {
-        words: b"ASC",
-        turn: Turn::Text,
-    },
-    Rule {
-        words: b"DCI",
-        turn: Turn::LastTurned,
-    },
-    Rule {
-        words: b"MSB",
-        turn: Turn::Msb,
-    },
-    Rule {
-        words: b"OBJ END LST SBTL PAGE SKP REP CHR",
-        turn: Turn::Nothing,
-    },
-];
-
-static CA65: [Rule; 7] = [
-    Rule {
-        words: b"= :=",
-        turn: Turn::As(b"EQU"),
-    },
-    Rule {
-        words: b".ORG",
-        turn: Turn::As(b"ORG"),
-    },
-    Rule {
-        words: b".BYTE .BYT",
-        turn: Turn::List(List::Bytes),
-    },
-    Rule {
-        words: b".ASCIIZ",
-        turn: Turn::Ended(List::Bytes),
-    },
-    Rule {
-        words: b".WORD .ADDR",
-        turn: Turn::List(List::Words),
-    },
-    Rule {
-        words: b".RES",
-        turn: Turn::As(b"DS"),
-    },
-    Rule {
-        words: b".SEGMENT .CODE .DATA .RODATA .SETCPU .P02 .EXPORT .LIST",
-        turn: Turn::Nothing,
-    },
-];
+// Words, in capitals with blanks between them, and what they say.
+type Row<T> = (&'static [u8], T);
 
 // What all assemblers have alike.
-static ALIKE: [Rule; 3] = [
-    Rule {
-        words: b"ORG",
-        turn: Turn::As(b"ORG"),
-    },
-    Rule {
-        words: b"EQU",
-        turn: Turn::As(b"EQU"),
-    },
-    Rule {
-        words: b"DS",
-        turn: Turn::As(b"DS"),
-    },
+static ALIKE: [Row<Turn>; 3] = [
+    (b"ORG", Turn::As(b"ORG")),
+    (b"EQU", Turn::As(b"EQU")),
+    (b"DS", Turn::As(b"DS")),
+];
+
+// What LISA and Merlin have alike, of which the first two are of S-C too, and the next two of EDASM.
+static SHARED: [Row<Turn>; 6] = [
+    (b"BLT", Turn::As(b"BCC")),
+    (b"BGE", Turn::As(b"BCS")),
+    (b"ASC", Turn::Text),
+    (b"DCI", Turn::LastTurned),
+    (b"STR", Turn::Counted),
+    (b"HEX", Turn::Hex),
+];
+
+static SC: [Row<Turn>; 8] = [
+    (b".OR", Turn::As(b"ORG")),
+    (b".EQ", Turn::As(b"EQU")),
+    (b".DA", Turn::List(List::Marked)),
+    (b".AS", Turn::Text),
+    (b".AT", Turn::LastTurned),
+    (b".HS", Turn::Hex),
+    (b".BS", Turn::As(b"DS")),
+    (b".TF .TA .EN .LI .LIST .TI .TITLE .PG", Turn::Nothing),
+];
+
+static LISA: [Row<Turn>; 9] = [
+    (b"EPZ =", Turn::As(b"EQU")),
+    (b"BYT", Turn::List(List::Low)),
+    (b"HBY", Turn::List(List::High)),
+    (b"ADR", Turn::List(List::Words)),
+    (b"DFS", Turn::As(b"DS")),
+    (b"OBJ END LST NLS TTL PAG PAU DCM", Turn::Nothing),
+    (b"BTR", Turn::As(b"BNE")),
+    (b"BFL", Turn::As(b"BEQ")),
+    (b"XOR", Turn::As(b"EOR")),
+];
+
+static MERLIN: [Row<Turn>; 4] = [
+    (b"DFB DB", Turn::List(List::Bytes)),
+    (b"=", Turn::As(b"EQU")),
+    (b"DA DW", Turn::List(List::Words)),
+    (
+        b"OBJ END LST LSTDO EXP PAG PAU TTL SKP TR AST SAV DSK TYP",
+        Turn::Nothing,
+    ),
+];
+
+static EDASM: [Row<Turn>; 4] = [
+    (b"DFB DB", Turn::List(List::Bytes)),
+    (b"DW", Turn::List(List::Words)),
+    (b"MSB", Turn::Msb),
+    (b"OBJ END LST SBTL PAGE SKP REP CHR", Turn::Nothing),
+];
+
+static CA65: [Row<Turn>; 7] = [
+    (b"= :=", Turn::As(b"EQU")),
+    (b".ORG", Turn::As(b"ORG")),
+    (b".BYTE .BYT", Turn::List(List::Bytes)),
+    (b".ASCIIZ", Turn::Ended(List::Bytes)),
+    (b".WORD .ADDR", Turn::List(List::Words)),
+    (b".RES", Turn::As(b"DS")),
+    (
+        b".SEGMENT .CODE .DATA .RODATA .SETCPU .P02 .EXPORT .LIST",
+        Turn::Nothing,
+    ),
+];
+
+// The words, of two characters at least, that one assembler alone has.
+static SIGNS: [Row<Dialect>; 5] = [
+    (b".OR .EQ .DA .AS .AT .HS .BS .TF .EN", Dialect::Sc),
+    (b"EPZ BYT ADR HBY DFS BTR BFL XOR NLS", Dialect::Lisa),
+    (b"DA LUP DSK BLT BGE", Dialect::Merlin),
+    (b"MSB SBTL CHN", Dialect::Edasm),
+    (
+        b".ORG .BYTE .BYT .ASCIIZ .WORD .ADDR .RES .SEGMENT .PROC .SETCPU",
+        Dialect::Ca65,
+    ),
 ];
 
 // Whether a word is one of these, in either case; blanks stand between them.
@@ -282,11 +136,11 @@ fn is_among(word: &[u8], words: &[u8]) -> bool {
     false
 }
 
-// What a word becomes by these rules.
-fn found(rules: &[Rule], word: &[u8]) -> Option<Turn> {
-    for rule in rules {
-        if is_among(word, rule.words) {
-            return Some(rule.turn);
+// What a word says by these rows.
+fn found<T: Copy>(rows: &[Row<T>], word: &[u8]) -> Option<T> {
+    for (words, said) in rows {
+        if is_among(word, words) {
+            return Some(*said);
         }
     }
     None
@@ -294,59 +148,29 @@ fn found(rules: &[Rule], word: &[u8]) -> Option<Turn> {
 
 /// What an operation becomes, where it is not one of the processor.
 pub(crate) fn turn_of(dialect: Dialect, word: &[u8]) -> Option<Turn> {
-    let own: &[Rule] = match dialect {
-        Dialect::Sc => &SC,
-        Dialect::Lisa => &LISA,
-        Dialect::Merlin => &MERLIN,
-        Dialect::Edasm => &EDASM,
-        Dialect::Ca65 => &CA65,
+    let (own, shared): (&[Row<Turn>], &[Row<Turn>]) = match dialect {
+        Dialect::Sc => (&SC, &SHARED[..2]),
+        Dialect::Lisa => (&LISA, &SHARED),
+        Dialect::Merlin => (&MERLIN, &SHARED),
+        Dialect::Edasm => (&EDASM, &SHARED[2..4]),
+        Dialect::Ca65 => (&CA65, &SHARED[..0]),
     };
-    found(own, word).or(found(&ALIKE, word))
+    found(own, word)
+        .or(found(shared, word))
+        .or(found(&ALIKE, word))
 }
-
-// The words that one assembler alone has.
-#[derive(Clone, Copy)]
-struct Signs {
-    words: &'static [u8],
-    dialect: Dialect,
-}
-
-static SIGNS: [Signs; 5] = [
-    Signs {
-        words: b".OR .EQ .DA .AS .AT .HS .BS .TF .EN",
-        dialect: Dialect::Sc,
-    },
-    Signs {
-        words: b"EPZ BYT ADR HBY DFS BTR BFL XOR NLS",
-        dialect: Dialect::Lisa,
-    },
-    Signs {
-        words: b"DA LUP DSK BLT BGE",
-        dialect: Dialect::Merlin,
-    },
-    Signs {
-        words: b"MSB SBTL CHN",
-        dialect: Dialect::Edasm,
-    },
-    Signs {
-        words: b".ORG .BYTE .BYT .ASCIIZ .WORD .ADDR .RES .SEGMENT .PROC .SETCPU",
-        dialect: Dialect::Ca65,
-    },
-];
 
 /// The assembler that a word tells of.
 pub(crate) fn told_by(word: &[u8]) -> Option<Dialect> {
-    match word {
-        [b':', c, ..] if c.is_ascii_alphabetic() => return Some(Dialect::Merlin),
-        [b'^', c] if c.is_ascii_digit() => return Some(Dialect::Lisa),
-        [b'@', c, ..] if c.is_ascii_alphabetic() => return Some(Dialect::Ca65),
-        [c, .., b':'] if c.is_ascii_alphabetic() || *c == b'_' => return Some(Dialect::Ca65),
-        _ => {}
+    let [first, next, ..] = word else {
+        return None;
+    };
+    let is_named = next.is_ascii_alphabetic();
+    match *first {
+        b':' if is_named => Some(Dialect::Merlin),
+        b'@' if is_named => Some(Dialect::Ca65),
+        b'^' if next.is_ascii_digit() && word.len() == 2 => Some(Dialect::Lisa),
+        b'_' | b'A'..=b'Z' | b'a'..=b'z' if word.ends_with(b":") => Some(Dialect::Ca65),
+        _ => found(&SIGNS, word),
     }
-    for signs in &SIGNS {
-        if is_among(word, signs.words) {
-            return Some(signs.dialect);
-        }
-    }
-    None
 }
