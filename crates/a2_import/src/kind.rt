@@ -3,7 +3,7 @@
 use crate::dialect::{Dialect, Old};
 use crate::print::{behind_print, is_row};
 use crate::rules::told_by;
-use a2_text::{cut, first_word};
+use a2_text::{cut, first_word, split_word};
 use std::alloc::{AllocError, Allocator};
 
 // The assembler that a line tells of, by one of its first two words.
@@ -12,12 +12,9 @@ fn told_by_line(line: &[u8]) -> Option<Dialect> {
     if source.starts_with(b"*") || source.starts_with(b";") {
         return None;
     }
-    let (word, rest) = first_word(source)?;
-    if let Some(dialect) = told_by(word) {
-        return Some(dialect);
-    }
-    let (next, _) = first_word(rest)?;
-    told_by(next)
+    let (word, rest) = split_word(source);
+    let (next, _) = split_word(rest);
+    told_by(word).or(told_by(next))
 }
 
 // Whether the first line that is not blank is one of a listing of the Monitor.

@@ -25,12 +25,6 @@ fn bytes_of<A: Allocator>(alloc: A, text: &[u8]) -> Result<Vec<u8, A>, AllocErro
     Ok(bytes)
 }
 
-// The address behind so many bytes.
-fn address_behind(address: u16, count: usize) -> Option<u16> {
-    let count = u16::try_from(count).ok()?;
-    address.checked_add(count)
-}
-
 // Appends the lines of a line that stores bytes, and gives the next address. `next` is the one that lines lie at as they are.
 fn put_store<A: Allocator + Copy>(
     alloc: A,
@@ -39,15 +33,11 @@ fn put_store<A: Allocator + Copy>(
     number: usize,
     store: &StoreLine<'_>,
 ) -> Result<Option<u16>, AllocError> {
-    let bytes = bytes_of(alloc, store.bytes)?;
     let Some(address) = store.address.or(next) else {
         return Ok(None);
     };
-    if next != Some(address) && !bytes.is_empty() {
-        draft.put_origin(number, address)?;
-    }
-    draft.put_row(number, bytes.as_slice(), address)?;
-    Ok(address_behind(address, bytes.len()))
+    let bytes = bytes_of(alloc, store.bytes)?;
+    draft.put_bytes(next, number, bytes.as_slice(), address)
 }
 
 // Appends the lines of a source that has the bytes of object lines.

@@ -7,7 +7,7 @@ use crate::pieces::before;
 use crate::rules::{Turn, turn_of};
 use crate::token::span;
 use a2_opcode::{Mnemonic, Mode, row_for};
-use a2_text::{behind_blanks, first_word};
+use a2_text::{behind_blanks, split_word};
 
 /// The parts of a line, each empty where it is not there.
 #[derive(Clone, Copy)]
@@ -15,9 +15,18 @@ pub(crate) struct Parts<'a> {
     /// With the mark of a local one, and without the colon behind it.
     pub label: &'a [u8],
     pub operation: &'a [u8],
+    /// What that becomes here, where it is known.
+    pub turn: Option<Turn>,
     pub operand: &'a [u8],
     /// With the `;` before it, where it has one.
     pub comment: &'a [u8],
+}
+
+impl<'a> Parts<'a> {
+    /// Whether the operation defines the name before it.
+    pub(crate) fn is_equate(self) -> bool {
+        matches!(self.turn, Some(Turn::As(name)) if name == b"EQU".as_slice())
+    }
 }
 
 // What ends a word: a blank, or a comment.
@@ -44,31 +53,22 @@ pub(crate) struct Marked<'a> {
 pub(crate) fn text_in(operand: &[u8]) -> Marked<'_>
     ensures { length result.behind.now ≤ length operand.now }
 {
-    let (minus, rest) = match operand {
-        [b'-', rest @ ..] => (true, rest),
-        _ => (false, operand),
-    };
-    match rest {
-        [mark, inner @ ..] => {
-            let mark = *mark;
-            let (text, behind) = before(inner, &[mark]);
-            let behind = match behind {
-                [_, behind @ ..] => behind,
-                [] => behind,
-            };
-            Marked {
-                minus,
-                mark,
-                text,
-                behind,
-            }
-        }
-        [] => Marked {
+    let rest = operand.strip_prefix(b"-").unwrap_or(operand);
+    let minus = rest.len() < operand.len();
+    let Some((mark, inner)) = rest.split_first() else {
+        return Marked {
             minus,
             mark: 0,
             text: rest,
             behind: rest,
-        },
+        };
+    };
+    let (text, behind) = before(inner, &[*mark]);
+    Marked {
+        minus,
+        mark: *mark,
+        text,
+        behind: behind.get(1..).unwrap_or(behind),
     }
 }
 
@@ -80,17 +80,18 @@ fn text_len(there: &[u8]) -> usize
     there.len().saturating_sub(rest.len())
 }
 
-// How long the operand is that stands so many blanks behind an operation.
-fn operand_len(dialect: Dialect, operation: &[u8], gap: usize, there: &[u8]) -> usize
+// Whether what stands so many blanks behind an operation is a comment.
+fn is_comment(dialect: Dialect, operation: &[u8], gap: usize, there: &[u8]) -> bool {
+    there.starts_with(b";")
+        || has(operation, Mode::Implied)
+        || dialect == Dialect::Sc && gap > 1 && has(operation, Mode::Accumulator)
+}
+
+// How long the operand of an operation is.
+fn operand_len(dialect: Dialect, turn: Option<Turn>, there: &[u8]) -> usize
     ensures { result ≤ length there.now }
 {
-    let is_comment = there.starts_with(b";")
-        || has(operation, Mode::Implied)
-        || dialect == Dialect::Sc && gap > 1 && has(operation, Mode::Accumulator);
-    if is_comment {
-        return 0;
-    }
-    match turn_of(dialect, operation) {
+    match turn {
         Some(Turn::Text | Turn::Counted | Turn::LastTurned) => text_len(there),
         _ => span(dialect, there, WORD_ENDS),
     }
@@ -102,20 +103,19 @@ fn in_columns(dialect: Dialect, line: &[u8]) -> Parts<'_> {
     let (operation, rest) = before(behind_blanks(rest), WORD_ENDS);
     let there = behind_blanks(rest);
     let gap = rest.len().saturating_sub(there.len());
-    let (operand, comment) = there.split_at(operand_len(dialect, operation, gap, there));
+    let turn = turn_of(dialect, operation);
+    let len = if is_comment(dialect, operation, gap, there) {
+        0
+    } else {
+        operand_len(dialect, turn, there)
+    };
+    let (operand, comment) = there.split_at(len);
     Parts {
         label,
         operation,
+        turn,
         operand,
         comment: comment.trim_ascii(),
-    }
-}
-
-// The first word of a text, or none of it, and what stands behind that.
-fn front_word(text: &[u8]) -> (&[u8], &[u8]) {
-    match first_word(text) {
-        Some(found) => found,
-        None => (b"", b""),
     }
 }
 
@@ -127,8 +127,8 @@ fn is_equals(word: &[u8]) -> bool {
 // The parts of a line whose label ends with a colon, or stands before `=`, and whose comment begins with `;`.
 fn with_colons(line: &[u8]) -> Parts<'_> {
     let (code, comment) = line.split_at(span(Dialect::Ca65, line, b";"));
-    let (word, rest) = front_word(code);
-    let (next, behind) = front_word(rest);
+    let (word, rest) = split_word(code);
+    let (next, behind) = split_word(rest);
     let (label, operation, operand): (&[u8], &[u8], &[u8]) = match word {
         [b':'] => (word, next, behind),
         [label @ .., b':'] => (label, next, behind),
@@ -138,6 +138,7 @@ fn with_colons(line: &[u8]) -> Parts<'_> {
     Parts {
         label,
         operation,
+        turn: turn_of(Dialect::Ca65, operation),
         operand: operand.trim_ascii(),
         comment: comment.trim_ascii(),
     }

@@ -5,6 +5,9 @@ ghost use Rattle.std.specs.Prelude.{◌≤◌, length};
 use a2_text::front_len;
 use std::alloc::{AllocError, Allocator};
 
+/// What stands before an operation where there is no label.
+pub(crate) const BLANKS: &[u8] = b"        ";
+
 /// Appends pieces, one behind another.
 pub(crate) fn append<A: Allocator>(
     out: &mut Vec<u8, A>,
@@ -14,15 +17,6 @@ pub(crate) fn append<A: Allocator>(
         out.extend_from_slice(piece)?;
     }
     Ok(())
-}
-
-/// Appends a text between quotes.
-pub(crate) fn put_quoted<A: Allocator>(
-    out: &mut Vec<u8, A>,
-    quote: u8,
-    text: &[u8],
-) -> Result<(), AllocError> {
-    append(out, &[&[quote], text, &[quote]])
 }
 
 /// What stands in a text before the first of these bytes, and what stands from there on.

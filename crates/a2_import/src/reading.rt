@@ -1,24 +1,47 @@
-//! How an old text is read: its assembler, and what its lines said so far.
+//! A source of an old assembler: what its lines said so far, and what they became.
 
 use crate::dialect::Dialect;
+use crate::import::{Imported, Note};
 use crate::parts::Parts;
-use crate::pieces::append;
+use crate::pieces::{BLANKS, append};
+use crate::token::local_mark;
 use a2_text::decimal;
 use std::alloc::{AllocError, Allocator};
 
-// What stands for the label before the first one.
-const NO_LABEL: &[u8] = b"TOP";
-
-/// The assembler of a text, and what its lines said so far.
-#[derive(Drop)]
-pub(crate) struct Reading<A: Allocator> {
+/// A source of an old assembler: what its lines said so far, and what they became.
+pub(crate) struct Reading<'a, A: Allocator> {
+    pub alloc: A,
     pub dialect: Dialect,
     /// Whether texts have bit 7 set in EDASM.
     pub high: bool,
-    // The last label that is no local one.
-    label: Vec<u8, A>,
+    // The last label that is no local one, nor an equate's; before the first one, what stands for it.
+    scope: &'a [u8],
     // How often each digit was a label.
     counts: [u16; 10],
+    /// Where the lines of the statement begin.
+    pub start: usize,
+    /// Where its label ends.
+    pub front: usize,
+    /// The lines here, so far.
+    pub text: Vec<u8, A>,
+    pub notes: Vec<Note, A>,
+}
+
+// Not derived, for the prover alone: it follows this as one call, and a derived one field by field.
+impl<'a, A: Allocator> Drop for Reading<'a, A> {
+    fn drop(self) {
+        let Reading {
+            alloc: _,
+            dialect: _,
+            high: _,
+            scope: _,
+            counts: _,
+            start: _,
+            front: _,
+            text: _,
+            notes: _,
+        } = self;
+    }
 }
 
 // The place of a digit.
@@ -26,56 +49,110 @@ fn place(digit: u8) -> usize {
     usize::from(digit.saturating_sub(b'0'))
 }
 
-impl<A: Allocator + Copy> Reading<A> {
-    pub(crate) fn new(alloc: A, dialect: Dialect) -> Reading<A> {
+// The digit that a label is, or of no name, 0.
+fn digit_of(dialect: Dialect, label: &[u8]) -> Option<u8> {
+    match (dialect, label) {
+        (Dialect::Lisa, [b'^', digit]) if digit.is_ascii_digit() => Some(*digit),
+        (Dialect::Ca65, [b':']) => Some(b'0'),
+        _ => None,
+    }
+}
+
+impl<'a, A: Allocator + Copy> Reading<'a, A> {
+    /// Of no lines.
+    pub(crate) fn new(alloc: A, dialect: Dialect) -> Reading<'a, A> {
         Reading {
+            alloc,
             dialect,
             high: true,
-            label: Vec::new(alloc),
+            scope: b"TOP",
             counts: [0; 10],
+            start: 0,
+            front: 0,
+            text: Vec::new(alloc),
+            notes: Vec::new(alloc),
         }
     }
 
-    /// Takes up whether texts have bit 7 set, and says whether the statement does that.
-    pub(crate) fn hears(&mut self, parts: &Parts<'_>) -> bool {
-        let heard = self.dialect == Dialect::Edasm && parts.operation.eq_ignore_ascii_case(b"MSB");
-        if heard {
-            self.high = !parts.operand.eq_ignore_ascii_case(b"OFF");
-        }
-        heard
+    /// What the lines became.
+    pub(crate) fn into_made(self) -> Imported<A> {
+        let Reading {
+            alloc: _,
+            dialect: _,
+            high: _,
+            scope: _,
+            counts: _,
+            start: _,
+            front: _,
+            text,
+            notes,
+        } = self;
+        Imported { text, notes }
     }
 
-    /// Takes up a label that is not local.
-    pub(crate) fn take_label(&mut self, label: &[u8]) -> Result<(), AllocError> {
-        self.label.clear();
-        self.label.extend_from_slice(label)
+    /// Appends pieces, one behind another.
+    pub(crate) fn put(&mut self, pieces: &[&[u8]]) -> Result<(), AllocError> {
+        append(&mut self.text, pieces)
     }
 
-    /// Takes up a label that is a digit.
-    pub(crate) fn take_digit(&mut self, digit: u8) {
-        if let Some(count) = self.counts.get_mut(place(digit)) {
-            *count = count.saturating_add(1);
+    /// Begins a line of the statement with an operation: the first behind its label.
+    pub(crate) fn put_front(&mut self, operation: &[u8]) -> Result<(), AllocError> {
+        if self.text.len() > self.front {
+            return self.put(&[b"\n", BLANKS, operation]);
         }
+        let label_len = self.front.saturating_sub(self.start);
+        let count = BLANKS.len().saturating_sub(label_len).max(1);
+        let (blanks, _) = BLANKS.split_at(count.min(BLANKS.len()));
+        self.put(&[blanks, operation])
+    }
+
+    /// Appends a name; a dot in it becomes `_`.
+    pub(crate) fn put_name(&mut self, name: &[u8]) -> Result<(), AllocError> {
+        for c in name {
+            self.text.push(if *c == b'.' { b'_' } else { *c })?;
+        }
+        Ok(())
     }
 
     /// Appends the name of a local label of the last label.
-    pub(crate) fn put_local(&self, out: &mut Vec<u8, A>, name: &[u8]) -> Result<(), AllocError> {
-        let label = self.label.as_slice();
-        append(
-            out,
-            &[if label.is_empty() { NO_LABEL } else { label }, b"_", name],
-        )
+    pub(crate) fn put_local(&mut self, name: &[u8]) -> Result<(), AllocError> {
+        let scope = self.scope;
+        self.put_name(scope)?;
+        self.put(&[b"_", name])
     }
 
     /// Appends the name of the last label of a digit, or, so many further on, of a later one.
-    pub(crate) fn put_digit(
-        &self,
-        out: &mut Vec<u8, A>,
-        digit: u8,
-        further: u16,
-    ) -> Result<(), AllocError> {
+    pub(crate) fn put_digit(&mut self, digit: u8, further: u16) -> Result<(), AllocError> {
         let count = self.counts.get(place(digit)).copied().unwrap_or(0);
         let number = decimal(u64::from(count.saturating_add(further)));
-        append(out, &[b"L", &[digit], b"_", number.as_slice()])
+        self.put(&[b"L", &[digit], b"_", number.as_slice()])
+    }
+
+    // Appends the label of a statement as it is spelt here, and takes it up.
+    fn put_label(&mut self, parts: &Parts<'a>) -> Result<(), AllocError> {
+        let label = parts.label;
+        if let Some(digit) = digit_of(self.dialect, label) {
+            if let Some(count) = self.counts.get_mut(place(digit)) {
+                *count = count.saturating_add(1);
+            }
+            return self.put_digit(digit, 0);
+        }
+        match label {
+            [mark, name @ ..] if *mark == local_mark(self.dialect) => self.put_local(name),
+            _ => {
+                if !label.is_empty() && !parts.is_equate() {
+                    self.scope = label;
+                }
+                self.put_name(label)
+            }
+        }
+    }
+
+    /// Begins a statement with its label.
+    pub(crate) fn begin(&mut self, parts: &Parts<'a>) -> Result<(), AllocError> {
+        self.start = self.text.len();
+        self.put_label(parts)?;
+        self.front = self.text.len();
+        Ok(())
     }
 }

@@ -2,13 +2,10 @@
 
 ghost use Rattle.std.specs.Prelude.{◌≡◌, ◌<◌, length, IfSome};
 
-use crate::pieces::append;
+use crate::pieces::{BLANKS, append};
 use a2_opcode::{Instr, Mode, decode, list_line, row_for};
 use a2_text::{hex_pair, hex_word};
 use std::alloc::{AllocError, Allocator};
-
-// What stands before an operation.
-const BLANKS: &[u8] = b"        ";
 
 // Where the operand begins in a line of a listing.
 const OPERAND: usize = 25;
@@ -21,8 +18,8 @@ pub(crate) struct Draft<A: Allocator> {
     text: Vec<u8, A>,
     // The line of the listing that each of them is of.
     origins: Vec<usize, A>,
-    // The addresses below $0100 that are named.
-    named: Vec<u8, A>,
+    // Which addresses below $0100 are named.
+    named: [bool; 256],
 }
 
 // Not derived, for the prover alone: it follows this as one call, and a derived one field by field.
@@ -59,13 +56,19 @@ fn is_long(instr: Instr) -> bool {
     instr.value < 256 && row_for(instr.mnemonic, short).is_some()
 }
 
+// The address behind so many bytes.
+fn address_behind(address: u16, count: usize) -> Option<u16> {
+    let count = u16::try_from(count).ok()?;
+    address.checked_add(count)
+}
+
 impl<A: Allocator + Copy> Draft<A> {
     /// No lines.
     pub(crate) fn new(alloc: A) -> Draft<A> {
         Draft {
             text: Vec::new(alloc),
             origins: Vec::new(alloc),
-            named: Vec::new(alloc),
+            named: [false; 256],
         }
     }
 
@@ -82,8 +85,8 @@ impl<A: Allocator + Copy> Draft<A> {
         self.end_line(number)
     }
 
-    /// The line that says where those behind it lie.
-    pub(crate) fn put_origin(&mut self, number: usize, address: u16) -> Result<(), AllocError> {
+    // The line that says where those behind it lie.
+    fn put_origin(&mut self, number: usize, address: u16) -> Result<(), AllocError> {
         self.put_line(number, &[BLANKS, b"ORG $", &hex_word(address)])
     }
 
@@ -104,7 +107,7 @@ impl<A: Allocator + Copy> Draft<A> {
         if is_long(instr) {
             let word = hex_word(instr.value);
             let (_, index) = operand.split_at(word.len().saturating_add(1).min(operand.len()));
-            self.named.push((instr.value % 256) as u8)?;
+            self.named[usize::from(instr.value % 256)] = true;
             return self.put_line(number, &[BLANKS, name, b" W", &word, index]);
         }
         let gap: &[u8] = if operand.is_empty() { b"" } else { b" " };
@@ -122,13 +125,8 @@ impl<A: Allocator + Copy> Draft<A> {
         self.end_line(number)
     }
 
-    /// The lines of a row: of an instruction where its bytes are one, and else of data.
-    pub(crate) fn put_row(
-        &mut self,
-        number: usize,
-        bytes: &[u8],
-        address: u16,
-    ) -> Result<(), AllocError> {
+    // The lines of a row: of an instruction where its bytes are one, and else of data.
+    fn put_row(&mut self, number: usize, bytes: &[u8], address: u16) -> Result<(), AllocError> {
         if let Some(instr) = whole(bytes, address) {
             return self.put_instruction(number, instr, bytes, address);
         }
@@ -138,10 +136,25 @@ impl<A: Allocator + Copy> Draft<A> {
         Ok(())
     }
 
+    /// The lines of bytes at an address, and the address behind them. `next` is where they would lie as they are.
+    pub(crate) fn put_bytes(
+        &mut self,
+        next: Option<u16>,
+        number: usize,
+        bytes: &[u8],
+        address: u16,
+    ) -> Result<Option<u16>, AllocError> {
+        if next != Some(address) && !bytes.is_empty() {
+            self.put_origin(number, address)?;
+        }
+        self.put_row(number, bytes, address)?;
+        Ok(address_behind(address, bytes.len()))
+    }
+
     /// The lines that define what is named: a name whose definition stands below its use has always two bytes.
     pub(crate) fn put_names(&mut self, number: usize) -> Result<(), AllocError> {
         for low in 0..=255u8 {
-            if self.named.as_slice().contains(&low) {
+            if self.named[usize::from(low)] {
                 let word = hex_word(u16::from(low));
                 self.put_line(number, &[b"W", &word, b"   EQU $", &word])?;
             }

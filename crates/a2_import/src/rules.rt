@@ -1,6 +1,7 @@
 //! What the operations of old assemblers become.
 
 use crate::dialect::Dialect;
+use a2_opcode::Mnemonic;
 use a2_text::first_word;
 
 /// How the items of a list are meant.
@@ -146,7 +147,7 @@ fn found<T: Copy>(rows: &[Row<T>], word: &[u8]) -> Option<T> {
     None
 }
 
-/// What an operation becomes, where it is not one of the processor.
+/// What an operation becomes; one of the processor is itself, but where the assembler has another meaning of it.
 pub(crate) fn turn_of(dialect: Dialect, word: &[u8]) -> Option<Turn> {
     let (own, shared): (&[Row<Turn>], &[Row<Turn>]) = match dialect {
         Dialect::Sc => (&SC, &SHARED[..2]),
@@ -155,9 +156,14 @@ pub(crate) fn turn_of(dialect: Dialect, word: &[u8]) -> Option<Turn> {
         Dialect::Edasm => (&EDASM, &SHARED[2..4]),
         Dialect::Ca65 => (&CA65, &SHARED[..0]),
     };
-    found(own, word)
+    let turn = found(own, word)
         .or(found(shared, word))
-        .or(found(&ALIKE, word))
+        .or(found(&ALIKE, word));
+    if turn.is_some() {
+        return turn;
+    }
+    let mnemonic = Mnemonic::named(word)?;
+    Some(Turn::As(mnemonic.name().as_bytes()))
 }
 
 /// The assembler that a word tells of.

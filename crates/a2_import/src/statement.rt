@@ -1,109 +1,139 @@
 //! A statement of an old text, as lines of this language.
 
-use crate::data::{put_counted, put_ended, put_hex, put_list, put_operation, put_text};
-use crate::dialect::Dialect;
 use crate::import::NoteKind;
-use crate::operand::{Spelling, differs, put_name};
-use crate::parts::Parts;
+use crate::operand::differs;
+use crate::parts::{Parts, parts_of};
+use crate::pieces::BLANKS;
 use crate::reading::Reading;
-use crate::rules::{Turn, turn_of};
-use crate::token::local_mark;
-use a2_opcode::Mnemonic;
+use crate::rules::Turn;
+use a2_asm::refused;
+use a2_syntax::parse;
 use std::alloc::{AllocError, Allocator};
 
-// The digit that a label is, or of no name, 0.
-fn digit_of(dialect: Dialect, label: &[u8]) -> Option<u8> {
-    match (dialect, label) {
-        (Dialect::Lisa, [b'^', digit]) if digit.is_ascii_digit() => Some(*digit),
-        (Dialect::Ca65, [b':']) => Some(b'0'),
-        _ => None,
+// Whether all lines of a text are in the grammar.
+fn is_source<A: Allocator + Copy>(alloc: A, text: &[u8]) -> Result<bool, AllocError> {
+    match parse(alloc, text) {
+        Ok(_) => Ok(true),
+        Err(fault) => {
+            refused(fault)?;
+            Ok(false)
+        }
     }
 }
 
-/// Appends the name of a label, which is taken up; of an equate, a label is not one that local ones stand behind.
-pub(crate) fn put_label<A: Allocator + Copy>(
-    out: &mut Vec<u8, A>,
-    reading: &mut Reading<A>,
-    label: &[u8],
-    equates: bool,
-) -> Result<(), AllocError> {
-    if let Some(digit) = digit_of(reading.dialect, label) {
-        reading.take_digit(digit);
-        return reading.put_digit(out, digit, 0);
+// The blank before a part of a line, where there is one.
+fn gap(part: &[u8]) -> &[u8] {
+    if part.is_empty() { b"" } else { b" " }
+}
+
+impl<'a, A: Allocator + Copy> Reading<'a, A> {
+    // Appends an operation and its operand.
+    fn put_plain(&mut self, operation: &[u8], operand: &[u8]) -> Result<(), AllocError> {
+        self.put_front(operation)?;
+        self.text.extend_from_slice(gap(operand))?;
+        self.put_operand(operand)
     }
-    match label {
-        [mark, name @ ..] if *mark == local_mark(reading.dialect) => reading.put_local(out, name),
-        _ => {
-            put_name(out, label)?;
-            if equates || label.is_empty() {
-                Ok(())
-            } else {
-                reading.take_label(out.as_slice())
+
+    // Appends the lines of a statement behind its label, without a line feed behind the last.
+    fn put_lines(&mut self, parts: &Parts<'_>) -> Result<(), AllocError> {
+        let operand = parts.operand;
+        match parts.turn {
+            Some(Turn::As(operation)) => self.put_plain(operation, operand),
+            Some(Turn::List(list)) => self.put_list(list, operand),
+            Some(Turn::Ended(list)) => {
+                self.put_list(list, operand)?;
+                self.put(&[b"\n", BLANKS, b"DFB 0"])
+            }
+            Some(Turn::Hex) => self.put_hex(operand),
+            Some(Turn::Text) => self.put_text(operand),
+            Some(Turn::LastTurned) => self.put_ended(operand),
+            Some(Turn::Counted) => self.put_counted(operand),
+            Some(Turn::Msb | Turn::Nothing) | None => Ok(()),
+        }
+    }
+
+    // Appends the comment of a statement; where that became nothing, behind blanks.
+    fn put_comment(&mut self, comment: &[u8]) -> Result<(), AllocError> {
+        if comment.is_empty() {
+            return Ok(());
+        }
+        let is_empty = self.text.len() == self.start;
+        let is_marked = comment.starts_with(b";");
+        self.put(&[
+            if is_empty { BLANKS } else { b" " },
+            if is_marked { b"" } else { b"; " },
+            comment,
+        ])
+    }
+
+    // Ends the lines of a statement where they are in the grammar, and else takes them back up to the label; says which.
+    fn end(&mut self) -> Result<bool, AllocError> {
+        let text = self.text.as_slice();
+        let (_, lines) = text.split_at(self.start.min(text.len()));
+        let is_source = is_source(self.alloc, lines)?;
+        if is_source {
+            self.text.push(b'\n')?;
+        } else {
+            self.text.truncate(self.front);
+        }
+        Ok(is_source)
+    }
+
+    // Appends the label by itself, with all that stands behind it as a comment.
+    fn put_alone(&mut self, parts: &Parts<'_>) -> Result<(), AllocError> {
+        self.put_front(b"; ")?;
+        self.put(&[
+            parts.operation,
+            gap(parts.operand),
+            parts.operand,
+            gap(parts.comment),
+            parts.comment,
+        ])
+    }
+
+    // Brings a statement over, and says whether that can be said; notes where it says another thing.
+    fn put_said(&mut self, number: usize, parts: &Parts<'_>) -> Result<bool, AllocError> {
+        self.put_lines(parts)?;
+        self.put_comment(parts.comment)?;
+        let is_said = self.end()?;
+        let is_plain = matches!(parts.turn, Some(Turn::As(_) | Turn::List(_)));
+        if is_said && is_plain && differs(self.dialect, parts.operand) {
+            self.note(number, NoteKind::Differs)?;
+        }
+        Ok(is_said)
+    }
+
+    // Appends a line as a comment; its label stays one, where that says the same.
+    fn keep(&mut self, line: &[u8], parts: &Parts<'_>) -> Result<(), AllocError> {
+        if !parts.label.is_empty() && !parts.is_equate() {
+            self.put_alone(parts)?;
+            if self.end()? {
+                return Ok(());
             }
         }
+        self.text.truncate(self.start);
+        self.put_aside(line)
     }
-}
 
-/// Whether an operation defines the name before it.
-pub(crate) fn is_equate(dialect: Dialect, operation: &[u8]) -> bool {
-    match turn_of(dialect, operation) {
-        Some(Turn::As(name)) => name.eq_ignore_ascii_case(b"EQU"),
-        _ => false,
-    }
-}
-
-/// What is told of a statement: nothing, where it says the same.
-pub(crate) fn told_of(dialect: Dialect, parts: &Parts<'_>) -> Option<NoteKind> {
-    match turn_of(dialect, parts.operation) {
-        Some(Turn::Msb | Turn::Nothing) => Some(NoteKind::Nothing),
-        None if !parts.operation.is_empty() && Mnemonic::named(parts.operation).is_none() => Some(
-            NoteKind::Unknown,
-        ),
-        Some(Turn::As(_) | Turn::List(_)) | None if differs(dialect, parts.operand) => Some(
-            NoteKind::Differs,
-        ),
-        _ => None,
-    }
-}
-
-// Appends an operation and its operand.
-fn put_plain<A: Allocator + Copy>(
-    out: &mut Vec<u8, A>,
-    reading: &Reading<A>,
-    label: &[u8],
-    operation: &[u8],
-    operand: &[u8],
-) -> Result<(), AllocError> {
-    put_operation(out, label, operation)?;
-    if !operand.is_empty() {
-        out.push(b' ')?;
-    }
-    Spelling::operand(reading.dialect, operand).put(out, reading)
-}
-
-/// Appends the lines of a statement that says something, whose label is spelt so here, without a line feed behind the last.
-pub(crate) fn put_statement<A: Allocator + Copy>(
-    out: &mut Vec<u8, A>,
-    reading: &Reading<A>,
-    label: &[u8],
-    parts: &Parts<'_>,
-) -> Result<(), AllocError> {
-    if parts.operation.is_empty() {
-        return out.extend_from_slice(label);
-    }
-    let operand = parts.operand;
-    match turn_of(reading.dialect, parts.operation) {
-        None => put_plain(out, reading, label, parts.operation, operand),
-        Some(Turn::As(operation)) => put_plain(out, reading, label, operation, operand),
-        Some(Turn::List(list)) => put_list(out, list, reading, label, operand),
-        Some(Turn::Ended(list)) => {
-            put_list(out, list, reading, label, operand)?;
-            out.extend_from_slice(b"\n        DFB 0")
+    /// Brings the statement of a line over.
+    pub(crate) fn put_statement(
+        &mut self,
+        number: usize,
+        line: &'a [u8],
+    ) -> Result<(), AllocError> {
+        let parts = parts_of(self.dialect, line);
+        self.begin(&parts)?;
+        match parts.turn {
+            Some(Turn::Msb) => self.high = !parts.operand.eq_ignore_ascii_case(b"OFF"),
+            Some(Turn::Nothing) => self.note(number, NoteKind::Nothing)?,
+            None if !parts.operation.is_empty() => self.note(number, NoteKind::Unknown)?,
+            _ => {
+                if self.put_said(number, &parts)? {
+                    return Ok(());
+                }
+                self.note(number, NoteKind::Unknown)?;
+            }
         }
-        Some(Turn::Hex) => put_hex(out, label, operand),
-        Some(Turn::Text) => put_text(out, reading, label, operand),
-        Some(Turn::LastTurned) => put_ended(out, reading, label, operand),
-        Some(Turn::Counted) => put_counted(out, reading, label, operand),
-        Some(Turn::Msb | Turn::Nothing) => Ok(()),
+        self.keep(line, &parts)
     }
 }

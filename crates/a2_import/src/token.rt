@@ -58,11 +58,7 @@ fn turned(dialect: Dialect, first: u8, rest: &[u8]) -> Option<Token<'_>> {
 fn raised(rest: &[u8]) -> Option<&[u8]>
     ensures { IfSome result (λ behind. length behind.now ≤ length rest.now) }
 {
-    match rest {
-        [b'|', b'$', b'8', b'0', behind @ ..] => Some(behind),
-        [b'|', b'1', b'2', b'8', behind @ ..] => Some(behind),
-        _ => None,
-    }
+    rest.strip_prefix(b"|$80").or(rest.strip_prefix(b"|128"))
 }
 
 // A character whose quote stood before it, and what stands behind it.
