@@ -2,112 +2,68 @@
 
 use crate::line::is_among;
 
-/// Words that do the same in other assemblers, and what does it here.
+/// What stands here for a word of another assembler, in front of the operand; or, where that is no operation, what is to be done.
 #[derive(Clone, Copy)]
 pub(crate) struct Elsewhere {
-    /// The words, in capitals, with blanks between them.
-    words: &'static [u8],
-    /// What stands for one of them here, in front of the operand; or, where that is no operation, what is to be done.
     pub here: &'static [u8],
 }
 
-static ELSEWHERE: [Elsewhere; 24] = [
-    Elsewhere {
-        words: b".ORG .OR *= * !ORG",
-        here: b" ORG ",
-    },
-    Elsewhere {
-        words: b"= := .EQ .EQU EPZ .SET",
-        here: b" EQU ",
-    },
-    Elsewhere {
-        words: b".BYTE .BYT .DB DB FCB DC.B DC DCB BYTE BYT !BYTE !BY !8 .DFB",
-        here: b" DFB ",
-    },
-    Elsewhere {
-        words: b".WORD .ADDR .DA DA ADR FDB DC.W WORD !WORD !WO !16 .DW",
-        here: b" DW ",
-    },
-    Elsewhere {
-        words: b".RES .DS .DSB .FILL !FILL .BS DFS RMB DSB DS.B .BLKB",
-        here: b" DS ",
-    },
-    Elsewhere {
-        words: b".ASC .AS .TEXT !TEXT .ASCII .STRING STR !TX",
-        here: b" ASC ",
-    },
-    Elsewhere {
-        words: b"HEX .HEX !HEX .HS",
-        here: b" DFB with $ before each byte and commas between them",
-    },
-    Elsewhere {
-        words: b"DCI .AT",
-        here: b" ASC twice: the last character has the other kind of quotes",
-    },
-    Elsewhere {
-        words: b"INV",
-        here: b" DFB 'H'-$40,'I'-$40 for inverse letters",
-    },
-    Elsewhere {
-        words: b"FLS",
-        here: b" ASC with ' for flashing letters",
-    },
-    Elsewhere {
-        words: b"BGE",
-        here: b" BCS ",
-    },
-    Elsewhere {
-        words: b"BLT",
-        here: b" BCC ",
-    },
-    Elsewhere {
-        words: b"BTR",
-        here: b" BNE ",
-    },
-    Elsewhere {
-        words: b"BFL",
-        here: b" BEQ ",
-    },
-    Elsewhere {
-        words: b"XOR",
-        here: b" EOR ",
-    },
-    Elsewhere {
-        words: b"BRA",
-        here: b" JMP ",
-    },
-    Elsewhere {
-        words: b"PHX PHY",
-        here: b" TXA or TYA, and PHA in the next line",
-    },
-    Elsewhere {
-        words: b"PLX PLY",
-        here: b" PLA, and TAX or TAY in the next line",
-    },
-    Elsewhere {
-        words: b"STZ",
-        here: b" LDA #0, and STA in the next line",
-    },
-    Elsewhere {
-        words: b"END .END .EN OBJ LST PROCESSOR DSK .TF .TA !TO !CPU .SETCPU .P02 MSB .LIST XC TTL SBTL PAGE NLS SAV",
-        here: b"nothing: leave the line out",
-    },
-    Elsewhere {
-        words: b".INCLUDE INCLUDE !SOURCE !SRC PUT ICL .IN CHN .INCBIN INCBIN !BINARY .IMPORT .EXPORT USE",
-        here: b"all in one file: paste that text here",
-    },
-    Elsewhere {
-        words: b".MACRO MAC !MACRO .MA .MAC MACRO .ENDMACRO .EM <<< >>> .REPT REPEAT",
-        here: b"a subroutine, or the lines again: there are no macros",
-    },
-    Elsewhere {
-        words: b".IF IF !IF DO .DO .IFDEF IFDEF ELSE .ELSE FIN .FIN ENDIF .ENDIF .FI .EL",
-        here: b"the lines that are wanted: nothing is assembled on a condition",
-    },
-    Elsewhere {
-        words: b".SEGMENT .CODE .DATA .BSS .ZEROPAGE .PROC .ENDPROC .SCOPE .ENDSCOPE SEG SUBROUTINE !ZONE .( .)",
-        here: b"nothing: bytes lie where ORG says, and names hold in the whole text",
-    },
+// Words that do the same in other assemblers, in capitals with blanks between them, and what does it here.
+static ELSEWHERE: [(&[u8], &[u8]); 24] = [
+    (b".ORG .OR *= * !ORG", b" ORG "),
+    (b"= := .EQ .EQU EPZ .SET", b" EQU "),
+    (
+        b".BYTE .BYT .DB DB FCB DC.B DC DCB BYTE BYT !BYTE !BY !8 .DFB",
+        b" DFB ",
+    ),
+    (
+        b".WORD .ADDR .DA DA ADR FDB DC.W WORD !WORD !WO !16 .DW",
+        b" DW ",
+    ),
+    (
+        b".RES .DS .DSB .FILL !FILL .BS DFS RMB DSB DS.B .BLKB",
+        b" DS ",
+    ),
+    (b".ASC .AS .TEXT !TEXT .ASCII .STRING STR !TX", b" ASC "),
+    (
+        b"HEX .HEX !HEX .HS",
+        b" DFB with $ before each byte and commas between them",
+    ),
+    (
+        b"DCI .AT",
+        b" ASC twice: the last character has the other kind of quotes",
+    ),
+    (b"INV", b" DFB 'H'-$40,'I'-$40 for inverse letters"),
+    (b"FLS", b" ASC with ' for flashing letters"),
+    (b"BGE", b" BCS "),
+    (b"BLT", b" BCC "),
+    (b"BTR", b" BNE "),
+    (b"BFL", b" BEQ "),
+    (b"XOR", b" EOR "),
+    (b"BRA", b" JMP "),
+    (b"PHX PHY", b" TXA or TYA, and PHA in the next line"),
+    (b"PLX PLY", b" PLA, and TAX or TAY in the next line"),
+    (b"STZ", b" LDA #0, and STA in the next line"),
+    (
+        b"END .END .EN OBJ LST PROCESSOR DSK .TF .TA !TO !CPU .SETCPU .P02 MSB .LIST XC TTL SBTL PAGE NLS SAV",
+        b"nothing: leave the line out",
+    ),
+    (
+        b".INCLUDE INCLUDE !SOURCE !SRC PUT ICL .IN CHN .INCBIN INCBIN !BINARY .IMPORT .EXPORT USE",
+        b"all in one file: paste that text here",
+    ),
+    (
+        b".MACRO MAC !MACRO .MA .MAC MACRO .ENDMACRO .EM <<< >>> .REPT REPEAT",
+        b"a subroutine, or the lines again: there are no macros",
+    ),
+    (
+        b".IF IF !IF DO .DO .IFDEF IFDEF ELSE .ELSE FIN .FIN ENDIF .ENDIF .FI .EL",
+        b"the lines that are wanted: nothing is assembled on a condition",
+    ),
+    (
+        b".SEGMENT .CODE .DATA .BSS .ZEROPAGE .PROC .ENDPROC .SCOPE .ENDSCOPE SEG SUBROUTINE !ZONE .( .)",
+        b"nothing: bytes lie where ORG says, and names hold in the whole text",
+    ),
 ];
 
 impl Elsewhere {
@@ -124,9 +80,9 @@ impl Elsewhere {
 
 /// What a word does in another assembler, if it is known to do something.
 pub(crate) fn known_elsewhere(word: &[u8]) -> Option<Elsewhere> {
-    for row in &ELSEWHERE {
-        if is_among(word, row.words) {
-            return Some(*row);
+    for (words, here) in &ELSEWHERE {
+        if is_among(word, words) {
+            return Some(Elsewhere { here: *here });
         }
     }
     None

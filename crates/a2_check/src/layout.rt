@@ -67,13 +67,11 @@ impl<'a, A: Allocator + Copy> Place<'a, A> {
     // A label of an earlier line.
     fn duplicate(&self) -> Telling<'a> {
         let first = line_of(self.source.lines, self.parts.label).unwrap_or(0);
-        Telling {
-            number: number_of(first),
-            ..self.parts.at_label(
-                b"`@` is defined in line # already",
-                b"rename one of the two; a line that begins with an operation begins with a blank",
-            )
-        }
+        let mend =
+            b"rename one of the two; a line that begins with an operation begins with a blank";
+        self.parts
+            .at_label(b"`@` is defined in line # already", mend)
+            .with_number(number_of(first))
     }
 
     // A name that no line defines.
@@ -103,14 +101,10 @@ impl<'a, A: Allocator + Copy> Place<'a, A> {
         let (earlier, _) = lines.split_at(self.index.min(lines.len()));
         let name = missing(earlier, self.body).unwrap_or(b"");
         let line = line_of(lines, name).unwrap_or(self.index);
-        Telling {
-            number: number_of(line),
-            ..self.parts.at_name(
-                name,
-                b"`@` is defined in line #, and is needed here already",
-                b"move line # up",
-            )
-        }
+        let what = b"`@` is defined in line #, and is needed here already";
+        self.parts
+            .at_name(name, what, b"move line # up")
+            .with_number(number_of(line))
     }
 
     // The address of the line and its value, where that is known.
@@ -128,10 +122,10 @@ impl<'a, A: Allocator + Copy> Place<'a, A> {
             Some((_, value)) => (value, b"the value is #, and @"),
             None => (0, b"the value is out of its range: @"),
         };
-        Telling {
-            number,
-            ..self.parts.at_operand(what, mend).with_word(most)
-        }
+        self.parts
+            .at_operand(what, mend)
+            .with_word(most)
+            .with_number(number)
     }
 
     // A branch that goes too far.
@@ -143,12 +137,9 @@ impl<'a, A: Allocator + Copy> Place<'a, A> {
                 b"the branch goes too far: 128 bytes before the next instruction, 127 behind it".as_slice(),
             ),
         };
-        Telling {
-            number,
-            ..self
-                .parts
-                .at_operand(what, b"branch the other way over a JMP")
-        }
+        self.parts
+            .at_operand(what, b"branch the other way over a JMP")
+            .with_number(number)
     }
 
     // A byte where an earlier statement has one.
@@ -159,12 +150,10 @@ impl<'a, A: Allocator + Copy> Place<'a, A> {
         } else {
             b"an earlier line has a byte at an address of this line"
         };
-        Ok(Telling {
-            number: line.unwrap_or(0),
-            ..self
-                .parts
-                .at_operation(what, b"move one of the two parts by its ORG")
-        })
+        let told = self
+            .parts
+            .at_operation(what, b"move one of the two parts by its ORG");
+        Ok(told.with_number(line.unwrap_or(0)))
     }
 
     // A form that there is not.

@@ -3,7 +3,7 @@
 use crate::checked::{Checked, line_at};
 use crate::forms::put_forms;
 use crate::probe::with_values;
-use crate::told::{Told, shown};
+use crate::told::{Telling, Told, shown};
 use a2_asm::refused;
 use a2_stream::{Output, WriteFault, put};
 use a2_syntax::{Fault, Line, parse};
@@ -67,20 +67,9 @@ fn code(fault: Fault) -> &'static [u8] {
     }
 }
 
-// A piece of what is written.
-#[derive(Clone, Copy)]
-enum Piece<'a> {
-    // These bytes.
-    Plain(&'a [u8]),
-    // Bytes of a line, as they are shown.
-    Shown(&'a [u8]),
-    // Bytes between the quotes of a string of JSON.
-    Quoted(&'a [u8]),
-    Number(usize),
-    // So many of the same byte.
-    Times(usize, u8),
-    // A sentence, which is as in a string of JSON or is not.
-    Told(Told<'a>, bool),
+// Writes a number.
+fn put_number<W: Output>(number: usize, writer: &mut W) -> Result<(), WriteFault> {
+    put(decimal(number as u64).as_slice(), writer)
 }
 
 // Writes so many of the same byte.
@@ -104,275 +93,132 @@ fn put_shown<W: Output>(text: &[u8], in_json: bool, writer: &mut W) -> Result<()
     Ok(())
 }
 
-// What stands for the marks of a sentence.
-#[derive(Clone, Copy)]
-struct Words<'a> {
-    first: &'a [u8],
-    second: &'a [u8],
-    number: &'a [u8],
-}
-
-impl<'a> Words<'a> {
-    // What stands for a byte of a sentence.
-    fn of(self, byte: &'a u8) -> &'a [u8] {
-        match *byte {
-            b'@' => self.first,
-            b'~' => self.second,
-            b'#' => self.number,
-            _ => std::slice::from_ref(byte),
-        }
-    }
-}
-
-// Writes a sentence with the words for its marks.
-fn put_words<'a, W: Output>(
-    sentence: &'a [u8],
-    words: Words<'a>,
+// Writes a byte of a sentence, or the word that it is the mark of.
+fn put_marked<W: Output>(
+    c: u8,
+    told: Told<'_>,
     in_json: bool,
     writer: &mut W,
 ) -> Result<(), WriteFault> {
-    for c in sentence {
-        put_shown(words.of(c), in_json, writer)?;
+    match c {
+        b'@' => put_shown(told.first, in_json, writer),
+        b'~' => put_shown(told.second, in_json, writer),
+        b'#' => put_number(usize::from(told.number), writer),
+        _ => put_shown(&[c], in_json, writer),
     }
-    Ok(())
 }
 
-// Writes what is told, its words in their places.
+// Writes what is told, its words in the places of their marks.
 fn put_told<W: Output>(told: Told<'_>, in_json: bool, writer: &mut W) -> Result<(), WriteFault> {
-    let number = decimal(u64::from(told.number));
-    let words = Words {
-        first: told.first,
-        second: told.second,
-        number: number.as_slice(),
-    };
-    put_words(told.sentence, words, in_json, writer)?;
+    for c in told.sentence {
+        put_marked(*c, told, in_json, writer)?;
+    }
     match told.forms {
         Some(mnemonic) => put_forms(mnemonic, writer),
         None => Ok(()),
     }
 }
 
-// Writes bytes of a string of JSON. What is above ASCII stands as it is: names of files are in the host's coding.
-fn put_string<W: Output>(text: &[u8], writer: &mut W) -> Result<(), WriteFault> {
-    for c in text {
-        let escape = json_escape(*c);
-        put(
-            if *c < 0x7F {
-                escape.as_slice()
-            } else {
-                std::slice::from_ref(c)
-            },
-            writer,
-        )?;
+// Writes how a source is called. What is above ASCII stands as it is in JSON too: names of files are in the host's coding.
+fn put_name<W: Output>(name: &[u8], in_json: bool, writer: &mut W) -> Result<(), WriteFault> {
+    for c in name {
+        if in_json && *c < 0x7F {
+            put(json_escape(*c).as_slice(), writer)?;
+        } else {
+            put(&[*c], writer)?;
+        }
     }
     Ok(())
 }
 
-// Writes a piece.
-fn put_piece<W: Output>(piece: Piece<'_>, writer: &mut W) -> Result<(), WriteFault> {
-    match piece {
-        Piece::Plain(text) => put(text, writer),
-        Piece::Shown(text) => put_shown(text, false, writer),
-        Piece::Quoted(text) => put_string(text, writer),
-        Piece::Number(number) => put(decimal(number as u64).as_slice(), writer),
-        Piece::Times(count, byte) => put_times(byte, count, writer),
-        Piece::Told(told, in_json) => put_told(told, in_json, writer),
-    }
-}
-
-// Writes pieces, one behind another.
-fn put_pieces<W: Output>(pieces: &[Piece<'_>], writer: &mut W) -> Result<(), WriteFault> {
-    for piece in pieces {
-        put_piece(*piece, writer)?;
-    }
-    Ok(())
-}
-
-// A refusal as it is told: its number, its line, where it stands there, counted from 1, how wide, what is wrong and the mend.
+// A refusal, as it is told.
 #[derive(Clone, Copy)]
 struct Report<'a> {
-    code: &'a [u8],
-    line: usize,
-    column: usize,
-    width: usize,
-    what: Told<'a>,
-    mend: Told<'a>,
-}
-
-// Writes a refusal of no line at length.
-fn put_whole<W: Output>(report: Report<'_>, writer: &mut W) -> Result<(), WriteFault> {
-    put_pieces(
-        &[
-            Piece::Plain(b"error["),
-            Piece::Plain(report.code),
-            Piece::Plain(b"]: "),
-            Piece::Told(report.what, false),
-            Piece::Plain(b"\n     = "),
-            Piece::Told(report.mend, false),
-            Piece::Plain(b"\n"),
-        ],
-        writer,
-    )
-}
-
-// Writes the line that a refusal is of, and the mend under its place; of a line that is too long the mend alone.
-fn put_place<'a, W: Output>(
-    text: &'a [u8],
-    report: Report<'a>,
-    writer: &mut W,
-) -> Result<(), WriteFault> {
-    if text.len() > 255 {
-        return put_pieces(
-            &[
-                Piece::Plain(b"     = "),
-                Piece::Told(report.mend, false),
-                Piece::Plain(b"\n"),
-            ],
-            writer,
-        );
-    }
-    let digits = decimal(report.line as u64).len();
-    put_pieces(
-        &[
-            Piece::Times(4usize.saturating_sub(digits), b' '),
-            Piece::Number(report.line),
-            Piece::Plain(b" | "),
-            Piece::Shown(text),
-            Piece::Plain(b"\n     | "),
-            Piece::Times(report.column.saturating_sub(1), b' '),
-            Piece::Times(report.width, b'^'),
-            Piece::Plain(b" "),
-            Piece::Told(report.mend, false),
-            Piece::Plain(b"\n"),
-        ],
-        writer,
-    )
-}
-
-// Writes a refusal of a line at length.
-fn put_long<W: Output>(text: &[u8], report: Report<'_>, writer: &mut W) -> Result<(), WriteFault> {
-    put_pieces(
-        &[
-            Piece::Plain(b"error["),
-            Piece::Plain(report.code),
-            Piece::Plain(b"]: line "),
-            Piece::Number(report.line),
-            Piece::Plain(b", column "),
-            Piece::Number(report.column),
-            Piece::Plain(b": "),
-            Piece::Told(report.what, false),
-            Piece::Plain(b"\n"),
-        ],
-        writer,
-    )?;
-    put_place(text, report, writer)
-}
-
-// Writes the place of a refusal in a line, where it is of one.
-fn put_where<W: Output>(report: Report<'_>, writer: &mut W) -> Result<(), WriteFault> {
-    if report.line == 0 {
-        return Ok(());
-    }
-    put_pieces(
-        &[
-            Piece::Plain(b":"),
-            Piece::Number(report.line),
-            Piece::Plain(b":"),
-            Piece::Number(report.column),
-        ],
-        writer,
-    )
-}
-
-// Writes a refusal in a line.
-fn put_short<W: Output>(name: &str, report: Report<'_>, writer: &mut W) -> Result<(), WriteFault> {
-    put(name.as_bytes(), writer)?;
-    put_where(report, writer)?;
-    put_pieces(
-        &[
-            Piece::Plain(b": error: "),
-            Piece::Plain(report.code),
-            Piece::Plain(b": "),
-            Piece::Told(report.what, false),
-            Piece::Plain(b"; "),
-            Piece::Told(report.mend, false),
-            Piece::Plain(b"\n"),
-        ],
-        writer,
-    )
-}
-
-// Writes a refusal as an object of JSON, behind what stands before it.
-fn put_object<'a, W: Output>(
-    front: &'a [u8],
+    // How the source is called.
     name: &'a str,
-    report: Report<'a>,
+    // The line that it is of, as it was written.
+    text: &'a [u8],
+    // The number of that line; 0, where it is of none.
+    line: u16,
+    code: &'static [u8],
+    telling: Telling<'a>,
+    // Whether words stand in strings of JSON.
+    in_json: bool,
+}
+
+// How a report is written: a capital letter stands for a part of it, as `put_part` says, any other byte for itself. A line that
+// is too long is not shown.
+fn form_of(report: Report<'_>, format: Format) -> &'static [u8] {
+    match format {
+        Format::Long if report.line == 0 => b"error[E]: T\n     = M\n",
+        Format::Long if report.text.len() > 255 => { b"error[E]: line L, column C: T\n     = M\n" }
+        Format::Long => b"error[E]: line L, column C: T\nIL | S\n     | PU M\n",
+        Format::Short if report.line == 0 => b"N: error: E: T; M\n",
+        Format::Short => b"N:L:C: error: E: T; M\n",
+        Format::Json => {
+            b"{\"file\":\"N\",\"line\":L,\"column\":C,\"width\":W,\"code\":\"E\",\"text\":\"T\",\"mend\":\"M\"}"
+        }
+    }
+}
+
+// Writes a part of a report.
+fn put_part<W: Output>(part: u8, report: Report<'_>, writer: &mut W) -> Result<(), WriteFault> {
+    let Report {
+        line,
+        telling,
+        in_json,
+        ..
+    } = report;
+    let width = telling.width.max(1);
+    match part {
+        b'N' => put_name(report.name.as_bytes(), in_json, writer),
+        b'E' => put(report.code, writer),
+        b'L' => put_number(usize::from(line), writer),
+        b'C' if line == 0 => put_number(0, writer),
+        b'C' => put_number(telling.at.saturating_add(1), writer),
+        b'W' => put_number(width, writer),
+        b'T' => put_told(telling.told(), in_json, writer),
+        b'M' => put_told(telling.told_mend(), in_json, writer),
+        b'S' => put_shown(report.text, false, writer),
+        b'I' => {
+            let digits = decimal(u64::from(line)).len();
+            put_times(b' ', 4usize.saturating_sub(digits), writer)
+        }
+        b'P' => put_times(b' ', telling.at, writer),
+        b'U' => put_times(b'^', width, writer),
+        _ => put(&[part], writer),
+    }
+}
+
+// Writes a report.
+fn put_report<W: Output>(
+    report: Report<'_>,
+    format: Format,
     writer: &mut W,
 ) -> Result<(), WriteFault> {
-    put_pieces(
-        &[
-            Piece::Plain(front),
-            Piece::Plain(b"{\"file\":\""),
-            Piece::Quoted(name.as_bytes()),
-            Piece::Plain(b"\",\"line\":"),
-            Piece::Number(report.line),
-            Piece::Plain(b",\"column\":"),
-            Piece::Number(if report.line > 0 { report.column } else { 0 }),
-            Piece::Plain(b",\"width\":"),
-            Piece::Number(report.width),
-            Piece::Plain(b",\"code\":\""),
-            Piece::Plain(report.code),
-            Piece::Plain(b"\",\"text\":\""),
-            Piece::Told(report.what, true),
-            Piece::Plain(b"\",\"mend\":\""),
-            Piece::Told(report.mend, true),
-            Piece::Plain(b"\"}"),
-        ],
-        writer,
-    )
+    for part in form_of(report, format) {
+        put_part(*part, report, writer)?;
+    }
+    Ok(())
 }
 
 // Writes how many refusals there are, and before that how many of them were not told.
 fn put_count<W: Output>(count: usize, writer: &mut W) -> Result<(), WriteFault> {
     let more = count.saturating_sub(MOST_AT_LENGTH);
     if more > 0 {
-        put_pieces(
-            &[
-                Piece::Plain(b"and "),
-                Piece::Number(more),
-                Piece::Plain(b" more\n"),
-            ],
-            writer,
-        )?;
+        put(b"and ", writer)?;
+        put_number(more, writer)?;
+        put(b" more\n", writer)?;
     }
-    put_pieces(
-        &[
-            Piece::Number(count),
-            Piece::Plain(if count == 1 {
-                b" refusal\n"
-            } else {
-                b" refusals\n"
-            }),
-        ],
+    put_number(count, writer)?;
+    put(
+        if count == 1 {
+            b" refusal\n"
+        } else {
+            b" refusals\n"
+        },
         writer,
     )
-}
-
-// Writes a refusal; `text` is its line, and `front` stands before it in an array.
-fn put_report<W: Output>(
-    name: &str,
-    text: &[u8],
-    front: &[u8],
-    report: Report<'_>,
-    format: Format,
-    writer: &mut W,
-) -> Result<(), WriteFault> {
-    match format {
-        Format::Long if report.line == 0 => put_whole(report, writer),
-        Format::Long => put_long(text, report, writer),
-        Format::Short => put_short(name, report, writer),
-        Format::Json => put_object(front, name, report, writer),
-    }
 }
 
 // Writes what is told of a refusal of a source; `front` stands before it in an array.
@@ -384,18 +230,19 @@ fn put_refusal<A: Allocator + Copy, W: Output>(
     format: Format,
     writer: &mut W,
 ) -> Result<(), TellFault> {
-    let telling = checked.telling(alloc, fault)?;
     let line = fault.line();
     let report = Report {
+        name: checked.name,
+        text: line_at(checked.texts, line),
+        line,
         code: code(fault),
-        line: usize::from(line),
-        column: telling.at.saturating_add(1),
-        width: telling.width.max(1),
-        what: telling.told(),
-        mend: telling.told_mend(),
+        telling: checked.telling(alloc, fault)?,
+        in_json: format == Format::Json,
     };
-    let text = line_at(checked.texts, line);
-    Ok(put_report(checked.name, text, front, report, format, writer)?)
+    if report.in_json {
+        put(front, writer)?;
+    }
+    Ok(put_report(report, format, writer)?)
 }
 
 // Writes what stands behind so many refusals.
@@ -424,8 +271,7 @@ fn put_each<A: Allocator + Copy, W: Output>(
         put_refusal(alloc, checked, *fault, front, format, writer)?;
         front = b",\n ";
     }
-    put_end(format, refusals.len(), writer)?;
-    Ok(())
+    Ok(put_end(format, refusals.len(), writer)?)
 }
 
 // Writes what is told of refusals of a source with these lines; where one of them is not in the grammar, `lines` is empty.

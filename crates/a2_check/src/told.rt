@@ -51,6 +51,11 @@ impl<'a> Telling<'a> {
         }
     }
 
+    /// The same with this number for `#`.
+    pub(crate) fn with_number(self, number: u16) -> Telling<'a> {
+        Telling { number, ..self }
+    }
+
     /// What is told of a mistake that a line of these parts shows.
     pub(crate) fn of_finding(finding: Finding<'a>, parts: Parts<'a>) -> Telling<'a> {
         let Finding { mistake, at, word } = finding;
