@@ -7,7 +7,7 @@ ghost use Rattle.std.specs.List.{list_any};
 ghost use Rattle.a2_bus.specs.Memory.{ram_end};
 ghost use Rattle.a2_services.specs.Services.{reach as reach_of};
 ghost use Rattle.a2_machine.specs.ByteRun.{addresses_below};
-ghost use Rattle.a2_machine.specs.Marks.{begins, begins_by, lies, first_mark, AreStarted, EndBy};
+ghost use Rattle.a2_machine.specs.Marks.{begins, begins_by, lies, first_mark, whole_end, AreStarted, EndBy};
 ghost use Rattle.a2_machine.specs.Watches.{ArePlainMarks};
 ghost use Rattle.a2_machine.specs.Blocking.{is_blocked, BlocksBy};
 ghost use Rattle.a2_machine.specs.Outcome.{admits as admits_of, protected_by};
@@ -111,6 +111,19 @@ fn fill_from(marks: &mut [u8], start: usize, mark: u8)
     marks[start..].fill(mark);
 }
 
+// The first marks of the addresses from which on three bytes are not in RAM: the last two of RAM, and those above.
+fn start_last(marks: &mut [u8], free: bool)
+    requires size { length marks.old ≡ 65536 }
+    requires before { (a : ℕ) → a < whole_end → slice_index marks.old a ≡ first_mark free a }
+    ensures size { length marks.new ≡ 65536 }
+    ensures first { (a : ℕ) → a < 65536 → slice_index marks.new a ≡ first_mark free a }
+{
+    let last = if free { BEGINS_LAST } else { 0 };
+    fill_from(marks, usize::from(RAM_END), last | ABOVE);
+    marks[WHOLE_END] = last;
+    marks[WHOLE_END + 1] = last;
+}
+
 // Makes all marks the first ones: with no guard, where an instruction may begin anywhere, or for a program's.
 fn start_marks(marks: &mut [u8], free: bool)
     requires { length marks.old ≡ 65536 }
@@ -118,12 +131,7 @@ fn start_marks(marks: &mut [u8], free: bool)
     ensures first { (a : ℕ) → a < 65536 → slice_index marks.new a ≡ first_mark free a }
 {
     fill_from(marks, 0, if free { BEGINS } else { 0 });
-    fill_from(marks, WHOLE_END, if free { BEGINS_LAST } else { 0 });
-    fill_from(
-        marks,
-        usize::from(RAM_END),
-        if free { BEGINS_LAST | ABOVE } else { ABOVE },
-    );
+    start_last(marks, free);
 }
 
 // An instruction begins at an address, where that is in RAM.
@@ -256,11 +264,22 @@ fn free_all<A: Allocator>(marks: &mut Vec<u8, A>)
     start_marks(marks.as_mut_slice(), true);
 }
 
-/// So many zeros.
-pub fn zeros<A: Allocator>(alloc: A, count: usize) -> Result<Vec<u8, A>, AllocError>
-    ensures { IfOk result (λ v. length v.items ≡ count) }
+/// So many bytes that are alike.
+pub fn filled<A: Allocator>(alloc: A, byte: u8, count: usize) -> Result<Vec<u8, A>, AllocError>
+    ensures size { IfOk result (λ bytes. length bytes.items ≡ count) }
+    ensures alike { IfOk result (λ bytes. (a : ℕ) → a < count → slice_index bytes.items a ≡ byte) }
 {
-    vec![in alloc; 0; count]
+    vec![in alloc; byte; count]
+}
+
+// The marks of no guard, where all but the last are the same.
+fn free_marks<A: Allocator>(alloc: A) -> Result<Vec<u8, A>, AllocError>
+    ensures size { IfOk result (λ marks. length marks.items ≡ 65536) }
+    ensures first { IfOk result (λ marks. (a : ℕ) → a < 65536 → slice_index marks.items a ≡ first_mark true a) }
+{
+    let mut marks = filled(alloc, BEGINS, ADDRESSES)?;
+    start_last(marks.as_mut_slice(), true);
+    Ok(marks)
 }
 
 impl<A: Allocator> Watch<A> {
@@ -268,10 +287,8 @@ impl<A: Allocator> Watch<A> {
     pub fn new(alloc: A) -> Result<Watch<A>, AllocError>
         ensures { IfOk result (λ watch. watch ≡ None) }
     {
-        let mut marks = zeros(alloc, ADDRESSES)?;
-        free_all(&mut marks);
         Ok(Watch {
-            marks,
+            marks: free_marks(alloc)?,
             blocked: NONE_BLOCKED,
             end: RAM_END,
             on: false,
