@@ -21,7 +21,7 @@ ghost use Rattle.a2_machine.specs.declared.Stop.TheVariants.{Cause as StopCause,
 
 use crate::step::{Outcome, cause_at};
 use crate::steps::{StepsMade, make_one_step, make_steps, make_steps_alone};
-use crate::watch::{NOTES, Watch, filled};
+use crate::watch::{NOTES, Watch};
 use crate::{Cause, Stop};
 use a2_asm::Program;
 use a2_bus::locations::{LAST_RETURN, RETURN_ADDRESS};
@@ -111,7 +111,7 @@ impl<A: Allocator + Copy> Machine<A> {
         ensures marked { IfOk result (λ m. (row : ℕ) → row < 24 → is_row_marked m.state.picture row ≡ true) }
     {
         let mut machine = Machine::for_copies(alloc)?;
-        machine.notes = filled(alloc, 0, NOTES)?;
+        machine.notes = Vec::with_capacity(alloc, NOTES)?;
         machine.likely = Some(Watch::new(alloc)?);
         Ok(machine)
     }
@@ -424,7 +424,7 @@ impl<A: Allocator> Machine<A> {
             self.board.space_mut(),
             &self.watch,
             &self.likely,
-            self.notes.as_mut_slice(),
+            &mut self.notes,
             most,
         );
         self.count(done);

@@ -264,8 +264,8 @@ fn free_all<A: Allocator>(marks: &mut Vec<u8, A>)
     start_marks(marks.as_mut_slice(), true);
 }
 
-/// So many bytes that are alike.
-pub fn filled<A: Allocator>(alloc: A, byte: u8, count: usize) -> Result<Vec<u8, A>, AllocError>
+// So many bytes that are alike.
+fn filled<A: Allocator>(alloc: A, byte: u8, count: usize) -> Result<Vec<u8, A>, AllocError>
     ensures size { IfOk result (λ bytes. length bytes.items ≡ count) }
     ensures alike { IfOk result (λ bytes. (a : ℕ) → a < count → slice_index bytes.items a ≡ byte) }
 {
@@ -310,10 +310,12 @@ impl<A: Allocator> Watch<A> {
     pub fn free(&mut self)
         ensures { self.new ≡ None }
     {
-        free_all(&mut self.marks);
-        self.blocked = NONE_BLOCKED;
-        self.end = RAM_END;
-        self.on = false;
+        if self.on {
+            free_all(&mut self.marks);
+            self.blocked = NONE_BLOCKED;
+            self.end = RAM_END;
+            self.on = false;
+        }
     }
 
     /// Makes this guard equal to another.
