@@ -5,7 +5,7 @@ ghost use Rattle.std.specs.List.{list_any};
 ghost use Rattle.a2_machine.specs.State.{world_of_state};
 ghost use Rattle.a2_inspect.specs.Stops.{Moment, is_hit};
 ghost use Rattle.a2_inspect.specs.Alerts as alert;
-ghost use Rattle.a2_inspect.specs.Alerts.{is_marked, IsHarmless, StandsCalm, IsCalm, MarksAllBut, AreAlerts};
+ghost use Rattle.a2_inspect.specs.Alerts.{is_marked, StandsCalm, IsCalm, MarksAllBut, AreAlerts};
 
 use crate::stops::{Break, ram_of};
 use a2_asm::{Program, Statement};
@@ -65,7 +65,7 @@ impl<'a> Model for Alerts<'a> {
 }
 
 // Whether an address is watched.
-fn is_watched(watches: &[Span], address: u16) -> bool
+pub(crate) fn is_watched(watches: &[Span], address: u16) -> bool
     ensures { result ≡ alert.is_watched watches.now address }
 {
     watches
@@ -113,23 +113,17 @@ fn standing<A: Allocator>(statement: &Statement, machine: &Machine<A>) -> Option
     decode(bytes, statement.addr)
 }
 
-// Whether there is one, and it spares what is watched.
-fn is_harmless<A: Allocator>(statement: &Statement, machine: &Machine<A>, watches: &[Span]) -> bool
-    ensures { result ≡ true → IsHarmless watches.now (world_of_state machine.now.state).memory statement.now }
+// Whether a statement is an instruction that spares what is watched, and no service.
+fn is_calm<A: Allocator>(statement: &Statement, machine: &Machine<A>, watches: &[Span]) -> bool
+    ensures { result ≡ true → StandsCalm watches.now (world_of_state machine.now.state).memory statement.now }
 {
+    if statement.instr.is_none() || service_at(statement.addr).is_some() {
+        return false;
+    }
     match standing(statement, machine) {
         Some(instr) => spares(instr, watches),
         None => false,
     }
-}
-
-// Whether a statement is such an instruction, and no service.
-fn is_calm<A: Allocator>(statement: &Statement, machine: &Machine<A>, watches: &[Span]) -> bool
-    ensures { result ≡ true → StandsCalm watches.now (world_of_state machine.now.state).memory statement.now }
-{
-    statement.instr.is_some()
-        && service_at(statement.addr).is_none()
-        && is_harmless(statement, machine, watches)
 }
 
 // Marks a statement's first byte no longer where that is so.
@@ -161,16 +155,6 @@ fn calm_all<A: Allocator>(
 {
     for statement in statements {
         calm(marks, statement, machine, watches);
-    }
-}
-
-// Marks the addresses of breakpoints.
-fn mark_all(marks: &mut [bool], breaks: &[Break])
-    requires { length marks.old ≡ 65536 }
-    ensures { (moment : Moment) → list_any (is_hit moment) breaks.now ≡ true → is_marked marks.new moment.pc ≡ true }
-{
-    for place in breaks {
-        marks[usize::from(place.address)] = true;
     }
 }
 
@@ -207,7 +191,9 @@ fn mark_stops(marks: &mut [bool], breaks: &[Break])
     ensures { (moment : Moment) → list_any (is_hit moment) breaks.now ≡ true → is_marked marks.new moment.pc ≡ true }
 {
     marks.fill(false);
-    mark_all(marks, breaks);
+    for place in breaks {
+        marks[usize::from(place.address)] = true;
+    }
 }
 
 // No address is marked.

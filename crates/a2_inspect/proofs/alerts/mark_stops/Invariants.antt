@@ -2,7 +2,7 @@ use Rattle.std.proofs.Common.{◌≡◌, true, length, take}
 use Rattle.std.specs.List.{list_any}
 use Rattle.a2_inspect.specs.Stops.{Moment, is_hit}
 use Rattle.a2_inspect.specs.Alerts.{is_marked}
-use Rattle.a2_inspect.proofs.alerts.mark_all.Given as goal
+use Rattle.a2_inspect.proofs.alerts.mark_stops.Given as goal
 
 -- those so far are marked
 abbrev pub invariant-loop-place : goal.invariant-loop-place

@@ -4,7 +4,7 @@ use Rattle.std.proofs.lemmas.List.{take_all}
 use Rattle.std.specs.List.{list_any}
 use Rattle.a2_inspect.specs.Stops.{is_hit}
 use Rattle.a2_inspect.proofs.Calm.{marked-next}
-use Rattle.a2_inspect.proofs.alerts.mark_all.Goals as goal
+use Rattle.a2_inspect.proofs.alerts.mark_stops.Goals as goal
 
 pub loop-place-preserved : goal.loop-place-preserved
 loop-place-preserved c = record {
