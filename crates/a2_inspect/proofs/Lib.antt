@@ -1,2 +1,3 @@
 mod Calm
 mod Fetching
+mod Wording

@@ -1,5 +1,6 @@
 -- The words that lines begin with.
-use Rattle.std.specs.Prelude.{◌≡◌, ◌⊎◌, ℕ, ◌<◌, List, [], length, codes}
+use Rattle.std.specs.Prelude.{◌≡◌, ◌⊎◌, ℕ, ◌<◌, List, [], length, map, codes}
+use Rattle.std.specs.Borrow.{Bor}
 use Rattle.a2_inspect.specs.declared.verbs.Verb.{Verb}
 use Rattle.a2_inspect.specs.declared.verbs.Verb.TheVariants.{Step, Next, Out, Back, Rnext, Go, Until, Rback, Watch, Who, Break, Clear, Keys, Where, Regs, Print, Mem, Screen, List as Lines, Info, Help}
 
@@ -47,3 +48,7 @@ letter verb = []
 -- a word that is not empty, in capitals, is this verb
 abbrev pub IsVerb : List ℕ → Verb → Type 0
 IsVerb word verb = (word ≡ letters verb) ⊎ ((word ≡ letter verb) × (0 < length word))
+
+-- the rows of a table: a text, and the verb that it is
+abbrev pub listed : List (Bor (List ℕ) × Verb) → List (List ℕ × Verb)
+listed rows = map (λ row. (row.0.now, row.1)) rows
