@@ -36,7 +36,7 @@ ghost use Rattle.a2_inspect.specs.Inspections.{
 mod replay;
 
 use crate::alerts::Marks;
-use crate::order::{Order, Outcome, Refusal, Show};
+use crate::order::{Order, Outcome, Show};
 use crate::reading::order_of;
 use crate::sheet::{Detail, Stand, tell};
 use crate::sights::{Alarm, At, Changed, Left, Stops};
@@ -134,14 +134,6 @@ impl<'a, A: Allocator> Model for Inspector<'a, A> {
     ghost invariant = { λ i. i.history.course.origin.guard ≡ guard_of_run i.free i.program };
 }
 
-// What came of going on.
-fn outcome_of(halt: Halt) -> Outcome {
-    match halt {
-        Halt::Seen => Outcome::Reached,
-        Halt::Stopped(cause) => Outcome::Stopped(cause),
-    }
-}
-
 // Makes steps, at most so many, up to what is looked for, in bursts.
 fn go_on<A: Allocator + Copy, S: Sight, L: Lookout>(
     history: &mut History<A>,
@@ -152,7 +144,10 @@ fn go_on<A: Allocator + Copy, S: Sight, L: Lookout>(
     requires { Warns (S.is_seen sight.now) (L.alarms lookout.now) history.old.course history.old.position }
     ensures { GoesOn (S.is_seen sight.now) most history.old history.new }
 {
-    outcome_of(history.advance(most, sight, lookout))
+    match history.advance(most, sight, lookout) {
+        Halt::Seen => Outcome::Moved,
+        Halt::Stopped(cause) => Outcome::Stopped(cause),
+    }
 }
 
 // Makes so many steps.
@@ -181,7 +176,7 @@ fn go_back<A: Allocator + Copy, S: Sight>(history: &mut History<A>, sight: &S) -
     match history.newest(sight) {
         Some(position) => {
             history.go_back(position);
-            Outcome::Reached
+            Outcome::Moved
         }
         None => Outcome::NoneEarlier,
     }
@@ -469,7 +464,7 @@ impl<'a, A: Allocator + Copy> Inspector<'a, A> {
             }
             Order::Until(address) => until(&mut self.history, self.most, address),
             Order::GoBack => go_back_to_stop(&mut self.history, stops),
-            Order::Who(span) => who(&mut self.history, span, &self.before),
+            Order::Who(span) => who(&mut self.history, span, stops.before),
             Order::Watch(span) => watch(&mut self.watches, span),
             Order::Break(place) => set(&mut self.breaks, place),
             Order::Clear => {
@@ -491,11 +486,11 @@ impl<'a, A: Allocator + Copy> Inspector<'a, A> {
             return Outcome::Nothing;
         }
         let Some(verb) = verb_of(word) else {
-            return Outcome::Refused(Refusal::Word);
+            return Outcome::NoWord;
         };
         match order_of(&self.program, verb, rest) {
-            Ok(order) => self.perform(order),
-            Err(refusal) => Outcome::Refused(refusal),
+            Some(order) => self.perform(order),
+            None => Outcome::Refused(verb),
         }
     }
 }
@@ -537,7 +532,7 @@ impl<A: Allocator + Copy> Inspector<'_, A> {
                 program: &self.program,
                 lines: self.lines.as_slice(),
             },
-            history: &self.history,
+            machine: self.history.machine(),
             before: &self.before,
             breaks: self.breaks.as_slice(),
             watches: self.watches.as_slice(),

@@ -1,6 +1,7 @@
 //! What a line asks for.
 
 use crate::stops::{Break, Register};
+use crate::verbs::Verb;
 use a2_bus::Keys;
 use a2_places::Span;
 
@@ -62,38 +63,13 @@ pub enum Order {
     Show(Show),
 }
 
-/// Why a line is refused.
-#[derive(Clone, Copy)]
-pub enum Refusal {
-    /// Its first word is none.
-    Word,
-    /// More stands behind a word that stands alone.
-    More,
-    /// No number of steps stands behind the word.
-    Count,
-    /// No place stands behind it.
-    Place,
-    /// No breakpoint stands behind it.
-    Break,
-    /// No addresses stand behind it.
-    Range,
-    /// No addresses stand behind it, or too many to be watched.
-    Watch,
-    /// Nothing that has a value stands behind it.
-    Value,
-    /// No keys stand behind it.
-    Keys,
-}
-
 /// What came of a line.
 #[derive(Clone, Copy)]
 pub enum Outcome {
     /// There was nothing to do again.
     Nothing,
-    /// Steps were made or gone back; none, where there are none further back.
+    /// Steps were made or gone back, or up to what was looked for; none, where there are none further back.
     Moved,
-    /// Steps were made up to what was looked for.
-    Reached,
     /// Steps were made, and the machine is stuck, or they were as many as one line makes.
     Stopped(a2_machine::Cause),
     /// No earlier step begins at a breakpoint, or changed a watched byte.
@@ -120,6 +96,8 @@ pub enum Outcome {
     Memory,
     /// This is to be shown.
     Shown(Show),
-    /// The line is refused.
-    Refused(Refusal),
+    /// The first word of the line is none.
+    NoWord,
+    /// What this word asks for does not stand behind it.
+    Refused(Verb),
 }

@@ -1,18 +1,18 @@
 //! What lines say.
 
-ghost use Rattle.std.specs.Prelude.{◌≡◌, ◌≢◌, None, Some, MatchOption, IfOk, IfErr, IfSome, IfNone, []};
+ghost use Rattle.std.specs.Prelude.{◌≡◌, ◌≢◌, None, Some, MatchOption, IfSome, IfNone, []};
 ghost use Rattle.a2_text.specs.Words.{words};
 ghost use Rattle.a2_inspect.specs.Sayings.{Says, SaysNone, count_in as count_of, place_in as place_of_words};
 ghost use Rattle.a2_inspect.specs.Sayings.{span_in as span_of_words, SpellsBehind, SpellsNoneBehind};
 
 use crate::conditions::{break_in, register_of};
-use crate::order::{Order, Refusal, Show};
+use crate::order::{Order, Show};
 use crate::stops::watchable;
 use crate::verbs::Verb;
 use a2_asm::Program;
 use a2_bus::Keys;
 use a2_places::{Span, place_of, span_of};
-use a2_text::{capital, first_word, number_in, only_word};
+use a2_text::{first_word, number_in, only_word};
 use std::alloc::Allocator;
 
 // The number that the one word of a text says; 1 where it has none.
@@ -54,17 +54,10 @@ fn keys_in(rest: &[u8]) -> Option<Keys>
     Keys::parse(text)
 }
 
-// Whether a word is PC in either case.
-fn is_counter(word: &[u8]) -> bool {
-    match word {
-        [p, c] => capital(*p) == b'P' && capital(*c) == b'C',
-        _ => false,
-    }
-}
-
-// What is to be shown of a word: a register's value, or else a place's.
-fn value_shown<A: Allocator>(program: &Program<A>, word: &[u8]) -> Option<Show> {
-    if is_counter(word) {
+// The value that is to be shown: PC's, a register's, or else a place's.
+fn value_in<A: Allocator>(program: &Program<A>, rest: &[u8]) -> Option<Show> {
+    let word = only_word(rest)?;
+    if word.eq_ignore_ascii_case(b"PC") {
         return Some(Show::Counter);
     }
     match register_of(word) {
@@ -73,75 +66,46 @@ fn value_shown<A: Allocator>(program: &Program<A>, word: &[u8]) -> Option<Show> 
     }
 }
 
-// The value that is to be shown.
-fn value_in<A: Allocator>(program: &Program<A>, rest: &[u8]) -> Result<Show, Refusal> {
-    let word = only_word(rest).ok_or(Refusal::Value)?;
-    value_shown(program, word).ok_or(Refusal::Value)
-}
-
 // The bytes that are to be shown.
-fn bytes_in<A: Allocator>(program: &Program<A>, rest: &[u8]) -> Result<Show, Refusal> {
-    let word = only_word(rest).ok_or(Refusal::Range)?;
-    let span = span_of(program, word).ok_or(Refusal::Range)?;
-    Ok(Show::Memory(span))
-}
-
-// Nothing stands behind a word.
-fn alone(rest: &[u8]) -> Result<(), Refusal>
-    ensures ok { IfOk result (λ _. words rest.now ≡ []) }
-    ensures err { IfErr result (λ _. words rest.now ≢ []) }
-{
-    match first_word(rest) {
-        Some(_) => Err(Refusal::More),
-        None => Ok(()),
-    }
+fn bytes_in<A: Allocator>(program: &Program<A>, rest: &[u8]) -> Option<Show> {
+    Some(Show::Memory(span_of(program, only_word(rest)?)?))
 }
 
 // What a word asks for that stands alone.
-fn ordered(order: Order, rest: &[u8]) -> Result<Order, Refusal>
-    ensures ok { IfOk result (λ said. (said ≡ order) × (words rest.now ≡ [])) }
-    ensures err { IfErr result (λ _. words rest.now ≢ []) }
+fn alone(order: Order, rest: &[u8]) -> Option<Order>
+    ensures { MatchOption result (words rest.now ≢ []) (λ said. (said ≡ order) × (words rest.now ≡ [])) }
 {
-    alone(rest)?;
-    Ok(order)
-}
-
-// What is to be shown by a word that stands alone.
-fn shown(show: Show, rest: &[u8]) -> Result<Show, Refusal> {
-    alone(rest)?;
-    Ok(show)
+    match first_word(rest) {
+        Some(_) => None,
+        None => Some(order),
+    }
 }
 
 /// What a verb and what stands behind it ask for.
-pub fn order_of<A: Allocator>(
-    program: &Program<A>,
-    verb: Verb,
-    rest: &[u8],
-) -> Result<Order, Refusal>
-    ensures says { IfOk result (λ order. Says program.now verb rest.now order) }
-    ensures none { IfErr result (λ _. SaysNone program.now verb rest.now) }
+pub fn order_of<A: Allocator>(program: &Program<A>, verb: Verb, rest: &[u8]) -> Option<Order>
+    ensures { MatchOption result (SaysNone program.now verb rest.now) (λ order. Says program.now verb rest.now order) }
 {
     match verb {
-        Verb::Step => Ok(Order::Step(count_in(rest).ok_or(Refusal::Count)?)),
-        Verb::Back => Ok(Order::Back(count_in(rest).ok_or(Refusal::Count)?)),
-        Verb::Until => Ok(Order::Until(place_in(program, rest).ok_or(Refusal::Place)?)),
-        Verb::Watch => Ok(Order::Watch(span_in(program, rest).ok_or(Refusal::Watch)?)),
-        Verb::Who => Ok(Order::Who(span_in(program, rest).ok_or(Refusal::Watch)?)),
-        Verb::Break => Ok(Order::Break(break_in(program, rest).ok_or(Refusal::Break)?)),
-        Verb::Keys => Ok(Order::TypeKeys(keys_in(rest).ok_or(Refusal::Keys)?)),
-        Verb::Next => ordered(Order::Next, rest),
-        Verb::Out => ordered(Order::Out, rest),
-        Verb::Rnext => ordered(Order::GoBackOver, rest),
-        Verb::Go => ordered(Order::Go, rest),
-        Verb::Rback => ordered(Order::GoBack, rest),
-        Verb::Clear => ordered(Order::Clear, rest),
-        Verb::Print => Ok(Order::Show(value_in(program, rest)?)),
-        Verb::Mem => Ok(Order::Show(bytes_in(program, rest)?)),
-        Verb::Where => Ok(Order::Show(shown(Show::Place, rest)?)),
-        Verb::Regs => Ok(Order::Show(shown(Show::Registers, rest)?)),
-        Verb::Screen => Ok(Order::Show(shown(Show::Screen, rest)?)),
-        Verb::List => Ok(Order::Show(shown(Show::Lines, rest)?)),
-        Verb::Info => Ok(Order::Show(shown(Show::Stops, rest)?)),
-        Verb::Help => Ok(Order::Show(shown(Show::Help, rest)?)),
+        Verb::Step => Some(Order::Step(count_in(rest)?)),
+        Verb::Back => Some(Order::Back(count_in(rest)?)),
+        Verb::Until => Some(Order::Until(place_in(program, rest)?)),
+        Verb::Watch => Some(Order::Watch(span_in(program, rest)?)),
+        Verb::Who => Some(Order::Who(span_in(program, rest)?)),
+        Verb::Break => Some(Order::Break(break_in(program, rest)?)),
+        Verb::Keys => Some(Order::TypeKeys(keys_in(rest)?)),
+        Verb::Print => Some(Order::Show(value_in(program, rest)?)),
+        Verb::Mem => Some(Order::Show(bytes_in(program, rest)?)),
+        Verb::Next => alone(Order::Next, rest),
+        Verb::Out => alone(Order::Out, rest),
+        Verb::Rnext => alone(Order::GoBackOver, rest),
+        Verb::Go => alone(Order::Go, rest),
+        Verb::Rback => alone(Order::GoBack, rest),
+        Verb::Clear => alone(Order::Clear, rest),
+        Verb::Where => alone(Order::Show(Show::Place), rest),
+        Verb::Regs => alone(Order::Show(Show::Registers), rest),
+        Verb::Screen => alone(Order::Show(Show::Screen), rest),
+        Verb::List => alone(Order::Show(Show::Lines), rest),
+        Verb::Info => alone(Order::Show(Show::Stops), rest),
+        Verb::Help => alone(Order::Show(Show::Help), rest),
     }
 }

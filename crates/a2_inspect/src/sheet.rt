@@ -3,17 +3,17 @@
 ghost use Rattle.std.specs.Prelude.{List, ℕ};
 ghost use Rattle.a2_stream.specs.Stream.{SendsOrBreaks};
 
-use crate::changes::{is_changed, put_changes, put_others, put_screen_changes, put_watched};
-use crate::inspector::{MOST_BREAKS, MOST_WATCHES};
-use crate::order::{Outcome, Refusal, Show};
+use crate::changes::{put_bytes, put_registers, put_screen_changes};
+use crate::order::{Outcome, Show};
 use crate::stops::{Break, Condition, Moment, Register, Relation, Subject, in_register};
-use a2_explain::{Scene, meaning, put_address, put_number, put_place};
-use a2_history::{Entry, History};
+use crate::verbs::Verb;
+use a2_explain::{Scene, meaning, put_address, put_place};
+use a2_history::Entry;
 use a2_machine::{Cause, Machine, write_registers};
 use a2_opcode::list_line;
 use a2_page::print;
 use a2_places::{Span, statement_at};
-use a2_stream::{Output, ToWrite, WriteFault, put, put_all};
+use a2_stream::{Kept, Output, WriteFault, put, put_all};
 use a2_text::{decimal, hex_pair, hex_word};
 use std::alloc::Allocator;
 
@@ -52,6 +52,9 @@ const LINES_AT_STOP: u16 = 2;
 // What stands behind the number of a line, up to the column of its text.
 const BEHIND_NUMBER: &[u8; 6] = b"      ";
 
+// What is told where there are no breakpoints, and nothing is watched.
+const NO_STOPS: &[u8] = b"no breakpoints, and nothing is watched\n";
+
 /// What is told beside where a run stands, and what changed.
 #[derive(Clone, Copy)]
 pub enum Detail {
@@ -64,10 +67,10 @@ pub enum Detail {
 }
 
 /// Where a run stands.
-#[derive(Drop)]
+#[derive(Clone, Copy)]
 pub struct Stand<'a, A: Allocator> {
     pub scene: Scene<'a, A>,
-    pub history: &'a History<A>,
+    pub machine: &'a Machine<A>,
     /// The machine before the order that was done last.
     pub before: &'a Machine<A>,
     pub breaks: &'a [Break],
@@ -79,179 +82,167 @@ pub struct Stand<'a, A: Allocator> {
     pub detail: Detail,
 }
 
+/// An answer, which is put together before it goes out. That memory was wanted for a part is noted, and told in its place.
+#[derive(Drop)]
+pub(crate) struct Sheet<A: Allocator> {
+    text: Kept<A>,
+    is_whole: bool,
+}
+
+impl<A: Allocator> Sheet<A> {
+    // Notes whether a part was put there.
+    fn note(&mut self, part: Result<(), WriteFault>) {
+        self.is_whole = self.is_whole && part.is_ok();
+    }
+
+    /// Puts a text there.
+    pub(crate) fn put(&mut self, text: &[u8]) {
+        let part = put(text, &mut self.text);
+        self.note(part);
+    }
+
+    /// Puts pieces there, one after another.
+    pub(crate) fn put_all(&mut self, pieces: &[&[u8]]) {
+        let part = put_all(pieces, &mut self.text);
+        self.note(part);
+    }
+
+    // What is told.
+    fn told(&self) -> &[u8] {
+        if self.is_whole {
+            self.text.as_slice()
+        } else {
+            b"no memory for the answer\n"
+        }
+    }
+}
+
+/// One of two texts.
+pub(crate) fn one_of(is_first: bool, first: &'static [u8], other: &'static [u8]) -> &'static [u8] {
+    if is_first { first } else { other }
+}
+
 /// The byte of RAM at an address, or 0.
 pub(crate) fn byte_at<A: Allocator>(machine: &Machine<A>, address: u16) -> u8 {
     machine.peek(address).unwrap_or(0)
 }
 
-// Writes the instruction at an address of RAM, as in a listing.
-fn put_instruction<A: Allocator, W: Output>(
-    machine: &Machine<A>,
-    address: u16,
-    writer: &mut W,
-) -> Result<(), WriteFault> {
-    if machine.peek(address).is_none() {
-        return Ok(());
-    }
+// Puts a place: the line of the source that stands there, where lines are told and one does.
+fn put_spot<A: Allocator>(stand: &Stand<A>, address: u16, sheet: &mut Sheet<A>) {
+    let spot = match stand.detail {
+        Detail::Plain => put_address(address, &mut sheet.text),
+        _ => put_place(&stand.scene, address, &mut sheet.text),
+    };
+    sheet.note(spot);
+}
+
+// Puts the instruction at an address of RAM, as in a listing.
+fn put_instruction<A: Allocator>(machine: &Machine<A>, address: u16, sheet: &mut Sheet<A>) {
     let bytes = [
         byte_at(machine, address),
         byte_at(machine, address.wrapping_add(1)),
         byte_at(machine, address.wrapping_add(2)),
     ];
-    put(b"  ", writer)?;
-    put(list_line(&bytes, address).text.as_str().as_bytes(), writer)
+    sheet.put_all(&[b"  ", list_line(&bytes, address).text.as_str().as_bytes()]);
 }
 
-// Writes a place: the line of the source that stands there, where lines are told and one does.
-fn put_spot<A: Allocator, W: Output>(
-    stand: &Stand<A>,
-    address: u16,
-    writer: &mut W,
-) -> Result<(), WriteFault> {
-    match stand.detail {
-        Detail::Plain => put_address(address, writer),
-        _ => put_place(&stand.scene, address, writer),
-    }
-}
-
-// Writes the place where the run stands, and the instruction; its address alone where no line is told.
-fn put_here<A: Allocator, W: Output>(stand: &Stand<A>, writer: &mut W) -> Result<(), WriteFault> {
-    let machine = stand.history.machine();
+// Puts where the run stands: the step, the line of the source where one is told, the instruction, and the registers.
+fn put_stand<A: Allocator>(stand: &Stand<A>, sheet: &mut Sheet<A>) {
+    let machine = stand.machine;
     let pc = machine.regs().pc;
-    let is_plain = matches!(stand.detail, Detail::Plain);
-    if !is_plain || machine.peek(pc).is_none() {
-        put(b"  ", writer)?;
-        put_spot(stand, pc, writer)?;
+    let is_ram = machine.peek(pc).is_some();
+    sheet.put_all(&[b"step ", decimal(machine.steps()).as_slice()]);
+    if !is_ram || !matches!(stand.detail, Detail::Plain) {
+        sheet.put(b"  ");
+        put_spot(stand, pc, sheet);
     }
-    put_instruction(machine, pc, writer)
+    if is_ram {
+        put_instruction(machine, pc, sheet);
+    }
+    sheet.put(b"\n");
+    let registers = write_registers(machine, &mut sheet.text);
+    sheet.note(registers);
 }
 
-// Writes where the run stands: the step, the line of the source, the instruction, and the registers.
-fn put_stand<A: Allocator, W: Output>(stand: &Stand<A>, writer: &mut W) -> Result<(), WriteFault> {
-    let machine = stand.history.machine();
-    put(b"step ", writer)?;
-    put_number(machine.steps(), writer)?;
-    put_here(stand, writer)?;
-    put(b"\n", writer)?;
-    write_registers(machine, writer)
-}
-
-// Writes a stop: where the run stands, what changed, and the lines of the source around it.
-fn put_stop<A: Allocator, B: Allocator + Copy, W: Output>(
-    alloc: B,
-    stand: &Stand<A>,
-    writer: &mut W,
-) -> Result<(), WriteFault> {
-    put_stand(stand, writer)?;
-    let (before, now) = (stand.before.regs(), stand.history.machine().regs());
-    if is_changed(before, now) {
-        put_changes(before, now, writer)?;
+// Puts a stop: where the run stands, what changed, and the lines of the source around it.
+fn put_stop<A: Allocator>(stand: &Stand<A>, sheet: &mut Sheet<A>) {
+    put_stand(stand, sheet);
+    put_registers(stand.before.regs(), stand.machine.regs(), sheet);
+    put_bytes(stand, sheet);
+    if !matches!(stand.detail, Detail::Beside) {
+        put_screen_changes(stand, sheet);
     }
-    let others = put_watched(stand, writer)?;
-    put_others(stand, &others, writer)?;
-    match stand.detail {
-        Detail::Beside => Ok(()),
-        Detail::Plain => put_screen_changes(alloc, stand, writer),
-        Detail::Full => {
-            put_screen_changes(alloc, stand, writer)?;
-            put_lines(stand, LINES_AT_STOP, writer)
-        }
+    if matches!(stand.detail, Detail::Full) {
+        put_lines(stand, LINES_AT_STOP, sheet);
     }
 }
 
-// Writes why there is no further step, in words.
-fn put_cause<W: Output>(cause: Cause, most: u32, writer: &mut W) -> Result<(), WriteFault> {
+// Puts why there is no further step, in words.
+fn put_cause<A: Allocator>(cause: Cause, most: u32, sheet: &mut Sheet<A>) {
     match cause {
-        Cause::Limit => {
-            put(b"not yet there: ", writer)?;
-            put_number(u64::from(most), writer)?;
-            put(b" steps are the most of one line (--limit)\n", writer)
-        }
-        _ => put_all(&[b"stopped: ", meaning(cause), b"\n"], writer),
+        Cause::Limit => sheet.put_all(&[
+            b"not yet there: ",
+            decimal(u64::from(most)).as_slice(),
+            b" steps are the most of one line (--limit)\n",
+        ]),
+        _ => sheet.put_all(&[b"stopped: ", meaning(cause), b"\n"]),
     }
 }
 
-// Writes the bytes from one address to another, eight in a line.
-fn put_memory<A: Allocator, W: Output>(
-    machine: &Machine<A>,
-    first: u16,
-    last: u16,
-    writer: &mut W,
-) -> Result<(), WriteFault> {
-    for address in first..=last {
-        if address == first || address % 8 == 0 {
-            if address != first {
-                put(b"\n", writer)?;
+// Puts the bytes at some addresses, eight in a line.
+fn put_memory<A: Allocator>(machine: &Machine<A>, span: Span, sheet: &mut Sheet<A>) {
+    for address in span.first..=span.last {
+        if address == span.first || address % 8 == 0 {
+            if address != span.first {
+                sheet.put(b"\n");
             }
-            put_all(&[&hex_word(address), b"-"], writer)?;
+            sheet.put_all(&[&hex_word(address), b"-"]);
         }
         match machine.peek(address) {
-            Some(byte) => put_all(&[b" ", &hex_pair(byte)], writer)?,
-            None => put(b" --", writer)?,
+            Some(byte) => sheet.put_all(&[b" ", &hex_pair(byte)]),
+            None => sheet.put(b" --"),
         }
     }
-    put(b"\n", writer)
+    sheet.put(b"\n");
 }
 
-// Writes the text of a line behind a number of so many digits.
-fn put_text<W: Output>(digits: usize, text: &[u8], writer: &mut W) -> Result<(), WriteFault> {
-    if text.is_empty() {
-        return Ok(());
-    }
-    put(&BEHIND_NUMBER[digits.min(5)..], writer)?;
-    put(text, writer)
-}
-
-// What stands before a line of the source: an arrow, where the run stands at it.
-fn arrow(is_here: bool) -> &'static [u8] {
-    if is_here { b"> " } else { b"  " }
-}
-
-// Writes a line of the source behind its number. Its text begins in column 8, at a tab's stop.
-fn put_source_line<W: Output>(
-    number: u16,
-    text: &[u8],
-    is_here: bool,
-    writer: &mut W,
-) -> Result<(), WriteFault> {
+// Puts a line of the source behind its number, with an arrow where the run stands at it. Its text begins in column 8, at a tab's
+// stop.
+fn put_source_line<A: Allocator>(number: u16, text: &[u8], is_here: bool, sheet: &mut Sheet<A>) {
     let number = decimal(u64::from(number));
-    put(arrow(is_here), writer)?;
-    put(number.as_slice(), writer)?;
-    put_text(number.as_slice().len(), text.trim_ascii_end(), writer)?;
-    put(b"\n", writer)
+    sheet.put(one_of(is_here, b"> ", b"  "));
+    sheet.put(number.as_slice());
+    if !text.is_empty() {
+        sheet.put(&BEHIND_NUMBER[number.len().min(5)..]);
+        sheet.put(text);
+    }
+    sheet.put(b"\n");
 }
 
-// Writes the lines of the source around the place where the run stands, at most so many before it and behind it; none where no
+// Puts the lines of the source around the place where the run stands, at most so many before it and behind it; none where no
 // line stands there.
-fn put_lines<A: Allocator, W: Output>(
-    stand: &Stand<A>,
-    around: u16,
-    writer: &mut W,
-) -> Result<(), WriteFault> {
-    let pc = stand.history.machine().regs().pc;
+fn put_lines<A: Allocator>(stand: &Stand<A>, around: u16, sheet: &mut Sheet<A>) {
+    let pc = stand.machine.regs().pc;
     let Some(statement) = statement_at(stand.scene.program.statements(), pc) else {
-        return Ok(());
+        return;
     };
     let here = statement.line;
     let mut number = 1u16;
     for text in stand.scene.lines {
         if number.saturating_add(around) >= here && number <= here.saturating_add(around) {
-            put_source_line(number, *text, number == here, writer)?;
+            put_source_line(number, text.trim_ascii_end(), number == here, sheet);
         }
         number = number.saturating_add(1);
     }
-    Ok(())
 }
 
-// Writes the lines around the place, or that there are none.
-fn put_list<A: Allocator, W: Output>(stand: &Stand<A>, writer: &mut W) -> Result<(), WriteFault> {
-    let pc = stand.history.machine().regs().pc;
+// Puts the lines around the place, or that there are none.
+fn put_list<A: Allocator>(stand: &Stand<A>, sheet: &mut Sheet<A>) {
+    let pc = stand.machine.regs().pc;
     if statement_at(stand.scene.program.statements(), pc).is_none() {
-        put(b"no line of the source stands at ", writer)?;
-        put_address(pc, writer)?;
-        return put(b"\n", writer);
+        sheet.put_all(&[b"no line of the source stands at $", &hex_word(pc), b"\n"]);
     }
-    put_lines(stand, LINES_LISTED, writer)
+    put_lines(stand, LINES_LISTED, sheet);
 }
 
 // The letter of a register.
@@ -275,256 +266,188 @@ fn sign_of(relation: Relation) -> &'static [u8] {
     }
 }
 
-// Writes a condition as it is written in a line.
-fn put_condition<W: Output>(condition: Condition, writer: &mut W) -> Result<(), WriteFault> {
-    put(b" if ", writer)?;
+// Puts a condition as it is written in a line.
+fn put_condition<A: Allocator>(condition: Condition, sheet: &mut Sheet<A>) {
+    sheet.put(b" if ");
     match condition.subject {
-        Subject::InRegister(register) => put(letter_of(register), writer)?,
-        Subject::InByte(address) => put_address(address, writer)?,
+        Subject::InRegister(register) => sheet.put(letter_of(register)),
+        Subject::InByte(address) => sheet.put_all(&[b"$", &hex_word(address)]),
     }
-    put_all(
-        &[sign_of(condition.relation), &hex_word(condition.value)],
-        writer,
-    )
+    sheet.put_all(&[sign_of(condition.relation), &hex_word(condition.value)]);
 }
 
-// Writes a breakpoint.
-fn put_break<W: Output>(place: Break, writer: &mut W) -> Result<(), WriteFault> {
-    put(b"breakpoint at ", writer)?;
-    put_address(place.address, writer)?;
-    match place.condition {
-        Some(condition) => put_condition(condition, writer),
-        None => Ok(()),
+// Puts a breakpoint.
+fn put_break<A: Allocator>(place: Break, sheet: &mut Sheet<A>) {
+    sheet.put_all(&[b"breakpoint at $", &hex_word(place.address)]);
+    if let Some(condition) = place.condition {
+        put_condition(condition, sheet);
     }
 }
 
-// Writes addresses from one to another.
-fn put_span<W: Output>(span: Span, writer: &mut W) -> Result<(), WriteFault> {
-    put_address(span.first, writer)?;
-    if span.first == span.last {
-        return Ok(());
+// Puts a line with addresses from one to another, behind what is said of them.
+fn put_span<A: Allocator>(what: &[u8], span: Span, sheet: &mut Sheet<A>) {
+    sheet.put_all(&[what, b"$", &hex_word(span.first)]);
+    if span.first != span.last {
+        sheet.put_all(&[b"..$", &hex_word(span.last)]);
     }
-    put(b"..", writer)?;
-    put_address(span.last, writer)
+    sheet.put(b"\n");
 }
 
-// Writes the line of the source at an address, behind a comma, where lines are told and one stands there.
-fn put_line_there<A: Allocator, W: Output>(
-    stand: &Stand<A>,
-    address: u16,
-    writer: &mut W,
-) -> Result<(), WriteFault> {
-    let statements = stand.scene.program.statements();
-    if matches!(stand.detail, Detail::Plain) || statement_at(statements, address).is_none() {
-        return Ok(());
-    }
-    put(b", ", writer)?;
-    put_place(&stand.scene, address, writer)
-}
-
-// Writes breakpoints and what is watched.
-fn put_stops<A: Allocator, W: Output>(stand: &Stand<A>, writer: &mut W) -> Result<(), WriteFault> {
+// Puts breakpoints, each with the line of the source that stands there, where lines are told and one does, and what is watched.
+fn put_stops<A: Allocator>(stand: &Stand<A>, sheet: &mut Sheet<A>) {
     if stand.breaks.is_empty() && stand.watches.is_empty() {
-        return put(b"no breakpoints, and nothing is watched\n", writer);
+        sheet.put(NO_STOPS);
     }
+    let statements = stand.scene.program.statements();
     for place in stand.breaks {
-        put_break(*place, writer)?;
-        put_line_there(stand, place.address, writer)?;
-        put(b"\n", writer)?;
+        put_break(*place, sheet);
+        if !matches!(stand.detail, Detail::Plain)
+            && statement_at(statements, place.address).is_some()
+        {
+            sheet.put(b", ");
+            put_spot(stand, place.address, sheet);
+        }
+        sheet.put(b"\n");
     }
     for span in stand.watches {
-        put(b"watched: ", writer)?;
-        put_span(*span, writer)?;
-        put(b"\n", writer)?;
+        put_span(b"watched: ", *span, sheet);
     }
-    Ok(())
 }
 
-// Writes where the run stands, and which routines it entered, the innermost first.
-fn put_where<A: Allocator, W: Output>(stand: &Stand<A>, writer: &mut W) -> Result<(), WriteFault> {
-    put_stand(stand, writer)?;
+// Puts where the run stands, and which routines it entered, the innermost first.
+fn put_where<A: Allocator>(stand: &Stand<A>, sheet: &mut Sheet<A>) {
+    put_stand(stand, sheet);
     for entry in stand.entries.iter().rev() {
-        put(b"called by ", writer)?;
-        put_spot(stand, entry.call, writer)?;
-        put(b", step ", writer)?;
-        put_number(entry.position, writer)?;
-        put(b"\n", writer)?;
+        sheet.put(b"called by ");
+        put_spot(stand, entry.call, sheet);
+        sheet.put_all(&[b", step ", decimal(entry.position).as_slice(), b"\n"]);
     }
-    Ok(())
 }
 
-// Writes a byte in three bases.
-fn put_byte<W: Output>(byte: u8, writer: &mut W) -> Result<(), WriteFault> {
-    put_all(
-        &[
-            b"$",
-            &hex_pair(byte),
-            b" ",
-            decimal(u64::from(byte)).as_slice(),
-            b" %",
-        ],
-        writer,
-    )?;
-    for place in 0..8u8 {
-        let digit: &[u8] = if byte & (0x80 >> place) == 0 {
-            b"0"
-        } else {
-            b"1"
-        };
-        put(digit, writer)?;
+// Puts that something has a byte, in three bases.
+fn put_value<A: Allocator>(name: &[u8], byte: u8, sheet: &mut Sheet<A>) {
+    let mut digits = [b'0'; 8];
+    for place in 0..8usize {
+        if byte & (0x80 >> place) != 0 {
+            digits[place] = b'1';
+        }
     }
-    put(b"\n", writer)
+    sheet.put_all(&[
+        name,
+        b" has $",
+        &hex_pair(byte),
+        b" ",
+        decimal(u64::from(byte)).as_slice(),
+        b" %",
+        &digits,
+        b"\n",
+    ]);
 }
 
-// Writes an address, and the byte there.
-fn put_value_at<A: Allocator, W: Output>(
-    machine: &Machine<A>,
-    address: u16,
-    writer: &mut W,
-) -> Result<(), WriteFault> {
-    put_address(address, writer)?;
-    put(b" ", writer)?;
-    put_number(u64::from(address), writer)?;
+// Puts an address, and the byte there.
+fn put_value_at<A: Allocator>(machine: &Machine<A>, address: u16, sheet: &mut Sheet<A>) {
+    sheet.put_all(&[
+        b"$",
+        &hex_word(address),
+        b" ",
+        decimal(u64::from(address)).as_slice(),
+    ]);
     match machine.peek(address) {
-        Some(byte) => {
-            put(b" has ", writer)?;
-            put_byte(byte, writer)
-        }
-        None => put(b" is no RAM\n", writer),
+        Some(byte) => put_value(b"", byte, sheet),
+        None => sheet.put(b" is no RAM\n"),
     }
 }
 
-// Writes a register of a byte.
-fn put_register<A: Allocator, W: Output>(
-    machine: &Machine<A>,
-    register: Register,
-    writer: &mut W,
-) -> Result<(), WriteFault> {
-    put_all(&[letter_of(register), b" has "], writer)?;
-    put_byte(in_register(register, &Moment::of(machine)), writer)
+// Puts PC.
+fn put_counter<A: Allocator>(pc: u16, sheet: &mut Sheet<A>) {
+    let number = decimal(u64::from(pc));
+    sheet.put_all(&[b"PC has $", &hex_word(pc), b" ", number.as_slice(), b"\n"]);
 }
 
-// Writes PC.
-fn put_counter<A: Allocator, W: Output>(
-    machine: &Machine<A>,
-    writer: &mut W,
-) -> Result<(), WriteFault> {
-    let pc = machine.regs().pc;
-    put_all(
-        &[
-            b"PC has $",
-            &hex_word(pc),
-            b" ",
-            decimal(u64::from(pc)).as_slice(),
-            b"\n",
-        ],
-        writer,
-    )
-}
-
-// Writes what is asked for.
-fn put_shown<A: Allocator, W: Output>(
-    stand: &Stand<A>,
-    show: Show,
-    writer: &mut W,
-) -> Result<(), WriteFault> {
-    let machine = stand.history.machine();
+// Puts what is asked for.
+fn put_shown<A: Allocator>(stand: &Stand<A>, show: Show, sheet: &mut Sheet<A>) {
+    let machine = stand.machine;
     match show {
-        Show::Place => put_where(stand, writer),
-        Show::Registers => write_registers(machine, writer),
-        Show::Register(register) => put_register(machine, register, writer),
-        Show::Counter => put_counter(machine, writer),
-        Show::Address(address) => put_value_at(machine, address, writer),
-        Show::Memory(span) => put_memory(machine, span.first, span.last, writer),
-        Show::Screen => print(&machine.view(), writer),
-        Show::Lines => put_list(stand, writer),
-        Show::Stops => put_stops(stand, writer),
-        Show::Help => put(HELP, writer),
+        Show::Place => put_where(stand, sheet),
+        Show::Registers => {
+            let registers = write_registers(machine, &mut sheet.text);
+            sheet.note(registers);
+        }
+        Show::Register(register) => {
+            let byte = in_register(register, &Moment::of(machine));
+            put_value(letter_of(register), byte, sheet);
+        }
+        Show::Counter => put_counter(machine.regs().pc, sheet),
+        Show::Address(address) => put_value_at(machine, address, sheet),
+        Show::Memory(span) => put_memory(machine, span, sheet),
+        Show::Screen => {
+            let screen = print(&machine.view(), &mut sheet.text);
+            sheet.note(screen);
+        }
+        Show::Lines => put_list(stand, sheet),
+        Show::Stops => put_stops(stand, sheet),
+        Show::Help => sheet.put(HELP),
     }
 }
 
-// Why a line is refused, in words.
-fn reason(refusal: Refusal) -> &'static [u8] {
-    match refusal {
-        Refusal::Word => b"no such word: help names all\n",
-        Refusal::More => b"nothing stands behind this word (help)\n",
-        Refusal::Count => b"a number of steps stands behind it: 0 to 65535\n",
-        Refusal::Place =>
+// What stands behind a word, for whoever wrote something else there.
+fn form_of(verb: Verb) -> &'static [u8] {
+    match verb {
+        Verb::Step | Verb::Back => b"a number of steps stands behind it: 0 to 65535\n",
+        Verb::Until =>
             b"a place stands behind it: a name of the source, a line with an instruction as 12:, or an address as $300\n",
-        Refusal::Break =>
+        Verb::Break =>
             b"a place stands behind it, alone or with a condition: break P if A = $40 (A X Y S P or a place; = <> < >; a number)\n",
-        Refusal::Range => b"one place stands behind it, or two as $300..$30F, the lower first\n",
-        Refusal::Watch =>
+        Verb::Mem => b"one place stands behind it, or two as $300..$30F, the lower first\n",
+        Verb::Watch | Verb::Who =>
             b"one place stands behind it, or two as $300..$30F, the lower first, 256 bytes at most\n",
-        Refusal::Value => b"a register, A X Y S P PC, or a place stands behind it\n",
-        Refusal::Keys => b"keys stand behind it: blank to ~, and \\r \\b \\f \\x \\\\\n",
+        Verb::Print => b"a register, A X Y S P PC, or a place stands behind it\n",
+        Verb::Keys => b"keys stand behind it: blank to ~, and \\r \\b \\f \\x \\\\\n",
+        _ => b"nothing stands behind this word (help)\n",
     }
 }
 
-// Writes that a number of these is the most.
-fn put_most<W: Output>(most: usize, what: &[u8], writer: &mut W) -> Result<(), WriteFault> {
-    put_number(most as u64, writer)?;
-    put_all(&[what, b" are the most: clear takes all away\n"], writer)
-}
-
-// Writes a line of what is watched, or was not changed.
-fn put_span_line<W: Output>(what: &[u8], span: Span, writer: &mut W) -> Result<(), WriteFault> {
-    put(what, writer)?;
-    put_span(span, writer)?;
-    put(b"\n", writer)
-}
-
-// Writes the answer.
-fn put_answer<A: Allocator, B: Allocator + Copy, W: Output>(
-    alloc: B,
-    stand: &Stand<A>,
-    outcome: Outcome,
-    writer: &mut W,
-) -> Result<(), WriteFault> {
+// What is told where nothing else is to be said; nothing of the others.
+fn sentence_of(outcome: Outcome) -> &'static [u8] {
     match outcome {
-        Outcome::Nothing => Ok(()),
-        Outcome::Moved | Outcome::Reached => put_stop(alloc, stand, writer),
-        Outcome::Stopped(cause) => {
-            put_stop(alloc, stand, writer)?;
-            put_cause(cause, stand.most, writer)
-        }
-        Outcome::NoneEarlier => put(
+        Outcome::NoneEarlier =>
             b"no earlier step begins at a breakpoint, or changed a watched byte\n",
-            writer,
-        ),
-        Outcome::NeverChanged(span) => {
-            put_span_line(b"no earlier step changed the byte at ", span, writer)
-        }
-        Outcome::NoRoutine => put(b"no routine is entered\n", writer),
-        Outcome::Set(place) => {
-            put_break(place, writer)?;
-            put(b"\n", writer)
-        }
-        Outcome::Full => put_most(MOST_BREAKS, b" breakpoints", writer),
-        Outcome::Watched(span) => put_span_line(b"watched: ", span, writer),
-        Outcome::FullWatches => put_most(MOST_WATCHES, b" watches", writer),
-        Outcome::Cleared => put(b"no breakpoints, and nothing is watched\n", writer),
-        Outcome::Typed => put(b"typed\n", writer),
-        Outcome::KeysFull => put(b"not typed: more than 4096 keys would wait\n", writer),
-        Outcome::Memory => put(b"not done: no memory\n", writer),
-        Outcome::Shown(show) => put_shown(stand, show, writer),
-        Outcome::Refused(refusal) => put(reason(refusal), writer),
+        Outcome::NoRoutine => b"no routine is entered\n",
+        Outcome::Full => b"64 breakpoints are the most: clear takes all away\n",
+        Outcome::FullWatches => b"8 watches are the most: clear takes all away\n",
+        Outcome::Cleared => NO_STOPS,
+        Outcome::Typed => b"typed\n",
+        Outcome::KeysFull => b"not typed: more than 4096 keys would wait\n",
+        Outcome::Memory => b"not done: no memory\n",
+        Outcome::NoWord => b"no such word: help names all\n",
+        Outcome::Refused(verb) => form_of(verb),
+        _ => b"",
     }
 }
 
-// The answer to a line. Refused only for want of memory.
-fn sheet_of<A: Allocator + Copy>(
-    alloc: A,
-    stand: &Stand<A>,
-    outcome: Outcome,
-) -> Result<Vec<u8, A>, WriteFault> {
-    let mut sheet = Vec::new(alloc);
-    put_answer(alloc, stand, outcome, &mut ToWrite::new(&mut sheet))?;
-    Ok(sheet)
+// Puts the answer.
+fn put_answer<A: Allocator>(stand: &Stand<A>, outcome: Outcome, sheet: &mut Sheet<A>) {
+    match outcome {
+        Outcome::Moved => put_stop(stand, sheet),
+        Outcome::Stopped(cause) => {
+            put_stop(stand, sheet);
+            put_cause(cause, stand.most, sheet);
+        }
+        Outcome::NeverChanged(span) => {
+            put_span(b"no earlier step changed the byte at ", span, sheet)
+        }
+        Outcome::Set(place) => {
+            put_break(place, sheet);
+            sheet.put(b"\n");
+        }
+        Outcome::Watched(span) => put_span(b"watched: ", span, sheet),
+        Outcome::Shown(show) => put_shown(stand, show, sheet),
+        _ => sheet.put(sentence_of(outcome)),
+    }
 }
 
 /// Writes the answer to a line.
-pub fn tell<A: Allocator + Copy, W: Output>(
+pub fn tell<A: Allocator, W: Output>(
     alloc: A,
     stand: &Stand<A>,
     outcome: Outcome,
@@ -532,8 +455,10 @@ pub fn tell<A: Allocator + Copy, W: Output>(
 ) -> Result<(), WriteFault>
     ensures { (text : List ℕ) × SendsOrBreaks (W.taker writer.old) (W.taker writer.new) result text }
 {
-    match sheet_of(alloc, stand, outcome) {
-        Ok(sheet) => put(sheet.as_slice(), writer),
-        Err(_) => put(b"no memory for the answer\n", writer),
-    }
+    let mut sheet = Sheet {
+        text: Kept::new(alloc),
+        is_whole: true,
+    };
+    put_answer(stand, outcome, &mut sheet);
+    put(sheet.told(), writer)
 }

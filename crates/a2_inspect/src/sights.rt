@@ -9,7 +9,7 @@ use a2_places::Span;
 use std::alloc::Allocator;
 
 /// Worlds at an address.
-#[derive(Drop)]
+#[derive(Clone, Copy)]
 pub struct At {
     pub address: u16,
 }
@@ -36,7 +36,7 @@ impl Lookout for At {
 }
 
 /// Worlds at a breakpoint, or in which a watched byte is another than in a machine before.
-#[derive(Drop)]
+#[derive(Clone, Copy)]
 pub struct Stops<'a, B: Allocator> {
     pub breaks: &'a [Break],
     pub watches: &'a [Span],
@@ -141,7 +141,7 @@ impl<B: Allocator> Lookout for Left<'_, B> {
 }
 
 /// Worlds in which one of some bytes is another than in a machine before.
-#[derive(Drop)]
+#[derive(Clone, Copy)]
 pub struct Changed<'a, B: Allocator> {
     pub span: Span,
     pub before: &'a Machine<B>,

@@ -60,7 +60,7 @@ pub struct Break {
 }
 
 /// What a stop may be about: the registers as bytes, and RAM.
-#[derive(Drop)]
+#[derive(Clone, Copy)]
 pub struct Moment<'a> {
     pub pc: u16,
     pub a: u8,

@@ -5,13 +5,13 @@ use Rattle.a2_inspect.specs.Sayings.{SaysNone}
 use Rattle.a2_inspect.specs.Inspections.{Inspection}
 use Rattle.a2_inspect.proofs.inspector.Inspector.obey.Goals as goal
 
-pub returns-in-Err : goal.returns-in-Err
-returns-in-Err g c =
+pub returns-in-None : goal.returns-in-None
+returns-in-None g c =
     let verb = c.in-Some.verb in
     inr (inl (
       verb,
       subst (λ (word : List ℕ). IsVerb (map capital word) verb) c.split_word.ensures.word c.in-Some.ensures.found,
       subst (λ (rest : List ℕ). SaysNone c.args.self.now.program verb rest) c.split_word.ensures.behind
-          (subst (λ (i : Inspection). SaysNone i.program verb c.split_word.result.1.now) c.self.view_is c.in-Err.ensures.none),
+          (subst (λ (i : Inspection). SaysNone i.program verb c.split_word.result.1.now) c.self.view_is c.in-None.ensures),
       refl,
     ))
