@@ -56,47 +56,6 @@ verb_listed text Info (inr is) = rw is.0 (32, omega arith, refl)
 verb_listed text Help (inr is) = rw is.0 (33, omega arith, refl)
 verb_listed text _ (inr is) = absurd (omega (arith, ap length is.0, is.1))
 
--- none has more than six letters
-pub short : (text : List ℕ) (v : Verb) → IsVerb text v → length text ≤ 6
-short text Step (inl is) = rw is (omega arith)
-short text Next (inl is) = rw is (omega arith)
-short text Out (inl is) = rw is (omega arith)
-short text Back (inl is) = rw is (omega arith)
-short text Rnext (inl is) = rw is (omega arith)
-short text Go (inl is) = rw is (omega arith)
-short text Until (inl is) = rw is (omega arith)
-short text Rback (inl is) = rw is (omega arith)
-short text Watch (inl is) = rw is (omega arith)
-short text Who (inl is) = rw is (omega arith)
-short text Break (inl is) = rw is (omega arith)
-short text Clear (inl is) = rw is (omega arith)
-short text Keys (inl is) = rw is (omega arith)
-short text Where (inl is) = rw is (omega arith)
-short text Regs (inl is) = rw is (omega arith)
-short text Print (inl is) = rw is (omega arith)
-short text Mem (inl is) = rw is (omega arith)
-short text Screen (inl is) = rw is (omega arith)
-short text Lines (inl is) = rw is (omega arith)
-short text Info (inl is) = rw is (omega arith)
-short text Help (inl is) = rw is (omega arith)
-short text v (inr is) = letter_short text v is.0
-  where
-    letter_short : (text : List ℕ) (v : Verb) → text ≡ letter v → length text ≤ 6
-    letter_short text Step is = rw is (omega arith)
-    letter_short text Next is = rw is (omega arith)
-    letter_short text Out is = rw is (omega arith)
-    letter_short text Back is = rw is (omega arith)
-    letter_short text Go is = rw is (omega arith)
-    letter_short text Until is = rw is (omega arith)
-    letter_short text Rback is = rw is (omega arith)
-    letter_short text Where is = rw is (omega arith)
-    letter_short text Print is = rw is (omega arith)
-    letter_short text Mem is = rw is (omega arith)
-    letter_short text Lines is = rw is (omega arith)
-    letter_short text Info is = rw is (omega arith)
-    letter_short text Help is = rw is (omega arith)
-    letter_short text _ is = rw is (omega arith)
-
 pub if_some : (found : Option Verb) (P Q : Verb → Type 0) → ((v : Verb) → P v → Q v) → IfSome found P → IfSome found Q
 if_some None P Q f h = tt
 if_some (Some v) P Q f h = f v h

@@ -297,24 +297,12 @@ fn go_back_over<A: Allocator + Copy>(history: &mut History<A>) -> Outcome
     }
 }
 
-// Goes back to the newest step that changed one of some bytes, before it.
-fn go_back_to_change<A: Allocator + Copy>(
-    history: &mut History<A>,
-    span: Span,
-    before: &Machine<A>,
-) -> Outcome
-    requires { world_of_state before.now.state ≡ here history.old }
-    ensures { GoesBack (λ world. is_changed_in (here history.old) world span) history.old history.new }
-{
-    go_back(history, &Changed { span, before })
-}
-
-// The same, where it is told if there is none.
+// Goes back to the newest step that changed one of some bytes, before it; if there is none, that is told.
 fn who<A: Allocator + Copy>(history: &mut History<A>, span: Span, before: &Machine<A>) -> Outcome
     requires { world_of_state before.now.state ≡ here history.old }
     ensures { GoesBack (λ world. is_changed_in (here history.old) world span) history.old history.new }
 {
-    match go_back_to_change(history, span, before) {
+    match go_back(history, &Changed { span, before }) {
         Outcome::NoneEarlier => Outcome::NeverChanged(span),
         outcome => outcome,
     }
