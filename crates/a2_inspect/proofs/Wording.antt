@@ -1,12 +1,12 @@
 -- The table of verbs.
-use Rattle.std.specs.Prelude.{◌≡◌, ℕ, ◌≤◌, List, length, map, Option, Some, None, IfSome, IfNone}
+use Rattle.std.specs.Prelude.{ℕ, List, length, map, Option, Some, None, IfSome, IfNone}
 use Rattle.std.specs.List.{Contains}
 use Rattle.std.proofs.Common.{refl, ap, inl, inr, arith}
 use Rattle.std.proofs.lemmas.List.Elements.{All-contains, All-from_recursion}
 use Rattle.a2_inspect.specs.declared.verbs.Verb.{Verb}
 use Rattle.a2_inspect.specs.declared.verbs.Verb.TheVariants.{Step, Next, Out, Back, Rnext, Go, Until, Rback, Watch, Who, Break, Clear, Keys, Where, Regs, Print, Mem, Screen, List as Lines, Info, Help}
 use Rattle.a2_inspect.specs.declared.verbs.TheConstants.{WORDS}
-use Rattle.a2_inspect.specs.Words.{letter, IsVerb}
+use Rattle.a2_inspect.specs.Words.{IsVerb}
 
 abbrev words : List (List ℕ × Verb)
 words = map (λ row. (row.0.now, row.1)) WORDS
