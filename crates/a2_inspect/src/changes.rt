@@ -16,7 +16,7 @@ const MOST_CHANGES: usize = 10;
 
 const CHANGES_IN_LINE: usize = 5;
 
-// As many bytes as may be watched.
+// As many bytes as may be watched: 8 spans of 256.
 const MOST_WATCHED: usize = 2048;
 
 // The first row of the mixed modes that has characters.

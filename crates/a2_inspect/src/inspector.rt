@@ -62,10 +62,10 @@ const MOST_BYTES: usize = 255;
 // A line.
 type Line = ArrayVec<u8, MOST_BYTES>;
 
-/// The most breakpoints, and the most spans of bytes that are watched.
-pub const MOST_BREAKS: usize = 64;
+// The most breakpoints, and the most spans of bytes that are watched. What is told where there are so many names them.
+const MOST_BREAKS: usize = 64;
 
-pub const MOST_WATCHES: usize = 8;
+const MOST_WATCHES: usize = 8;
 
 // Breakpoints, and what is watched.
 type Breaks = ArrayVec<Break, MOST_BREAKS>;
@@ -189,34 +189,37 @@ fn note<A: Allocator>(before: &mut Machine<A>, history: &History<A>)
     before.copy_from(history.machine());
 }
 
-// What alarms where a run goes on to one of these stops.
-fn alarm_of<'a, A: Allocator>(
-    marks: &'a mut Marks<A>,
+// Marks where steps alarm as a run goes on to one of these stops.
+fn mark<A: Allocator>(
+    marks: &mut Marks<A>,
     free: bool,
     program: &Program<A>,
     history: &History<A>,
-    stops: Stops<'a, A>,
-) -> Alarm<'a, A>
+    stops: Stops<A>,
+)
     requires here { world_of_state stops.before.now.state ≡ here history.now }
     requires guard { history.now.course.origin.guard ≡ guard_of_run free program.now }
-    ensures stops { result.stops ≡ stops.entry }
-    ensures warns { WarnsOfStops result.alerts result.stops.breaks.now result.stops.watches.now history.now }
+    ensures { WarnsOfStops marks.new stops.entry.breaks.now stops.entry.watches.now history.now }
 {
     marks.set(free, program, stops.before, stops.breaks, stops.watches);
-    Alarm {
-        alerts: marks.lent(),
-        stops,
-    }
 }
 
 // Makes steps, at most so many, up to a stop.
-fn go<A: Allocator + Copy>(history: &mut History<A>, most: u32, alarm: Alarm<A>) -> Outcome
-    requires here { world_of_state alarm.stops.before.now.state ≡ here history.old }
-    requires warns { WarnsOfStops alarm.alerts alarm.stops.breaks.now alarm.stops.watches.now history.old }
-    ensures { GoesOn (is_stop alarm.entry.stops.breaks.now alarm.entry.stops.watches.now
-        (here history.old)) most history.old history.new }
+fn go<A: Allocator + Copy>(
+    history: &mut History<A>,
+    most: u32,
+    marks: &Marks<A>,
+    stops: Stops<A>,
+) -> Outcome
+    requires here { world_of_state stops.before.now.state ≡ here history.old }
+    requires warns { WarnsOfStops marks.now stops.breaks.now stops.watches.now history.old }
+    ensures { GoesOn (is_stop stops.entry.breaks.now stops.entry.watches.now (here history.old)) most history.old history.new }
 {
-    go_on(history, most, &alarm.stops, &alarm)
+    let alarm = Alarm {
+        alerts: marks.lent(),
+        stops,
+    };
+    go_on(history, most, &stops, &alarm)
 }
 
 // Makes steps, at most so many, up to an address.
@@ -232,45 +235,60 @@ fn leave<A: Allocator + Copy>(
     history: &mut History<A>,
     most: u32,
     s: u8,
-    alarm: Alarm<A>,
+    marks: &Marks<A>,
+    stops: Stops<A>,
 ) -> Outcome
-    requires here { world_of_state alarm.stops.before.now.state ≡ here history.old }
-    requires warns { WarnsOfStops alarm.alerts alarm.stops.breaks.now alarm.stops.watches.now history.old }
-    ensures { GoesOn (is_left s (is_stop alarm.entry.stops.breaks.now alarm.entry.stops.watches.now (here history.old)))
+    requires here { world_of_state stops.before.now.state ≡ here history.old }
+    requires warns { WarnsOfStops marks.now stops.breaks.now stops.watches.now history.old }
+    ensures { GoesOn (is_left s (is_stop stops.entry.breaks.now stops.entry.watches.now (here history.old)))
         most history.old history.new }
 {
+    let alarm = Alarm {
+        alerts: marks.lent(),
+        stops,
+    };
     let left = Left { s, alarm };
     go_on(history, most, &left, &left)
 }
 
 // Makes a step, or those of the routine that a JSR enters.
-fn next<A: Allocator + Copy>(history: &mut History<A>, most: u32, alarm: Alarm<A>) -> Outcome
-    requires here { world_of_state alarm.stops.before.now.state ≡ here history.old }
-    requires warns { WarnsOfStops alarm.alerts alarm.stops.breaks.now alarm.stops.watches.now history.old }
+fn next<A: Allocator + Copy>(
+    history: &mut History<A>,
+    most: u32,
+    marks: &Marks<A>,
+    stops: Stops<A>,
+) -> Outcome
+    requires here { world_of_state stops.before.now.state ≡ here history.old }
+    requires warns { WarnsOfStops marks.now stops.breaks.now stops.watches.now history.old }
     ensures { GoesOver (is_call_of (here history.old)) (here history.old).registers.s
-        (is_stop alarm.entry.stops.breaks.now alarm.entry.stops.watches.now (here history.old)) most history.old history.new }
+        (is_stop stops.entry.breaks.now stops.entry.watches.now (here history.old)) most history.old history.new }
 {
     if is_call(history.machine()) {
         let s = history.machine().regs().s;
-        leave(history, most, s, alarm)
+        leave(history, most, s, marks, stops)
     } else {
         step(history, 1)
     }
 }
 
 // Makes steps until the routine that was entered last is left.
-fn out<A: Allocator + Copy>(history: &mut History<A>, most: u32, alarm: Alarm<A>) -> Outcome
-    requires here { world_of_state alarm.stops.before.now.state ≡ here history.old }
-    requires warns { WarnsOfStops alarm.alerts alarm.stops.breaks.now alarm.stops.watches.now history.old }
+fn out<A: Allocator + Copy>(
+    history: &mut History<A>,
+    most: u32,
+    marks: &Marks<A>,
+    stops: Stops<A>,
+) -> Outcome
+    requires here { world_of_state stops.before.now.state ≡ here history.old }
+    requires warns { WarnsOfStops marks.now stops.breaks.now stops.watches.now history.old }
     ensures { GoesOut (innermost (entered history.old.course history.old.position))
-        (is_stop alarm.entry.stops.breaks.now alarm.entry.stops.watches.now (here history.old)) most history.old history.new
+        (is_stop stops.entry.breaks.now stops.entry.watches.now (here history.old)) most history.old history.new
         ⊎ (history.new ≡ history.old) }
 {
     let Ok(entries) = history.entered() else {
         return Outcome::Memory;
     };
     match entries.as_slice().last() {
-        Some(entry) => leave(history, most, entry.s, alarm),
+        Some(entry) => leave(history, most, entry.s, marks, stops),
         None => Outcome::NoRoutine,
     }
 }
@@ -437,18 +455,18 @@ impl<'a, A: Allocator + Copy> Inspector<'a, A> {
         match order {
             Order::Step(steps) => step(&mut self.history, steps),
             Order::Next => {
-                let alarm = alarm_of(&mut self.marks, free, program, &self.history, stops);
-                next(&mut self.history, self.most, alarm)
+                mark(&mut self.marks, free, program, &self.history, stops);
+                next(&mut self.history, self.most, &self.marks, stops)
             }
             Order::Out => {
-                let alarm = alarm_of(&mut self.marks, free, program, &self.history, stops);
-                out(&mut self.history, self.most, alarm)
+                mark(&mut self.marks, free, program, &self.history, stops);
+                out(&mut self.history, self.most, &self.marks, stops)
             }
             Order::Back(steps) => back(&mut self.history, steps),
             Order::GoBackOver => go_back_over(&mut self.history),
             Order::Go => {
-                let alarm = alarm_of(&mut self.marks, free, program, &self.history, stops);
-                go(&mut self.history, self.most, alarm)
+                mark(&mut self.marks, free, program, &self.history, stops);
+                go(&mut self.history, self.most, &self.marks, stops)
             }
             Order::Until(address) => until(&mut self.history, self.most, address),
             Order::GoBack => go_back_to_stop(&mut self.history, stops),
