@@ -67,7 +67,7 @@ pub enum Detail {
 }
 
 /// Where a run stands.
-#[derive(Clone, Copy)]
+#[derive(Drop)]
 pub struct Stand<'a, A: Allocator> {
     pub scene: Scene<'a, A>,
     pub machine: &'a Machine<A>,

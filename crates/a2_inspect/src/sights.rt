@@ -141,7 +141,7 @@ impl<B: Allocator> Lookout for Left<'_, B> {
 }
 
 /// Worlds in which one of some bytes is another than in a machine before.
-#[derive(Clone, Copy)]
+#[derive(Drop)]
 pub struct Changed<'a, B: Allocator> {
     pub span: Span,
     pub before: &'a Machine<B>,
