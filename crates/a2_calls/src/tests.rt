@@ -4,8 +4,4 @@ mod bus;
 mod cpu;
 mod hex;
 mod live;
-mod opcode;
-mod page;
-mod services;
 mod stream;
-mod syntax;

@@ -1,13 +1,8 @@
-//! What no program shows: parts and counts of machines and debuggers, and each allocation, each write and each read that
-//! fails in its turn. Behind the last refusal each call is compared whole, so one that is always refused is found too.
+//! What no program shows: counts of machines and debuggers, and each allocation, each write and each read that fails in its
+//! turn. Behind the last refusal each call is compared whole, so one that is always refused is found too.
 
 mod debuggers;
-mod examples;
-mod lines;
+mod faults;
 mod machines;
 mod memory;
-mod parts;
-mod reads;
-mod starts;
 mod texts;
-mod writes;

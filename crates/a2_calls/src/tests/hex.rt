@@ -1,146 +1,58 @@
-//! Worked examples of object lines.
+//! Object lines: what is written of the images that they load, and how they are refused, which no program tells.
 
-use a2_hex::{HexFault, Image, address_of, byte_of, load_lines, write_lines};
-use a2_stream::{Failing, Pinched, ToWrite, WriteFault};
+use a2_hex::{Image, load_lines, write_lines};
+use a2_stream::Kept;
 use std::alloc::Global;
 
-/// Digits, and the address and the byte that they are.
-const DIGITS: [(&[u8], Option<u16>, Option<u8>); 9] = [
-    (b"300", Some(0x300), None),
-    (b"fFfF", Some(0xFFFF), None),
-    (b"", None, None),
-    (b"00300", None, None),
-    (b" 300", None, None),
-    (b"1", Some(1), Some(1)),
-    (b"a9", Some(0xA9), Some(0xA9)),
-    (b"123", Some(0x123), None),
-    (b"1G", None, None),
-];
+/// A text of object lines, and what is written of its image, or how it is refused.
+struct Row(&'static str, &'static str);
 
-/// Addresses, and what an image gives there behind $A9 at $0300.
-const HELD: [(u16, Option<u8>); 3] = [(0x300, Some(0xA9)), (0x301, None), (0xC000, None)];
-
-// The first of the texts that is read otherwise.
-fn wrong_digits() -> Option<&'static [u8]> {
-    for (text, address, byte) in DIGITS {
-        if address_of(text) != address || byte_of(text) != byte {
-            return Some(text);
-        }
-    }
-    None
-}
-
-fn is_held(alloc: Global) -> bool {
-    let Ok(mut image) = Image::new(alloc) else {
-        return false;
-    };
-    let is_empty = image.get(0x300).is_none();
-    image.set(0x300, 0xA9);
-    for (address, byte) in HELD {
-        if image.get(address) != byte {
-            return false;
-        }
-    }
-    is_empty
-}
-
-#[test]
-fn digits_and_an_image(rt: HostRuntime) {
-    assert_eq!(rt; wrong_digits(), None);
-    assert!(rt; is_held(rt.alloc()));
-}
-
-/// Texts of object lines, and what is written of the image that they load.
-const LINES: [(&[u8], &[u8]); 10] = [
-    (b" 300:a9 1\n:60", b"0300:A9 01 60\n"),
-    (
-        b"0300:60\n0400:C8 C5 CC CC CF\n",
-        b"0300:60\n0400:C8 C5 CC CC CF\n",
+const ROWS: [Row; 14] = [
+    Row("", ""),
+    Row(
+        "0300:A9 C1 20 ED FD 60\n0400:C8 C5 CC CC CF\n",
+        "0300:A9 C1 20 ED FD 60\n0400:C8 C5 CC CC CF\n",
     ),
-    (b"0300:A9 C1 20 ED FD 60\n", b"0300:A9 C1 20 ED FD 60\n"),
-    (
-        b"306:1 2 3 4 5 6 7 8 9 a b",
-        b"0306:01 02\n0308:03 04 05 06 07 08 09 0A\n0310:0B\n",
+    Row(" 300:a9 1\r\n \t\n:60", "0300:A9 01 60\n"),
+    Row(
+        "306:1 2 3 4 5 6 7 8 9 a b",
+        "0306:01 02\n0308:03 04 05 06 07 08 09 0A\n0310:0B\n",
     ),
-    (b"303:3\n301:1\n303:33", b"0301:01\n0303:33\n"),
-    (b"300:1\n400:\n:2", b"0300:01\n0400:02\n"),
-    (b"300:A9\r\n \t\r\n:C1\r\n", b"0300:A9 C1\n"),
-    (b"\t 0: \tfe\t \tFF  ", b"0000:FE FF\n"),
-    (b"C000:\nBFFF:1\n", b"BFFF:01\n"),
-    (b"", b""),
+    Row("303:3\n301:1\n303:33", "0301:01\n0303:33\n"),
+    Row("300:1\n400:\n:2", "0300:01\n0400:02\n"),
+    Row("C000:\nBFFF:1\n", "BFFF:01\n"),
+    Row("300", "LINE 1 H1 NOT HEX"),
+    Row("300:1\n\n00300:1\n:1", "LINE 3 H1 NOT HEX"),
+    Row("300 :1", "LINE 1 H1 NOT HEX"),
+    Row(":1G\nC000:1", "LINE 1 H1 NOT HEX"),
+    Row(":60", "LINE 1 H2 NO ADDRESS"),
+    Row("BFFF:01 02", "LINE 1 H3 OUTSIDE RAM"),
+    Row("C000:\n:1", "LINE 2 H3 OUTSIDE RAM"),
 ];
 
-/// Texts that are refused, by their first bad line.
-const BAD: [(&[u8], HexFault); 14] = [
-    (b":60", HexFault::NoAddress(1)),
-    (b":", HexFault::NoAddress(1)),
-    (b"BFFF:01 02", HexFault::Outside(1)),
-    (b"C000:\n:1", HexFault::Outside(2)),
-    (b"BFFF:1\n\n:1", HexFault::Outside(3)),
-    (b"300:123", HexFault::Digit(1)),
-    (b"300", HexFault::Digit(1)),
-    (b"300 :1", HexFault::Digit(1)),
-    (b"3 00:1", HexFault::Digit(1)),
-    (b"00300:1", HexFault::Digit(1)),
-    (b"300:1:2", HexFault::Digit(1)),
-    (b"300:1,2", HexFault::Digit(1)),
-    (b":1G\nC000:1", HexFault::Digit(1)),
-    (b"\n300:1\nx\n:1", HexFault::Digit(3)),
-];
-
-// What is written of a text's image through a writer that takes five bytes a call and only so many calls, and whether
-// the write failed.
-fn written(alloc: Global, text: &[u8], calls: u64) -> Result<(Vec<u8>, bool), HexFault> {
-    let image = load_lines(alloc, text)?;
-    let mut bytes = Vec::new(alloc);
-    let mut writer = Pinched::new(ToWrite::new(&mut bytes), 5, calls, Failing::Refuses);
-    let failed = write_lines(&image, &mut writer) == Err(WriteFault);
-    drop(writer);
-    Ok((bytes, failed))
+fn writes(alloc: Global, image: &Image, wanted: &str) -> bool {
+    let mut lines = Kept::new(alloc);
+    write_lines(image, &mut lines).is_ok() && lines.as_slice() == wanted.as_bytes()
 }
 
-// Whether that is so.
-fn writes(alloc: Global, text: &[u8], calls: u64, wanted: &[u8], fails: bool) -> bool {
-    match written(alloc, text, calls) {
-        Ok((bytes, failed)) => bytes.as_slice() == wanted && failed == fails,
-        Err(_) => false,
+fn is_told(alloc: Global, row: &Row) -> bool {
+    match load_lines(alloc, row.0.as_bytes()) {
+        Ok(image) => writes(alloc, &image, row.1),
+        Err(fault) => fault.text().as_str() == row.1,
     }
 }
 
-// The first of the texts that is loaded or refused otherwise.
-fn wrong_lines(alloc: Global) -> Option<&'static [u8]> {
-    for (text, wanted) in LINES {
-        if !writes(alloc, text, 100, wanted, false) {
-            return Some(text);
+// The first of the texts of which something else is told.
+fn wrong_text(alloc: Global) -> &'static str {
+    for row in ROWS.iter() {
+        if !is_told(alloc, row) {
+            return row.0;
         }
     }
-    for (text, fault) in BAD {
-        if load_lines(alloc, text).err() != Some(fault) {
-            return Some(text);
-        }
-    }
-    None
+    "none"
 }
 
 #[test]
 fn lines_are_loaded_and_written_or_refused(rt: HostRuntime) {
-    assert_eq!(rt; wrong_lines(rt.alloc()), None);
-    // Three calls of five bytes: both lines go out together, but for the last line feed.
-    assert!(rt; writes(rt.alloc(), b"300:1\n400:2", 3, b"0300:01\n0400:02", true));
-}
-
-#[test]
-fn a_refusal_names_its_line(rt: HostRuntime) -> Result<(), std::test::Fail> {
-    let cases = [
-        (HexFault::Digit(1), "LINE 1 H1 NOT HEX"),
-        (HexFault::NoAddress(2), "LINE 2 H2 NO ADDRESS"),
-        (HexFault::Outside(30), "LINE 30 H3 OUTSIDE RAM"),
-        (HexFault::Digit(0), "H1 NOT HEX"),
-        (HexFault::Memory, "NO MEMORY"),
-    ];
-    for (fault, want) in cases {
-        let text = format!(in rt.alloc(); "{fault}")?;
-        assert!(rt; text.as_str() == want);
-    }
-    Ok(())
+    assert_eq!(rt; wrong_text(rt.alloc()), "none");
 }

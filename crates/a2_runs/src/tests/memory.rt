@@ -1,17 +1,14 @@
 //! What takes memory, with each of its allocations refused in its turn.
 
-use super::examples::{ASSEMBLE, DEBUG, Example, MONITOR, RUN};
-use super::parts::{
-    empty_image, image_of_object_lines, lines_of_a_text, program_of_a_source, source_of_a_text,
-};
-use super::starts::{
-    answers_of_a_list_of_calls, board_at_the_start, debugger_at_the_start, flat_memory,
-    machine_at_the_start,
-};
-use super::texts::{FREE, answer_of};
+use super::texts::{ASSEMBLE, DEBUG, Example, FREE, MONITOR, RUN, answer_of, debugger_of};
 use crate::ration::Ration;
+use a2_bus::{Bus, Flat};
+use a2_debug::{Answer, Call, DebugFault, Debugger, Halt, perform_all};
+use a2_hex::{HexFault, Image, load_lines, write_lines};
+use a2_machine::Cause;
 use a2_run::RunFault;
-use std::alloc::Global;
+use a2_stream::Kept;
+use std::alloc::{Allocator, Global};
 
 /// More calls for memory than any call of these tests makes.
 const MOST: u64 = 100;
@@ -19,22 +16,24 @@ const MOST: u64 = 100;
 /// What takes memory.
 #[derive(Clone, Copy)]
 enum Taker {
-    Lines,
-    Source,
-    Program,
-    EmptyImage,
     Image,
-    Board,
     Flat,
-    Machine,
-    Debugger,
     Answers,
     Text(Example),
 }
 
+const TAKERS: [Taker; 6] = [
+    Taker::Image,
+    Taker::Flat,
+    Taker::Answers,
+    Taker::Text(RUN),
+    Taker::Text(MONITOR),
+    Taker::Text(DEBUG),
+];
+
 /// What a call for memory gave.
 #[derive(Clone, Copy, PartialEq, Eq)]
-pub enum Came {
+enum Came {
     /// What was asked for, and it is right.
     Whole,
     /// Nothing, for want of memory, and nothing is done.
@@ -43,17 +42,70 @@ pub enum Came {
     Wrong,
 }
 
-/// What was asked for, where it is right.
-pub fn whole(is_right: bool) -> Came {
+// What was asked for, where it is right.
+fn whole(is_right: bool) -> Came {
     if is_right { Came::Whole } else { Came::Wrong }
 }
 
-/// A refusal, where it is for want of memory.
-pub fn refused(is_memory: bool) -> Came {
+// A refusal, where it is for want of memory.
+fn refused(is_memory: bool) -> Came {
     if is_memory {
         Came::Refused
     } else {
         Came::Wrong
+    }
+}
+
+// An image is told by its object lines.
+fn has_lines<A: Allocator>(room: Global, image: &Image<A>, lines: &str) -> bool {
+    let mut output = Kept::new(room);
+    write_lines(image, &mut output).is_ok() && output.as_slice() == lines.as_bytes()
+}
+
+// Loads what the assembler writes.
+fn image_comes(room: Global, ration: &Ration<Global>) -> Came {
+    match load_lines(ration, ASSEMBLE.output.as_bytes()) {
+        Ok(image) => whole(has_lines(room, &image, ASSEMBLE.output)),
+        Err(fault) => refused(fault == HexFault::Memory),
+    }
+}
+
+fn flat_comes(ration: &Ration<Global>) -> Came {
+    match Flat::new(ration) {
+        Ok(mut flat) => {
+            flat.write(0xFFFF, 7);
+            whole(flat.read(0xFFFF) == 7 && flat.peek(0xFFFE) == Some(0))
+        }
+        Err(_) => Came::Refused,
+    }
+}
+
+// Whether these are the answers, and so much was done.
+fn are_answers(answers: &[Answer], debugger: &Debugger) -> bool {
+    matches!(
+        answers,
+        [
+            Answer::Halted(Halt::Stopped(Cause::Limit)),
+            Answer::Done,
+            Answer::Refused(DebugFault::TooFar),
+        ]
+    ) && debugger.count() == 3
+        && debugger.made() == 8
+}
+
+// Where memory is refused, no call was made.
+fn answers(ration: &Ration<Global>, debugger: &mut Debugger) -> Came {
+    let list = [Call::Step(5), Call::Back(2), Call::Back(4)];
+    match perform_all(ration, debugger, &list) {
+        Ok(answers) => whole(are_answers(answers.as_slice(), debugger)),
+        Err(_) => refused(debugger.made() == 0),
+    }
+}
+
+fn answers_come(room: Global, ration: &Ration<Global>) -> Came {
+    match debugger_of(room, DEBUG.source) {
+        Some(mut debugger) => answers(ration, &mut debugger),
+        None => Came::Wrong,
     }
 }
 
@@ -66,20 +118,11 @@ fn text_comes(room: Global, ration: &Ration<Global>, example: &Example) -> Came 
     }
 }
 
-// Takes memory, of which so many calls are granted.
-fn take(room: Global, ration: &Ration<Global>, taker: &Taker, calls: u64) -> Came {
-    ration.allow(calls);
+fn take(room: Global, ration: &Ration<Global>, taker: &Taker) -> Came {
     match taker {
-        Taker::Lines => lines_of_a_text(ration),
-        Taker::Source => source_of_a_text(room, ration),
-        Taker::Program => program_of_a_source(room, ration, calls),
-        Taker::EmptyImage => empty_image(room, ration),
-        Taker::Image => image_of_object_lines(room, ration),
-        Taker::Board => board_at_the_start(room, ration),
-        Taker::Flat => flat_memory(ration),
-        Taker::Machine => machine_at_the_start(room, ration),
-        Taker::Debugger => debugger_at_the_start(room, ration, calls),
-        Taker::Answers => answers_of_a_list_of_calls(room, ration, calls),
+        Taker::Image => image_comes(room, ration),
+        Taker::Flat => flat_comes(ration),
+        Taker::Answers => answers_come(room, ration),
         Taker::Text(example) => text_comes(room, ration, example),
     }
 }
@@ -89,7 +132,8 @@ fn take(room: Global, ration: &Ration<Global>, taker: &Taker, calls: u64) -> Cam
 fn runs_out(room: Global, taker: &Taker) -> bool {
     let ration = Ration::new(room, 0);
     for calls in 0..MOST {
-        let came = take(room, &ration, taker, calls);
+        ration.allow(calls);
+        let came = take(room, &ration, taker);
         match ration.refused() {
             0 => return came == Came::Whole && calls > 0,
             1 if came == Came::Refused => {}
@@ -97,29 +141,6 @@ fn runs_out(room: Global, taker: &Taker) -> bool {
         }
     }
     false
-}
-
-const TAKERS: [Taker; 13] = [
-    Taker::Lines,
-    Taker::Source,
-    Taker::Program,
-    Taker::EmptyImage,
-    Taker::Image,
-    Taker::Board,
-    Taker::Flat,
-    Taker::Machine,
-    Taker::Debugger,
-    Taker::Answers,
-    Taker::Text(RUN),
-    Taker::Text(MONITOR),
-    Taker::Text(DEBUG),
-];
-
-#[test]
-fn without_memory(rt: HostRuntime) {
-    for taker in TAKERS.iter() {
-        assert!(rt; runs_out(rt.alloc(), taker));
-    }
 }
 
 // An arena that is refused a block asks for half as much, while half would do: so all calls behind the first so many
@@ -142,6 +163,9 @@ fn object_lines_run_out(room: Global) -> bool {
 }
 
 #[test]
-fn object_lines_without_memory(rt: HostRuntime) {
+fn without_memory(rt: HostRuntime) {
+    for (number, taker) in TAKERS.iter().enumerate() {
+        assert!(rt; runs_out(rt.alloc(), taker), "taker {number}");
+    }
     assert!(rt; object_lines_run_out(rt.alloc()));
 }
