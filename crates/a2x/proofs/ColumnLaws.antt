@@ -1,6 +1,5 @@
 -- What holds of a text in columns, of that which is equal to it.
-use Rattle.std.proofs.Common.{◌≡◌, ℕ, List, Option, Some, subst}
-use Rattle.std.specs.Prelude.{IfSome}
+use Rattle.std.proofs.Common.{◌≡◌, ℕ, List, subst}
 use Rattle.a2_stream.specs.Stream.{Taker, Sends, Breaks}
 use Rattle.a2_desk.specs.Desks.{Files, Saves}
 use Rattle.a2_fmt.specs.Formatted.{AreAlike, CanBeLaid}

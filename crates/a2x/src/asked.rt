@@ -1,51 +1,35 @@
-//! What words with options of their own ask for, or the status where their fault is told.
+//! What a word is given, and what it asks for by that, or why it is refused.
 
-ghost use Rattle.std.specs.Prelude.{◌≡◌, ◌≤◌, IfErr};
+ghost use Rattle.std.specs.Prelude.{◌≡◌};
 ghost use Rattle.std.specs.List.{list_any};
 ghost use Rattle.std.specs.Str.{bytes_eq};
 
+use crate::lines::Terminal;
 use crate::named::file_in;
-use crate::program::{behind, refused, tell, tell_number, tell_value};
+use crate::play::Seat;
+use crate::program::behind;
+use crate::refusal::Refusal;
 use crate::table::Word;
-use crate::tools::{or_told, told};
-use crate::words::{Order, order_of};
+use crate::words::{Order, order_of, refused};
 use a2_asm::Program;
-use a2_options::{Found, OptionFault, Parted, Row, take_options};
+use a2_options::Found;
 use a2_places::{Span, span_of};
-use a2_run::{MOST_STEPS, RunFault, program_of, step_limit};
-use a2_stream::Output;
+use a2_run::step_limit;
 use std::alloc::Global;
 
-// A row of a table of options.
-macro_rules! row {
-    ($kind:ident $name:literal) => {
-        Row {
-            name: $name,
-            kind: Kind::$kind,
-        }
-    };
-}
-
-pub(crate) use row;
-
-/// What words hold by a table of options; or the status, where their fault is told.
-pub fn held_in<'a, E: Output>(
-    alloc: Global,
-    word: &Word,
-    table: &[Row],
-    words: &'a [String],
-    complaints: &mut E,
-) -> Result<Parted<'a>, u8>
-    ensures { IfErr result (λ status. status ≤ 5) }
-{
-    match take_options(alloc, table, words) {
-        Ok(held) => Ok(held),
-        Err(OptionFault::Value(option)) => {
-            tell_value(word.name, option, complaints);
-            Err(2)
-        }
-        Err(OptionFault::Memory) => Err(told(RunFault::Memory, complaints)),
-    }
+/// What a word is given.
+#[derive(Clone, Copy)]
+pub struct Given<'a> {
+    pub word: Word,
+    /// The word, and what stands behind it.
+    pub words: &'a [String],
+    /// Its options, in the order of the words.
+    pub found: &'a [Found<'a>],
+    /// The words without these.
+    pub others: &'a [String],
+    pub seat: Seat,
+    /// The terminal that gives each byte, where the words tell of one.
+    pub terminal: Option<Terminal>,
 }
 
 /// Whether an option was found.
@@ -55,104 +39,54 @@ pub fn has(found: &[Found<'_>], name: &str) -> bool
     found.iter().any(|option| option.name == name)
 }
 
-/// What the words of a run ask for; or the status, where their fault is told.
-pub fn order_in<'a, E: Output>(
-    word: &Word,
-    words: &'a [String],
-    complaints: &mut E,
-) -> Result<Order<'a>, u8>
-    ensures { IfErr result (λ status. status ≤ 5) }
-{
-    match order_of(words) {
+/// What the words of a run ask for.
+pub fn order_in<'a>(given: &Given<'a>) -> Result<Order<'a>, Refusal<'a>> {
+    match order_of(given.others) {
         Ok(order) => Ok(order),
-        Err(fault) => Err(refused(word, behind(words), fault, complaints)),
+        Err(fault) => Err(refused(&given.word, behind(given.others), fault)),
     }
 }
 
-/// The file that words name alone, none and `-` for the standard input; or the status, where their fault is told.
-pub fn named_file<'a, E: Output>(
-    word: &Word,
-    words: &'a [String],
-    complaints: &mut E,
-) -> Result<Option<&'a str>, u8>
-    ensures { IfErr result (λ status. status ≤ 5) }
-{
-    match file_in(words) {
+/// The file that words name alone, none and `-` for the standard input.
+pub fn named_file<'a>(given: &Given<'a>) -> Result<Option<&'a str>, Refusal<'a>> {
+    match file_in(given.others) {
         Ok(file) => Ok(file),
-        Err(fault) => Err(refused(word, behind(words), fault, complaints)),
+        Err(fault) => Err(refused(&given.word, behind(given.others), fault)),
     }
 }
 
-/// The program of a source; or the status, where its fault is told.
-pub fn program_in<E: Output>(
-    alloc: Global,
-    source: &[u8],
-    complaints: &mut E,
-) -> Result<Program<Global>, u8>
-    ensures { IfErr result (λ status. status ≤ 5) }
-{
-    or_told(program_of(alloc, source), complaints)
-}
-
-/// The number that an option has, from `least` to 100,000,000; or the status, where its fault is told.
-pub fn number_in<E: Output>(
-    name: &str,
-    option: &Found<'_>,
+/// The number that an option of the word `name` has, from `least` to `most`.
+pub fn number_in<'a>(
+    name: &'static str,
+    option: &Found<'a>,
     least: u32,
-    complaints: &mut E,
-) -> Result<u32, u8>
-    ensures { IfErr result (λ status. status ≤ 5) }
-{
+    most: u32,
+) -> Result<u32, Refusal<'a>> {
     match step_limit(option.value) {
-        Some(number) if number >= least => Ok(number),
-        _ => {
-            tell_number(
-                name,
-                option.name,
-                option.value,
-                least,
-                MOST_STEPS,
-                complaints,
-            );
-            Err(2)
-        }
+        Some(number) if number >= least && number <= most => Ok(number),
+        _ => Err(Refusal::Number {
+            name,
+            option: option.name,
+            value: option.value,
+            least,
+            most,
+        }),
     }
 }
 
-/// Tells what is wrong with the addresses that an option has; the status.
-pub fn tell_span<E: Output>(name: &str, option: &Found<'_>, why: &[u8], complaints: &mut E) -> u8
-    ensures { result ≤ 5 }
-{
-    tell(
-        &[
-            name.as_bytes(),
-            b": ",
-            option.name.as_bytes(),
-            b" ",
-            option.value.as_bytes(),
-            why,
-        ],
-        complaints,
-    );
-    2
-}
-
-/// The addresses that an option has; or the status, where its fault is told.
-pub fn span_in<E: Output>(
-    name: &str,
+/// The addresses that an option has, which `front` names.
+pub fn span_in<'a>(
+    front: &'static str,
     program: &Program<Global>,
-    option: &Found<'_>,
-    complaints: &mut E,
-) -> Result<Span, u8>
-    ensures { IfErr result (λ status. status ≤ 5) }
-{
+    option: &Found<'a>,
+) -> Result<Span, Refusal<'a>> {
     match span_of(program, option.value.as_bytes()) {
         Some(span) => Ok(span),
-        None => Err(tell_span(
-            name,
-            option,
-            b" is no place: $300, a name of the source, NAME+2, or two with .. between, the lower first",
-            complaints,
+        None => Err(Refusal::Words(
+            front,
+            option.value,
+            " is no place: $300, a name of the source, NAME+2, or two with .. between, the lower first",
+            "",
         )),
     }
 }

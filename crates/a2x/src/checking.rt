@@ -1,19 +1,19 @@
 //! The word `check`: what its words ask for, and what is told of each text.
 
-ghost use Rattle.std.specs.Prelude.{◌≤◌};
+ghost use Rattle.std.specs.Prelude.{◌≤◌, IfOk};
 
+use crate::asked::Given;
+use crate::host::Host;
 use crate::named::{files_in, option_at_end};
 use crate::notes::tell_source_notes;
-use crate::program::{behind, refused, text_of};
-use crate::table::Word;
-use crate::tools::told;
-use crate::words::WordsFault;
-use a2_asm::Program;
+use crate::program::{behind, text_of};
+use crate::refusal::Refusal;
+use crate::words::{WordsFault, refused};
 use a2_check::{Format, TellFault, Verdict, put_refusals, verdict_of};
 use a2_host::Shelf;
 use a2_run::RunFault;
 use a2_stream::{Input, Output, put_all};
-use a2_syntax::{Fault, Source};
+use a2_syntax::Fault;
 use bumpalo::Bump;
 use std::alloc::{Allocator, Global};
 
@@ -62,42 +62,6 @@ fn put_headed<A: Allocator + Copy, W: Output>(
     put_refusals(alloc, text.name, text.source, refusals, format, output)
 }
 
-// Writes refusals of a text; the status, which is 1 where there is one.
-fn refuse<A: Allocator + Copy, W: Output, E: Output>(
-    alloc: A,
-    text: Text<'_>,
-    refusals: &[Fault],
-    format: Format,
-    output: &mut W,
-    complaints: &mut E,
-) -> u8
-    ensures { result ≤ 5 }
-{
-    match put_headed(alloc, text, refusals, format, output) {
-        Ok(()) => u8::from(!refusals.is_empty()),
-        Err(TellFault::Write) => told(RunFault::Write, complaints),
-        Err(TellFault::Memory) => told(RunFault::Memory, complaints),
-    }
-}
-
-// Writes that a text has no refusals, and tells its notes; the status.
-fn accept<A: Allocator + Copy, W: Output, E: Output>(
-    alloc: A,
-    text: Text<'_>,
-    lines: &Source<A>,
-    program: &Program<A>,
-    format: Format,
-    output: &mut W,
-    complaints: &mut E,
-) -> u8
-    ensures { result ≤ 5 }
-{
-    match refuse(alloc, text, &[], format, output, complaints) {
-        0 => tell_source_notes(alloc, text.name, text.source, lines, program, complaints),
-        status => status,
-    }
-}
-
 // Writes all refusals of a text, or tells the notes of one that is accepted. The status is 1 where there is a refusal.
 fn check<W: Output, E: Output>(
     alloc: Global,
@@ -105,84 +69,76 @@ fn check<W: Output, E: Output>(
     format: Format,
     output: &mut W,
     complaints: &mut E,
-) -> u8
-    ensures { result ≤ 5 }
+) -> Result<u8, TellFault>
+    ensures { IfOk result (λ status. status ≤ 5) }
 {
     // Lines and program lie in an arena and are given up together.
     let arena = Bump::new(alloc);
-    match verdict_of(&arena, text.source) {
-        Ok(Verdict::Accepted(lines, program)) => {
-            accept(&arena, text, &lines, &program, format, output, complaints)
+    match verdict_of(&arena, text.source)? {
+        Verdict::Accepted(lines, program) => {
+            put_headed(&arena, text, &[], format, output)?;
+            tell_source_notes(&arena, text.name, text.source, &lines, &program, complaints)?;
+            Ok(0)
         }
-        Ok(Verdict::Refused(refusals)) => {
-            refuse(
-                &arena,
-                text,
-                refusals.as_slice(),
-                format,
-                output,
-                complaints,
-            )
+        Verdict::Refused(refusals) => {
+            put_headed(&arena, text, refusals.as_slice(), format, output)?;
+            Ok(u8::from(!refusals.is_empty()))
         }
-        Err(_) => told(RunFault::Memory, complaints),
     }
 }
 
-// Tells the refusals of a file, one of several where it is headed, or of the standard input.
-fn check_text<S: Shelf, R: Input, W: Output, E: Output>(
-    alloc: Global,
+// Checks the text of a file, one of several where it is headed, or of the standard input; the status.
+fn check_text<'a, S: Shelf, D, C, R: Input, W: Output, E: Output>(
     format: Format,
-    file: Option<&str>,
+    file: Option<&'a str>,
     headed: bool,
-    shelf: &mut S,
-    input: &mut R,
-    output: &mut W,
-    complaints: &mut E,
-) -> u8
-    ensures { result ≤ 5 }
+    host: &mut Host<S, D, C, R, W, E>,
+) -> Result<u8, Refusal<'a>>
+    ensures { IfOk result (λ status. status ≤ 5) }
 {
-    let source = match text_of(alloc, file, shelf, input, complaints) {
-        Ok(source) => source,
-        Err(status) => return status,
-    };
+    let source = text_of(host.alloc, file, &mut host.shelf, &mut host.input)?;
     let text = Text {
         name: file.unwrap_or("-"),
         headed,
         source: source.as_slice(),
     };
-    check(alloc, text, format, output, complaints)
+    match check(
+        host.alloc,
+        text,
+        format,
+        &mut host.output,
+        &mut host.complaints,
+    ) {
+        Ok(status) => Ok(status),
+        Err(TellFault::Write) => Err(Refusal::Fault(RunFault::Write)),
+        Err(TellFault::Memory) => Err(Refusal::Fault(RunFault::Memory)),
+    }
 }
 
 /// Tells the refusals of the files that words name, or of the standard input. The status is the greatest of those of the texts: 1
-/// where one is refused, 2 where the words are, 4 where a file does not open or a read or a write fails, and 5 for want of
-/// memory, each told on `complaints`.
-pub fn check_of<S: Shelf, R: Input, W: Output, E: Output>(
-    alloc: Global,
-    word: &Word,
-    words: &[String],
-    shelf: &mut S,
-    input: &mut R,
-    output: &mut W,
-    complaints: &mut E,
-) -> u8
-    ensures { result ≤ 5 }
+/// where one is refused, 4 where a file does not open or a read or a write fails, and 5 for want of memory.
+pub fn check_of<'a, S: Shelf, D, C, R: Input, W: Output, E: Output>(
+    given: &Given<'a>,
+    host: &mut Host<S, D, C, R, W, E>,
+) -> Result<u8, Refusal<'a>>
+    ensures { IfOk result (λ status. status ≤ 5) }
 {
-    let words = behind(words);
+    let words = behind(given.words);
     let (format, files) = match check_order(words) {
         Ok(order) => order,
-        Err(fault) => return refused(word, words, fault, complaints),
+        Err(fault) => return Err(refused(&given.word, words, fault)),
     };
     if files.is_empty() {
-        return check_text(alloc, format, None, false, shelf, input, output, complaints);
+        return check_text(format, None, false, host);
     }
     let headed = files.len() > 1;
     let mut status = 0;
     for file in files {
-        let name = Some(file.as_str());
-        status = check_text(
-            alloc, format, name, headed, shelf, input, output, complaints,
-        )
-        .max(status);
+        let one = match check_text(format, Some(file.as_str()), headed, host) {
+            Ok(one) => one,
+            Err(refusal) => refusal.told(&mut host.complaints),
+        };
+        status = one.max(status);
     }
-    status
+    Ok(status)
 }

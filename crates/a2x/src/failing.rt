@@ -1,11 +1,10 @@
 //! The film of a run in which a promise fails.
 
-ghost use Rattle.std.specs.Prelude.{◌≤◌, IfErr};
 ghost use Rattle.a2x.specs.Filmed.{FilmsFailureInto};
 
 use crate::drafts::settled;
-use crate::program::tell;
-use crate::tools::or_told;
+use crate::host::Host;
+use crate::refusal::tell;
 use a2_asm::Program;
 use a2_desk::Desk;
 use a2_film::{Chapter, Place, film_run};
@@ -125,48 +124,45 @@ fn film_fallen<D: Desk>(
     desk: &mut D,
 ) -> Result<Cause, RunFault> {
     let chapters = chapters_of(alloc, fallen)?;
+    let (chapters, failure) = (chapters.as_slice(), &fallen.failure);
+    let address = fallen.address;
     failure_into(
-        alloc,
-        source,
-        program,
-        title,
-        chapters.as_slice(),
-        fallen.address,
-        &fallen.failure,
-        page,
-        desk,
+        alloc, source, program, title, chapters, address, failure, page, desk,
     )
 }
 
-/// Writes the film of the first promise that fails, where a page is asked for, or tells that there is none; or the status, where
-/// it is told why the page is not written.
-pub fn film_first<D: Desk, E: Output>(
-    alloc: Global,
+/// Writes the film of the first promise that fails, where a page is asked for, or tells that there is none.
+pub fn film_first<S, D: Desk, C, R, W, E: Output>(
     source: &[u8],
     program: &Program<Global>,
     title: &[u8],
     first: Option<&Fallen>,
     page: Option<&str>,
-    desk: &mut D,
-    complaints: &mut E,
-) -> Result<(), u8>
-    ensures { IfErr result (λ status. status ≤ 5) }
-{
+    host: &mut Host<S, D, C, R, W, E>,
+) -> Result<(), RunFault> {
     let Some(page) = page else {
         return Ok(());
     };
-    let Some(fallen) = first else {
-        tell(
+    match first {
+        Some(fallen) => {
+            film_fallen(
+                host.alloc,
+                source,
+                program,
+                title,
+                fallen,
+                page,
+                &mut host.desk,
+            )?;
+        }
+        None => tell(
             &[
                 b"promise: no run of a routine fails, so there is no film: ",
                 page.as_bytes(),
                 b" is not written",
             ],
-            complaints,
-        );
-        return Ok(());
-    };
-    let answer = film_fallen(alloc, source, program, title, fallen, page, desk);
-    or_told(answer, complaints)?;
+            &mut host.complaints,
+        ),
+    }
     Ok(())
 }

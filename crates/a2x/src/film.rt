@@ -1,14 +1,24 @@
 //! The word `film`: what its words ask for, and the page that it writes.
 
+ghost use Rattle.std.specs.Prelude.{◌≤◌, IfOk};
 ghost use Rattle.a2x.specs.Filmed.{FilmsInto};
 
+use crate::asked::{Given, number_in, order_in};
 use crate::drafts::settled;
+use crate::host::Host;
+use crate::program::{spares_input, text_of};
+use crate::refusal::{Refusal, tell_form};
+use crate::tools::ended;
+use crate::words::Order;
 use a2_bus::Keys;
 use a2_desk::Desk;
-use a2_film::{Chapter, Window, film_source};
+use a2_film::{Chapter, ScriptFault, Window, chapters_of, film_source};
+use a2_host::Shelf;
 use a2_machine::Cause;
-use a2_run::{RunFault, step_limit};
-use std::alloc::{AllocError, Global};
+use a2_options::Found;
+use a2_run::RunFault;
+use a2_stream::{Input, Output};
+use std::alloc::Global;
 
 /// The most steps of a film whose words name none.
 const FILM_LIMIT: u32 = 100_000;
@@ -29,116 +39,27 @@ pub struct FilmOrder<'a> {
     pub steps: Option<u32>,
 }
 
-/// Why the words of a film ask for nothing.
-#[derive(Clone, Copy)]
-pub enum FilmFault<'a> {
-    /// An option stands without a value.
-    Value(&'static str),
-    /// The value of an option is no number up to the one that is named.
-    Number(&'static str, &'a str, u32),
-    /// A growth of memory was refused.
-    Memory,
-}
-
-impl<'a> From<AllocError> for FilmFault<'a> {
-    fn from(_error: AllocError) -> FilmFault<'a> {
-        FilmFault::Memory
-    }
-}
-
-// What the next word is.
-#[derive(Clone, Copy, PartialEq, Eq)]
-enum Next {
-    Word,
-    // The value of an option that each run has.
-    Value,
-    Page,
-    Script,
-    From,
-    Steps,
-}
-
-// What stands behind a word.
-fn next_behind(word: &str) -> Next {
-    match word {
-        "-o" => Next::Page,
-        "--script" => Next::Script,
-        "--from" => Next::From,
-        "--steps" => Next::Steps,
-        "--keys" | "--limit" => Next::Value,
-        _ => Next::Word,
-    }
-}
-
-// A number of steps of a film.
-fn film_steps<'a>(option: &'static str, word: &'a str) -> Result<u32, FilmFault<'a>> {
-    match step_limit(word) {
-        Some(steps) if steps <= MOST_STEPS => Ok(steps),
-        _ => Err(FilmFault::Number(option, word, MOST_STEPS)),
-    }
-}
-
-// Takes the value of an option of a film.
-fn take<'a>(film: &mut FilmOrder<'a>, next: Next, word: &'a str) -> Result<(), FilmFault<'a>> {
-    match next {
-        Next::Page => film.page = Some(word),
-        Next::Script => film.script = Some(word),
-        Next::From => match step_limit(word) {
-            Some(from) => film.from = from,
-            None => return Err(FilmFault::Number("--from", word, a2_run::MOST_STEPS)),
-        },
-        Next::Steps => film.steps = Some(film_steps("--steps", word)?),
-        Next::Word | Next::Value => {}
-    }
-    Ok(())
-}
-
-// The option that stands last, without the value that it wants.
-fn lacking<'a>(next: Next) -> Result<(), FilmFault<'a>> {
-    match next {
-        Next::Page => Err(FilmFault::Value("-o")),
-        Next::Script => Err(FilmFault::Value("--script")),
-        Next::From => Err(FilmFault::Value("--from")),
-        Next::Steps => Err(FilmFault::Value("--steps")),
-        Next::Word | Next::Value => Ok(()),
-    }
-}
-
-/// What `words` ask for that a film alone has, and the other words, in their order: `-o PAGE`, `--script S`, `--from N` and
-/// `--steps M`, of two of one name the later. Refused where one has no value, where a number is none or is too great, and
-/// for want of memory.
-pub fn parted(
-    alloc: Global,
-    words: &[String],
-) -> Result<(FilmOrder<'_>, Vec<String>), FilmFault<'_>> {
+/// What the options of a film ask for: of two of one name the later counts.
+pub fn film_order<'a>(found: &[Found<'a>]) -> Result<FilmOrder<'a>, Refusal<'a>> {
     let mut film = FilmOrder {
         page: None,
         script: None,
         from: 0,
         steps: None,
     };
-    let mut others = Vec::new(alloc);
-    let mut next = Next::Word;
-    for word in words {
-        let behind = match next {
-            Next::Word => next_behind(word.as_str()),
-            _ => Next::Word,
-        };
-        if next == Next::Value || next == Next::Word && matches!(behind, Next::Word | Next::Value) {
-            let copy = word.clone()?;
-            if others.push(copy).is_err() {
-                return Err(FilmFault::Memory);
-            }
+    for option in found {
+        match option.name {
+            "-o" => film.page = Some(option.value),
+            "--script" => film.script = Some(option.value),
+            "--from" => film.from = number_in("film", option, 0, a2_run::MOST_STEPS)?,
+            _ => film.steps = Some(number_in("film", option, 0, MOST_STEPS)?),
         }
-        take(&mut film, next, word.as_str())?;
-        next = behind;
     }
-    lacking(next)?;
-    Ok((film, others))
+    Ok(film)
 }
 
-/// The window of a run that a film shows: `limit` is the most steps of the run, where the words name them.
-pub fn window_of(film: &FilmOrder<'_>, limit: Option<u32>) -> Window {
+// The window of a run that a film shows: `limit` is the most steps of the run, where the words name them.
+fn window_of(film: &FilmOrder<'_>, limit: Option<u32>) -> Window {
     let from = film.from;
     let left = match limit {
         Some(limit) => limit.saturating_sub(from),
@@ -152,9 +73,27 @@ pub fn window_of(film: &FilmOrder<'_>, limit: Option<u32>) -> Window {
     Window { from, steps }
 }
 
-/// Whether a limit is one of a film.
-pub fn is_film_limit(limit: u32) -> bool {
-    limit <= MOST_STEPS
+// Whether words name the most steps of a run.
+fn names_limit(words: &[String]) -> bool {
+    for word in words {
+        if word.as_str() == "--limit" {
+            return true;
+        }
+    }
+    false
+}
+
+// The most steps that the words of a run name, but for more than a film has.
+fn film_limit<'a>(words: &[String], limit: u32) -> Result<Option<u32>, Refusal<'a>> {
+    if !names_limit(words) {
+        return Ok(None);
+    }
+    if limit <= MOST_STEPS {
+        return Ok(Some(limit));
+    }
+    let all =
+        "film: --limit is to be at most 1000000: --from N --steps M films a part of a longer run";
+    Err(Refusal::Words(all, "", "", ""))
 }
 
 /// Writes the film of a window of a source's run into the file `page` of `desk`, whole or not at all: where it is refused all
@@ -178,4 +117,75 @@ pub fn film_into<D: Desk>(
         alloc, source, title, chapters, keys, window, free, &mut draft,
     );
     settled(page, draft, answer, desk)
+}
+
+// Writes the film of a window of a source's run, titled by the file's name, into the file that the words name, whole or not at
+// all, or else to the output.
+fn film<S, D: Desk, C, R, W: Output, E>(
+    source: &[u8],
+    chapters: &[Chapter<'_>],
+    order: &Order,
+    page: Option<&str>,
+    window: Window,
+    host: &mut Host<S, D, C, R, W, E>,
+) -> Result<Cause, RunFault> {
+    let title = order.file.unwrap_or("a2").as_bytes();
+    let (alloc, keys, free) = (host.alloc, &order.keys, order.free);
+    match page {
+        Some(page) => film_into(
+            alloc,
+            source,
+            title,
+            chapters,
+            keys,
+            window,
+            free,
+            page,
+            &mut host.desk,
+        ),
+        None => film_source(
+            alloc,
+            source,
+            title,
+            chapters,
+            keys,
+            window,
+            free,
+            &mut host.output,
+        ),
+    }
+}
+
+/// Writes the film that the words ask for. The status is 1 where the source or the script is refused, and 3 where the run stopped but
+/// by RETURNED or BRK.
+pub fn film_of<'a, S: Shelf, D: Desk, C, R: Input, W: Output, E: Output>(
+    given: &Given<'a>,
+    host: &mut Host<S, D, C, R, W, E>,
+) -> Result<u8, Refusal<'a>>
+    ensures { IfOk result (λ status. status ≤ 5) }
+{
+    let asked = film_order(given.found)?;
+    let order = order_in(given)?;
+    let window = window_of(&asked, film_limit(given.others, order.limit)?);
+    let (front, mend) = ("film: the page", ": give -o another name");
+    spares_input(front, asked.page, order.file, mend, &host.desk)?;
+    spares_input(front, asked.page, asked.script, mend, &host.desk)?;
+    let alloc = host.alloc;
+    let text = text_of(alloc, order.file, &mut host.shelf, &mut host.input)?;
+    let script = match asked.script {
+        Some(_) => text_of(alloc, asked.script, &mut host.shelf, &mut host.input)?,
+        None => Vec::new(alloc),
+    };
+    let chapters = match chapters_of(alloc, script.as_slice()) {
+        Ok(chapters) => chapters,
+        Err(ScriptFault::Line(line)) => {
+            let name = asked.script.unwrap_or("-");
+            let form = "a chapter is 120 TEXT, or line 12 TEXT (a2x help film)";
+            tell_form("film", name, line, form, &mut host.complaints);
+            return Ok(1);
+        }
+        Err(ScriptFault::Memory) => return Err(Refusal::Fault(RunFault::Memory)),
+    };
+    let (source, chapters) = (text.as_slice(), chapters.as_slice());
+    Ok(ended(film(source, chapters, &order, asked.page, window, host)?))
 }

@@ -6,14 +6,16 @@ ghost use Rattle.a2_fmt.specs.Layout.{laid};
 ghost use Rattle.a2x.specs.Columns.{Shows, Names, Rewrites};
 
 use crate::drafts::settled;
+use crate::host::Host;
 use crate::named::{is_file, is_input};
-use crate::program::tell;
-use crate::tools::told;
+use crate::program::text_of;
+use crate::refusal::{Refusal, tell};
 use a2_check::{Format, TellFault, put_refusals, refusals_of};
 use a2_desk::Desk;
 use a2_fmt::{FormatFault, format_source};
+use a2_host::Shelf;
 use a2_run::RunFault;
-use a2_stream::{Output, WriteFault, put, put_all};
+use a2_stream::{Input, Output, WriteFault, put, put_all};
 use std::alloc::Global;
 
 /// The status where a text is not in columns.
@@ -28,19 +30,6 @@ pub enum Way {
     Check,
     /// Its file takes it in columns.
     Rewrite,
-}
-
-/// Why words ask for nothing.
-#[derive(Clone, Copy)]
-pub enum FmtWordsFault<'a> {
-    /// A word begins with `-`, and is no option here.
-    Option(&'a str),
-    /// Both options stand there.
-    Both,
-    /// Several files are to go out.
-    Several,
-    /// No file is there to be written.
-    NoFile,
 }
 
 // The way that a word says, where it is an option.
@@ -67,15 +56,20 @@ fn parted(words: &[String]) -> (Way, &[String]) {
     (Way::Show, words)
 }
 
+// Why words ask for nothing.
+fn fmt_words<'a>(front: &'a str, rest: &'a str) -> Refusal<'a> {
+    Refusal::Words("fmt: ", front, rest, " (a2x help fmt)")
+}
+
 // Refuses a word that names no file.
-fn are_files(words: &[String]) -> Result<(), FmtWordsFault<'_>> {
+fn are_files(words: &[String]) -> Result<(), Refusal<'_>> {
     for word in words {
         let word = word.as_str();
         if way_named(word).is_some() {
-            return Err(FmtWordsFault::Both);
+            return Err(fmt_words("--check", " and -w do not stand together"));
         }
         if !is_file(word) {
-            return Err(FmtWordsFault::Option(word));
+            return Err(fmt_words(word, " is no option here"));
         }
     }
     Ok(())
@@ -91,35 +85,19 @@ fn has_input(files: &[String]) -> bool {
     false
 }
 
-/// What the words behind `fmt` ask for, and with which files: `--check` or `-w` may stand before them or behind them. Without a
-/// file, as by a single `-`, the standard input is meant. Refused are further words that begin with `-`, several files that are
-/// to go out, and `-w` without a file or with the standard input.
-pub fn fmt_order(words: &[String]) -> Result<(Way, &[String]), FmtWordsFault<'_>> {
+// What the words behind `fmt` ask for, and with which files: `--check` or `-w` may stand before them or behind them. Without a
+// file, as by a single `-`, the standard input is meant. Refused are further words that begin with `-`, several files that are
+// to go out, and `-w` without a file or with the standard input.
+fn fmt_order(words: &[String]) -> Result<(Way, &[String]), Refusal<'_>> {
     let (way, files) = parted(words);
     are_files(files)?;
-    match (way, files) {
-        (Way::Show, [_, _, ..]) => Err(FmtWordsFault::Several),
-        (Way::Rewrite, []) => Err(FmtWordsFault::NoFile),
-        (Way::Rewrite, files) if has_input(files) => Err(FmtWordsFault::NoFile),
+    match way {
+        Way::Show if files.len() > 1 => { Err(fmt_words("several files", " want --check or -w")) }
+        Way::Rewrite if files.is_empty() || has_input(files) => {
+            Err(fmt_words("-w", " wants files"))
+        }
         _ => Ok((way, files)),
     }
-}
-
-/// Tells why words ask for nothing; the status.
-pub fn tell_fmt_words<E: Output>(fault: FmtWordsFault<'_>, complaints: &mut E) -> u8
-    ensures { result ≤ 5 }
-{
-    let (front, rest): (&str, &[u8]) = match fault {
-        FmtWordsFault::Option(option) => (option, b" is no option here"),
-        FmtWordsFault::Both => ("--check", b" and -w do not stand together"),
-        FmtWordsFault::Several => ("several files", b" want --check or -w"),
-        FmtWordsFault::NoFile => ("-w", b" wants files"),
-    };
-    tell(
-        &[b"fmt: ", front.as_bytes(), rest, b" (a2x help fmt)"],
-        complaints,
-    );
-    2
 }
 
 /// Why a text is not laid out.
@@ -211,12 +189,15 @@ pub fn rewrite<D: Desk>(
 }
 
 // Tells the refusals of a text; the status.
-fn tell_refusals<E: Output>(alloc: Global, name: &str, text: &[u8], complaints: &mut E) -> u8
-    ensures { result ≤ 5 }
+fn tell_refusals<'a, E: Output>(
+    alloc: Global,
+    name: &'a str,
+    text: &[u8],
+    complaints: &mut E,
+) -> Result<u8, Refusal<'a>>
+    ensures { IfOk result (λ status. status ≤ 6) }
 {
-    let Ok(refusals) = refusals_of(alloc, text) else {
-        return told(RunFault::Memory, complaints);
-    };
+    let refusals = refusals_of(alloc, text)?;
     match put_refusals(
         alloc,
         name,
@@ -225,21 +206,21 @@ fn tell_refusals<E: Output>(alloc: Global, name: &str, text: &[u8], complaints: 
         Format::Short,
         complaints,
     ) {
-        Ok(()) => 1,
-        Err(TellFault::Write) => 4,
-        Err(TellFault::Memory) => told(RunFault::Memory, complaints),
+        Ok(()) => Ok(1),
+        Err(TellFault::Write) => Ok(4),
+        Err(TellFault::Memory) => Err(Refusal::Fault(RunFault::Memory)),
     }
 }
 
 // Tells why a text is not laid out; the status.
-fn tell_fault<E: Output>(
+fn tell_fault<'a, E: Output>(
     alloc: Global,
-    name: &str,
+    name: &'a str,
     text: &[u8],
     fault: FmtFault,
     complaints: &mut E,
-) -> u8
-    ensures { result ≤ 5 }
+) -> Result<u8, Refusal<'a>>
+    ensures { IfOk result (λ status. status ≤ 6) }
 {
     match fault {
         FmtFault::Layout(FormatFault::Source(_)) => tell_refusals(alloc, name, text, complaints),
@@ -252,33 +233,55 @@ fn tell_fault<E: Output>(
                 ],
                 complaints,
             );
-            1
+            Ok(1)
         }
-        FmtFault::Layout(FormatFault::Memory) => told(RunFault::Memory, complaints),
-        FmtFault::Write => told(RunFault::Write, complaints),
+        FmtFault::Layout(FormatFault::Memory) => Err(Refusal::Fault(RunFault::Memory)),
+        FmtFault::Write => Err(Refusal::Fault(RunFault::Write)),
     }
 }
 
-/// Does with a text, of this name, what is asked for; the status, which is 6 where it is only checked, and is not in columns.
-pub fn fmt<D: Desk, W: Output, E: Output>(
-    alloc: Global,
+// Does with the text of a file, or of the standard input, what is asked for; the status, which is 6 where it is only checked, and
+// is not in columns.
+fn fmt_text<'a, S: Shelf, D: Desk, C, R: Input, W: Output, E: Output>(
     way: Way,
-    name: &str,
-    text: &[u8],
-    desk: &mut D,
-    output: &mut W,
-    complaints: &mut E,
-) -> u8
-    ensures { result ≤ 6 }
+    file: Option<&'a str>,
+    host: &mut Host<S, D, C, R, W, E>,
+) -> Result<u8, Refusal<'a>>
+    ensures { IfOk result (λ status. status ≤ 6) }
 {
+    let name = file.unwrap_or("-");
+    let text = text_of(host.alloc, file, &mut host.shelf, &mut host.input)?;
+    let text = text.as_slice();
     let done = match way {
-        Way::Show => show_columns(alloc, text, output).and(Ok(true)),
-        Way::Check => name_other(alloc, name, text, output),
-        Way::Rewrite => rewrite(alloc, name, text, desk).and(Ok(true)),
+        Way::Show => show_columns(host.alloc, text, &mut host.output).and(Ok(true)),
+        Way::Check => name_other(host.alloc, name, text, &mut host.output),
+        Way::Rewrite => rewrite(host.alloc, name, text, &mut host.desk).and(Ok(true)),
     };
     match done {
-        Ok(true) => 0,
-        Ok(false) => NOT_IN_COLUMNS,
-        Err(fault) => tell_fault(alloc, name, text, fault, complaints),
+        Ok(true) => Ok(0),
+        Ok(false) => Ok(NOT_IN_COLUMNS),
+        Err(fault) => tell_fault(host.alloc, name, text, fault, &mut host.complaints),
     }
+}
+
+/// Lays out the files that the words behind `fmt` name, or the standard input. The status is the greatest of those of the texts.
+pub fn fmt_of<'a, S: Shelf, D: Desk, C, R: Input, W: Output, E: Output>(
+    words: &'a [String],
+    host: &mut Host<S, D, C, R, W, E>,
+) -> Result<u8, Refusal<'a>>
+    ensures { IfOk result (λ status. status ≤ 6) }
+{
+    let (way, files) = fmt_order(words)?;
+    if files.is_empty() {
+        return fmt_text(way, None, host);
+    }
+    let mut status = 0;
+    for file in files {
+        let one = match fmt_text(way, Some(file.as_str()), host) {
+            Ok(one) => one,
+            Err(refusal) => refusal.told(&mut host.complaints),
+        };
+        status = one.max(status);
+    }
+    Ok(status)
 }

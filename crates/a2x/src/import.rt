@@ -1,45 +1,30 @@
 //! The word `import`: what its words ask for, and what is told of an old text. A word answers the exit status, 0 to 5.
 
-ghost use Rattle.std.specs.Prelude.{◌≡◌, ◌≤◌};
+ghost use Rattle.std.specs.Prelude.{◌≡◌, ◌≤◌, IfOk};
 ghost use Rattle.a2x.specs.Imports.{ShowsRows};
 
-use crate::named::{is_file, option_at_end};
-use crate::program::tell;
-use crate::tools::told;
+use crate::host::Host;
+use crate::named::{is_file, is_input, option_at_end};
+use crate::program::{loaded_text, long_text};
+use crate::refusal::Refusal;
 use a2_hex::HexFault;
+use a2_host::Shelf;
 use a2_import::{
-    Dialect, ImportFault, Imported, ListingFault, Note, NoteKind, Old, guess, import_listing,
-    import_source,
+    Dialect, ImportFault, ListingFault, NoteKind, Old, guess, import_listing, import_source,
 };
 use a2_run::RunFault;
-use a2_stream::{Output, WriteFault, put, put_all};
+use a2_stream::{Input, Output, WriteFault, put, put_all};
 use a2_syntax::Fault;
 use a2_text::{cut, decimal};
 use std::alloc::Global;
 
-/// Why words ask for nothing.
-#[derive(Clone, Copy)]
-pub enum ImportWordsFault<'a> {
-    /// A word begins with `-`, and is no option here.
-    Option(&'a str),
-    /// No old text is of this name.
-    From(&'a str),
-    /// `--from` stands without a value.
-    Value,
-    /// There is a file too many.
-    Several,
-}
-
-/// What words ask for: the kind of the old text, or none where it is to be guessed, and the file, or none for the standard
-/// input.
-#[derive(Clone, Copy)]
-pub struct ImportOrder<'a> {
-    pub from: Option<Old>,
-    pub file: Option<&'a str>,
+// Why words ask for nothing.
+fn import_words<'a>(front: &'a str, rest: &'a str) -> Refusal<'a> {
+    Refusal::Words("import: ", front, rest, " (a2x help import)")
 }
 
 // The kind of text of a name; none is to be guessed.
-fn from_named(name: &str) -> Result<Option<Old>, ImportWordsFault<'_>> {
+fn from_named(name: &str) -> Result<Option<Old>, Refusal<'_>> {
     match name {
         "auto" => Ok(None),
         "listing" => Ok(Some(Old::Listing)),
@@ -48,51 +33,26 @@ fn from_named(name: &str) -> Result<Option<Old>, ImportWordsFault<'_>> {
         "merlin" => Ok(Some(Old::Source(Dialect::Merlin))),
         "edasm" => Ok(Some(Old::Source(Dialect::Edasm))),
         "ca65" => Ok(Some(Old::Source(Dialect::Ca65))),
-        _ => Err(ImportWordsFault::From(name)),
+        _ => Err(import_words(
+            name,
+            " is no kind of text: sc, lisa, merlin, edasm, ca65, listing or auto",
+        )),
     }
 }
 
 // The file that words name.
-fn file_of(words: &[String]) -> Result<Option<&str>, ImportWordsFault<'_>> {
+fn file_of(words: &[String]) -> Result<Option<&str>, Refusal<'_>> {
     match words {
         [] => Ok(None),
-        [option] if option.as_str() == "--from" => Err(ImportWordsFault::Value),
-        [file] if !is_file(file.as_str()) => Err(ImportWordsFault::Option(file.as_str())),
+        [option] if option.as_str() == "--from" => {
+            Err(import_words("--from", " stands without a value"))
+        }
+        [word, ..] if !is_file(word.as_str()) => {
+            Err(import_words(word.as_str(), " is no option here"))
+        }
         [file] => Ok(Some(file.as_str())),
-        [option, ..] if !is_file(option.as_str()) => Err(ImportWordsFault::Option(option.as_str())),
-        _ => Err(ImportWordsFault::Several),
+        _ => Err(import_words("import", " takes one file")),
     }
-}
-
-/// What the words behind `import` ask for: `--from` with its value may stand before the file or behind it.
-pub fn import_order(words: &[String]) -> Result<ImportOrder<'_>, ImportWordsFault<'_>> {
-    let (name, files) = option_at_end("--from", words);
-    let from = match name {
-        Some(name) => from_named(name)?,
-        None => None,
-    };
-    let file = file_of(files)?;
-    Ok(ImportOrder { from, file })
-}
-
-/// Tells why words ask for nothing; the status.
-pub fn tell_import_words<E: Output>(fault: ImportWordsFault<'_>, complaints: &mut E) -> u8
-    ensures { result ≤ 5 }
-{
-    let (front, rest): (&str, &[u8]) = match fault {
-        ImportWordsFault::Option(option) => (option, b" is no option here"),
-        ImportWordsFault::From(name) => (
-            name,
-            b" is no kind of text: sc, lisa, merlin, edasm, ca65, listing or auto",
-        ),
-        ImportWordsFault::Value => ("--from", b" stands without a value"),
-        ImportWordsFault::Several => ("import", b" takes one file"),
-    };
-    tell(
-        &[b"import: ", front.as_bytes(), rest, b" (a2x help import)"],
-        complaints,
-    );
-    2
 }
 
 /// Tells what there is of a line of a text with this name, or of the whole of it, where the line is 0, and what is shown of it.
@@ -136,26 +96,6 @@ pub fn tell_note<E: Output>(
         _ => b"",
     };
     tell_of_line(name, line, b"note", note, shown, complaints)
-}
-
-// Tells the notes of a text.
-fn tell_notes<E: Output>(
-    alloc: Global,
-    name: &str,
-    text: &[u8],
-    notes: &[Note],
-    complaints: &mut E,
-) -> u8
-    ensures { result ≤ 5 }
-{
-    let Ok(lines) = cut(alloc, text) else {
-        return told(RunFault::Memory, complaints);
-    };
-    for note in notes {
-        let text = note_text(note.kind);
-        tell_note(name, note.line, text, lines.as_slice(), complaints);
-    }
-    0
 }
 
 // Why a line of a listing, or all of it, is no source.
@@ -225,91 +165,91 @@ pub fn show_rows<W: Output>(alloc: Global, text: &[u8], output: &mut W) -> Resul
 }
 
 // Writes the source of a listing, or tells why there is none; the status.
-fn import_rows<W: Output, E: Output>(
+fn import_rows<'a, W: Output, E: Output>(
     alloc: Global,
     name: &str,
     text: &[u8],
     output: &mut W,
     complaints: &mut E,
-) -> u8
-    ensures { result ≤ 5 }
+) -> Result<u8, Refusal<'a>>
+    ensures { IfOk result (λ status. status ≤ 1) }
 {
     match show_rows(alloc, text, output) {
-        Ok(()) => 0,
-        Err(RowsFault::Write) => told(RunFault::Write, complaints),
-        Err(RowsFault::Listing(ListingFault::Memory)) => told(RunFault::Memory, complaints),
+        Ok(()) => Ok(0),
+        Err(RowsFault::Write) => Err(Refusal::Fault(RunFault::Write)),
+        Err(RowsFault::Listing(ListingFault::Memory)) => Err(Refusal::Fault(RunFault::Memory)),
         Err(RowsFault::Listing(fault)) => {
             let (line, what) = listing_fault_of(fault);
             tell_of_line(name, line, b"error", what, b"", complaints);
-            1
+            Ok(1)
         }
     }
 }
 
-// Writes a source that was brought over, and tells its notes; the status.
-fn put_imported<W: Output, E: Output>(
-    alloc: Global,
-    name: &str,
-    text: &[u8],
-    made: &Imported,
-    output: &mut W,
-    complaints: &mut E,
-) -> u8
-    ensures { result ≤ 5 }
-{
-    match put(made.text.as_slice(), output) {
-        Ok(()) => tell_notes(alloc, name, text, made.notes.as_slice(), complaints),
-        Err(fault) => told(RunFault::from(fault), complaints),
-    }
-}
-
-// Writes the source of a text of an assembler, and tells its notes; the status.
-fn import_lines<W: Output, E: Output>(
+// Writes the source of a text of an assembler, and tells a note for each line that says another thing now, or could not be
+// brought over; the status.
+fn import_lines<'a, W: Output, E: Output>(
     alloc: Global,
     name: &str,
     dialect: Dialect,
     text: &[u8],
     output: &mut W,
     complaints: &mut E,
-) -> u8
-    ensures { result ≤ 5 }
+) -> Result<u8, Refusal<'a>>
+    ensures { IfOk result (λ status. status ≤ 1) }
 {
-    match import_source(alloc, dialect, text) {
-        Ok(made) => put_imported(alloc, name, text, &made, output, complaints),
-        Err(ImportFault::Memory) => told(RunFault::Memory, complaints),
+    let made = match import_source(alloc, dialect, text) {
+        Ok(made) => made,
+        Err(ImportFault::Memory) => return Err(Refusal::Fault(RunFault::Memory)),
         Err(ImportFault::Refused(_)) => {
-            tell_of_line(
-                name,
-                0,
-                b"error",
-                b"the source would be too large, or have a line that is: split it",
-                b"",
-                complaints,
-            );
-            1
+            let what = b"the source would be too large, or have a line that is: split it";
+            tell_of_line(name, 0, b"error", what, b"", complaints);
+            return Ok(1);
         }
+    };
+    put(made.text.as_slice(), output)?;
+    let lines = cut(alloc, text)?;
+    for note in &made.notes {
+        let text = note_text(note.kind);
+        tell_note(name, note.line, text, lines.as_slice(), complaints);
     }
+    Ok(0)
 }
 
-/// Writes an old text of this name in this language, and tells a note for each line that says another thing now, or could not be
-/// brought over, or why it is refused; the status.
-pub fn import<W: Output, E: Output>(
-    alloc: Global,
-    name: &str,
-    from: Option<Old>,
-    text: &[u8],
-    output: &mut W,
-    complaints: &mut E,
-) -> u8
-    ensures { result ≤ 5 }
+/// Brings over the old text that the words behind `import` name, or that of the standard input: `--from` with its value may stand
+/// before the file or behind it. Each line that says another thing now, or could not be brought over, is told, and why all of it
+/// is refused; the status.
+pub fn import_of<'a, S: Shelf, D, C, R: Input, W: Output, E: Output>(
+    words: &'a [String],
+    host: &mut Host<S, D, C, R, W, E>,
+) -> Result<u8, Refusal<'a>>
+    ensures { IfOk result (λ status. status ≤ 1) }
 {
+    let (from, files) = option_at_end("--from", words);
     let old = match from {
-        Some(old) => Ok(old),
-        None => guess(alloc, text),
+        Some(name) => from_named(name)?,
+        None => None,
     };
+    let file = file_of(files)?;
+    let text = match file {
+        Some(name) if !is_input(name) => loaded_text(host.alloc, name, &mut host.shelf)?,
+        _ => long_text(host.alloc, &mut host.input)?,
+    };
+    let (name, text) = (file.unwrap_or("-"), text.as_slice());
+    let old = match old {
+        Some(old) => old,
+        None => guess(host.alloc, text)?,
+    };
+    let alloc = host.alloc;
     match old {
-        Ok(Old::Listing) => import_rows(alloc, name, text, output, complaints),
-        Ok(Old::Source(dialect)) => import_lines(alloc, name, dialect, text, output, complaints),
-        Err(_) => told(RunFault::Memory, complaints),
+        Old::Listing => import_rows(alloc, name, text, &mut host.output, &mut host.complaints),
+        Old::Source(dialect) => import_lines(
+            alloc,
+            name,
+            dialect,
+            text,
+            &mut host.output,
+            &mut host.complaints,
+        ),
     }
 }

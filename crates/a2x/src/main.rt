@@ -15,15 +15,18 @@ mod failing;
 mod film;
 mod fmt;
 mod help;
+mod host;
 mod import;
 mod lines;
 mod listing;
 mod named;
 mod notes;
+mod options;
 mod play;
 mod profiling;
 mod program;
 mod promising;
+mod refusal;
 mod release;
 mod replay;
 mod running;
@@ -41,6 +44,7 @@ use a2_host::{HostFiles, HostWordsFault, words_of};
 use a2_run::RunFault;
 use a2_stream::{FromRead, Output, ToWrite};
 use clock::HostClock;
+use host::Host;
 use play::Seat;
 use program::{obey, talks};
 use std::env;
@@ -71,27 +75,26 @@ fn release_path(rt: &HostRuntime) -> Result<Option<PathBuf>, RunFault> {
 }
 
 // Does what the words ask for, with this writer.
-fn obeyed<W: Output>(
+fn obeyed<W: Output + Drop>(
     rt: &HostRuntime,
     words: &[String],
     release: Option<&str>,
-    output: &mut W,
+    output: W,
 ) -> u8 {
-    obey(
-        rt.alloc(),
-        words,
-        Seat {
-            types: rt.stdin().is_terminal(),
-            sees: rt.stdout().is_terminal(),
-        },
-        release,
-        &mut HostFiles::new(rt),
-        &mut HostDesk::new(rt),
-        &mut HostClock::new(rt),
-        &mut FromRead::new(rt.stdin()),
+    let seat = Seat {
+        types: rt.stdin().is_terminal(),
+        sees: rt.stdout().is_terminal(),
+    };
+    let mut host = Host {
+        alloc: rt.alloc(),
+        shelf: HostFiles::new(rt),
+        desk: HostDesk::new(rt),
+        clock: HostClock::new(rt),
+        input: FromRead::new(rt.stdin()),
         output,
-        &mut ToWrite::new(rt.stderr()),
-    )
+        complaints: ToWrite::new(rt.stderr()),
+    };
+    obey(words, seat, release, &mut host)
 }
 
 // Sends what `lines` keeps, and gives the status. By 4 a failed write was told already; where it was a file that could not be
@@ -119,13 +122,13 @@ fn act(rt: &HostRuntime, words: &[String]) -> Result<u8, RunFault> {
         None => None,
     };
     if talks(words) {
-        return Ok(obeyed(rt, words, release, &mut ToWrite::new(rt.stdout())));
+        return Ok(obeyed(rt, words, release, ToWrite::new(rt.stdout())));
     }
     let mut lines = match BufWriter::new(rt.alloc(), rt.stdout()) {
         Ok(lines) => lines,
         Err(_) => return Err(RunFault::Memory),
     };
-    let status = obeyed(rt, words, release, &mut ToWrite::new(&mut lines));
+    let status = obeyed(rt, words, release, ToWrite::new(&mut lines));
     let answer = ended(status, &mut lines);
     // What a failed write left is given up: dropped as they are, `lines` would write it again.
     let _ = lines.into_parts();

@@ -1,16 +1,12 @@
 //! What is told of a source that is accepted, and may be meant otherwise.
 
-ghost use Rattle.std.specs.Prelude.{◌≤◌};
-
 use crate::import::tell_note;
-use crate::tools::told;
 use a2_asm::Program;
-use a2_notes::{Kind, Note, notes_of};
-use a2_run::RunFault;
+use a2_notes::{Kind, notes_of};
 use a2_stream::Output;
 use a2_syntax::Source;
 use a2_text::cut;
-use std::alloc::Allocator;
+use std::alloc::{AllocError, Allocator};
 
 // What is told of a kind, and what to do.
 fn text_of(kind: Kind) -> &'static [u8] {
@@ -28,14 +24,7 @@ fn text_of(kind: Kind) -> &'static [u8] {
     }
 }
 
-// Tells these notes of a source with this name and these lines.
-fn tell_notes<E: Output>(name: &str, notes: &[Note], texts: &[&[u8]], complaints: &mut E) {
-    for note in notes {
-        tell_note(name, note.line, text_of(note.kind), texts, complaints);
-    }
-}
-
-/// Tells the notes of a source with this name, a line each, by what its lines say and the program that they make; the status.
+/// Tells the notes of a source with this name, a line each, by what its lines say and the program that they make.
 pub fn tell_source_notes<A: Allocator + Copy, E: Output>(
     alloc: A,
     name: &str,
@@ -43,16 +32,12 @@ pub fn tell_source_notes<A: Allocator + Copy, E: Output>(
     lines: &Source<A>,
     program: &Program<A>,
     complaints: &mut E,
-) -> u8
-    ensures { result ≤ 5 }
-{
-    let Ok(texts) = cut(alloc, source) else {
-        return told(RunFault::Memory, complaints);
-    };
+) -> Result<(), AllocError> {
+    let texts = cut(alloc, source)?;
     let texts = texts.as_slice();
-    let Ok(notes) = notes_of(alloc, texts, lines.lines(), program) else {
-        return told(RunFault::Memory, complaints);
-    };
-    tell_notes(name, notes.as_slice(), texts, complaints);
-    0
+    let notes = notes_of(alloc, texts, lines.lines(), program)?;
+    for note in &notes {
+        tell_note(name, note.line, text_of(note.kind), texts, complaints);
+    }
+    Ok(())
 }

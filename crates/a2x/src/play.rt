@@ -7,10 +7,13 @@ ghost use Rattle.a2_play.specs.declared.pace.Pace.{Pace as DeclaredPace};
 ghost use Rattle.a2x.specs.PlayWords.{IsPaceNumber, IsPace, AreColours};
 ghost use Rattle.a2x.specs.PlayWords.{PlayAsked, AsksPlay, AsksNoSession, play_asked_of, no_play_asked};
 
+use crate::asked::Given;
 use crate::drafts::settled;
-use crate::lines::{Terminal, terminal_in};
-use crate::program::{behind, spares_input, tell, tell_option, tell_value, text_of};
-use crate::tools::{told, written};
+use crate::host::Host;
+use crate::lines::Terminal;
+use crate::program::{behind, spares_input, text_of};
+use crate::refusal::{Refusal, tell, valueless};
+use crate::tools::ended;
 use crate::turning::debug_here;
 use a2_ansi::Colours;
 use a2_asm::Program;
@@ -19,9 +22,8 @@ use a2_explain::tell_stop;
 use a2_host::Shelf;
 use a2_machine::{Cause, Machine, write_cause, write_registers};
 use a2_play::{Clock, Leave, Pace, Player, Room, Session, play, put_keys, put_record};
-use a2_run::{RunFault, program_of, status};
+use a2_run::{RunFault, program_of};
 use a2_stream::{Input, Output, WriteFault, put};
-use a2_text::decimal;
 use std::alloc::{Allocator, Global};
 
 /// What puts a terminal's other screen up, without a cursor, and what takes it down.
@@ -33,6 +35,11 @@ const LEAVE: &[u8] = b"\x1B[0m\x1B[?25h\x1B[?1049l";
 const LEAST_ROWS: u16 = 24;
 
 const LEAST_COLUMNS: u16 = 80;
+
+// What is told of a value that is no pace, or none of colours.
+const NO_PACE: &str = " is neither max nor a number of cycles a second from 1000 to 1000000000";
+
+const NO_COLOURS: &str = " is neither full, 256 nor none";
 
 /// Who sits there.
 #[derive(Clone, Copy)]
@@ -52,21 +59,6 @@ pub struct PlayOrder<'a> {
     pub colours: Option<Colours>,
     /// The file that takes the keys with their steps.
     pub record_to: Option<&'a str>,
-}
-
-/// Why words ask for no session.
-#[derive(Clone, Copy)]
-pub enum PlayMisfit<'a> {
-    /// An option stands without a value.
-    Value(&'static str),
-    /// A value of `--pace` is no pace.
-    Pace(&'a str),
-    /// A value of `--colours` is none.
-    Colours(&'a str),
-    /// A word begins with `-`, and is no option here.
-    Option(&'a str),
-    /// There is no file, or another word behind it.
-    Files,
 }
 
 // The cycles a second that a word spells.
@@ -116,8 +108,18 @@ pub fn colours_named(word: &str) -> Option<Colours>
     }
 }
 
+// There is no file, or another word behind it.
+fn several_behind<'a>() -> Refusal<'a> {
+    Refusal::Words(
+        "play takes one file, behind its options (a2x help)",
+        "",
+        "",
+        "",
+    )
+}
+
 // Takes an option or the file off words that are not empty; the words behind it.
-fn take<'a>(order: &mut PlayOrder<'a>, words: &'a [String]) -> Result<&'a [String], PlayMisfit<'a>>
+fn take<'a>(order: &mut PlayOrder<'a>, words: &'a [String]) -> Result<&'a [String], Refusal<'a>>
     requires { 0 < length words.now }
     ensures fewer { IfOk result (λ rest. length rest.now < length words.now) }
     ensures asked { IfOk result (λ rest. (asked : PlayAsked)
@@ -129,14 +131,14 @@ fn take<'a>(order: &mut PlayOrder<'a>, words: &'a [String]) -> Result<&'a [Strin
     match words {
         [word, value, rest @ ..] if word.as_str() == "--pace" => {
             let Some(pace) = pace_named(value.as_str()) else {
-                return Err(PlayMisfit::Pace(value.as_str()));
+                return Err(Refusal::Words("play: --pace ", value.as_str(), NO_PACE, ""));
             };
             order.pace = pace;
             Ok(rest)
         }
         [word, value, rest @ ..] if word.as_str() == "--colours" => {
             let Some(colours) = colours_named(value.as_str()) else {
-                return Err(PlayMisfit::Colours(value.as_str()));
+                return Err(Refusal::Words("play: --colours ", value.as_str(), NO_COLOURS, ""));
             };
             order.colours = Some(colours);
             Ok(rest)
@@ -145,21 +147,24 @@ fn take<'a>(order: &mut PlayOrder<'a>, words: &'a [String]) -> Result<&'a [Strin
             order.record_to = Some(value.as_str());
             Ok(rest)
         }
-        [word] if word.as_str() == "--pace" => Err(PlayMisfit::Value("--pace")),
-        [word] if word.as_str() == "--colours" => Err(PlayMisfit::Value("--colours")),
-        [word] if word.as_str() == "--record" => Err(PlayMisfit::Value("--record")),
-        [word, ..] if word.as_str().starts_with('-') => Err(PlayMisfit::Option(word.as_str())),
+        [word] if word.as_str() == "--pace" => Err(valueless("play", "--pace")),
+        [word] if word.as_str() == "--colours" => Err(valueless("play", "--colours")),
+        [word] if word.as_str() == "--record" => Err(valueless("play", "--record")),
+        [word, ..] if word.as_str().starts_with('-') => Err(Refusal::Option {
+            name: "play",
+            option: word.as_str(),
+        }),
         [word] => {
             order.file = word.as_str();
             Ok(&[])
         }
-        _ => Err(PlayMisfit::Files),
+        _ => Err(several_behind()),
     }
 }
 
 /// What the `words` behind `play` ask for: the options `--pace N`, `--colours C` and `--record T`, of two of one name the later,
 /// and a file. Refused are words that ask for no session, and they alone: the first that cannot stand is told.
-pub fn play_order(words: &[String]) -> Result<PlayOrder<'_>, PlayMisfit<'_>>
+pub fn play_order(words: &[String]) -> Result<PlayOrder<'_>, Refusal<'_>>
     ensures asked { IfOk result (λ order. AsksPlay no_play_asked (map string_bytes words.now) (play_asked_of order)) }
     ensures named { IfOk result (λ order. 0 < length order.file.now) }
     ensures refused { IfErr result (λ misfit. AsksNoSession (map string_bytes words.now)) }
@@ -175,7 +180,7 @@ pub fn play_order(words: &[String]) -> Result<PlayOrder<'_>, PlayMisfit<'_>>
         rest = take(&mut order, rest)?;
     }
     if order.file.is_empty() {
-        return Err(PlayMisfit::Files);
+        return Err(several_behind());
     }
     Ok(order)
 }
@@ -209,7 +214,7 @@ pub fn status_where(cause: Option<Cause>) -> u8
 {
     match cause {
         None => 0,
-        Some(cause) => status(&Ok(cause)),
+        Some(cause) => ended(cause),
     }
 }
 
@@ -250,78 +255,62 @@ fn recorded<D: Desk, E: Output>(
 }
 
 // Plays on the terminal's other screen, which is taken down behind every end, and for the debugger.
-fn played<R: Input, W: Output, E: Output, C: Clock>(
-    alloc: Global,
+fn played<S, D, C: Clock, R: Input, W: Output, E: Output>(
     source: &[u8],
     session: &mut Session<'_>,
     terminal: Terminal,
-    clock: &mut C,
-    input: &mut R,
-    output: &mut W,
-    complaints: &mut E,
+    host: &mut Host<S, D, C, R, W, E>,
 ) -> Result<(), RunFault> {
+    let alloc = host.alloc;
     for _ in 0..u64::MAX {
-        put(ENTER, output)?;
-        let answer = play(alloc, session, clock, input, output);
-        put(LEAVE, output)?;
+        put(ENTER, &mut host.output)?;
+        let answer = play(
+            alloc,
+            session,
+            &mut host.clock,
+            &mut host.input,
+            &mut host.output,
+        );
+        put(LEAVE, &mut host.output)?;
         match answer? {
             Leave::Over => break,
-            Leave::Debug => {
-                debug_here(alloc, source, session, terminal, input, output, complaints)?
-            }
+            Leave::Debug => debug_here(source, session, terminal, host)?,
         }
     }
     Ok(())
 }
 
 // Tells behind a session where it stands, and why it stopped; the status.
-fn told_end<W: Output, E: Output>(
-    alloc: Global,
+fn told_end<S, D, C, R, W: Output, E: Output>(
     source: &[u8],
     program: &Program,
     session: &Session<'_>,
-    output: &mut W,
-    complaints: &mut E,
-) -> u8
-    ensures { result ≤ 5 }
+    host: &mut Host<S, D, C, R, W, E>,
+) -> Result<u8, WriteFault>
+    ensures { IfOk result (λ status. status ≤ 5) }
 {
-    let status = written(put_end(session, output), complaints);
-    if status != 0 {
-        return status;
-    }
+    put_end(session, &mut host.output)?;
     let status = status_where(session.cause());
     if let (Some(cause), 3) = (session.cause(), status) {
         let pc = session.player().machine().regs().pc;
         // Where this fails there is no place left to tell it.
-        let _ = tell_stop(alloc, source, program, pc, cause, complaints);
+        let _ = tell_stop(host.alloc, source, program, pc, cause, &mut host.complaints);
     }
-    status
+    Ok(status)
 }
 
-/// Plays a source: its run at a terminal, with the keys that are typed, which a file takes where the words name one. The status
-/// is 1 where the source is refused, 3 where the machine stopped but by RETURNED or BRK, 4 where a read or a write fails, and 5
-/// for want of memory, each told on `complaints`.
-pub fn play_source<D: Desk, R: Input, W: Output, E: Output, C: Clock>(
-    alloc: Global,
+// Plays a source: its run at a terminal, with the keys that are typed, which a file takes where the words name one. The status is 3
+// where the machine stopped but by RETURNED or BRK.
+fn play_source<'a, S, D: Desk, C: Clock, R: Input, W: Output, E: Output>(
     source: &[u8],
     order: &PlayOrder<'_>,
     terminal: Terminal,
-    desk: &mut D,
-    clock: &mut C,
-    input: &mut R,
-    output: &mut W,
-    complaints: &mut E,
-) -> u8
-    ensures { result ≤ 5 }
+    host: &mut Host<S, D, C, R, W, E>,
+) -> Result<u8, Refusal<'a>>
+    ensures { IfOk result (λ status. status ≤ 5) }
 {
-    let program = match program_of(alloc, source) {
-        Ok(program) => program,
-        Err(fault) => return told(fault, complaints),
-    };
-    let player = match Player::new(alloc, &program) {
-        Ok(player) => player,
-        Err(_) => return told(RunFault::Memory, complaints),
-    };
+    let program = program_of(host.alloc, source)?;
+    let player = Player::new(host.alloc, &program)?;
     let mut session = Session::new(
         source,
         &program,
@@ -333,140 +322,47 @@ pub fn play_source<D: Desk, R: Input, W: Output, E: Output, C: Clock>(
             columns: terminal.columns,
         },
     );
-    let answer = played(
-        alloc,
-        source,
-        &mut session,
-        terminal,
-        clock,
-        input,
-        output,
-        complaints,
+    let answer = played(source, &mut session, terminal, host);
+    let kept = recorded(
+        &session,
+        order.record_to,
+        &mut host.desk,
+        &mut host.complaints,
     );
-    let kept = recorded(&session, order.record_to, desk, complaints);
-    if let Err(fault) = answer {
-        return told(fault, complaints);
-    }
-    let status = told_end(alloc, source, &program, &session, output, complaints);
-    if kept != 0 { kept } else { status }
+    answer?;
+    let status = told_end(source, &program, &session, host)?;
+    Ok(if kept != 0 { kept } else { status })
 }
 
-// Tells why the words of a session are refused.
-fn tell_misfit<E: Output>(misfit: PlayMisfit<'_>, complaints: &mut E) {
-    match misfit {
-        PlayMisfit::Value(option) => tell_value("play", option, complaints),
-        PlayMisfit::Pace(pace) => tell(
-            &[
-                b"play: --pace ",
-                pace.as_bytes(),
-                b" is neither max nor a number of cycles a second from 1000 to 1000000000",
-            ],
-            complaints,
-        ),
-        PlayMisfit::Colours(colours) => tell(
-            &[
-                b"play: --colours ",
-                colours.as_bytes(),
-                b" is neither full, 256 nor none",
-            ],
-            complaints,
-        ),
-        PlayMisfit::Option(option) => tell_option("play", option, complaints),
-        PlayMisfit::Files => tell(
-            &[b"play takes one file, behind its options (a2x help)"],
-            complaints,
-        ),
-    }
-}
-
-// Tells that a terminal is too small.
-fn tell_small<E: Output>(terminal: Terminal, complaints: &mut E) {
-    tell(
-        &[
-            b"play: the terminal has ",
-            decimal(u64::from(terminal.columns)).as_slice(),
-            b" columns of ",
-            decimal(u64::from(terminal.rows)).as_slice(),
-            b" rows: 80 of 24 are wanted",
-        ],
-        complaints,
-    )
-}
-
-// The terminal at which somebody can play; or the status, where it is told why nobody can.
-fn terminal_for<E: Output>(
-    seat: Seat,
-    terminal: Option<Terminal>,
-    complaints: &mut E,
-) -> Result<Terminal, u8>
-    ensures { IfErr result (λ status. status ≤ 5) }
-{
+// The terminal at which somebody can play.
+fn terminal_for<'a>(seat: Seat, terminal: Option<Terminal>) -> Result<Terminal, Refusal<'a>> {
     if !seat.types || !seat.sees {
-        tell(
-            &[
-                b"play: standard input and output are to be a terminal: a2x run F --keys K runs without one",
-            ],
-            complaints,
-        );
-        return Err(2);
+        let all =
+            "play: standard input and output are to be a terminal: a2x run F --keys K runs without one";
+        return Err(Refusal::Words(all, "", "", ""));
     }
     let Some(terminal) = terminal else {
-        tell(
-            &[b"play: the terminal is not set to give each key: start it by a2x-play F"],
-            complaints,
-        );
-        return Err(2);
+        let all = "play: the terminal is not set to give each key: start it by a2x-play F";
+        return Err(Refusal::Words(all, "", "", ""));
     };
-    if terminal.rows < LEAST_ROWS || terminal.columns < LEAST_COLUMNS {
-        tell_small(terminal, complaints);
-        return Err(2);
+    let (rows, columns) = (terminal.rows, terminal.columns);
+    if rows < LEAST_ROWS || columns < LEAST_COLUMNS {
+        return Err(Refusal::Small { rows, columns });
     }
     Ok(terminal)
 }
 
-/// Plays the file that the words name, of which the first is `play`. The status is 2 where they are refused, and where nobody
-/// sits there; as of [`play_source`] else.
-pub fn play_of<S: Shelf, D: Desk, R: Input, W: Output, E: Output, C: Clock>(
-    alloc: Global,
-    words: &[String],
-    seat: Seat,
-    shelf: &mut S,
-    desk: &mut D,
-    clock: &mut C,
-    input: &mut R,
-    output: &mut W,
-    complaints: &mut E,
-) -> Result<u8, u8>
-    ensures done { IfOk result (λ status. status ≤ 5) }
-    ensures refused { IfErr result (λ status. status ≤ 5) }
+/// Plays the file that the words name. The status is 2 where nobody sits there; as of the run else.
+pub fn play_of<'a, S: Shelf, D: Desk, C: Clock, R: Input, W: Output, E: Output>(
+    given: &Given<'a>,
+    host: &mut Host<S, D, C, R, W, E>,
+) -> Result<u8, Refusal<'a>>
+    ensures { IfOk result (λ status. status ≤ 5) }
 {
-    let (terminal, words) = terminal_in(words);
-    let order = match play_order(behind(words)) {
-        Ok(order) => order,
-        Err(misfit) => {
-            tell_misfit(misfit, complaints);
-            return Err(2);
-        }
-    };
-    let terminal = terminal_for(seat, terminal, complaints)?;
-    spares_input(
-        b"play: the keys",
-        b"--record",
-        order.record_to,
-        Some(order.file),
-        desk,
-        complaints,
-    )?;
-    let source = text_of(alloc, Some(order.file), shelf, input, complaints)?;
-    Ok(play_source(
-        alloc,
-        source.as_slice(),
-        &order,
-        terminal,
-        desk,
-        clock,
-        input,
-        output,
-        complaints,
-    ))
+    let order = play_order(behind(given.words))?;
+    let terminal = terminal_for(given.seat, given.terminal)?;
+    let (file, mend) = (Some(order.file), ": give --record another name");
+    spares_input("play: the keys", order.record_to, file, mend, &host.desk)?;
+    let source = text_of(host.alloc, file, &mut host.shelf, &mut host.input)?;
+    play_source(source.as_slice(), &order, terminal, host)
 }

@@ -1,159 +1,158 @@
 //! The word `profile`: by what its words ask that runs are counted.
 
-ghost use Rattle.std.specs.Prelude.{◌≤◌, IfOk, IfErr};
+ghost use Rattle.std.specs.Prelude.{◌≤◌, IfOk};
 
-use crate::asked::{held_in, order_in, row};
-use crate::program::{behind, refused, tell, text_of};
-use crate::table::Word;
-use crate::tools::{profile, told};
-use crate::words::WordsFault;
+use crate::asked::{Given, order_in};
+use crate::host::Host;
+use crate::program::{behind, text_of};
+use crate::refusal::Refusal;
+use crate::tools::ended;
+use crate::words::{Order, WordsFault, refused};
 use a2_bus::Keys;
 use a2_host::Shelf;
-use a2_options::{Found, Kind, Row};
-use a2_profile::Format;
+use a2_machine::{Cause, write_cause};
+use a2_profile::{Format, first_stop, profile_source, profile_source_routines};
 use a2_run::RunFault;
-use a2_stream::{Input, Output};
+use a2_stream::{Input, Output, put_all};
+use a2_text::decimal;
 use std::alloc::Global;
 
-// The options of `profile`, of which the limit of each run is left.
-static PROFILE_OPTIONS: [Row; 4] = [
-    row!(Value "--by"),
-    row!(Value "--format"),
-    row!(Value "--keys"),
-    row!(Left "--limit"),
-];
-
-/// By what steps are counted.
-#[derive(Clone, Copy)]
-pub enum Counting {
-    Lines,
-    Routines,
-}
-
-/// What is asked for of a profile.
+// What is asked for of a profile.
 #[derive(Drop)]
-pub struct Profiling<'a> {
-    pub counting: Counting,
-    pub format: Format,
-    /// The keys of each run, as they are spelt; of none there is one run, with no keys.
-    pub spellings: Vec<&'a str>,
-    /// The keys that wait at the start of each run.
-    pub runs: Vec<Keys>,
+struct Profiling<'a> {
+    // Whether steps are counted by routines, or else by lines.
+    by_routine: bool,
+    format: Format,
+    // The keys of each run, as they are spelt; of none there is one run, with no keys.
+    spellings: Vec<&'a str>,
+    // The keys that wait at the start of each run.
+    runs: Vec<Keys>,
 }
 
-// Tells that the value of an option is none of these; the status.
-fn tell_choice<E: Output>(option: &Found<'_>, choices: &[u8], complaints: &mut E) -> u8
-    ensures { result ≤ 5 }
-{
-    tell(
-        &[
-            b"profile: ",
-            option.name.as_bytes(),
-            b" is ",
-            choices,
-            b", and not ",
-            option.value.as_bytes(),
-        ],
-        complaints,
-    );
-    2
-}
-
-// By what steps are counted; or the status, where a fault is told.
-fn counting_of<E: Output>(option: &Found<'_>, complaints: &mut E) -> Result<Counting, u8>
-    ensures { IfErr result (λ status. status ≤ 5) }
-{
-    match option.value {
-        "line" => Ok(Counting::Lines),
-        "routine" => Ok(Counting::Routines),
-        _ => Err(tell_choice(option, b"line or routine", complaints)),
+// Whether steps are counted by routines.
+fn by_routine(value: &str) -> Result<bool, Refusal<'_>> {
+    match value {
+        "line" => Ok(false),
+        "routine" => Ok(true),
+        _ => Err(Refusal::Words("profile: --by is line or routine, and not ", value, "", "")),
     }
 }
 
-// In which form the profile is written; or the status, where a fault is told.
-fn format_of<E: Output>(option: &Found<'_>, complaints: &mut E) -> Result<Format, u8>
-    ensures { IfErr result (λ status. status ≤ 5) }
-{
-    match option.value {
+// In which form the profile is written.
+fn format_of(value: &str) -> Result<Format, Refusal<'_>> {
+    match value {
         "text" => Ok(Format::Text),
         "json" => Ok(Format::Json),
         "callgrind" => Ok(Format::Callgrind),
-        _ => Err(tell_choice(option, b"text, json or callgrind", complaints)),
+        _ => {
+            let front = "profile: --format is text, json or callgrind, and not ";
+            Err(Refusal::Words(front, value, "", ""))
+        }
     }
 }
 
-// Adds a run with the keys that a word spells; or the status, where a fault is told.
-fn add_run<'a, E: Output>(
-    word: &Word,
-    words: &[String],
+// Adds a run with the keys that a word spells.
+fn add_run<'a>(
+    given: &Given<'a>,
     spelling: &'a str,
     asked: &mut Profiling<'a>,
-    complaints: &mut E,
-) -> Result<(), u8>
-    ensures { IfErr result (λ status. status ≤ 5) }
-{
+) -> Result<(), Refusal<'a>> {
     let Some(keys) = Keys::parse(spelling) else {
-        return Err(refused(word, words, WordsFault::Keys, complaints));
+        return Err(refused(&given.word, behind(given.words), WordsFault::Keys));
     };
     if asked.runs.push(keys).is_err() || asked.spellings.push(spelling).is_err() {
-        return Err(told(RunFault::Memory, complaints));
+        return Err(Refusal::Fault(RunFault::Memory));
     }
     Ok(())
 }
 
-// What the options of a profile ask for; or the status, where a fault is told.
-fn profiling_of<'a, E: Output>(
-    alloc: Global,
-    word: &Word,
-    words: &[String],
-    found: &[Found<'a>],
-    complaints: &mut E,
-) -> Result<Profiling<'a>, u8>
-    ensures { IfErr result (λ status. status ≤ 5) }
-{
+// What the options of a profile ask for.
+fn profiling_of<'a>(alloc: Global, given: &Given<'a>) -> Result<Profiling<'a>, Refusal<'a>> {
     let mut asked = Profiling {
-        counting: Counting::Lines,
+        by_routine: false,
         format: Format::Text,
         spellings: Vec::new(alloc),
         runs: Vec::new(alloc),
     };
-    for option in found {
+    for option in given.found {
         match option.name {
-            "--by" => asked.counting = counting_of(option, complaints)?,
-            "--format" => asked.format = format_of(option, complaints)?,
-            _ => add_run(word, words, option.value, &mut asked, complaints)?,
+            "--by" => asked.by_routine = by_routine(option.value)?,
+            "--format" => asked.format = format_of(option.value)?,
+            _ => add_run(given, option.value, &mut asked)?,
         }
     }
     if asked.runs.is_empty() {
-        add_run(word, words, "", &mut asked, complaints)?;
+        add_run(given, "", &mut asked)?;
     }
     Ok(asked)
 }
 
-/// Profiles the runs that the words ask for: one for each `--keys`, or one. The status is 1 where the source is refused, 2 where
-/// the words are, 3 where the first run that did not end by RETURNED did not end by BRK, 4 where the file does not open or a read
-/// or a write fails, and 5 for want of memory, each told on `complaints`.
-pub fn profile_of<S: Shelf, R: Input, W: Output, E: Output>(
-    alloc: Global,
-    word: &Word,
-    words: &[String],
-    shelf: &mut S,
-    input: &mut R,
-    output: &mut W,
-    complaints: &mut E,
-) -> Result<u8, u8>
-    ensures done { IfOk result (λ status. status ≤ 5) }
-    ensures refused { IfErr result (λ status. status ≤ 5) }
-{
-    let held = held_in(alloc, word, &PROFILE_OPTIONS, words, complaints)?;
-    let asked = profiling_of(
-        alloc,
-        word,
-        behind(words),
-        held.found.as_slice(),
+// Tells the end of a run, which has this number and these keys, as they were spelt.
+fn tell_end<E: Output>(number: usize, spelling: &str, cause: Cause, complaints: &mut E) {
+    // Where this fails there is no place left to tell it.
+    let _ = put_all(
+        &[
+            b"a2x: profile: run ",
+            decimal(number as u64).as_slice(),
+            b", --keys ",
+            spelling.as_bytes(),
+            b": ",
+        ],
         complaints,
+    );
+    let _ = write_cause(cause, complaints);
+}
+
+// Tells each end of several runs but by RETURNED.
+fn tell_ends<E: Output>(causes: &[Cause], spellings: &[&str], complaints: &mut E) {
+    if causes.len() < 2 {
+        return;
+    }
+    let mut number = 1usize;
+    for (cause, spelling) in causes.iter().zip(spellings) {
+        if *cause != Cause::Returned {
+            tell_end(number, *spelling, *cause, complaints);
+        }
+        number = number.saturating_add(1);
+    }
+}
+
+// Profiles the runs of a source, by its lines or by its routines; why each ended.
+fn profile<W: Output>(
+    alloc: Global,
+    source: &[u8],
+    order: &Order,
+    asked: &Profiling<'_>,
+    output: &mut W,
+) -> Result<Vec<Cause>, RunFault> {
+    let (name, runs) = (order.file.unwrap_or("-").as_bytes(), asked.runs.as_slice());
+    let (limit, free, format) = (order.limit, order.free, asked.format);
+    if asked.by_routine {
+        profile_source_routines(alloc, name, source, runs, limit, free, format, output)
+    } else {
+        profile_source(alloc, name, source, runs, limit, free, format, output)
+    }
+}
+
+/// Profiles the runs that the words ask for, one for each `--keys`, or one; of several it tells each end but by RETURNED. The status
+/// is that of the first run that did not end so.
+pub fn profile_of<'a, S: Shelf, D, C, R: Input, W: Output, E: Output>(
+    given: &Given<'a>,
+    host: &mut Host<S, D, C, R, W, E>,
+) -> Result<u8, Refusal<'a>>
+    ensures { IfOk result (λ status. status ≤ 5) }
+{
+    let asked = profiling_of(host.alloc, given)?;
+    let order = order_in(given)?;
+    let text = text_of(host.alloc, order.file, &mut host.shelf, &mut host.input)?;
+    let causes = profile(
+        host.alloc,
+        text.as_slice(),
+        &order,
+        &asked,
+        &mut host.output,
     )?;
-    let order = order_in(word, held.others.as_slice(), complaints)?;
-    let source = text_of(alloc, order.file, shelf, input, complaints)?;
-    Ok(profile(alloc, source.as_slice(), &order, &asked, output, complaints))
+    let (causes, spellings) = (causes.as_slice(), asked.spellings.as_slice());
+    tell_ends(causes, spellings, &mut host.complaints);
+    Ok(ended(first_stop(causes)))
 }

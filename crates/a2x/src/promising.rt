@@ -1,19 +1,19 @@
 //! Promises of a source: what its words ask for, and what is told of each.
 
-ghost use Rattle.std.specs.Prelude.{◌≤◌, IfOk, IfErr};
+ghost use Rattle.std.specs.Prelude.{◌≤◌, IfOk};
 
-use crate::asked::{held_in, named_file, number_in, program_in, row};
+use crate::asked::{Given, named_file, number_in};
 use crate::failing::{Fallen, fallen_of, film_first};
-use crate::program::{spares_input, tell, text_of};
-use crate::table::Word;
-use crate::tools::or_told;
+use crate::host::Host;
+use crate::program::{spares_input, text_of};
+use crate::refusal::{Refusal, tell};
 use a2_asm::Program;
 use a2_class::{Asked, Line, Verdict as RunVerdict, asked_of, cases_of, is_asking, judge_source};
 use a2_desk::Desk;
 use a2_host::Shelf;
-use a2_options::{Found, Kind, Row};
+use a2_options::Found;
 use a2_promise::{Found as Stated, Promise, promise_in, promises_of};
-use a2_run::RunFault;
+use a2_run::{MOST_STEPS, RunFault, program_of};
 use a2_stream::{Input, Output, WriteFault, put_all};
 use a2_text::{cut, decimal};
 use a2_trial::{Trials, Verdict, put_refusal, put_verdict, try_promise};
@@ -24,9 +24,6 @@ const TRIALS: Trials = Trials {
     all: 1 << 24,
     some: 1_000_000,
 };
-
-// The options of `promise`, and what stands before a file whose name begins with `-`.
-static PROMISE_OPTIONS: [Row; 3] = [row!(Value "--film"), row!(Value "--states"), row!(End "--")];
 
 // What is found of the promises of a source.
 #[derive(Drop)]
@@ -45,10 +42,8 @@ struct Wish<'a> {
     page: Option<&'a str>,
 }
 
-// What the options ask for; or the status, where a fault is told.
-fn wish_of<'a, E: Output>(found: &[Found<'a>], complaints: &mut E) -> Result<Wish<'a>, u8>
-    ensures { IfErr result (λ status. status ≤ 5) }
-{
+// What the options ask for.
+fn wish_of<'a>(found: &[Found<'a>]) -> Result<Wish<'a>, Refusal<'a>> {
     let mut wish = Wish {
         trials: TRIALS,
         page: None,
@@ -57,7 +52,7 @@ fn wish_of<'a, E: Output>(found: &[Found<'a>], complaints: &mut E) -> Result<Wis
         match option.name {
             "--film" => wish.page = Some(option.value),
             _ => {
-                let states = u64::from(number_in("promise", option, 1, complaints)?);
+                let states = u64::from(number_in("promise", option, 1, MOST_STEPS)?);
                 wish.trials = Trials {
                     all: states,
                     some: states,
@@ -296,35 +291,24 @@ fn status_of<E: Output>(file: &str, sum: &Sum, complaints: &mut E) -> u8
 }
 
 /// Tries the promises of the source that the words name, and writes the film that they ask for of the first run that fails. The
-/// status is 6 where a promise does not hold, 1 where the source or a promise is refused or there is none, 2 where the words are,
-/// 4 where the file does not open or a read or a write fails, and 5 for want of memory, each told on `complaints`.
-pub fn promise_of<S: Shelf, D: Desk, R: Input, W: Output, E: Output>(
-    alloc: Global,
-    word: &Word,
-    words: &[String],
-    shelf: &mut S,
-    desk: &mut D,
-    input: &mut R,
-    output: &mut W,
-    complaints: &mut E,
-) -> Result<u8, u8>
-    ensures done { IfOk result (λ status. status ≤ 6) }
-    ensures refused { IfErr result (λ status. status ≤ 5) }
+/// status is 6 where a promise does not hold, and 1 where the source or a promise is refused or there is none.
+pub fn promise_of<'a, S: Shelf, D: Desk, C, R: Input, W: Output, E: Output>(
+    given: &Given<'a>,
+    host: &mut Host<S, D, C, R, W, E>,
+) -> Result<u8, Refusal<'a>>
+    ensures { IfOk result (λ status. status ≤ 6) }
 {
-    let held = held_in(alloc, word, &PROMISE_OPTIONS, words, complaints)?;
-    let wish = wish_of(held.found.as_slice(), complaints)?;
-    let file = named_file(word, held.others.as_slice(), complaints)?;
-    let what = b"promise: the film";
-    spares_input(what, b"--film", wish.page, file, desk, complaints)?;
-    let text = text_of(alloc, file, shelf, input, complaints)?;
+    let wish = wish_of(given.found)?;
+    let file = named_file(given)?;
+    let (front, mend) = ("promise: the film", ": give --film another name");
+    spares_input(front, wish.page, file, mend, &host.desk)?;
+    let alloc = host.alloc;
+    let text = text_of(alloc, file, &mut host.shelf, &mut host.input)?;
     let source = text.as_slice();
-    let program = program_in(alloc, source, complaints)?;
-    let answer = judge_all(alloc, &program, source, wish.trials, output);
-    let sum = or_told(answer, complaints)?;
+    let program = program_of(alloc, source)?;
+    let sum = judge_all(alloc, &program, source, wish.trials, &mut host.output)?;
     let name = file.unwrap_or("-");
     let (title, first) = (name.as_bytes(), sum.first.as_ref());
-    film_first(
-        alloc, source, &program, title, first, wish.page, desk, complaints,
-    )?;
-    Ok(status_of(name, &sum, complaints))
+    film_first(source, &program, title, first, wish.page, host)?;
+    Ok(status_of(name, &sum, &mut host.complaints))
 }

@@ -1,11 +1,12 @@
 //! `run --replay`: a session's run again, by the keys that it recorded.
 
-ghost use Rattle.std.specs.Prelude.{◌≤◌, IfOk, IfErr};
+ghost use Rattle.std.specs.Prelude.{◌≤◌, IfOk};
 
+use crate::host::Host;
 use crate::named::is_file;
 use crate::play::{put_stand, status_where};
-use crate::program::{loaded_text, tell, tell_form, tell_value, text_of};
-use crate::tools::{told, written};
+use crate::program::{loaded_text, text_of};
+use crate::refusal::{Refusal, several, tell, tell_form, valueless};
 use a2_host::Shelf;
 use a2_machine::Cause;
 use a2_page::print;
@@ -14,55 +15,27 @@ use a2_run::{RunFault, program_of};
 use a2_stream::{Input, Output, WriteFault};
 use std::alloc::Global;
 
-/// Whether the `words` behind `run` ask for a session's run again.
+/// Whether words, of which the first is `run`, ask for a session's run again.
 pub fn asks_replay(words: &[String]) -> bool {
     match words {
-        [word, ..] => word.as_str() == "--replay",
-        [] => false,
+        [_, word, ..] => word.as_str() == "--replay",
+        _ => false,
     }
 }
 
-// The record and the source that the words behind `run` name; or the status, where that is told.
-fn files_in<'a, E: Output>(
-    words: &'a [String],
-    complaints: &mut E,
-) -> Result<(&'a str, Option<&'a str>), u8>
-    ensures { IfErr result (λ status. status ≤ 5) }
-{
+// The record and the source that the words behind `run` name.
+fn files_in(words: &[String]) -> Result<(&str, Option<&str>), Refusal<'_>> {
     match words {
-        [_, record] => return Ok((record.as_str(), None)),
-        [_, record, file] if is_file(file.as_str()) => {
-            return Ok((record.as_str(), Some(file.as_str())));
-        }
-        [_, _, word, ..] if !is_file(word.as_str()) => {
-            tell(
-                &[
-                    b"run: ",
-                    word.as_bytes(),
-                    b" does not stand beside --replay: keys and steps are those of the session",
-                ],
-                complaints,
-            );
-        }
-        [_, _, _, ..] => tell(
-            &[b"run takes one file, behind its options (a2x help)"],
-            complaints,
-        ),
-        _ => tell_value("run", "--replay", complaints),
-    }
-    Err(2)
-}
-
-// Tells why a text of this name is no record; the status.
-fn refused_record<E: Output>(name: &str, fault: RecordFault, complaints: &mut E) -> u8
-    ensures { result ≤ 5 }
-{
-    match fault {
-        RecordFault::Line(line) => {
-            let form = "a key is 1200 41, its steps and its code, and the last line 2000 END";
-            tell_form("run", name, line, form, complaints)
-        }
-        RecordFault::Memory => told(RunFault::Memory, complaints),
+        [_, record] => Ok((record.as_str(), None)),
+        [_, record, file] if is_file(file.as_str()) => Ok((record.as_str(), Some(file.as_str()))),
+        [_, _, word, ..] if !is_file(word.as_str()) => Err(Refusal::Words(
+            "run: ",
+            word.as_str(),
+            " does not stand beside --replay: keys and steps are those of the session",
+            "",
+        )),
+        [_, _, _, ..] => Err(several("run")),
+        _ => Err(valueless("run", "--replay")),
     }
 }
 
@@ -85,69 +58,54 @@ fn put_run<W: Output>(
     put_stand(machine, cause, output)
 }
 
-// Plays a record again from the start of a source; the status.
-fn replay<W: Output, E: Output>(
-    alloc: Global,
+// Plays a record of this name again from the start of a source; the status.
+fn replay<'a, S, D, C, R, W: Output, E: Output>(
     source: &[u8],
     record: &Record,
     name: &str,
-    output: &mut W,
-    complaints: &mut E,
-) -> u8
-    ensures { result ≤ 5 }
+    host: &mut Host<S, D, C, R, W, E>,
+) -> Result<u8, Refusal<'a>>
+    ensures { IfOk result (λ status. status ≤ 5) }
 {
-    let program = match program_of(alloc, source) {
-        Ok(program) => program,
-        Err(fault) => return told(fault, complaints),
-    };
-    let Ok(mut player) = Player::new(alloc, &program) else {
-        return told(RunFault::Memory, complaints);
-    };
-    match player.replay(record.log.as_slice(), record.end) {
-        Ok(true) => {
-            let cause = cause_here(&mut player);
-            let status = written(put_run(&player, cause, output), complaints);
-            if status != 0 {
-                status
-            } else {
-                status_where(cause)
-            }
-        }
-        Ok(false) => {
-            tell(
-                &[
-                    b"run: ",
-                    name.as_bytes(),
-                    b" is no session of this source: its steps cannot be made",
-                ],
-                complaints,
-            );
-            1
-        }
-        Err(_) => told(RunFault::Memory, complaints),
+    let program = program_of(host.alloc, source)?;
+    let mut player = Player::new(host.alloc, &program)?;
+    if !player.replay(record.log.as_slice(), record.end)? {
+        tell(
+            &[
+                b"run: ",
+                name.as_bytes(),
+                b" is no session of this source: its steps cannot be made",
+            ],
+            &mut host.complaints,
+        );
+        return Ok(1);
     }
+    let cause = cause_here(&mut player);
+    put_run(&player, cause, &mut host.output)?;
+    Ok(status_where(cause))
 }
 
 /// Runs a source again by the record of a session: `words`, behind `run`, are `--replay`, the record's file and the source's. The
 /// picture, the registers and the cause are those of the session's end. The status is 1 where record or source is refused, or
-/// where they do not fit, 2 where the words are refused, and else as of a session.
-pub fn replay_of<S: Shelf, R: Input, W: Output, E: Output>(
-    alloc: Global,
-    words: &[String],
-    shelf: &mut S,
-    input: &mut R,
-    output: &mut W,
-    complaints: &mut E,
-) -> Result<u8, u8>
-    ensures done { IfOk result (λ status. status ≤ 5) }
-    ensures refused { IfErr result (λ status. status ≤ 5) }
+/// where they do not fit, and else as of a session.
+pub fn replay_of<'a, S: Shelf, D, C, R: Input, W: Output, E: Output>(
+    words: &'a [String],
+    host: &mut Host<S, D, C, R, W, E>,
+) -> Result<u8, Refusal<'a>>
+    ensures { IfOk result (λ status. status ≤ 5) }
 {
-    let (name, file) = files_in(words, complaints)?;
-    let text = loaded_text(alloc, name, shelf, complaints)?;
+    let (name, file) = files_in(words)?;
+    let alloc = host.alloc;
+    let text = loaded_text(alloc, name, &mut host.shelf)?;
     let record = match record_of(alloc, text.as_slice()) {
         Ok(record) => record,
-        Err(fault) => return Err(refused_record(name, fault, complaints)),
+        Err(RecordFault::Line(line)) => {
+            let form = "a key is 1200 41, its steps and its code, and the last line 2000 END";
+            tell_form("run", name, line, form, &mut host.complaints);
+            return Ok(1);
+        }
+        Err(RecordFault::Memory) => return Err(Refusal::Fault(RunFault::Memory)),
     };
-    let source = text_of(alloc, file, shelf, input, complaints)?;
-    Ok(replay(alloc, source.as_slice(), &record, name, output, complaints))
+    let source = text_of(alloc, file, &mut host.shelf, &mut host.input)?;
+    replay(source.as_slice(), &record, name, host)
 }

@@ -1,14 +1,15 @@
 //! The word `run`: what its words ask for behind a run.
 
-ghost use Rattle.std.specs.Prelude.{◌≤◌, IfOk, IfErr};
+ghost use Rattle.std.specs.Prelude.{◌≤◌, IfOk};
 ghost use Rattle.a2x.specs.Saved.{SavesInto};
 
-use crate::asked::{held_in, number_in, order_in, program_in, row, span_in, tell_span};
+use crate::asked::{Given, number_in, order_in, span_in};
 use crate::drafts::settled;
+use crate::host::Host;
 use crate::program::{spares_input, text_of};
-use crate::table::Word;
-use crate::tools::{run, run_status, told};
-use crate::typing::{add_strokes, run_typed};
+use crate::refusal::Refusal;
+use crate::tools::{complain, ended, explain};
+use crate::typing::{run_typed, strokes_in};
 use crate::words::Order;
 use a2_asm::Program;
 use a2_bus::Keys;
@@ -16,41 +17,21 @@ use a2_desk::Desk;
 use a2_host::Shelf;
 use a2_machine::Cause;
 use a2_memory::{Part, image_source, memory_source};
-use a2_options::{Found, Kind, Row};
-use a2_run::RunFault;
-use a2_stream::{Input, Output};
+use a2_options::Found;
+use a2_run::{MOST_STEPS, Options, RunFault, program_of, run_text, status};
+use a2_stream::{FromRead, Input, Output};
 use a2_trace::{Choice, trace_source};
 use a2_typed::Strokes;
 use std::alloc::Global;
 
-// The options of `run`, of which those of each run are left.
-static RUN_OPTIONS: [Row; 6] = [
-    row!(Value "--mem"),
-    row!(Value "--save"),
-    row!(Value "--last"),
-    row!(Value "--keys-at"),
-    row!(Left "--keys"),
-    row!(Left "--limit"),
-];
-
-// The part of RAM that an option has; or the status, where its fault is told.
-fn part_in<E: Output>(
-    program: &Program<Global>,
-    option: &Found<'_>,
-    complaints: &mut E,
-) -> Result<Part, u8>
-    ensures { IfErr result (λ status. status ≤ 5) }
-{
-    let span = span_in("run", program, option, complaints)?;
-    match Part::of(span) {
-        Some(part) => Ok(part),
-        None => Err(tell_span(
-            "run",
-            option,
-            b" is not all in RAM, which ends at $BFFF",
-            complaints,
-        )),
-    }
+// The part of RAM that an option has.
+fn part_in<'a>(program: &Program<Global>, option: &Found<'a>) -> Result<Part, Refusal<'a>> {
+    let span = span_in("run: --mem ", program, option)?;
+    let Some(part) = Part::of(span) else {
+        let rest = " is not all in RAM, which ends at $BFFF";
+        return Err(Refusal::Words("run: --mem ", option.value, rest, ""));
+    };
+    Ok(part)
 }
 
 /// What is asked for of a run, and behind it.
@@ -63,15 +44,12 @@ pub struct Behind<'a> {
     pub strokes: Strokes,
 }
 
-// What the options of a run ask for; or the status, where a fault is told.
-fn behind_of<'a, E: Output>(
+// What the options of a run ask for.
+fn behind_of<'a>(
     alloc: Global,
     source: &[u8],
     found: &[Found<'a>],
-    complaints: &mut E,
-) -> Result<Behind<'a>, u8>
-    ensures { IfErr result (λ status. status ≤ 5) }
-{
+) -> Result<Behind<'a>, Refusal<'a>> {
     let mut asked = Behind {
         parts: Vec::new(alloc),
         image: None,
@@ -81,16 +59,19 @@ fn behind_of<'a, E: Output>(
     if found.is_empty() {
         return Ok(asked);
     }
-    let program = program_in(alloc, source, complaints)?;
+    let program = program_of(alloc, source)?;
     for option in found {
         match option.name {
             "--save" => asked.image = Some(option.value),
-            "--keys-at" => add_strokes(&mut asked.strokes, option, complaints)?,
-            "--last" => asked.last = Some(number_in("run", option, 0, complaints)?),
+            "--keys-at" => {
+                let (steps, keys) = strokes_in(option.value)?;
+                asked.strokes.add(steps, &keys)?;
+            }
+            "--last" => asked.last = Some(number_in("run", option, 0, MOST_STEPS)?),
             _ => {
-                let part = part_in(&program, option, complaints)?;
+                let part = part_in(&program, option)?;
                 if asked.parts.push(part).is_err() {
-                    return Err(told(RunFault::Memory, complaints));
+                    return Err(Refusal::Fault(RunFault::Memory));
                 }
             }
         }
@@ -135,72 +116,72 @@ fn tell_last<E: Output>(
     let _ = trace_source(alloc, source, keys, limit, free, &choice, complaints);
 }
 
+// The status of a run that was made again; a fault is told.
+fn again<E: Output>(answer: Result<Cause, RunFault>, complaints: &mut E) -> u8
+    ensures { result ≤ 5 }
+{
+    if let Err(fault) = answer {
+        complain(fault, complaints);
+    }
+    status(&answer)
+}
+
 // Does what is asked for behind a run of this status; the greatest status.
-fn do_behind<D: Desk, W: Output, E: Output>(
-    alloc: Global,
+fn do_behind<S, D: Desk, C, R, W: Output, E: Output>(
     source: &[u8],
     order: &Order,
     asked: &Behind<'_>,
     ended: u8,
-    desk: &mut D,
-    output: &mut W,
-    complaints: &mut E,
+    host: &mut Host<S, D, C, R, W, E>,
 ) -> u8
     requires { ended ≤ 5 }
     ensures { result ≤ 5 }
 {
-    let (keys, limit, free) = (&order.keys, order.limit, order.free);
-    tell_last(alloc, source, order, asked.last, complaints);
+    let (alloc, keys, limit, free) = (host.alloc, &order.keys, order.limit, order.free);
+    tell_last(alloc, source, order, asked.last, &mut host.complaints);
     let mut greatest = ended;
     if !asked.parts.is_empty() {
         let parts = asked.parts.as_slice();
-        let answer = memory_source(alloc, source, keys, limit, free, parts, output);
-        greatest = greatest.max(run_status(answer, complaints));
+        let answer = memory_source(alloc, source, keys, limit, free, parts, &mut host.output);
+        greatest = greatest.max(again(answer, &mut host.complaints));
     }
     if let Some(image) = asked.image {
-        let answer = image_into(alloc, source, keys, limit, free, image, desk);
-        greatest = greatest.max(run_status(answer, complaints));
+        let answer = image_into(alloc, source, keys, limit, free, image, &mut host.desk);
+        greatest = greatest.max(again(answer, &mut host.complaints));
     }
     greatest
 }
 
-/// Makes the run that the words ask for, tells why it stopped, and does what is asked for behind it. The status is 1 where the
-/// source is refused, 2 where the words are, 3 where the run stopped but by RETURNED or BRK, 4 where the file does not open
-/// or a read or a write fails, and 5 for want of memory, each told on `complaints`.
-pub fn run_of<S: Shelf, D: Desk, R: Input, W: Output, E: Output>(
-    alloc: Global,
-    word: &Word,
-    words: &[String],
-    shelf: &mut S,
-    desk: &mut D,
-    input: &mut R,
-    output: &mut W,
-    complaints: &mut E,
-) -> Result<u8, u8>
-    ensures done { IfOk result (λ status. status ≤ 5) }
-    ensures refused { IfErr result (λ status. status ≤ 5) }
+/// Makes the run that the words ask for as a2 does, tells why it stopped, and does what is asked for behind it. The status is 3 where
+/// the run stopped but by RETURNED or BRK.
+pub fn run_of<'a, S: Shelf, D: Desk, C, R: Input, W: Output, E: Output>(
+    given: &Given<'a>,
+    host: &mut Host<S, D, C, R, W, E>,
+) -> Result<u8, Refusal<'a>>
+    ensures { IfOk result (λ status. status ≤ 5) }
 {
-    let held = held_in(alloc, word, &RUN_OPTIONS, words, complaints)?;
-    let order = order_in(word, held.others.as_slice(), complaints)?;
-    let text = text_of(alloc, order.file, shelf, input, complaints)?;
+    let order = order_in(given)?;
+    let alloc = host.alloc;
+    let text = text_of(alloc, order.file, &mut host.shelf, &mut host.input)?;
     let source = text.as_slice();
-    let asked = behind_of(alloc, source, held.found.as_slice(), complaints)?;
-    spares_input(
-        b"run: the image",
-        b"--save",
-        asked.image,
-        order.file,
-        desk,
-        complaints,
-    )?;
+    let asked = behind_of(alloc, source, given.found)?;
+    let mend = ": give --save another name";
+    spares_input("run: the image", asked.image, order.file, mend, &host.desk)?;
     if !asked.strokes.as_slice().is_empty() {
-        return run_typed(alloc, source, &order, &asked, desk, output, complaints);
+        return run_typed(source, &order, &asked, host);
     }
-    let ended = run(alloc, source, &order, output, complaints);
-    if ended != 0 && ended != 3 {
-        return Err(ended);
-    }
-    Ok(do_behind(
-        alloc, source, &order, &asked, ended, desk, output, complaints,
-    ))
+    let options = Options {
+        free: order.free,
+        attr: false,
+    };
+    let cause = run_text(
+        alloc,
+        &mut FromRead::new(source),
+        &order.keys,
+        order.limit,
+        options,
+        &mut host.output,
+    )?;
+    explain(alloc, source, &order, &asked.strokes, &mut host.complaints);
+    Ok(do_behind(source, &order, &asked, ended(cause), host))
 }

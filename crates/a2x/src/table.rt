@@ -19,6 +19,8 @@ pub enum Tool {
     Play,
     Profile,
     Promise,
+    /// What `run --replay` does.
+    Replay,
     Run,
     Test,
     Trace,

@@ -1,13 +1,19 @@
 //! Words that talk with whoever sits at the terminal. A word answers the exit status, 0 to 5.
 
-ghost use Rattle.std.specs.Prelude.{◌≤◌};
+ghost use Rattle.std.specs.Prelude.{◌≤◌, IfOk};
 
+use crate::asked::{Given, named_file};
+use crate::host::Host;
 use crate::lines::{Lines, Prompt, Terminal, columns_of, talked};
+use crate::named::is_input;
+use crate::program::{lines_come, loaded_text};
+use crate::refusal::Refusal;
 use crate::tools::told;
+use a2_host::Shelf;
 use a2_run::RunFault;
 use a2_stream::{Input, Output};
 use a2_syntax::Fault;
-use a2_talk::{Partner, TalkFault};
+use a2_talk::TalkFault;
 use a2_terminal::{Annotated, Monitor};
 use std::alloc::Global;
 use std::cell::Cell;
@@ -22,15 +28,6 @@ pub fn ended<E: Output>(answer: Result<(), TalkFault>, complaints: &mut E) -> u8
         Err(TalkFault::Write) => told(RunFault::Write, complaints),
         Err(TalkFault::Endless) => told(RunFault::Script(Fault::TooLarge(0)), complaints),
     }
-}
-
-/// What a session of the Monitor begins with.
-#[derive(Clone, Copy)]
-pub struct Loaded<'a> {
-    /// Object lines or a source, if anything is loaded.
-    pub text: Option<&'a [u8]>,
-    /// Whether names and lines of a source are left out of the answers.
-    pub is_plain: bool,
 }
 
 // The Monitor with a text, or with nothing.
@@ -53,60 +50,69 @@ fn keyboard_of(terminal: Option<Terminal>) -> Option<Cell<bool>> {
     }
 }
 
-// Answers lines by a partner, or tells why there is none.
-fn talk_with<P: Partner + Drop, R: Input, W: Output, E: Output>(
-    alloc: Global,
-    partner: Result<P, RunFault>,
+// Answers the Monitor lines of the input, over a text where one is loaded: with names and lines of a source beside what they stand
+// at, but where the answers are plain.
+fn mon<S, D, C, R: Input, W: Output, E: Output>(
+    text: Option<&[u8]>,
+    is_plain: bool,
     lines: Lines<'_>,
-    input: &mut R,
-    output: &mut W,
-    complaints: &mut E,
-) -> u8
-    ensures { result ≤ 5 }
+    host: &mut Host<S, D, C, R, W, E>,
+) -> Result<u8, RunFault>
+    ensures { IfOk result (λ status. status ≤ 5) }
 {
-    match partner {
-        Ok(mut partner) => talked(alloc, &mut partner, lines, input, output, complaints),
-        Err(fault) => told(fault, complaints),
+    let (alloc, keys) = (host.alloc, lines.keys);
+    match text {
+        Some(text) if !is_plain => {
+            let mut monitor = Annotated::with(alloc, keys, text)?;
+            Ok(talked(
+                alloc,
+                &mut monitor,
+                lines,
+                &mut host.input,
+                &mut host.output,
+                &mut host.complaints,
+            ))
+        }
+        text => {
+            let mut monitor = monitor_with(alloc, keys, text)?;
+            Ok(talked(
+                alloc,
+                &mut monitor,
+                lines,
+                &mut host.input,
+                &mut host.output,
+                &mut host.complaints,
+            ))
+        }
     }
 }
 
-/// Answers the Monitor lines of `input` on `output`, each before the next is read, up to its end or `quit`. What the text holds,
-/// object lines or a source, is loaded first; names and lines of a source are told beside what they stand at, but where the
-/// session is plain. `prompts` says whether a prompt stands before each line, and `terminal` which one gives each byte as it is
-/// typed, so that lines are edited, and a program that waits for a key takes it from there. The status is 1 where the source is
-/// refused, 4 where a read or a write fails, and 5 for want of memory, each told on `complaints`.
-pub fn mon<R: Input, W: Output, E: Output>(
-    alloc: Global,
-    loaded: Loaded<'_>,
-    prompts: bool,
-    terminal: Option<Terminal>,
-    input: &mut R,
-    output: &mut W,
-    complaints: &mut E,
-) -> u8
-    ensures { result ≤ 5 }
+/// Answers Monitor lines, each before the next is read, up to the input's end or `quit`, over a file where the words name one: what
+/// it holds, object lines or a source, is loaded first. A prompt stands before each line where somebody types, and where a terminal
+/// gives each byte as it is typed lines are edited, and a program that waits for a key takes it from there.
+pub fn mon_of<'a, S: Shelf, D, C, R: Input, W: Output, E: Output>(
+    given: &Given<'a>,
+    host: &mut Host<S, D, C, R, W, E>,
+) -> Result<u8, Refusal<'a>>
+    ensures { IfOk result (λ status. status ≤ 5) }
 {
-    let columns = columns_of(terminal);
-    let keyboard = keyboard_of(terminal);
-    let keys = keyboard.as_ref();
+    let is_plain = !given.found.is_empty();
+    let text = match named_file(given)? {
+        Some(name) if is_input(name) => return Err(lines_come("mon")),
+        Some(name) => Some(loaded_text(host.alloc, name, &mut host.shelf)?),
+        None => None,
+    };
+    let columns = columns_of(given.terminal);
+    let keyboard = keyboard_of(given.terminal);
     let lines = Lines {
-        prompt: if prompts {
+        prompt: if given.seat.types {
             Prompt::Monitor
         } else {
             Prompt::Nothing
         },
         columns: columns.as_ref(),
         has_panes: false,
-        keys,
+        keys: keyboard.as_ref(),
     };
-    match loaded.text {
-        Some(text) if !loaded.is_plain => {
-            let monitor = Annotated::with(alloc, keys, text);
-            talk_with(alloc, monitor, lines, input, output, complaints)
-        }
-        text => {
-            let monitor = monitor_with(alloc, keys, text);
-            talk_with(alloc, monitor, lines, input, output, complaints)
-        }
-    }
+    Ok(mon(text.as_ref().map(Vec::as_slice), is_plain, lines, host)?)
 }

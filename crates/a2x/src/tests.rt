@@ -1,10 +1,10 @@
 //! The tests of a class: what its words ask for, and what is done for them. A word answers the exit status, 0 to 6.
 
-ghost use Rattle.std.specs.Prelude.{◌≤◌};
+ghost use Rattle.std.specs.Prelude.{◌≤◌, IfOk};
 
+use crate::host::Host;
 use crate::named::{files_in, is_input, option_at_end};
-use crate::program::tell;
-use crate::tools::told;
+use crate::refusal::{Refusal, tell};
 use crate::words::WordsFault;
 use a2_class::{
     Asked, Case, Format, Found, Line, Totals, cases_of, judge_source, lines_of, put_head,
@@ -19,9 +19,9 @@ use std::alloc::Global;
 /// The status where a solution did not pass all its cases.
 const NOT_PASSED: u8 = 6;
 
-/// What the words of tests ask for: the WANT, and the solutions, one at least.
+// What the words of tests ask for: the WANT, and the solutions, one at least.
 #[derive(Clone, Copy)]
-pub struct Exam<'a> {
+struct Exam<'a> {
     format: Format,
     want: &'a str,
     solutions: &'a [String],
@@ -38,8 +38,8 @@ fn format_named(name: &str) -> Result<Format, WordsFault> {
     }
 }
 
-/// What the words behind `test` ask for: the WANT and the solutions, before or behind which `--format` with its value may stand.
-pub fn exam_in(words: &[String]) -> Result<Exam<'_>, WordsFault> {
+// What the words behind `test` ask for: the WANT and the solutions, before or behind which `--format` with its value may stand.
+fn exam_in(words: &[String]) -> Result<Exam<'_>, WordsFault> {
     let (name, files) = option_at_end("--format", words);
     let format = match name {
         Some(name) => format_named(name)?,
@@ -53,19 +53,6 @@ pub fn exam_in(words: &[String]) -> Result<Exam<'_>, WordsFault> {
         }),
         _ => Err(WordsFault::Words),
     }
-}
-
-/// Tells what the words of tests are; the status.
-pub fn tell_words<E: Output>(complaints: &mut E) -> u8
-    ensures { result ≤ 5 }
-{
-    tell(
-        &[
-            b"test takes a WANT and solutions behind it, and before or behind them --format table, csv, json or junit",
-        ],
-        complaints,
-    );
-    2
 }
 
 // The most lines of a WANT that are told.
@@ -102,19 +89,17 @@ fn tell_unknown<E: Output>(
 }
 
 // The text of a file, or of the standard input, or why there is none.
-fn text_in<S: Shelf, R: Input>(
-    alloc: Global,
+fn text_in<S: Shelf, D, C, R: Input, W, E>(
     name: &str,
-    shelf: &mut S,
-    input: &mut R,
+    host: &mut Host<S, D, C, R, W, E>,
 ) -> Result<Vec<u8>, ReadingFault> {
     if is_input(name) {
-        return read_text(alloc, input);
+        return read_text(host.alloc, &mut host.input);
     }
-    let Ok(mut reader) = shelf.open(name) else {
+    let Ok(mut reader) = host.shelf.open(name) else {
         return Err(ReadingFault::Read);
     };
-    read_text(alloc, &mut reader)
+    read_text(host.alloc, &mut reader)
 }
 
 // Writes what is found of a solution, and counts it.
@@ -123,123 +108,94 @@ fn report<W: Output>(
     name: &str,
     cases: &[Case<Global>],
     found: &Found<Global>,
-    is_first: bool,
     totals: &mut Totals,
     output: &mut W,
 ) -> Result<(), RunFault> {
+    let is_first = *totals == Totals::new();
     totals.count(found);
     put_solution(exam.format, name.as_bytes(), cases, found, is_first, output)?;
     Ok(())
 }
 
 // Judges a solution, and writes what is found.
-fn examine<S: Shelf, R: Input, W: Output>(
-    alloc: Global,
+fn examine<S: Shelf, D, C, R: Input, W: Output, E>(
     exam: &Exam,
     name: &str,
     cases: &[Case<Global>],
-    is_first: bool,
     totals: &mut Totals,
-    shelf: &mut S,
-    input: &mut R,
-    output: &mut W,
+    host: &mut Host<S, D, C, R, W, E>,
 ) -> Result<(), RunFault> {
-    let text = match text_in(alloc, name, shelf, input) {
+    let text = match text_in(name, host) {
         Ok(text) => text,
         Err(ReadingFault::Memory) => return Err(RunFault::Memory),
         Err(ReadingFault::Read) => {
             let found = Found::Refused(b"it can't be read");
-            return report(exam, name, cases, &found, is_first, totals, output);
+            return report(exam, name, cases, &found, totals, &mut host.output);
         }
     };
-    match judge_source(alloc, cases, text.as_slice()) {
+    match judge_source(host.alloc, cases, text.as_slice()) {
         Ok(verdicts) => {
             let found = Found::Judged(verdicts.as_slice());
-            report(exam, name, cases, &found, is_first, totals, output)
+            report(exam, name, cases, &found, totals, &mut host.output)
         }
         Err(RunFault::Memory) => Err(RunFault::Memory),
         Err(fault) => {
             let why = fault.text();
             let found = Found::Refused(why.as_str().as_bytes());
-            report(exam, name, cases, &found, is_first, totals, output)
+            report(exam, name, cases, &found, totals, &mut host.output)
         }
     }
 }
 
-// Judges all solutions, and writes what is found.
-fn examine_all<S: Shelf, R: Input, W: Output>(
-    alloc: Global,
-    exam: &Exam,
-    cases: &[Case<Global>],
-    shelf: &mut S,
-    input: &mut R,
-    output: &mut W,
-) -> Result<Totals, RunFault> {
-    let mut totals = Totals::new();
-    put_head(exam.format, output)?;
-    for (index, name) in exam.solutions.iter().enumerate() {
-        examine(
-            alloc,
-            exam,
-            name.as_str(),
-            cases,
-            index == 0,
-            &mut totals,
-            shelf,
-            input,
-            output,
-        )?;
-    }
-    put_tail(exam.format, &totals, output)?;
-    Ok(totals)
-}
-
-// The status of solutions.
-fn status_of(totals: &Totals) -> u8
-    ensures { result ≤ 6 }
-{
-    if totals.failed == 0 && totals.refused == 0 {
-        0
-    } else {
-        NOT_PASSED
-    }
-}
-
-// Judges all solutions by the text of a WANT.
-fn test_by<S: Shelf, R: Input, W: Output, E: Output>(
-    alloc: Global,
+// Judges all solutions by the text of a WANT, and writes what is found; the status.
+fn test_by<S: Shelf, D, C, R: Input, W: Output, E: Output>(
     exam: &Exam,
     want: &[u8],
-    shelf: &mut S,
-    input: &mut R,
-    output: &mut W,
-    complaints: &mut E,
-) -> Result<u8, RunFault> {
-    let texts = cut(alloc, want)?;
-    let lines = lines_of(alloc, texts.as_slice())?;
-    if tell_unknown(exam.want, lines.as_slice(), texts.as_slice(), complaints) > 0 {
+    host: &mut Host<S, D, C, R, W, E>,
+) -> Result<u8, RunFault>
+    ensures { IfOk result (λ status. status ≤ 6) }
+{
+    let texts = cut(host.alloc, want)?;
+    let lines = lines_of(host.alloc, texts.as_slice())?;
+    let unknown = tell_unknown(
+        exam.want,
+        lines.as_slice(),
+        texts.as_slice(),
+        &mut host.complaints,
+    );
+    if unknown > 0 {
         return Ok(1);
     }
-    let cases = cases_of(alloc, lines.as_slice())?;
-    let totals = examine_all(alloc, exam, cases.as_slice(), shelf, input, output)?;
-    Ok(status_of(&totals))
+    let cases = cases_of(host.alloc, lines.as_slice())?;
+    let mut totals = Totals::new();
+    put_head(exam.format, &mut host.output)?;
+    for name in exam.solutions {
+        examine(exam, name.as_str(), cases.as_slice(), &mut totals, host)?;
+    }
+    put_tail(exam.format, &totals, &mut host.output)?;
+    if totals.failed == 0 && totals.refused == 0 {
+        Ok(0)
+    } else {
+        Ok(NOT_PASSED)
+    }
 }
 
-/// Judges solutions by a WANT, and writes what is found. The status is 6 where one did not pass all cases, and 1 where lines of
-/// the WANT are in no form, each told on `complaints`.
-pub fn test<S: Shelf, R: Input, W: Output, E: Output>(
-    alloc: Global,
-    exam: &Exam,
-    shelf: &mut S,
-    input: &mut R,
-    output: &mut W,
-    complaints: &mut E,
-) -> u8
-    ensures { result ≤ 6 }
+/// Judges solutions by a WANT, which the words behind `test` name, and writes what is found. The status is 6 where one did not pass
+/// all cases, and 1 where lines of the WANT are in no form, each told.
+pub fn test_of<'a, S: Shelf, D, C, R: Input, W: Output, E: Output>(
+    words: &'a [String],
+    host: &mut Host<S, D, C, R, W, E>,
+) -> Result<u8, Refusal<'a>>
+    ensures { IfOk result (λ status. status ≤ 6) }
 {
-    let want = match text_in(alloc, exam.want, shelf, input) {
-        Ok(want) => want,
-        Err(ReadingFault::Memory) => return told(RunFault::Memory, complaints),
+    let Ok(exam) = exam_in(words) else {
+        let all =
+            "test takes a WANT and solutions behind it, and before or behind them --format table, csv, json or junit";
+        return Err(Refusal::Words(all, "", "", ""));
+    };
+    match text_in(exam.want, host) {
+        Ok(want) => Ok(test_by(&exam, want.as_slice(), host)?),
+        Err(ReadingFault::Memory) => Err(Refusal::Fault(RunFault::Memory)),
         Err(ReadingFault::Read) => {
             tell(
                 &[
@@ -247,21 +203,9 @@ pub fn test<S: Shelf, R: Input, W: Output, E: Output>(
                     exam.want.as_bytes(),
                     b" can be read here",
                 ],
-                complaints,
+                &mut host.complaints,
             );
-            return 4;
+            Ok(4)
         }
-    };
-    match test_by(
-        alloc,
-        exam,
-        want.as_slice(),
-        shelf,
-        input,
-        output,
-        complaints,
-    ) {
-        Ok(status) => status.min(NOT_PASSED),
-        Err(fault) => told(fault, complaints),
     }
 }

@@ -3,6 +3,7 @@
 ghost use Rattle.std.specs.Prelude.{◌≡◌, ◌≤◌, length, IfOk};
 
 use crate::debugging::{USUALLY_KEPT, debug_in, lines_in, wall_of};
+use crate::host::Host;
 use crate::lines::{Terminal, columns_of};
 use a2_bus::Keys;
 use a2_inspect::Inspector;
@@ -115,21 +116,24 @@ fn talk_in_panes<R: Input, W: Output, E: Output>(
 /// Goes into the debugger, in panes, where a session stands, with the keys that were typed at it, and comes back at its `quit` or
 /// its end: the session stands where it stood. Where the debugger does not go so far, the session tells it. Refused for want of
 /// memory.
-pub fn debug_here<R: Input, W: Output, E: Output>(
-    alloc: Global,
+pub fn debug_here<S, D, C, R: Input, W: Output, E: Output>(
     source: &[u8],
     session: &mut Session<'_>,
     terminal: Terminal,
-    input: &mut R,
-    output: &mut W,
-    complaints: &mut E,
+    host: &mut Host<S, D, C, R, W, E>,
 ) -> Result<(), RunFault>
     ensures { session.new ≡ session.old }
 {
-    let Some(inspector) = inspector_at(alloc, source, session.player())? else {
-        session.notice(TOO_FAR);
-        return Ok(());
-    };
-    talk_in_panes(alloc, inspector, terminal, input, output, complaints);
+    match inspector_at(host.alloc, source, session.player())? {
+        Some(inspector) => talk_in_panes(
+            host.alloc,
+            inspector,
+            terminal,
+            &mut host.input,
+            &mut host.output,
+            &mut host.complaints,
+        ),
+        None => session.notice(TOO_FAR),
+    }
     Ok(())
 }

@@ -6,69 +6,45 @@ ghost use Rattle.a2_bus.specs.View.{memory_of};
 ghost use Rattle.a2_memory.specs.Texts.{ram_lines};
 ghost use Rattle.a2x.specs.Saved.{SavesMemory};
 
-use crate::asked::program_in;
 use crate::drafts::settled;
-use crate::program::tell;
+use crate::host::Host;
+use crate::refusal::{Refusal, tell};
 use crate::running::Behind;
-use crate::tools::{explain, or_told, told, written};
+use crate::tools::{ended, explain, told};
 use crate::words::Order;
+use a2_bus::Keys;
 use a2_desk::Desk;
 use a2_hex::write_lines;
 use a2_machine::Machine;
 use a2_memory::{image_of, write_parts};
-use a2_options::Found;
-use a2_run::{RunFault, status};
+use a2_run::{RunFault, program_of};
 use a2_stream::Output;
 use a2_text::decimal;
 use a2_typed::{StrokeFault, Strokes, TypedFault, ended_typed, show, stroke_in};
 use std::alloc::Global;
 
-// Tells what is wrong with keys and their steps; the status.
-fn told_stroke<E: Output>(word: &str, fault: StrokeFault, complaints: &mut E) -> u8
-    ensures { result ≤ 5 }
-{
-    let why: &[u8] = match fault {
-        StrokeFault::Steps =>
-            b": a number from 0 to 100000000, a colon and keys are wanted, as 1200:HI\\r",
-        StrokeFault::Keys => b": keys are blank to ~, and \\r \\b \\f \\x \\\\ (a2x help run)",
-    };
-    tell(&[b"run: --keys-at ", word.as_bytes(), why], complaints);
-    2
-}
-
-/// Adds the keys that an option has, with their steps; or the status, where their fault is told.
-pub fn add_strokes<E: Output>(
-    strokes: &mut Strokes,
-    option: &Found<'_>,
-    complaints: &mut E,
-) -> Result<(), u8>
-    ensures { IfErr result (λ status. status ≤ 5) }
-{
-    let (steps, keys) = match stroke_in(option.value) {
-        Ok(stroke) => stroke,
-        Err(fault) => return Err(told_stroke(option.value, fault, complaints)),
-    };
-    or_told(strokes.add(steps, &keys), complaints)
-}
-
-// Tells why a run has no end; the status.
-fn told_typed<E: Output>(fault: TypedFault, complaints: &mut E) -> u8
-    ensures { result ≤ 5 }
-{
-    match fault {
-        TypedFault::Full(steps) => {
-            tell(
-                &[
-                    b"run: behind ",
-                    decimal(steps).as_slice(),
-                    b" steps more than 4096 keys would wait: type some of them later",
-                ],
-                complaints,
-            );
-            2
+/// The keys that a word spells, with their steps.
+pub fn strokes_in(word: &str) -> Result<(u32, Keys), Refusal<'_>> {
+    let why = match stroke_in(word) {
+        Ok(stroke) => return Ok(stroke),
+        Err(StrokeFault::Steps) => {
+            ": a number from 0 to 100000000, a colon and keys are wanted, as 1200:HI\\r"
         }
-        TypedFault::Memory => told(RunFault::Memory, complaints),
-    }
+        Err(StrokeFault::Keys) => ": keys are blank to ~, and \\r \\b \\f \\x \\\\ (a2x help run)",
+    };
+    Err(Refusal::Words("run: --keys-at ", word, why, ""))
+}
+
+// Tells that no more keys can wait behind so many steps.
+fn tell_full<E: Output>(steps: u64, complaints: &mut E) {
+    tell(
+        &[
+            b"run: behind ",
+            decimal(steps).as_slice(),
+            b" steps more than 4096 keys would wait: type some of them later",
+        ],
+        complaints,
+    )
 }
 
 // Tells of the first keys that were not typed, as the run made fewer steps.
@@ -114,51 +90,43 @@ pub fn machine_into<D: Desk>(
 }
 
 // Does what is asked for behind a run that left this machine; the greatest status.
-fn do_behind<D: Desk, W: Output, E: Output>(
-    alloc: Global,
+fn do_behind<S, D: Desk, C, R, W: Output, E: Output>(
     machine: Machine,
     asked: &Behind<'_>,
     ended: u8,
-    desk: &mut D,
-    output: &mut W,
-    complaints: &mut E,
+    host: &mut Host<S, D, C, R, W, E>,
 ) -> u8
     requires { ended ≤ 5 }
     ensures { result ≤ 5 }
 {
     let mut greatest = ended;
     if let Some(image) = asked.image {
-        if let Err(fault) = machine_into(alloc, &machine, image, desk) {
-            greatest = greatest.max(told(fault, complaints));
+        if let Err(fault) = machine_into(host.alloc, &machine, image, &mut host.desk) {
+            greatest = greatest.max(told(fault, &mut host.complaints));
         }
     }
-    let answer = write_parts(machine, asked.parts.as_slice(), output);
-    greatest.max(written(answer, complaints))
+    match write_parts(machine, asked.parts.as_slice(), &mut host.output) {
+        Ok(()) => greatest,
+        Err(_) => greatest.max(told(RunFault::Write, &mut host.complaints)),
+    }
 }
 
 /// Makes a run at which keys are typed, tells why it stopped, and does what is asked for behind it. The status is that of a run;
 /// it is 2 where keys do not fit, which is told.
-pub fn run_typed<D: Desk, W: Output, E: Output>(
-    alloc: Global,
+pub fn run_typed<'a, S, D: Desk, C, R, W: Output, E: Output>(
     source: &[u8],
     order: &Order,
     asked: &Behind<'_>,
-    desk: &mut D,
-    output: &mut W,
-    complaints: &mut E,
-) -> Result<u8, u8>
-    ensures done { IfOk result (λ status. status ≤ 5) }
-    ensures refused { IfErr result (λ status. status ≤ 5) }
+    host: &mut Host<S, D, C, R, W, E>,
+) -> Result<u8, Refusal<'a>>
+    ensures { IfOk result (λ status. status ≤ 5) }
 {
     if asked.last.is_some() {
-        tell(
-            &[b"run: --last does not stand beside --keys-at: a2x debug F goes along such a run"],
-            complaints,
-        );
-        return Err(2);
+        let all = "run: --last does not stand beside --keys-at: a2x debug F goes along such a run";
+        return Err(Refusal::Words(all, "", "", ""));
     }
-    let program = program_in(alloc, source, complaints)?;
-    let strokes = &asked.strokes;
+    let (alloc, strokes) = (host.alloc, &asked.strokes);
+    let program = program_of(alloc, source)?;
     let (machine, cause) = match ended_typed(
         alloc,
         &program,
@@ -168,11 +136,14 @@ pub fn run_typed<D: Desk, W: Output, E: Output>(
         order.free,
     ) {
         Ok(end) => end,
-        Err(fault) => return Err(told_typed(fault, complaints)),
+        Err(TypedFault::Full(steps)) => {
+            tell_full(steps, &mut host.complaints);
+            return Ok(2);
+        }
+        Err(TypedFault::Memory) => return Err(Refusal::Fault(RunFault::Memory)),
     };
-    or_told(show(&machine, cause, output), complaints)?;
-    explain(alloc, source, order, strokes, complaints);
-    tell_untyped(strokes, machine.steps(), complaints);
-    let ended = status(&Ok(cause));
-    Ok(do_behind(alloc, machine, asked, ended, desk, output, complaints))
+    show(&machine, cause, &mut host.output)?;
+    explain(alloc, source, order, strokes, &mut host.complaints);
+    tell_untyped(strokes, machine.steps(), &mut host.complaints);
+    Ok(do_behind(machine, asked, ended(cause), host))
 }

@@ -4,8 +4,10 @@ ghost use Rattle.std.specs.Prelude.{◌≡◌, ◌<◌, ◌↔◌, map, drop, le
 ghost use Rattle.a2x.specs.Words.{Asked, Asks, asked_of, nothing_asked, HaveBadKeys, IsFaultOf};
 
 use crate::named::is_file;
+use crate::refusal::{Refusal, several, valueless};
+use crate::table::Word;
 use a2_bus::Keys;
-use a2_run::{DEFAULT_STEPS, step_limit};
+use a2_run::{DEFAULT_STEPS, MOST_STEPS, step_limit};
 
 /// Why words ask for nothing.
 #[derive(Clone, Copy)]
@@ -94,19 +96,6 @@ pub fn order_of(words: &[String]) -> Result<Order<'_>, WordsFault>
     Ok(order)
 }
 
-/// What is wrong with words that are refused.
-#[derive(Clone, Copy)]
-pub enum Misfit<'a> {
-    /// A word begins with `-`, and is no option here.
-    Option(&'a str),
-    /// An option stands without a value.
-    Value(&'static str),
-    /// A value of `--limit` is no number of steps.
-    Limit(&'a str),
-    /// There is a file too many, or one before an option.
-    Files,
-}
-
 // What the next word is.
 #[derive(Clone, Copy)]
 enum Next {
@@ -129,24 +118,47 @@ fn is_strange(word: &str, flags: bool) -> bool {
     !is_file(word) && word != "--" && !(flags && word == "--free")
 }
 
-/// What is wrong with the first of `words` that cannot stand, where they are refused as `WordsFault::Words`. `runs` says whether
-/// the options of a run may stand among them.
-pub fn misfit_in(words: &[String], runs: bool) -> Misfit<'_> {
+// What is wrong with the first of the words behind `word` that cannot stand, where they are refused as `WordsFault::Words`.
+fn misfit_in<'a>(word: &Word, words: &'a [String]) -> Refusal<'a> {
+    let name = word.name;
     let mut next = Next::Word;
-    for word in words {
-        let text = word.as_str();
+    for text in words {
+        let text = text.as_str();
         next = match next {
-            Next::Limit if step_limit(text).is_none() => return Misfit::Limit(text),
+            Next::Limit if step_limit(text).is_none() => {
+                return Refusal::Number {
+                    name,
+                    option: "--limit",
+                    value: text,
+                    least: 0,
+                    most: MOST_STEPS,
+                };
+            }
             Next::Keys | Next::Limit => Next::Word,
-            Next::Word => match next_behind(text, runs) {
-                Next::Word if is_strange(text, runs) => return Misfit::Option(text),
+            Next::Word => match next_behind(text, word.runs) {
+                Next::Word if is_strange(text, word.runs) => {
+                    return Refusal::Option { name, option: text };
+                }
                 behind => behind,
             },
         };
     }
     match next {
-        Next::Word => Misfit::Files,
-        Next::Keys => Misfit::Value("--keys"),
-        Next::Limit => Misfit::Value("--limit"),
+        Next::Word => several(name),
+        Next::Keys => valueless(name, "--keys"),
+        Next::Limit => valueless(name, "--limit"),
+    }
+}
+
+/// Why the words behind `word` are refused by this fault.
+pub fn refused<'a>(word: &Word, words: &'a [String], fault: WordsFault) -> Refusal<'a> {
+    match fault {
+        WordsFault::Keys => Refusal::Words(
+            word.name,
+            ": keys are blank to ~, and \\r \\b \\f \\x \\\\ (a2x help)",
+            "",
+            "",
+        ),
+        WordsFault::Words => misfit_in(word, words),
     }
 }

@@ -1,5 +1,5 @@
 use Rattle.std.proofs.Common.{◌≤◌}
-use Rattle.a2x.proofs.program.fmt_of.Given as goal
+use Rattle.a2x.proofs.fmt.fmt_of.Given as goal
 
 -- the status so far is one of the program's
 abbrev pub invariant-loop-file : goal.invariant-loop-file
