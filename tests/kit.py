@@ -3,6 +3,7 @@ import contextlib
 import importlib.machinery
 import importlib.util
 import os
+import re
 import shutil
 import sys
 import tempfile
@@ -37,6 +38,25 @@ def processes():
             continue
         found[int(stat.parent.name)] = int(fields[1]), sum(map(int, fields[11:15])) / TICKS
     return found
+
+
+def checks_below(top):
+    """How many checks run below a process."""
+    above = {process: parent for process, (parent, _) in processes().items()}
+
+    def is_below(process):
+        while process in above and process != top:
+            process = above[process]
+        return process == top
+
+    return sum(is_below(it) and is_check(it) for it in above)
+
+
+def is_check(process):
+    try:
+        return bool(re.match(rb"[^\0]*/rattle\0(check|build)\0", Path(f"/proc/{process}/cmdline").read_bytes()))
+    except OSError:
+        return False
 
 
 def sum_each_once(crate):
@@ -94,16 +114,19 @@ def keep_what_is_checked(made):
 
 
 def share_processors(made):
-    """Has a proof of `rt ci` take the processors that no other crate is ready for: in a chain of crates, and at the end. Several that
-    share a proof take up to a third more in all, so each has one while others wait."""
+    """Has a proof of `rt ci` take the processors that no other crate is ready for, and no wrong body that is tried beside it: in a chain of
+    crates, and at the end. Several that share a proof take up to a third more in all, so each has one while others wait. The last crate
+    has half of them whatever is tried, for all wait for it."""
     whole = made.Crate.ci
     is_there = lambda it: os.path.exists(f"{it.folder}/out/{it.name}" if it.is_program else it.rlib)
 
     def ci(self, flags, tests):
         left = [it for it in made.rtlib.crates_below(os.getcwd()) if not is_there(it)]
         ready = sum(all(map(is_there, it.below())) for it in left)
-        if flags == ["--jobs", "1"] and 0 < ready <= made.processors():
-            flags = ["--jobs", str(made.processors() // ready)]
+        if not tests and flags == ["--jobs", "1"] and ready:
+            free = made.processors() - checks_below(os.getppid())
+            at_least = made.processors() // 2 if len(left) == 1 else 1
+            flags = ["--jobs", str(max(free // ready, at_least))]
         return whole(self, flags, tests)
 
     made.Crate.ci = ci

@@ -11,6 +11,7 @@ or of what no function has, names by a line `refused: PATH` the function that is
 definition that may rest on it. What is not refused so is tried alone, as rt does, and is refused where that check is.
 """
 import contextlib
+import functools
 import hashlib
 import os
 import re
@@ -21,7 +22,8 @@ import threading
 import time
 from pathlib import Path
 
-from kit import CACHE, module_of, processes, rt_of_kit
+from kit import CACHE, checks_below, module_of, rt_of_kit
+from rests import Rests, meet
 
 # What a check says as it ends with a function.
 ENDED = re.compile(r"checked (\S+), \d+ of \d+$")
@@ -103,25 +105,6 @@ class Toolchain:
             return ran.returncode, "".join(said), seconds
 
 
-def checks_below(top):
-    """How many checks run below a process."""
-    above = {process: parent for process, (parent, _) in processes().items()}
-
-    def is_below(process):
-        while process in above and process != top:
-            process = above[process]
-        return process == top
-
-    return sum(is_below(it) and is_check(it) for it in above)
-
-
-def is_check(process):
-    try:
-        return bool(re.match(rb"[^\0]*/rattle\0(check|build)\0", Path(f"/proc/{process}/cmdline").read_bytes()))
-    except OSError:
-        return False
-
-
 def circle_of(function, crate):
     """The path of the proof of the circle of calls that a function is in, whose functions have one proof, if it is in one."""
     text = Path(crate.folder, function.file).read_bytes()
@@ -176,7 +159,7 @@ class Fault:
     """An edit: where it changes which text, and in which functions; in none where some of it stands outside of all, and no line of
     the edit names one. A number above 0 says in which copy of its function it stands."""
 
-    def __init__(self, path, crate, functions, rt):
+    def __init__(self, path, crate, functions, rt, rests):
         self.path, self.name, self.changes, self.number, self.seconds = path, path.stem, [], 0, 0
         self.texts, self.bad = rt.read_edit(str(path), crate.folder)
         named = re.findall(r"(?m)^refused: (\S+)$", path.read_text())
@@ -196,9 +179,14 @@ class Fault:
             inside.add(next((it for it in functions if it.file == file and it.opens <= at and end <= it.end), None))
         if not named and None not in inside:
             self.functions = [it for it in functions if it in inside]
-        self.definitions = {it[0] for it in self.changes if it[0].startswith("specs/")}
-        self.stands_on = stands_on(crate, self.functions) if self.definitions else None
+        self.rests = rests
+        self.definitions = {rests.edited(file, at) for file, at, _, _ in self.changes if file.startswith("specs/")}
         self.can_be_copied = not named and len(self.functions) == 1 and not self.functions[0].in_trait and not self.functions[0].circle
+
+    @functools.cached_property
+    def rests_on(self):
+        """What its functions rest on."""
+        return self.rests.rests_on(self.functions)
 
     def paths(self):
         """The check's names of its functions, or of the copy, below the crate."""
@@ -264,37 +252,7 @@ def emptied(functions, file, text):
 
 def are_apart(fault, other):
     """Whether what a fault's functions are refused for can't be that another fault turns a definition."""
-    return not other.definitions or fault.stands_on is not None and not fault.stands_on & other.definitions
-
-
-def stands_on(crate, functions):
-    """The files of specs and proofs that the clauses and proofs of laws rest on, one through another; None where some of it is not
-    seen, as of a function that has code, and so rests on the clauses of what it calls."""
-    named = re.compile(rf"Rattle\.{crate.name}\.((?:specs|proofs)(?:\.[\w-]+)+)")
-    used = re.compile(rf"ghost use Rattle\.{crate.name}\.([\w.-]+)\.{{([^}}]*)}}")
-    found, texts = set(), []
-    for it in functions:
-        source = Path(crate.folder, it.file).read_bytes()
-        if source[it.opens : it.end].strip(b"{} \n"):
-            return None
-        clauses = source[it.first : it.end].decode()
-        modules = [m for m, names in used.findall(source.decode()) if any(name.strip("◌ ") in clauses for name in names.split(","))]
-        texts += [f"Rattle.{crate.name}.{m}" for m in modules]
-        texts += [file.read_text() for file in Path(crate.folder, "proofs", *it.path).glob("*.antt")]
-    own = {".".join(["proofs", *it.path]) for it in functions}
-    while texts:
-        for module in named.findall(texts.pop()):
-            if any(f"{module}.".startswith(f"{it}.") for it in own):
-                continue
-            words = module.split(".")
-            fronts = ["/".join(words[:n]) + ".antt" for n in range(len(words), 1, -1)]
-            file = next((it for it in fronts if Path(crate.folder, it).is_file()), None)
-            if file is None:
-                return None
-            if file not in found:
-                found.add(file)
-                texts.append(Path(crate.folder, file).read_text())
-    return found
+    return not other.definitions or not meet(fault.rests_on, other.definitions)
 
 
 def rounds_of(faults):
@@ -372,7 +330,7 @@ class Refused:
         """The sum of the toolchain's name, of this script, of the crate's sources, and of the libraries below it as they are built: a comment
         or a proof in one of these changes nothing there."""
         line = next(it for it in Path("crates.txt").read_text().split("\n") if it.partition(":")[0] == self.crate.name)
-        texts = [self.version, Path(__file__).read_text(), line]
+        texts = [self.version, Path(__file__).read_text(), Path(Path(__file__).parent, "rests.py").read_text(), line]
         texts += [f"{name} {Path(name).read_text()}" for name in sorted(files_of(self.crate))]
         for it in self.crate.below():
             # (it has a sum of the library's other files)
@@ -404,8 +362,8 @@ class Trial:
         self.failures, self.unsaid, self.alone, self.refused = [], [], [], []
         self.earlier = Refused(crate, toolchain.version, anew)
         self.functions = toolchain.functions(crate)
-        paths = sorted(Path(crate.folder, "faults").glob("*.edit"))
-        self.faults = [Fault(it, crate, self.functions, toolchain.rt) for it in paths]
+        paths, rests = sorted(Path(crate.folder, "faults").glob("*.edit")), Rests(crate, self.functions)
+        self.faults = [Fault(it, crate, self.functions, toolchain.rt, rests) for it in paths]
 
     def fail(self, fault, why):
         shown = " and ".join(it.shown for it in fault.functions)
