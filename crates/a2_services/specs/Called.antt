@@ -1,8 +1,10 @@
 -- What a call of a service answers and leaves.
-use Rattle.std.specs.Prelude.{◌≡◌, ℕ, ◌+◌, ◌<◌, Bool, true, false, not, if◌then◌else◌, Option, Some, None, slice_index}
+use Rattle.std.specs.Prelude.{◌≡◌, ℕ, ◌+◌, ◌<◌, Bool, true, false, not, if◌then◌else◌, Option, Some, None, length, slice_index}
 use Rattle.a2_bus.specs.BusState.{BusState}
 use Rattle.a2_bus.specs.Memory.{Memory, ram_end}
 use Rattle.a2_bus.specs.View.{memory_of}
+use Rattle.a2_core.specs.declared.live.Live.{Live}
+use Rattle.a2_core.specs.Live.{live_registers}
 use Rattle.a2_core.specs.Registers.{Registers}
 use Rattle.a2_services.specs.declared.Service.{Service}
 use Rattle.a2_services.specs.declared.Served.{Served}
@@ -21,6 +23,12 @@ service_refusal service registers memory = refused (fits service registers memor
 abbrev pub IsLeft : Service → Registers → BusState → Registers → BusState → Type 0
 IsLeft service registers bus new_registers new_bus =
     (cycles : ℕ) → world_of new_registers new_bus cycles ≡ effect service (world_of registers bus cycles)
+
+-- so it did, no cycle is counted, and all of RAM is there
+pub record IsDone (service : Service) (live : Live) (bus : BusState) (new_live : Live) (new_bus : BusState) : Type 0 where
+  pub left : IsLeft service (live_registers live) bus (live_registers new_live) new_bus
+  pub cycles : new_live.cycles ≡ live.cycles
+  pub size : length new_bus.bytes ≡ ram_end
 
 -- the world became what the service says, so many cycles later
 abbrev pub IsServed : Service → Registers → BusState → Registers → BusState → ℕ → Type 0

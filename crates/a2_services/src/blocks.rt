@@ -1,18 +1,17 @@
 //! The services that draw and look at lo-res blocks.
 #![tactic(auto, unfolding(crate::specs::Services::effect))]
 
-ghost use Rattle.std.specs.Prelude.{◌≡◌, ◌<◌, ℕ, length, true};
-ghost use Rattle.a2_bus.specs.Memory.{with_ram, ram_end};
+ghost use Rattle.std.specs.Prelude.{◌≡◌, ◌<◌, true};
 ghost use Rattle.a2_bus.specs.View.{memory_of};
 ghost use Rattle.a2_core.specs.Live.{live_registers};
 ghost use Rattle.a2_services.specs.declared.Service.TheVariants.{Setcol, Plot, Hline, Vline, Scrn, Clrscr};
 ghost use Rattle.a2_services.specs.Blocks.{half_of as half_by, painted};
-ghost use Rattle.a2_services.specs.Called.{IsLeft};
+ghost use Rattle.a2_services.specs.Called.{IsDone};
 ghost use Rattle.a2_services.specs.Services.{fits as fits_of};
 
 use crate::ends::return_from;
-use crate::locations::BLOCK_ROWS;
-use crate::screen::{black_row, cell, load, store};
+use crate::locations::{BLOCK_ROWS, COLUMNS};
+use crate::screen::{cell, fill_part, load, store};
 use a2_bus::AddressSpace;
 use a2_bus::locations::{COLOR, H2, V2};
 use a2_core::Live;
@@ -20,9 +19,7 @@ use a2_page::{Half, Page, address, block, set_block};
 use std::alloc::Allocator;
 
 pub(crate) fn setcol<A: Allocator>(live: &mut Live, space: &mut AddressSpace<A>)
-    ensures left { IsLeft Setcol (live_registers live.old) space.old (live_registers live.new) space.new }
-    ensures cycles { live.new.cycles ≡ live.old.cycles }
-    ensures size { length space.new.bytes ≡ ram_end }
+    ensures { IsDone Setcol live.old space.old live.new space.new }
 {
     store(space, COLOR, 17 * (live.a % 16));
     return_from(live, space);
@@ -31,9 +28,7 @@ pub(crate) fn setcol<A: Allocator>(live: &mut Live, space: &mut AddressSpace<A>)
 #[inline(always)]
 pub(crate) fn plot<A: Allocator>(live: &mut Live, space: &mut AddressSpace<A>)
     requires { fits_of Plot (live_registers live.old) (memory_of space.old) ≡ true }
-    ensures left { IsLeft Plot (live_registers live.old) space.old (live_registers live.new) space.new }
-    ensures cycles { live.new.cycles ≡ live.old.cycles }
-    ensures size { length space.new.bytes ≡ ram_end }
+    ensures { IsDone Plot live.old space.old live.new space.new }
 {
     paint(space, live.a, live.y);
     return_from(live, space);
@@ -41,9 +36,7 @@ pub(crate) fn plot<A: Allocator>(live: &mut Live, space: &mut AddressSpace<A>)
 
 pub(crate) fn hline<A: Allocator>(live: &mut Live, space: &mut AddressSpace<A>)
     requires { fits_of Hline (live_registers live.old) (memory_of space.old) ≡ true }
-    ensures left { IsLeft Hline (live_registers live.old) space.old (live_registers live.new) space.new }
-    ensures cycles { live.new.cycles ≡ live.old.cycles }
-    ensures size { length space.new.bytes ≡ ram_end }
+    ensures { IsDone Hline live.old space.old live.new space.new }
 {
     let end = load(space, H2).max(live.y) + 1;
     for column in live.y..end {
@@ -54,9 +47,7 @@ pub(crate) fn hline<A: Allocator>(live: &mut Live, space: &mut AddressSpace<A>)
 
 pub(crate) fn vline<A: Allocator>(live: &mut Live, space: &mut AddressSpace<A>)
     requires { fits_of Vline (live_registers live.old) (memory_of space.old) ≡ true }
-    ensures left { IsLeft Vline (live_registers live.old) space.old (live_registers live.new) space.new }
-    ensures cycles { live.new.cycles ≡ live.old.cycles }
-    ensures size { length space.new.bytes ≡ ram_end }
+    ensures { IsDone Vline live.old space.old live.new space.new }
 {
     let end = load(space, V2).max(live.a) + 1;
     for row in live.a..end {
@@ -68,21 +59,17 @@ pub(crate) fn vline<A: Allocator>(live: &mut Live, space: &mut AddressSpace<A>)
 #[tactic(auto, using(crate::proofs::Painting::block_shown), unfolding(crate::specs::Services::effect))]
 pub(crate) fn scrn<A: Allocator>(live: &mut Live, space: &mut AddressSpace<A>)
     requires { fits_of Scrn (live_registers live.old) (memory_of space.old) ≡ true }
-    ensures left { IsLeft Scrn (live_registers live.old) space.old (live_registers live.new) space.new }
-    ensures cycles { live.new.cycles ≡ live.old.cycles }
-    ensures size { length space.new.bytes ≡ ram_end }
+    ensures { IsDone Scrn live.old space.old live.new space.new }
 {
     live.a = block(cell(space, live.a / 2, live.y), half_of(live.a));
     return_from(live, space);
 }
 
 pub(crate) fn clrscr<A: Allocator>(live: &mut Live, space: &mut AddressSpace<A>)
-    ensures left { IsLeft Clrscr (live_registers live.old) space.old (live_registers live.new) space.new }
-    ensures cycles { live.new.cycles ≡ live.old.cycles }
-    ensures size { length space.new.bytes ≡ ram_end }
+    ensures { IsDone Clrscr live.old space.old live.new space.new }
 {
     for row in 0..BLOCK_ROWS / 2 {
-        black_row(space, row);
+        fill_part(space, row, 0, COLUMNS, 0);
     }
     store(space, COLOR, 0);
     store(space, V2, BLOCK_ROWS - 1);

@@ -1,17 +1,15 @@
 //! The services.
 
-ghost use Rattle.std.specs.Prelude.{◌≡◌, ◌<◌, ◌≤◌, ◌+◌, ℕ, true, false, length};
+ghost use Rattle.std.specs.Prelude.{◌≡◌, ◌<◌, ◌≤◌, ◌+◌, true, false, length};
 ghost use Rattle.a2_page.specs.Window.{IsWindow};
-ghost use Rattle.a2_bus.specs.Memory.{memory_access, ram_end};
+ghost use Rattle.a2_bus.specs.Memory.{ram_end};
 ghost use Rattle.a2_bus.specs.View.{memory_of};
-ghost use Rattle.a2_core.specs.Instruction.{returned};
 ghost use Rattle.a2_core.specs.Live.{live_registers};
 ghost use Rattle.a2_services.specs.declared.Service.TheVariants.{Cout1, Home, Prbyte, Prhex, Keyin, Wait, Getln};
-ghost use Rattle.a2_services.specs.World.{world_of};
-ghost use Rattle.a2_services.specs.Put.{window_of, with_base_address};
-ghost use Rattle.a2_services.specs.Services.{fits as fits_of, lacks_keys as lacks_keys_of, cycles_of as cycles_by, wait_cycles as wait_cycles_of, with_memory};
-ghost use Rattle.a2_services.specs.Fits.{CursorFits, LineFits};
-ghost use Rattle.a2_services.specs.Called.{IsCalled, IsServed, IsLeft, IsUnreached};
+ghost use Rattle.a2_services.specs.Put.{window_of};
+ghost use Rattle.a2_services.specs.Services.{fits as fits_of, lacks_keys as lacks_keys_of, cycles_of as cycles_by, wait_cycles as wait_cycles_of};
+ghost use Rattle.a2_services.specs.Fits.{CursorFits};
+ghost use Rattle.a2_services.specs.Called.{IsCalled, IsServed, IsDone, IsUnreached};
 
 use crate::blocks::{clrscr, hline, plot, scrn, setcol, vline};
 use crate::bytes::digit_byte;
@@ -143,41 +141,25 @@ fn wait_cycles(a: u8) -> u32
 fn act<A: Allocator>(service: Service, live: &mut Live, space: &mut AddressSpace<A>)
     requires fitting { fits_of service (live_registers live.old) (memory_of space.old) ≡ true }
     requires keyed { lacks_keys_of service (memory_of space.old) ≡ false }
-    ensures left { IsLeft service (live_registers live.old) space.old (live_registers live.new) space.new }
-    ensures cycles { live.new.cycles ≡ live.old.cycles }
-    ensures size { length space.new.bytes ≡ ram_end }
+    ensures { IsDone service live.old space.old live.new space.new }
 {
-    match service {
-        Service::Cout => cout(live, space),
-        Service::Cout1 => cout1(live, space),
-        Service::Crout => crout(live, space),
-        Service::Home => home(live, space),
-        Service::Prbyte => prbyte(live, space),
-        Service::Prhex => prhex(live, space),
-        Service::Setinv => setinv(live, space),
-        Service::Setnorm => setnorm(live, space),
-        Service::Vtab => vtab(live, space),
-        Service::Clreol => clreol(live, space),
-        Service::Clreop => clreop(live, space),
-        Service::Rdkey => rdkey(live, space),
-        Service::Keyin => keyin(live, space),
-        Service::Getln => getln(live, space),
-        Service::Wait => wait(live, space),
-        Service::Setcol => setcol(live, space),
-        Service::Plot => plot(live, space),
-        Service::Hline => hline(live, space),
-        Service::Vline => vline(live, space),
-        Service::Scrn => scrn(live, space),
-        Service::Clrscr => clrscr(live, space),
+    macro_rules! acts {
+        ($($service:ident $act:ident),*) => {
+            match service { $(Service::$service => $act(live, space)),* }
+        };
     }
+    acts!(
+        Cout cout, Cout1 cout1, Crout crout, Home home, Prbyte prbyte, Prhex prhex, Setinv setinv,
+        Setnorm setnorm, Vtab vtab, Clreol clreol, Clreop clreop, Rdkey rdkey, Keyin keyin,
+        Getln getln, Wait wait, Setcol setcol, Plot plot, Hline hline, Vline vline, Scrn scrn,
+        Clrscr clrscr
+    )
 }
 
 #[tactic(auto, unfolding(crate::specs::Services::effect))]
 fn cout1<A: Allocator>(live: &mut Live, space: &mut AddressSpace<A>)
     requires { CursorFits (memory_of space.old) }
-    ensures left { IsLeft Cout1 (live_registers live.old) space.old (live_registers live.new) space.new }
-    ensures cycles { live.new.cycles ≡ live.old.cycles }
-    ensures size { length space.new.bytes ≡ ram_end }
+    ensures { IsDone Cout1 live.old space.old live.new space.new }
 {
     put(space, live.a);
     end_output(live, space);
@@ -186,9 +168,7 @@ fn cout1<A: Allocator>(live: &mut Live, space: &mut AddressSpace<A>)
 #[tactic(auto, unfolding(crate::specs::Services::effect))]
 fn home<A: Allocator>(live: &mut Live, space: &mut AddressSpace<A>)
     requires { IsWindow (window_of (memory_of space.old)) }
-    ensures left { IsLeft Home (live_registers live.old) space.old (live_registers live.new) space.new }
-    ensures cycles { live.new.cycles ≡ live.old.cycles }
-    ensures size { length space.new.bytes ≡ ram_end }
+    ensures { IsDone Home live.old space.old live.new space.new }
 {
     let edges = window(space);
     clear(space, edges);
@@ -200,9 +180,7 @@ fn home<A: Allocator>(live: &mut Live, space: &mut AddressSpace<A>)
 #[tactic(auto, unfolding(crate::specs::Services::effect))]
 fn prbyte<A: Allocator>(live: &mut Live, space: &mut AddressSpace<A>)
     requires { CursorFits (memory_of space.old) }
-    ensures left { IsLeft Prbyte (live_registers live.old) space.old (live_registers live.new) space.new }
-    ensures cycles { live.new.cycles ≡ live.old.cycles }
-    ensures size { length space.new.bytes ≡ ram_end }
+    ensures { IsDone Prbyte live.old space.old live.new space.new }
 {
     put(space, digit_byte(live.a / 16));
     put(space, digit_byte(live.a % 16));
@@ -212,9 +190,7 @@ fn prbyte<A: Allocator>(live: &mut Live, space: &mut AddressSpace<A>)
 #[tactic(auto, unfolding(crate::specs::Services::effect))]
 fn prhex<A: Allocator>(live: &mut Live, space: &mut AddressSpace<A>)
     requires { CursorFits (memory_of space.old) }
-    ensures left { IsLeft Prhex (live_registers live.old) space.old (live_registers live.new) space.new }
-    ensures cycles { live.new.cycles ≡ live.old.cycles }
-    ensures size { length space.new.bytes ≡ ram_end }
+    ensures { IsDone Prhex live.old space.old live.new space.new }
 {
     put(space, digit_byte(live.a % 16));
     end_output(live, space);
@@ -222,9 +198,7 @@ fn prhex<A: Allocator>(live: &mut Live, space: &mut AddressSpace<A>)
 
 fn keyin<A: Allocator>(live: &mut Live, space: &mut AddressSpace<A>)
     requires { lacks_keys_of Keyin (memory_of space.old) ≡ false }
-    ensures left { IsLeft Keyin (live_registers live.old) space.old (live_registers live.new) space.new }
-    ensures cycles { live.new.cycles ≡ live.old.cycles }
-    ensures size { length space.new.bytes ≡ ram_end }
+    ensures { IsDone Keyin live.old space.old live.new space.new }
 {
     let key = space.waiting()[0];
     take_key(space);
@@ -234,9 +208,7 @@ fn keyin<A: Allocator>(live: &mut Live, space: &mut AddressSpace<A>)
 
 #[tactic(auto, unfolding(crate::specs::Services::effect))]
 fn wait<A: Allocator>(live: &mut Live, space: &mut AddressSpace<A>)
-    ensures left { IsLeft Wait (live_registers live.old) space.old (live_registers live.new) space.new }
-    ensures cycles { live.new.cycles ≡ live.old.cycles }
-    ensures size { length space.new.bytes ≡ ram_end }
+    ensures { IsDone Wait live.old space.old live.new space.new }
 {
     live.a = 0;
     return_from(live, space);
@@ -245,9 +217,7 @@ fn wait<A: Allocator>(live: &mut Live, space: &mut AddressSpace<A>)
 #[tactic(auto, using(crate::proofs::Lines::line_from_prompt), unfolding(crate::specs::Services::effect))]
 fn getln<A: Allocator>(live: &mut Live, space: &mut AddressSpace<A>)
     requires { CursorFits (memory_of space.old) }
-    ensures left { IsLeft Getln (live_registers live.old) space.old (live_registers live.new) space.new }
-    ensures cycles { live.new.cycles ≡ live.old.cycles }
-    ensures size { length space.new.bytes ≡ ram_end }
+    ensures { IsDone Getln live.old space.old live.new space.new }
 {
     let mark = load(space, PROMPT);
     put(space, mark);

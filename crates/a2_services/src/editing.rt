@@ -1,12 +1,10 @@
 //! The services that edit the screen without putting a byte.
 #![tactic(auto, unfolding(crate::specs::Services::effect))]
 
-ghost use Rattle.std.specs.Prelude.{◌≡◌, ℕ, length};
-ghost use Rattle.a2_bus.specs.Memory.{with_ram, ram_end};
+ghost use Rattle.std.specs.Prelude.{◌≡◌};
 ghost use Rattle.a2_bus.specs.View.{memory_of};
-ghost use Rattle.a2_core.specs.Live.{live_registers};
 ghost use Rattle.a2_services.specs.declared.Service.TheVariants.{Setinv, Setnorm, Vtab, Clreol, Clreop};
-ghost use Rattle.a2_services.specs.Called.{IsLeft};
+ghost use Rattle.a2_services.specs.Called.{IsDone};
 ghost use Rattle.a2_services.specs.Fits.{CursorFits};
 ghost use Rattle.a2_services.specs.Services.{cleared_below};
 
@@ -25,18 +23,14 @@ const INVERSE: u8 = 0x3F;
 const NORMAL: u8 = 0xFF;
 
 pub(crate) fn setinv<A: Allocator>(live: &mut Live, space: &mut AddressSpace<A>)
-    ensures left { IsLeft Setinv (live_registers live.old) space.old (live_registers live.new) space.new }
-    ensures cycles { live.new.cycles ≡ live.old.cycles }
-    ensures size { length space.new.bytes ≡ ram_end }
+    ensures { IsDone Setinv live.old space.old live.new space.new }
 {
     store(space, INVFLG, INVERSE);
     return_from(live, space);
 }
 
 pub(crate) fn setnorm<A: Allocator>(live: &mut Live, space: &mut AddressSpace<A>)
-    ensures left { IsLeft Setnorm (live_registers live.old) space.old (live_registers live.new) space.new }
-    ensures cycles { live.new.cycles ≡ live.old.cycles }
-    ensures size { length space.new.bytes ≡ ram_end }
+    ensures { IsDone Setnorm live.old space.old live.new space.new }
 {
     store(space, INVFLG, NORMAL);
     return_from(live, space);
@@ -44,18 +38,14 @@ pub(crate) fn setnorm<A: Allocator>(live: &mut Live, space: &mut AddressSpace<A>
 
 pub(crate) fn vtab<A: Allocator>(live: &mut Live, space: &mut AddressSpace<A>)
     requires { CursorFits (memory_of space.old) }
-    ensures left { IsLeft Vtab (live_registers live.old) space.old (live_registers live.new) space.new }
-    ensures cycles { live.new.cycles ≡ live.old.cycles }
-    ensures size { length space.new.bytes ≡ ram_end }
+    ensures { IsDone Vtab live.old space.old live.new space.new }
 {
     end_output(live, space);
 }
 
 pub(crate) fn clreol<A: Allocator>(live: &mut Live, space: &mut AddressSpace<A>)
     requires { CursorFits (memory_of space.old) }
-    ensures left { IsLeft Clreol (live_registers live.old) space.old (live_registers live.new) space.new }
-    ensures cycles { live.new.cycles ≡ live.old.cycles }
-    ensures size { length space.new.bytes ≡ ram_end }
+    ensures { IsDone Clreol live.old space.old live.new space.new }
 {
     clear_to_end(space);
     return_from(live, space);
@@ -63,9 +53,7 @@ pub(crate) fn clreol<A: Allocator>(live: &mut Live, space: &mut AddressSpace<A>)
 
 pub(crate) fn clreop<A: Allocator>(live: &mut Live, space: &mut AddressSpace<A>)
     requires { CursorFits (memory_of space.old) }
-    ensures left { IsLeft Clreop (live_registers live.old) space.old (live_registers live.new) space.new }
-    ensures cycles { live.new.cycles ≡ live.old.cycles }
-    ensures size { length space.new.bytes ≡ ram_end }
+    ensures { IsDone Clreop live.old space.old live.new space.new }
 {
     clear_to_end(space);
     clear_below(space);

@@ -6,7 +6,7 @@ ghost use Rattle.a2_bus.specs.Memory.{ram_end};
 ghost use Rattle.a2_core.specs.Live.{live_registers};
 ghost use Rattle.a2_services.specs.declared.Service.TheVariants.{Cout, Crout, Rdkey};
 ghost use Rattle.a2_services.specs.World.{world_of};
-ghost use Rattle.a2_services.specs.Called.{IsLeft};
+ghost use Rattle.a2_services.specs.Called.{IsDone};
 ghost use Rattle.a2_services.specs.Services.{through};
 
 use crate::bytes::RETURN;
@@ -18,18 +18,14 @@ use std::alloc::Allocator;
 
 #[inline(always)]
 pub(crate) fn cout<A: Allocator>(live: &mut Live, space: &AddressSpace<A>)
-    ensures left { IsLeft Cout (live_registers live.old) space.now (live_registers live.new) space.now }
-    ensures cycles { live.new.cycles ≡ live.old.cycles }
-    ensures size { length space.now.bytes ≡ ram_end }
+    ensures { IsDone Cout live.old space.now live.new space.now }
 {
     go_through(CSW, live, space);
 }
 
 #[inline(always)]
 pub(crate) fn crout<A: Allocator>(live: &mut Live, space: &AddressSpace<A>)
-    ensures left { IsLeft Crout (live_registers live.old) space.now (live_registers live.new) space.now }
-    ensures cycles { live.new.cycles ≡ live.old.cycles }
-    ensures size { length space.now.bytes ≡ ram_end }
+    ensures { IsDone Crout live.old space.now live.new space.now }
 {
     live.a = RETURN;
     go_through(CSW, live, space);
@@ -37,9 +33,7 @@ pub(crate) fn crout<A: Allocator>(live: &mut Live, space: &AddressSpace<A>)
 
 #[inline(always)]
 pub(crate) fn rdkey<A: Allocator>(live: &mut Live, space: &AddressSpace<A>)
-    ensures left { IsLeft Rdkey (live_registers live.old) space.now (live_registers live.new) space.now }
-    ensures cycles { live.new.cycles ≡ live.old.cycles }
-    ensures size { length space.now.bytes ≡ ram_end }
+    ensures { IsDone Rdkey live.old space.now live.new space.now }
 {
     go_through(KSW, live, space);
 }

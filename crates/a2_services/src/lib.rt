@@ -97,36 +97,6 @@ pub enum Service {
     Clrscr,
 }
 
-impl Service {
-    /// How many services there are.
-    pub const COUNT: usize = 21;
-
-    /// Each service, in the order of their numbers.
-    pub const ALL: [Service; Service::COUNT] = [
-        Service::Cout,
-        Service::Cout1,
-        Service::Crout,
-        Service::Home,
-        Service::Prbyte,
-        Service::Prhex,
-        Service::Setinv,
-        Service::Setnorm,
-        Service::Vtab,
-        Service::Clreol,
-        Service::Clreop,
-        Service::Rdkey,
-        Service::Keyin,
-        Service::Getln,
-        Service::Wait,
-        Service::Setcol,
-        Service::Plot,
-        Service::Hline,
-        Service::Vline,
-        Service::Scrn,
-        Service::Clrscr,
-    ];
-}
-
 /// What a call answered.
 #[derive(Clone, Copy, Debug, PartialEq, Eq)]
 pub enum Served {

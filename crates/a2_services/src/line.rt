@@ -1,27 +1,19 @@
 //! Reading a line.
 
-ghost use Rattle.std.specs.Prelude.{◌≡◌, ◌<◌, ◌≤◌, ◌+◌, ◌==◌, Some, None, true, IfSome, All};
+ghost use Rattle.std.specs.Prelude.{◌≡◌, ◌<◌, ◌+◌, ◌==◌, Some, IfSome};
 ghost use Rattle.a2_bus.specs.View.{memory_of};
-ghost use Rattle.a2_services.specs.Services.{byte_of_key as byte_of_key_of, cleared_to_end, after_prompt, after_byte as after_byte_of, line_read, with_key_taken};
+ghost use Rattle.a2_services.specs.Services.{byte_of_key as byte_of_key_of, cleared_to_end, after_prompt, after_byte as after_byte_of, with_key_taken};
 ghost use Rattle.a2_services.specs.Fits.{CursorFits};
 ghost use Rattle.a2_services.specs.Reading.{reading, rest_of, kept, first_of};
 
 use crate::bytes::{BACKSLASH, BACKSPACE, CANCEL, RETURN, RIGHT_ARROW_KEY};
 use crate::locations::LINE_BUFFER;
 use crate::put::{put, put_unmasked};
-use crate::screen::{blank_part, cell, load, store, window};
+use crate::screen::{cell, fill_part, load, store, window};
 use a2_bus::AddressSpace;
 use a2_bus::locations::{CH, CV, PROMPT};
+use a2_page::BLANK;
 use std::alloc::Allocator;
-
-// The first of some keys.
-fn first(keys: &[u8]) -> Option<u8>
-    requires { All (λ k. k < 128) keys.now }
-    ensures key { result ≡ first_of keys.now }
-    ensures code { IfSome result (λ key. key < 128) }
-{
-    keys.first().copied()
-}
 
 /// The first waiting key.
 #[tactic(auto, using(a2_bus::proofs::Viewing::devices_seen))]
@@ -29,7 +21,7 @@ pub(crate) fn first_key<A: Allocator>(space: &AddressSpace<A>) -> Option<u8>
     ensures key { result ≡ first_of (memory_of space.now).devices.keys }
     ensures code { IfSome result (λ key. key < 128) }
 {
-    first(space.waiting())
+    space.waiting().first().copied()
 }
 
 /// The first waiting key is taken.
@@ -76,12 +68,8 @@ pub(crate) fn clear_to_end<A: Allocator>(space: &mut AddressSpace<A>)
     let edges = window(space);
     let column = load(space, CH);
     let row = load(space, CV);
-    blank_part(
-        space,
-        row,
-        edges.left + column,
-        edges.width.saturating_sub(column),
-    );
+    let width = edges.width.saturating_sub(column);
+    fill_part(space, row, edges.left + column, width, BLANK);
 }
 
 // A new line with a prompt.

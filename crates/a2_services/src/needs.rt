@@ -4,9 +4,8 @@ ghost use Rattle.std.specs.Prelude.{◌≡◌, length, not};
 ghost use Rattle.a2_bus.specs.View.{memory_of};
 ghost use Rattle.a2_bus.specs.Memory.{ram_end};
 ghost use Rattle.a2_core.specs.Live.{live_registers};
-ghost use Rattle.a2_services.specs.declared.Service.TheVariants.{Keyin};
-ghost use Rattle.a2_services.specs.Called.{service_refusal, refused};
-ghost use Rattle.a2_services.specs.Services.{lies_right, is_without, block_fits as block_fits_of, window_fits as window_fits_of, cursor_fits as cursor_fits_of, lacks_keys as lacks_keys_of, has_return as has_return_of};
+ghost use Rattle.a2_services.specs.Called.{service_refusal};
+ghost use Rattle.a2_services.specs.Services.{lies_right, is_without, block_fits as block_fits_of, window_fits as window_fits_of, cursor_fits as cursor_fits_of, has_return as has_return_of};
 
 use crate::bytes::RETURN_KEY;
 use crate::line::first_key;
@@ -37,20 +36,7 @@ pub fn refusal<A: Allocator>(
     ensures answer { result ≡ service_refusal service (live_registers live.now) (memory_of space.now) }
     ensures size { length space.now.bytes ≡ ram_end }
 {
-    refusal_for(row_of(service).needs, live, space)
-}
-
-/// Why a call of a service that needs this would not be made.
-#[inline(always)]
-pub(crate) fn refusal_for<A: Allocator>(
-    needs: Needs,
-    live: &Live,
-    space: &AddressSpace<A>,
-) -> Option<Served>
-    ensures answer { let memory = memory_of space.now in
-        result ≡ refused (lies_right needs (live_registers live.now) memory) (is_without needs memory.devices.keys) }
-    ensures size { length space.now.bytes ≡ ram_end }
-{
+    let needs = row_of(service).needs;
     if !fits(needs, live, space) {
         Some(Served::Window)
     } else if lacks_keys(needs, space) {
@@ -110,30 +96,15 @@ fn cursor_fits<A: Allocator>(space: &AddressSpace<A>) -> bool
 
 // The keys that are needed are not waiting.
 #[inline(always)]
+#[tactic(auto, using(crate::proofs::Lines::lacks_unless, a2_bus::proofs::Viewing::devices_seen))]
 fn lacks_keys<A: Allocator>(needs: Needs, space: &AddressSpace<A>) -> bool
     ensures { result ≡ is_without needs (memory_of space.now).devices.keys }
 {
     match needs {
-        Needs::Key => lacks_key(space),
-        Needs::Line => lacks_return(space),
+        Needs::Key => first_key(space).is_none(),
+        Needs::Line => !has_return(space.waiting()),
         _ => false,
     }
-}
-
-// No key waits.
-#[tactic(auto, using(crate::proofs::Lines::lacks_unless))]
-fn lacks_key<A: Allocator>(space: &AddressSpace<A>) -> bool
-    ensures { result ≡ lacks_keys_of Keyin (memory_of space.now) }
-{
-    first_key(space).is_none()
-}
-
-// No RETURN is among the waiting keys.
-#[tactic(auto, using(a2_bus::proofs::Viewing::devices_seen))]
-fn lacks_return<A: Allocator>(space: &AddressSpace<A>) -> bool
-    ensures { result ≡ not (has_return_of (memory_of space.now).devices.keys) }
-{
-    !has_return(space.waiting())
 }
 
 // RETURN is among the keys.

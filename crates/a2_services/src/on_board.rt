@@ -10,13 +10,9 @@ use a2_core::Live;
 use a2_cpu::Regs;
 use std::alloc::Allocator;
 
-/// One call of a service, as [`Service`] says of each: registers and board become what it leaves, and PC is pulled as RTS
-/// does, or for a hook is where it leads. The answer is `Served::Next` with the cycles that it took. Apple II Reference
-/// Manual (1979), chapters 2 and 3; the exact effects are this project's profile.
-///
-/// Where the service lacks something the answer is what [`live::refusal`] tells, and nothing changes. A call leaves bits 5
-/// and 4 of the flags clear, which are none. No byte of RAM changes outside the service's [`reach`](crate::reach). What is
-/// kept of the screen is not looked at: a row that the call changed counts as marked, as [`Board::marked`] says.
+/// One call of a service, as [`live::call`] makes it: registers and board become what it leaves. A call that is made leaves bits 5
+/// and 4 of the flags clear, which are none. What is kept of the screen is not looked at: a row that the call changed counts as marked,
+/// as [`Board::marked`] says.
 pub fn call<A: Allocator>(service: Service, regs: &mut Regs, board: &mut Board<A>) -> Served
     ensures called { IsCalled service (registers_of regs.old) board.old.bus (registers_of regs.new) board.new.bus result }
     ensures refused { OnUnserved result ((regs.new ≡ regs.old) × (board.new ≡ board.old)) }

@@ -1,8 +1,6 @@
 //! Putting a byte: a character, a return, a line feed or a backspace.
 
-ghost use Rattle.std.specs.Prelude.{◌≡◌, ◌<◌, ◌≤◌, ◌+◌, ◌&&◌};
-ghost use Rattle.a2_core.specs.Arithmetic.{by_digits};
-ghost use Rattle.a2_bus.specs.Memory.{ram_byte, with_ram};
+ghost use Rattle.std.specs.Prelude.{◌≡◌, ◌<◌, ◌+◌};
 ghost use Rattle.a2_bus.specs.View.{memory_of};
 ghost use Rattle.a2_services.specs.Put.{after_line_feed, after_return, after_backspace, after_character, after_put_unmasked, after_put, masked_by, with_base_address};
 ghost use Rattle.a2_services.specs.Fits.{CursorFits, LineFits};
@@ -90,24 +88,13 @@ pub(crate) fn put_unmasked<A: Allocator>(space: &mut AddressSpace<A>, byte: u8)
     }
 }
 
-// Two bytes, digit by digit.
-#[tactic(auto, using(a2_core::proofs::Digits::and_is))]
-fn both(byte: u8, mask: u8) -> u8
-    ensures { result ≡ by_digits 8 ◌&&◌ byte mask }
-{
-    byte & mask
-}
-
 /// A byte as COUT1 puts it: under the mask, bit by bit, if it is a blank ($A0) or more; else as it is. Both are from 0 to 255, and the
 /// mask is the byte at $32. Apple II Reference Manual (1979), chapter 2, on standard output; the exact effects are this project's profile.
+#[tactic(auto, using(a2_core::proofs::Digits::and_is))]
 pub fn masked(byte: u8, mask: u8) -> u8
     ensures { result ≡ masked_by byte mask }
 {
-    if byte >= BLANK {
-        both(byte, mask)
-    } else {
-        byte
-    }
+    if byte >= BLANK { byte & mask } else { byte }
 }
 
 /// A byte from a blank on is put under the mask.

@@ -1,14 +1,13 @@
 //! RAM, the cells of page 1, and the window.
 
-ghost use Rattle.std.specs.Prelude.{◌≡◌, ◌<◌, ◌≤◌, ◌+◌, ◌*◌, ◌%◌, ◌/◌, ℕ, slice_range, slice_index_or, length, replicate, []};
-ghost use Rattle.a2_page.specs.Grid.{blank, byte_in, with_byte, with_row_part, scrolled, cleared};
+ghost use Rattle.std.specs.Prelude.{◌≡◌, ◌<◌, ◌≤◌, ◌+◌, ◌/◌, slice_range, slice_index_or, length, replicate, []};
+ghost use Rattle.a2_page.specs.Grid.{byte_in, with_byte, with_row_part, scrolled, cleared};
 ghost use Rattle.a2_page.specs.Window.{IsWindow};
 ghost use Rattle.a2_bus.specs.Memory.{ram_byte, with_ram, ram_end};
 ghost use Rattle.a2_bus.specs.View.{memory_of};
 ghost use Rattle.a2_services.specs.Put.{window_of, with_page1};
 ghost use Rattle.a2_services.specs.Fits.{window_at};
 
-use crate::locations::COLUMNS;
 use a2_bus::locations::{WNDBTM, WNDLFT, WNDTOP, WNDWDTH};
 use a2_bus::{AddressSpace, Bus};
 use a2_page::{BLANK, Page, address};
@@ -82,25 +81,21 @@ pub fn window<A: Allocator>(space: &AddressSpace<A>) -> Edges
     }
 }
 
-/// A part of a row becomes blank.
-pub(crate) fn blank_part<A: Allocator>(space: &mut AddressSpace<A>, row: u8, left: u8, width: u8)
+/// The cells of a part of a row take one byte.
+pub(crate) fn fill_part<A: Allocator>(
+    space: &mut AddressSpace<A>,
+    row: u8,
+    left: u8,
+    width: u8,
+    byte: u8,
+)
     requires row { row < 24 }
     requires left { left < 40 }
     requires right { left + width ≤ 40 }
     ensures { let memory = memory_of space.old in
-        memory_of space.new ≡ with_page1 (with_row_part memory.page1 row left (replicate width blank)) memory }
+        memory_of space.new ≡ with_page1 (with_row_part memory.page1 row left (replicate width byte)) memory }
 {
-    space.fill_bytes(address(Page::One, row, left), u16::from(width), BLANK);
-}
-
-/// A row becomes black blocks.
-#[tactic(auto, using(crate::proofs::Screens::row_laid))]
-pub(crate) fn black_row<A: Allocator>(space: &mut AddressSpace<A>, row: u8)
-    requires row { row < 24 }
-    ensures { let memory = memory_of space.old in
-        memory_of space.new ≡ with_page1 (with_row_part memory.page1 row 0 (replicate 40 0)) memory }
-{
-    space.fill_bytes(address(Page::One, row, 0), u16::from(COLUMNS), 0);
+    space.fill_bytes(address(Page::One, row, left), u16::from(width), byte);
 }
 
 /// A part of a row takes the bytes of the row below.
@@ -126,7 +121,7 @@ pub(crate) fn scroll<A: Allocator>(space: &mut AddressSpace<A>, edges: Edges)
     for row in edges.top..edges.bottom - 1 {
         copy_up(space, row, edges.left, edges.width);
     }
-    blank_part(space, edges.bottom - 1, edges.left, edges.width);
+    fill_part(space, edges.bottom - 1, edges.left, edges.width, BLANK);
 }
 
 /// The window becomes blank.
@@ -136,6 +131,6 @@ pub(crate) fn clear<A: Allocator>(space: &mut AddressSpace<A>, edges: Edges)
         memory_of space.new ≡ with_page1 (cleared (window_at edges) memory.page1) memory }
 {
     for row in edges.top..edges.bottom {
-        blank_part(space, row, edges.left, edges.width);
+        fill_part(space, row, edges.left, edges.width, BLANK);
     }
 }

@@ -1,8 +1,7 @@
 //! Where services may store.
 
 ghost use Rattle.std.specs.Prelude.{◌≡◌};
-ghost use Rattle.a2_text.specs.Bytes.{is_between};
-ghost use Rattle.a2_services.specs.Services.{reach as reach_of, output_reach as output_reach_of, base_reach as base_reach_of, page_reach as page_reach_of, line_buffer};
+ghost use Rattle.a2_services.specs.Services.{reach as reach_of, output_reach as output_reach_of, base_reach as base_reach_of, page_reach as page_reach_of};
 
 use crate::Service;
 use crate::locations::{LINE_BUFFER, LINE_BUFFER_LAST, PAGE1, PAGE1_LAST};
@@ -20,7 +19,9 @@ pub fn reach(service: Service, address: u16) -> bool
     match row_of(service).reach {
         Reach::Nowhere => false,
         Reach::Screen => output_reach(address),
-        Reach::ScreenAndLine => output_reach(address) || line_reach(address),
+        Reach::ScreenAndLine => {
+            output_reach(address) || matches!(address, LINE_BUFFER..=LINE_BUFFER_LAST)
+        }
         Reach::Mask => address == INVFLG,
         Reach::Base => base_reach(address),
         Reach::Page => page_reach(address),
@@ -49,11 +50,4 @@ fn page_reach(address: u16) -> bool
     ensures { result ≡ page_reach_of address }
 {
     matches!(address, PAGE1..=PAGE1_LAST)
-}
-
-// The line that GETLN reads.
-fn line_reach(address: u16) -> bool
-    ensures { result ≡ is_between line_buffer 0x2FF address }
-{
-    matches!(address, LINE_BUFFER..=LINE_BUFFER_LAST)
 }

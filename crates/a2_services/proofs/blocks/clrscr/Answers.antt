@@ -13,12 +13,12 @@ loop-row-init g c = turning_first black (memory_of c.args.space.now) 0 (page1_is
 pub loop-row-preserved : goal.loop-row-preserved
 loop-row-preserved g c =
     black_more black (memory_of c.args.space.now) (memory_of c.loop-row.space) _ c.loop-row.row black_is (page1_is_grid c.args.space.now)
-    c.loop-row.invariant (omega arith) c.black_row.ensures
+    c.loop-row.invariant (omega arith) c.fill_part.ensures
 
-pub returns-clause-left : goal.returns-clause-left
+pub returns : goal.returns
 unfolding effect
-returns-clause-left g c =
+returns g c =
     let all =
     black_all black (memory_of c.args.space.now) (memory_of c.loop-row.space) c.loop-row.row black_is (page1_is_grid c.args.space.now)
     c.loop-row.invariant (omega arith) in
-    grind (arith, common_steps)
+    record { left = grind (arith, common_steps); cycles = c.return_from.ensures.cycles; size = c.return_from.ensures.size }

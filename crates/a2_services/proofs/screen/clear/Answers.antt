@@ -14,7 +14,7 @@ loop-row-init g c =
 pub loop-row-preserved : goal.loop-row-preserved
 loop-row-preserved g c =
     clear_more (window_at c.args.edges) (memory_of c.args.space.now) (memory_of c.loop-row.space) _ c.loop-row.row c.requires
-    (page1_is_grid c.args.space.now) c.loop-row.invariant (omega arith) (omega arith) c.blank_part.ensures
+    (page1_is_grid c.args.space.now) c.loop-row.invariant (omega arith) (omega arith) c.fill_part.ensures
 
 pub returns : goal.returns
 returns g c =

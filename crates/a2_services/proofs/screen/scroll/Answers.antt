@@ -21,6 +21,6 @@ pub returns : goal.returns
 returns g c =
     let n = memory_of c.loop-row.space in
     let e : c.args.edges.bottom - 1 ≡ c.loop-row.row = omega arith in
-    scroll_all (window_at c.args.edges) (memory_of c.args.space.now) n (memory_of c.blank_part.new.space) c.loop-row.row c.requires
+    scroll_all (window_at c.args.edges) (memory_of c.args.space.now) n (memory_of c.fill_part.new.space) c.loop-row.row c.requires
     (page1_is_grid c.args.space.now) c.loop-row.invariant (omega arith)
-    (c.blank_part.ensures ∙ ap (λ row. with_page1 (with_row_part n.page1 row c.args.edges.left (replicate c.args.edges.width blank)) n) e)
+    (c.fill_part.ensures ∙ ap (λ row. with_page1 (with_row_part n.page1 row c.args.edges.left (replicate c.args.edges.width blank)) n) e)
