@@ -5,13 +5,13 @@ ghost use Rattle.std.specs.List.{list_all, All};
 ghost use Rattle.a2_syntax.specs.Numbers.{is_quotable, code_in};
 ghost use Rattle.a2_syntax.specs.Pieces.{IsQuoted};
 ghost use Rattle.a2_syntax.specs.Relations.{Finds};
-ghost use Rattle.a2_syntax.specs.Grammar.{is_shift, IsText, IsOperandOf, IsOperation};
+ghost use Rattle.a2_syntax.specs.Grammar.{IsText, IsOperandOf, IsOperation};
 
 use crate::expr::{expr, exprs};
 use crate::operand::operand;
 use crate::operation::Operation;
 use crate::piece::{is_quotable, is_quote};
-use crate::source::{Body, Bytes, Operand};
+use crate::source::{Body, Bytes, Few, Operand};
 use crate::term::code_in;
 use a2_opcode::Mnemonic;
 use std::alloc::{AllocError, Allocator};
@@ -49,7 +49,7 @@ fn codes<A: Allocator>(alloc: A, quote: u8, text: &[u8]) -> Result<Bytes<A>, All
     for c in text {
         bytes.push(code_in(quote, *c))?;
     }
-    Ok(Bytes::of(bytes))
+    Ok(Few::of(bytes))
 }
 
 // What a text in quotes, the only piece, stands for.
@@ -66,15 +66,6 @@ fn text<A: Allocator>(alloc: A, pieces: &[&[u8]]) -> Result<Option<Bytes<A>>, Al
     Ok(Some(codes(alloc, quote, text)?))
 }
 
-fn is_shift(mnemonic: Mnemonic) -> bool
-    ensures { result ≡ is_shift mnemonic }
-{
-    matches!(
-        mnemonic,
-        Mnemonic::Asl | Mnemonic::Lsr | Mnemonic::Rol | Mnemonic::Ror
-    )
-}
-
 // The operand of an instruction.
 fn operand_of<A: Allocator + Copy>(
     alloc: A,
@@ -87,10 +78,10 @@ fn operand_of<A: Allocator + Copy>(
     if pieces.len() > 0 {
         return operand(alloc, pieces);
     }
-    if is_shift(mnemonic) {
-        return Ok(Some(Operand::Accumulator));
-    }
-    Ok(Some(Operand::Nothing))
+    Ok(Some(match mnemonic {
+        Mnemonic::Asl | Mnemonic::Lsr | Mnemonic::Rol | Mnemonic::Ror => Operand::Accumulator,
+        _ => Operand::Nothing,
+    }))
 }
 
 // What an operation does with these pieces behind it.
@@ -104,33 +95,14 @@ pub(crate) fn operation_body<A: Allocator + Copy>(
     ensures { IfOk result (λ o. Finds (IsOperation operation (map (λ x. x.now) pieces.now)) o) }
 {
     match operation {
-        Operation::Instr(mnemonic) => match operand_of(alloc, mnemonic, pieces)? {
-            Some(operand) => Ok(Some(Body::Instr(mnemonic, operand))),
-            None => Ok(None),
-        },
-        Operation::Org => match expr(alloc, pieces)? {
-            Some(e) => Ok(Some(Body::Org(e))),
-            None => Ok(None),
-        },
-        Operation::Equ => match expr(alloc, pieces)? {
-            Some(e) => Ok(Some(Body::Equ(e))),
-            None => Ok(None),
-        },
-        Operation::Dfb => match exprs(alloc, pieces)? {
-            Some(es) => Ok(Some(Body::Dfb(es))),
-            None => Ok(None),
-        },
-        Operation::Dw => match exprs(alloc, pieces)? {
-            Some(es) => Ok(Some(Body::Dw(es))),
-            None => Ok(None),
-        },
-        Operation::Asc => match text(alloc, pieces)? {
-            Some(bytes) => Ok(Some(Body::Asc(bytes))),
-            None => Ok(None),
-        },
-        Operation::Ds => match expr(alloc, pieces)? {
-            Some(e) => Ok(Some(Body::Ds(e))),
-            None => Ok(None),
-        },
+        Operation::Instr(mnemonic) => {
+            made!(operand_of(alloc, mnemonic, pieces)?, operand => Body::Instr(mnemonic, operand))
+        }
+        Operation::Org => made!(expr(alloc, pieces)?, e => Body::Org(e)),
+        Operation::Equ => made!(expr(alloc, pieces)?, e => Body::Equ(e)),
+        Operation::Dfb => made!(exprs(alloc, pieces)?, es => Body::Dfb(es)),
+        Operation::Dw => made!(exprs(alloc, pieces)?, es => Body::Dw(es)),
+        Operation::Asc => made!(text(alloc, pieces)?, bytes => Body::Asc(bytes)),
+        Operation::Ds => made!(expr(alloc, pieces)?, e => Body::Ds(e)),
     }
 }

@@ -6,7 +6,7 @@ ghost use Rattle.a2_syntax.specs.Grammar.{AreMoreTerms, AreTerms, IsExpr, AreExp
 ghost use Rattle.a2_syntax.specs.Reading.{is_byte, part_of, has_comma};
 ghost use Rattle.a2_syntax.specs.declared.source.Signed.{Signed as DeclaredSigned};
 
-use crate::source::{Expr, Exprs, Part, Signed, Terms};
+use crate::source::{Expr, Exprs, Few, Part, Signed, Terms};
 use crate::term::{minus, term};
 use std::alloc::{AllocError, Allocator};
 
@@ -57,12 +57,12 @@ fn terms<A: Allocator + Copy>(alloc: A, pieces: &[&[u8]]) -> Result<Option<Terms
     let mut found = Vec::with_capacity(alloc, pieces.len() / 2 + 1)?;
     found.push_reserved(Signed { minus: false, term });
     if others.len() == 0 {
-        return Ok(Some(Terms::of(found)));
+        return Ok(Some(Few::of(found)));
     }
     if !more_terms(alloc, others, &mut found)? {
         return Ok(None);
     }
-    Ok(Some(Terms::of(found)))
+    Ok(Some(Few::of(found)))
 }
 
 // Whether a piece is this one byte.
@@ -77,16 +77,11 @@ fn part<'a, 'b>(pieces: &'a [&'b [u8]]) -> (Part, &'a [&'b [u8]])
     ensures is { (result.0, map (λ x. x.now) result.1.now) ≡ part_of (map (λ x. x.now) pieces.now) }
     ensures within { length result.1.now ≤ length pieces.now }
 {
-    let Some((first, rest)) = pieces.split_first() else {
-        return (Part::Whole, pieces);
-    };
-    if is_byte(*first, b'<') {
-        return (Part::Low, rest);
+    match pieces {
+        [[b'<'], rest @ ..] => (Part::Low, rest),
+        [[b'>'], rest @ ..] => (Part::High, rest),
+        _ => (Part::Whole, pieces),
     }
-    if is_byte(*first, b'>') {
-        return (Part::High, rest);
-    }
-    (Part::Whole, pieces)
 }
 
 // The expression that pieces are.
@@ -98,10 +93,7 @@ pub(crate) fn expr<A: Allocator + Copy>(
     ensures { IfOk result (λ o. Finds (IsExpr (map (λ x. x.now) pieces.now)) o) }
 {
     let (part, rest) = part(pieces);
-    match terms(alloc, rest)? {
-        Some(terms) => Ok(Some(Expr { part, terms })),
-        None => Ok(None),
-    }
+    made!(terms(alloc, rest)?, terms => Expr { part, terms })
 }
 
 // Where the first comma is, or the end.
@@ -137,7 +129,7 @@ pub(crate) fn exprs<A: Allocator + Copy>(
         };
         found.push(next)?;
         if end == rest.len() {
-            return Ok(Some(Exprs::of(found)));
+            return Ok(Some(Few::of(found)));
         }
         rest = &rest[end + 1..];
     }

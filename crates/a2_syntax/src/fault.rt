@@ -1,7 +1,8 @@
 //! Why a source text is refused.
 
 ghost use Rattle.std.specs.Prelude.{◌≡◌, ◌≤◌, Some, length};
-ghost use Rattle.a2_syntax.specs.Texts.{fault_line, fault_words, fault_text};
+ghost use Rattle.a2_syntax.specs.Texts.{fault_line, fault_parts, fault_text};
+ghost use Rattle.a2_syntax.specs.declared.fault.Fault.TheVariants.{Memory};
 
 use a2_text::{RefusalText, refusal_text};
 use std::alloc::{AllocError, AllocFailed};
@@ -41,53 +42,41 @@ pub enum Fault {
 }
 
 impl Fault {
+    // The line of the refusal, and what it says behind it.
+    fn parts(&self) -> (u16, &'static str)
+        ensures said { (result.0, result.1.now) ≡ fault_parts self.now }
+        ensures short { length result.1.now ≤ 22 }
+    {
+        match *self {
+            Fault::TooLarge(n) => (n, "E1 TOO LARGE"),
+            Fault::Syntax(n) => (n, "E2 SYNTAX"),
+            Fault::TooManyNames(n) => (n, "E3 TOO MANY NAMES"),
+            Fault::Duplicate(n) => (n, "E4 DUPLICATE NAME"),
+            Fault::Unknown(n) => (n, "E5 UNKNOWN NAME"),
+            Fault::Forward(n) => (n, "E6 NAME DEFINED LATER"),
+            Fault::NoMode(n) => (n, "E7 NO SUCH MODE"),
+            Fault::Range(n) => (n, "E8 VALUE OUT OF RANGE"),
+            Fault::Branch(n) => (n, "E9 BRANCH TOO FAR"),
+            Fault::Outside(n) => (n, "E10 OUTSIDE RAM"),
+            Fault::Overlap(n) => (n, "E11 OVERLAP"),
+            Fault::NoCode => (0, "E12 NO INSTRUCTION"),
+            Fault::Memory => (0, "NO MEMORY"),
+        }
+    }
+
     /// The line of the refusal, counted from 1, or 0 where it is of no line.
     pub fn line(&self) -> u16
         ensures { result ≡ fault_line self.now }
     {
-        match self {
-            Fault::TooLarge(n)
-            | Fault::Syntax(n)
-            | Fault::TooManyNames(n)
-            | Fault::Duplicate(n)
-            | Fault::Unknown(n)
-            | Fault::Forward(n)
-            | Fault::NoMode(n)
-            | Fault::Range(n)
-            | Fault::Branch(n)
-            | Fault::Outside(n)
-            | Fault::Overlap(n) => *n,
-            Fault::NoCode | Fault::Memory => 0,
-        }
-    }
-
-    // What a refusal says behind its line.
-    fn words(&self) -> &'static str
-        ensures said { result.now ≡ fault_words self.now }
-        ensures short { length result.now ≤ 22 }
-    {
-        match self {
-            Fault::TooLarge(_) => "E1 TOO LARGE",
-            Fault::Syntax(_) => "E2 SYNTAX",
-            Fault::TooManyNames(_) => "E3 TOO MANY NAMES",
-            Fault::Duplicate(_) => "E4 DUPLICATE NAME",
-            Fault::Unknown(_) => "E5 UNKNOWN NAME",
-            Fault::Forward(_) => "E6 NAME DEFINED LATER",
-            Fault::NoMode(_) => "E7 NO SUCH MODE",
-            Fault::Range(_) => "E8 VALUE OUT OF RANGE",
-            Fault::Branch(_) => "E9 BRANCH TOO FAR",
-            Fault::Outside(_) => "E10 OUTSIDE RAM",
-            Fault::Overlap(_) => "E11 OVERLAP",
-            Fault::NoCode => "E12 NO INSTRUCTION",
-            Fault::Memory => "NO MEMORY",
-        }
+        self.parts().0
     }
 
     /// How the refusal is spelt: `LINE `, the line and a blank, where it is of a line, and what it says.
     pub fn text(&self) -> RefusalText
         ensures { result.bytes ≡ fault_text self.now }
     {
-        refusal_text(usize::from(self.line()), self.words())
+        let (line, words) = self.parts();
+        refusal_text(usize::from(line), words)
     }
 }
 
@@ -102,9 +91,6 @@ impl fmt::Display for Fault {
 impl Error for Fault {}
 
 impl From<AllocError> for Fault {
-    ghost use Rattle.std.specs.Prelude.{◌≡◌};
-    ghost use Rattle.a2_syntax.specs.declared.fault.Fault.TheVariants.{Memory};
-
     ghost from_gives = { λ _ e. e ≡ Memory };
 
     fn from(_error: AllocError) -> Fault {
@@ -113,9 +99,6 @@ impl From<AllocError> for Fault {
 }
 
 impl<T: Drop> From<AllocFailed<T>> for Fault {
-    ghost use Rattle.std.specs.Prelude.{◌≡◌};
-    ghost use Rattle.a2_syntax.specs.declared.fault.Fault.TheVariants.{Memory};
-
     ghost from_gives = { λ _ e. e ≡ Memory };
 
     fn from(_error: AllocFailed<T>) -> Fault {

@@ -3,6 +3,16 @@
 //! How it is called is shown in CALLING.md.
 #![tactic(auto)]
 
+// What is made of something, where that was found: `map` of an `Option`, which the prover follows without a closure.
+macro_rules! made {
+    ($found:expr, $it:ident => $made:expr) => {
+        match $found {
+            Some($it) => Ok(Some($made)),
+            None => Ok(None),
+        }
+    };
+}
+
 mod body;
 mod expr;
 mod fault;
@@ -26,6 +36,6 @@ pub use parser::{
     a_refused_text_is_no_source, a_text_has_one_refusal, a_text_is_one_source, parse,
 };
 pub use source::{
-    Body, Bytes, Expr, Exprs, Line, Name, Operand, Part, Signed, Source, Term, Terms,
+    Body, Bytes, Expr, Exprs, Few, Line, Name, Operand, Part, Signed, Source, Term, Terms,
 };
 pub use word::is_name;

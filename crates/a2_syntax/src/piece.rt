@@ -31,17 +31,6 @@ pub(crate) fn is_quotable(quote: u8, c: u8) -> bool
     c >= 32 && c <= 126 && c != quote
 }
 
-// How much a closing quote adds to what stands before it, and 0 where there is none.
-fn closed_len(quote: u8, n: usize, rest: &[u8]) -> usize
-    requires { n ≤ 65536 }
-    ensures { result ≡ reading.closed_len quote n rest.now }
-{
-    match rest.split_first() {
-        Some((c, _)) => { if *c == quote { n + 2 } else { 0 } }
-        None => 0,
-    }
-}
-
 // How long a quoted text is, from what stands behind the opening quote, or 0 where there is none.
 fn quoted_len(quote: u8, text: &[u8]) -> usize
     requires { length text.now ≤ 65536 }
@@ -49,7 +38,11 @@ fn quoted_len(quote: u8, text: &[u8]) -> usize
     ensures within { result ≤ length text.now + 1 }
 {
     let n = front_len(text, |c| is_quotable(quote, c));
-    closed_len(quote, n, &text[n..])
+    if text.get(n) == Some(&quote) {
+        n + 2
+    } else {
+        0
+    }
 }
 
 // How long a mark and a run are, from what stands behind the mark, or 0 where there is no run.

@@ -8,7 +8,7 @@ ghost use Rattle.a2_syntax.specs.Reading.{SpellsExprs};
 
 use crate::operation::Operation;
 use crate::piece::{front_run, is_over};
-use crate::source::{Body, Expr, Exprs, Part, Signed, Term, Terms};
+use crate::source::{Body, Expr, Exprs, Few, Part, Signed, Term};
 use crate::term::number;
 use a2_text::behind_blanks;
 use std::alloc::{AllocError, Allocator};
@@ -37,7 +37,7 @@ fn one_number<A: Allocator>(alloc: A, number: u16) -> Result<Expr<A>, AllocError
     });
     Ok(Expr {
         part: Part::Whole,
-        terms: Terms::of(terms),
+        terms: Few::of(terms),
     })
 }
 
@@ -56,7 +56,7 @@ fn numbers<A: Allocator + Copy>(alloc: A, text: &[u8]) -> Result<Option<Exprs<A>
         found.push(one_number(alloc, n)?)?;
         let next = behind_blanks(behind);
         if is_over(next) {
-            return Ok(Some(Exprs::of(found)));
+            return Ok(Some(Few::of(found)));
         }
         let Some((sign, more)) = next.split_first() else {
             return Ok(None);
@@ -79,14 +79,8 @@ pub(crate) fn plain_body<A: Allocator + Copy>(
         (pieces : List (List ℕ)) × Spells text.now pieces × IsOperation operation pieces body)) }
 {
     match operation {
-        Operation::Dfb => match numbers(alloc, text)? {
-            Some(es) => Ok(Some(Body::Dfb(es))),
-            None => Ok(None),
-        },
-        Operation::Dw => match numbers(alloc, text)? {
-            Some(es) => Ok(Some(Body::Dw(es))),
-            None => Ok(None),
-        },
+        Operation::Dfb => made!(numbers(alloc, text)?, es => Body::Dfb(es)),
+        Operation::Dw => made!(numbers(alloc, text)?, es => Body::Dw(es)),
         _ => Ok(None),
     }
 }

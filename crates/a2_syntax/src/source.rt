@@ -73,39 +73,47 @@ pub struct Signed<A: Allocator = Global> {
     pub term: Term<A>,
 }
 
-/// The terms of an expression: one or more, and at most 255.
+/// Terms, expressions or bytes of one line, at most 255.
 #[derive(Drop)]
-pub struct Terms<A: Allocator = Global> {
-    terms: Vec<Signed<A>, A>,
+pub struct Few<T: Drop, A: Allocator = Global> {
+    items: Vec<T, A>,
 }
 
-impl<A: Allocator> Model for Terms<A> {
+impl<T: Drop, A: Allocator> Model for Few<T, A> {
     ghost use Rattle.std.specs.Prelude.{◌≤◌, List, length};
-    ghost use Rattle.a2_syntax.specs.declared.source.Signed.{Signed};
 
-    ghost Value = { List (Signed A) };
+    ghost Value = { List T };
 
-    ghost view = { λ a. a.terms.items };
+    ghost view = { λ a. a.items.items };
 
-    ghost invariant = { λ a. length a.terms.items ≤ 255 };
+    ghost invariant = { λ a. length a.items.items ≤ 255 };
 }
 
-impl<A: Allocator> Terms<A> {
-    pub(crate) fn of(terms: Vec<Signed<A>, A>) -> Terms<A>
-        requires { length terms.items ≤ 255 }
-        ensures { result ≡ terms.items }
+impl<T: Drop, A: Allocator> Few<T, A> {
+    pub(crate) fn of(items: Vec<T, A>) -> Few<T, A>
+        requires { length items.items ≤ 255 }
+        ensures { result ≡ items.items }
     {
-        Terms { terms }
+        Few { items }
     }
 
-    /// The terms in order.
-    pub fn get(&self) -> &[Signed<A>]
+    /// All of them in order.
+    pub fn get(&self) -> &[T]
         ensures is { result.now ≡ self.now }
         ensures few { length result.now ≤ 255 }
     {
-        self.terms.as_slice()
+        self.items.as_slice()
     }
 }
+
+/// The terms of an expression, one or more.
+pub type Terms<A = Global> = Few<Signed<A>, A>;
+
+/// Expressions with commas between them, one or more.
+pub type Exprs<A = Global> = Few<Expr<A>, A>;
+
+/// The bytes of a text in quotes, one or more.
+pub type Bytes<A = Global> = Few<u8, A>;
 
 /// Which part of an expression's sum is its value.
 #[derive(Clone, Copy, Debug, PartialEq, Eq, Drop)]
@@ -125,73 +133,6 @@ pub struct Expr<A: Allocator = Global> {
     pub part: Part,
     /// The terms of the sum, from left to right.
     pub terms: Terms<A>,
-}
-
-/// Expressions with commas between them: one or more, and at most 255.
-#[derive(Drop)]
-pub struct Exprs<A: Allocator = Global> {
-    exprs: Vec<Expr<A>, A>,
-}
-
-impl<A: Allocator> Model for Exprs<A> {
-    ghost use Rattle.std.specs.Prelude.{◌≤◌, List, length};
-    ghost use Rattle.a2_syntax.specs.declared.source.Expr.{Expr};
-
-    ghost Value = { List (Expr A) };
-
-    ghost view = { λ a. a.exprs.items };
-
-    ghost invariant = { λ a. length a.exprs.items ≤ 255 };
-}
-
-impl<A: Allocator> Exprs<A> {
-    pub(crate) fn of(exprs: Vec<Expr<A>, A>) -> Exprs<A>
-        requires { length exprs.items ≤ 255 }
-        ensures { result ≡ exprs.items }
-    {
-        Exprs { exprs }
-    }
-
-    /// The expressions in order.
-    pub fn get(&self) -> &[Expr<A>]
-        ensures is { result.now ≡ self.now }
-        ensures few { length result.now ≤ 255 }
-    {
-        self.exprs.as_slice()
-    }
-}
-
-/// The bytes of a text in quotes: one or more, and at most 255.
-#[derive(Drop)]
-pub struct Bytes<A: Allocator = Global> {
-    bytes: Vec<u8, A>,
-}
-
-impl<A: Allocator> Model for Bytes<A> {
-    ghost use Rattle.std.specs.Prelude.{◌≤◌, List, ℕ, length};
-
-    ghost Value = { List ℕ };
-
-    ghost view = { λ a. a.bytes.items };
-
-    ghost invariant = { λ a. length a.bytes.items ≤ 255 };
-}
-
-impl<A: Allocator> Bytes<A> {
-    pub(crate) fn of(bytes: Vec<u8, A>) -> Bytes<A>
-        requires { length bytes.items ≤ 255 }
-        ensures { result ≡ bytes.items }
-    {
-        Bytes { bytes }
-    }
-
-    /// The bytes in order.
-    pub fn get(&self) -> &[u8]
-        ensures is { result.now ≡ self.now }
-        ensures few { length result.now ≤ 255 }
-    {
-        self.bytes.as_slice()
-    }
 }
 
 /// The operand of an instruction, by the form in which it is written. `e` is an expression.

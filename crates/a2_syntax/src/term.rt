@@ -20,36 +20,19 @@ pub(crate) fn code_in(quote: u8, c: u8) -> u8
     if quote == b'"' { c + 128 } else { c }
 }
 
-fn character(quote: u8, others: &[u8]) -> Option<u16>
-    ensures { result ≡ numbers.quoted_character quote others.now }
-{
-    match others {
-        [c, q] if is_quotable(quote, *c) && *q == quote => Some(u16::from(code_in(quote, *c))),
-        _ => None,
-    }
-}
-
 // The number that a piece spells.
 pub(crate) fn number(piece: &[u8]) -> Option<u16>
     ensures { result ≡ numbers.number piece.now }
 {
-    let (first, others) = piece.split_first()?;
-    if *first == b'$' {
-        return number_in(16, 4, others);
+    match piece {
+        [b'$', digits @ ..] => number_in(16, 4, digits),
+        [b'%', digits @ ..] => number_in(2, 16, digits),
+        [quote, c, last] if is_quote(*quote) => (is_quotable(*quote, *c) && last == quote).then(
+            || u16::from(code_in(*quote, *c)),
+        ),
+        [quote, ..] if is_quote(*quote) => None,
+        _ => number_in(10, 5, piece),
     }
-    if *first == b'%' {
-        return number_in(2, 16, others);
-    }
-    if is_quote(*first) {
-        return character(*first, others);
-    }
-    number_in(10, 5, piece)
-}
-
-fn is_here(piece: &[u8]) -> bool
-    ensures { IsTrue result ↔ (piece.now ≡ codes "*") }
-{
-    matches!(piece, [b'*'])
 }
 
 // Whether a term behind this sign counts below zero.
@@ -78,7 +61,7 @@ pub(crate) fn name_of<A: Allocator>(alloc: A, bytes: &[u8]) -> Result<Name<A>, A
 pub(crate) fn term<A: Allocator>(alloc: A, piece: &[u8]) -> Result<Option<Term<A>>, AllocError>
     ensures { IfOk result (λ o. Finds (IsTerm piece.now) o) }
 {
-    if is_here(piece) {
+    if matches!(piece, [b'*']) {
         return Ok(Some(Term::Here));
     }
     if let Some(n) = number(piece) {
