@@ -108,24 +108,6 @@ fn sends(kind: ErrorKind, row: &Sent) -> bool {
         && writer.calls == row.2
 }
 
-fn all_are_filled(kind: ErrorKind) -> bool {
-    for row in FILLED.iter() {
-        if !fills(kind, row) {
-            return false;
-        }
-    }
-    true
-}
-
-fn all_are_sent(kind: ErrorKind) -> bool {
-    for row in SENT.iter() {
-        if !sends(kind, row) {
-            return false;
-        }
-    }
-    true
-}
-
 // Whether a buffer of so many bytes is filled by one call of a reader, and its bytes taken by one of a writer.
 fn passes_at_once(alloc: Global, size: usize) -> bool {
     let (Ok(mut text), Ok(mut buffer)) = (
@@ -145,7 +127,12 @@ fn passes_at_once(alloc: Global, size: usize) -> bool {
 #[test]
 fn calls_of_readers_and_writers(rt: HostRuntime) {
     for kind in KINDS.iter() {
-        assert!(rt; all_are_filled(*kind) && all_are_sent(*kind));
+        for row in FILLED.iter() {
+            assert!(rt; fills(*kind, row), "fill, call {} fails", row.0);
+        }
+        for row in SENT.iter() {
+            assert!(rt; sends(*kind, row), "put_all, call {} fails", row.0);
+        }
     }
     assert!(rt; passes_at_once(rt.alloc(), 1) && passes_at_once(rt.alloc(), 65_537));
 }
