@@ -2,7 +2,7 @@
 
 ghost use Rattle.std.specs.Prelude.{◌≡◌, ◌+◌, ◌≤◌, ℕ, List, true, false, take, drop, map, length, IfOk};
 ghost use Rattle.a2_syntax.specs.Numbers as numbers;
-ghost use Rattle.a2_syntax.specs.Pieces.{is_sign, is_mark, is_over, is_gap, Spells};
+ghost use Rattle.a2_syntax.specs.Pieces.{is_over, is_gap, Spells};
 ghost use Rattle.a2_syntax.specs.Reading as reading;
 
 use crate::word::in_name;
@@ -45,36 +45,12 @@ fn quoted_len(quote: u8, text: &[u8]) -> usize
     }
 }
 
-// How long a mark and a run are, from what stands behind the mark, or 0 where there is no run.
-fn marked_len(text: &[u8]) -> usize
-    ensures is { result ≡ reading.marked_len text.now }
-    ensures within { result ≤ length text.now + 1 }
-{
-    let n = run_len(text);
-    if n == 0 { 0 } else { 1 + n }
-}
-
 // The name bytes at the front, and what stands behind them.
 pub(crate) fn front_run(text: &[u8]) -> (&[u8], &[u8])
     ensures word { result.0.now ≡ take (reading.run_len text.now) text.now }
     ensures rest { result.1.now ≡ drop (reading.run_len text.now) text.now }
 {
     text.split_at(run_len(text))
-}
-
-fn is_sign(c: u8) -> bool
-    ensures { result ≡ is_sign c }
-{
-    matches!(
-        c,
-        b'#' | b',' | b'(' | b')' | b'<' | b'>' | b'+' | b'-' | b'*'
-    )
-}
-
-fn is_mark(c: u8) -> bool
-    ensures { result ≡ is_mark c }
-{
-    c == b'$' || c == b'%'
 }
 
 // Whether there is nothing, or a comment.
@@ -100,19 +76,20 @@ fn piece_len(text: &[u8]) -> usize
     ensures is { result ≡ reading.piece_len text.now }
     ensures within { result ≤ length text.now }
 {
-    let Some((first, others)) = text.split_first() else {
-        return 0;
-    };
-    if is_sign(*first) {
-        return 1;
+    match text {
+        [] => 0,
+        [
+            b'#' | b',' | b'(' | b')' | b'<' | b'>' | b'+' | b'-' | b'*',
+            ..
+        ] => 1,
+        // A mark of a number's base is no piece without a run behind it.
+        [b'$' | b'%', others @ ..] => match run_len(others) {
+            0 => 0,
+            n => 1 + n,
+        },
+        [quote, others @ ..] if is_quote(*quote) => quoted_len(*quote, others),
+        _ => run_len(text),
     }
-    if is_mark(*first) {
-        return marked_len(others);
-    }
-    if is_quote(*first) {
-        return quoted_len(*first, others);
-    }
-    run_len(text)
 }
 
 // Finds the pieces of a text, which take the place of those found before; false where it is no text of pieces.

@@ -27,9 +27,9 @@ pub(crate) fn number(piece: &[u8]) -> Option<u16>
     match piece {
         [b'$', digits @ ..] => number_in(16, 4, digits),
         [b'%', digits @ ..] => number_in(2, 16, digits),
-        [quote, c, last] if is_quote(*quote) => (is_quotable(*quote, *c) && last == quote).then(
-            || u16::from(code_in(*quote, *c)),
-        ),
+        [quote, c, last] if is_quote(*quote) && is_quotable(*quote, *c) && last == quote => {
+            Some(u16::from(code_in(*quote, *c)))
+        }
         [quote, ..] if is_quote(*quote) => None,
         _ => number_in(10, 5, piece),
     }
