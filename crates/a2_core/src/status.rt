@@ -1,7 +1,7 @@
 //! The processor's flags.
 #![tactic(auto, using(crate::proofs::FlagBits::flag_bits))]
 
-ghost use Rattle.std.specs.Prelude.{⊤, ◌≡◌, ◌<◌, ◌≤◌, ◌+◌, ◌==◌, ◌↔◌, cond, [], ◌∷◌, codes, IsTrue};
+ghost use Rattle.std.specs.Prelude.{⊤, ◌≡◌, ◌<◌, ◌==◌, ◌↔◌, [], ◌∷◌, codes, IsTrue};
 ghost use Rattle.std.specs.Ordering.{on};
 ghost use Rattle.std.specs.Cmp.Rules.{comparing};
 ghost use Rattle.std.proofs.Common.{rules};
@@ -18,15 +18,6 @@ use bitflags::{Flag, Flags};
 #[derive(Clone, Copy, Debug)]
 pub struct Status {
     bits: u8,
-}
-
-// The value of a bit.
-#[inline(always)]
-fn bit(on: bool, value: u8) -> u8
-    ensures value { result ≡ cond on value 0 }
-    ensures bound { result ≤ value }
-{
-    if on { value } else { 0 }
 }
 
 impl Status {
@@ -112,12 +103,12 @@ impl Status {
         ensures flags { flags_of result ≡ record { n = negative; v = overflow; d = decimal; i = interrupt; z = zero; c = carry } }
         ensures spare { spare_bits_of result ≡ 0 }
     {
-        let bits = bit(negative, 0x80)
-            + bit(overflow, 0x40)
-            + bit(decimal, 8)
-            + bit(interrupt, 4)
-            + bit(zero, 2)
-            + bit(carry, 1);
+        let bits = 128 * u8::from(negative)
+            + 64 * u8::from(overflow)
+            + 8 * u8::from(decimal)
+            + 4 * u8::from(interrupt)
+            + 2 * u8::from(zero)
+            + u8::from(carry);
         Status { bits }
     }
 
