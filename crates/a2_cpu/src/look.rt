@@ -45,13 +45,8 @@ pub(crate) fn refusal<G: Protection>(
     match mnemonic {
         Mnemonic::Brk => Some(GuardedStep::Brk),
         Mnemonic::Adc | Mnemonic::Sbc if live.decimal => Some(GuardedStep::Decimal),
-        _ => {
-            if stores_at_protected(mnemonic, place, live, guard) {
-                Some(GuardedStep::Protected)
-            } else {
-                None
-            }
-        }
+        _ if stores_at_protected(mnemonic, place, live, guard) => Some(GuardedStep::Protected),
+        _ => None,
     }
 }
 
@@ -63,20 +58,16 @@ pub fn guarded_refusal<B: Bus, G: Protection>(
     bus: &B,
     guard: &G,
 ) -> Option<GuardedStep>
-    ensures { result
-        ≡ why_not (guarded_answer_of
-        (guarded_bus_step (G.is_protected guard.now) B.access
-        (before_step regs.now (B.state bus.now)))) }
+    ensures { result ≡ why_not (guarded_answer_of
+        (guarded_bus_step (G.is_protected guard.now) B.access (before_step regs.now (B.state bus.now)))) }
 {
     live_refusal(&Live::of(regs), bus, guard)
 }
 
 /// The same as [`guarded_refusal`], of registers as they are computed with.
 pub fn live_refusal<B: Bus, G: Protection>(live: &Live, bus: &B, guard: &G) -> Option<GuardedStep>
-    ensures { result
-        ≡ why_not (guarded_answer_of
-        (guarded_bus_step (G.is_protected guard.now) B.access
-        (before_live_step live.now (B.state bus.now)))) }
+    ensures { result ≡ why_not (guarded_answer_of
+        (guarded_bus_step (G.is_protected guard.now) B.access (before_live_step live.now (B.state bus.now)))) }
 {
     match find(live, bus) {
         Ok(found) => refusal(found.mnemonic, found.place, live, guard),
