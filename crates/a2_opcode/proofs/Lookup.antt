@@ -1,12 +1,17 @@
 -- The table's look-ups: what they find, that they find each row, and that the arrays are the lists of them.
-use Rattle.std.specs.Prelude.{◌≡◌, ℕ, ◌<◌, List, [], ◌∷◌, Bool, true, nat_eq, map, length, find, slice_get, slice_index_or, Contains, Option, Some, None, IfSome, option_map, refl}
+use Rattle.std.specs.Prelude.{◌≡◌, ℕ, ◌<◌, List, [], ◌∷◌, Bool, true, ◌&&◌, nat_eq, map, length, find, slice_get, slice_index_or, Contains, Option, Some, None, IfSome, option_map, refl}
 use Rattle.std.specs.List.{range_with_len, position_or_len}
 use Rattle.std.proofs.Common.{sym, ap, ◌∙◌, arith}
+use Rattle.std.proofs.lemmas.Bool.{and_parts}
 use Rattle.std.proofs.lemmas.List.{get_or-map}
 use Rattle.std.proofs.lemmas.List.Folds.{find_at}
 use Rattle.std.proofs.lemmas.List.FromFn.{get_or-map-range_with_len}
 use Rattle.std.proofs.lemmas.List.Sums.{passes_at_first}
 use Rattle.std.proofs.lemmas.Option.{slice_get_within, get_or_from_slice_get}
+use denote.Enum.Bare.{sameb, same_true}
+use denote.Enum.Declared.{tag_of}
+use Rattle.a2_opcode.specs.contracts.Mnemonic.{the_type as mnemonics}
+use Rattle.a2_opcode.specs.contracts.Mode.{the_type as mode_type}
 use Rattle.a2_opcode.specs.declared.Mnemonic.{Mnemonic}
 use Rattle.a2_opcode.specs.declared.Mnemonic.TheVariants.{Adc}
 use Rattle.a2_opcode.specs.declared.Mode.{Mode}
@@ -14,7 +19,7 @@ use Rattle.a2_opcode.specs.declared.Mode.TheVariants.{Implied, Accumulator, Imme
 use Rattle.a2_opcode.specs.declared.Row.{Row}
 use Rattle.a2_opcode.specs.declared.names.TheConstants.{MNEMONICS}
 use Rattle.a2_opcode.specs.declared.table.TheConstants.{ROWS, OPCODES}
-use Rattle.a2_opcode.specs.Table.{table, row, row_of, mnemonic_number, mode_number, form_number, IsRowOf, IsRowFor, DistinctOpcodes, DistinctForms}
+use Rattle.a2_opcode.specs.Table.{table, row, row_of, IsRowOf, IsRowFor, DistinctOpcodes, DistinctForms}
 use Rattle.a2_opcode.specs.Entries.{opcode_in_table}
 use Rattle.a2_opcode.proofs.Comparing.{same-key}
 
@@ -23,11 +28,11 @@ unfolding table
 rows_count = refl
 
 -- a mnemonic stands at its number
-pub mnemonic-at : (m : Mnemonic) → slice_index_or MNEMONICS (mnemonic_number m) Adc ≡ m
+pub mnemonic-at : (m : Mnemonic) → slice_index_or MNEMONICS (tag_of mnemonics m) Adc ≡ m
 mnemonic-at Adc = refl
 mnemonic-at _ = refl
 
-mnemonic_few : (m : Mnemonic) → mnemonic_number m < 56
+mnemonic_few : (m : Mnemonic) → tag_of mnemonics m < 56
 mnemonic_few Adc = omega arith
 mnemonic_few _ = omega arith
 
@@ -36,20 +41,13 @@ modes =
     Implied ∷ Accumulator ∷ Immediate ∷ ZeroPage ∷ ZeroPageX ∷ ZeroPageY ∷ Absolute ∷ AbsoluteX ∷ AbsoluteY
     ∷ IndexedIndirect ∷ IndirectIndexed ∷ Indirect ∷ Relative ∷ []
 
-mode-at : (m : Mode) → slice_index_or modes (mode_number m) Implied ≡ m
+mode-at : (m : Mode) → slice_index_or modes (tag_of mode_type m) Implied ≡ m
 mode-at Implied = refl
 mode-at _ = refl
 
-mode_few : (m : Mode) → mode_number m < 13
+mode_few : (m : Mode) → tag_of mode_type m < 13
 mode_few Implied = omega arith
 mode_few _ = omega arith
-
--- a number stands for one mnemonic and one mode
-pub same_mnemonic : (m n : Mnemonic) → mnemonic_number m ≡ mnemonic_number n → m ≡ n
-same_mnemonic m n e = sym (mnemonic-at m) ∙ ap (λ k. slice_index_or MNEMONICS k Adc) e ∙ mnemonic-at n
-
-same_mode : (m n : Mode) → mode_number m ≡ mode_number n → m ≡ n
-same_mode m n e = sym (mode-at m) ∙ ap (λ k. slice_index_or modes k Implied) e ∙ mode-at n
 
 -- what is found is in the table and passes the test
 found-is : (p : Row → Bool) (r : Row) → find p table ≡ Some r → Contains table r × (p r ≡ true)
@@ -63,11 +61,9 @@ found-is p r e =
 pub row-is : (mnemonic : Mnemonic) (mode : Mode) (r : Row) → row mnemonic mode ≡ Some r → IsRowFor mnemonic mode r
 unfolding row
 row-is mnemonic mode r e =
-    let (listed, passes) = found-is (λ s. nat_eq (form_number s.mnemonic s.mode) (form_number mnemonic mode)) r e in
-    let same = same-key (form_number r.mnemonic r.mode) (form_number mnemonic mode) passes in
-    let few = mode_few mode in
-    let r_few = mode_few r.mode in
-    record { listed = listed; mnemonic_is = same_mnemonic r.mnemonic mnemonic (omega arith); mode_is = same_mode r.mode mode (omega arith) }
+    let (listed, passes) = found-is (λ s. sameb mnemonics s.mnemonic mnemonic && sameb mode_type s.mode mode) r e in
+    let (same_mnemonic, same_mode) = and_parts _ _ passes in
+    record { listed = listed; mnemonic_is = same_true mnemonics tt _ _ same_mnemonic; mode_is = same_true mode_type tt _ _ same_mode }
 
 pub row_of-is : (opcode : ℕ) (r : Row) → row_of opcode ≡ Some r → IsRowOf opcode r
 unfolding row_of
@@ -129,13 +125,13 @@ opcodes_listed : OPCODES ≡ map (λ mnemonic. map (opcode_in_table mnemonic) mo
 unfolding row table
 opcodes_listed = refl
 
-pub opcode-at : (mnemonic : Mnemonic) (mode : Mode) → slice_index_or (slice_index_or OPCODES (mnemonic_number mnemonic) []) (mode_number mode) None ≡ opcode_in_table mnemonic mode
+pub opcode-at : (mnemonic : Mnemonic) (mode : Mode) → slice_index_or (slice_index_or OPCODES (tag_of mnemonics mnemonic) []) (tag_of mode_type mode) None ≡ opcode_in_table mnemonic mode
 opcode-at mnemonic mode =
     rw (
       opcodes_listed,
-      get_or-map (λ m. map (opcode_in_table m) modes) MNEMONICS (mnemonic_number mnemonic) Adc [] (mnemonic_few mnemonic),
+      get_or-map (λ m. map (opcode_in_table m) modes) MNEMONICS (tag_of mnemonics mnemonic) Adc [] (mnemonic_few mnemonic),
       mnemonic-at mnemonic,
-      get_or-map (opcode_in_table mnemonic) modes (mode_number mode) Implied None (mode_few mode),
+      get_or-map (opcode_in_table mnemonic) modes (tag_of mode_type mode) Implied None (mode_few mode),
       mode-at mode,
     )
 

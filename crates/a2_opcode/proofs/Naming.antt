@@ -2,16 +2,17 @@
 use Rattle.std.specs.Prelude.{◌≡◌, ℕ, ◌<◌, true, List, slice_index_or, refl}
 use Rattle.std.proofs.Common.{◌%◌, ltb, sym, ap, ◌∙◌, arith}
 use Rattle.std.proofs.lemmas.Bool.{agree_below_at, ltb-true}
+use denote.Enum.Declared.{tag_of}
+use Rattle.a2_opcode.specs.contracts.Mnemonic.{the_type as mnemonics}
 use Rattle.a2_opcode.specs.declared.Mnemonic.{Mnemonic}
 use Rattle.a2_opcode.specs.declared.Mnemonic.TheVariants.{Adc}
 use Rattle.a2_opcode.specs.declared.names.TheConstants.{MNEMONICS, PLACES}
 use Rattle.a2_opcode.specs.Entries.{weight_of, place_by}
 use Rattle.a2_opcode.specs.Names.{name_of}
-use Rattle.a2_opcode.specs.Table.{mnemonic_number}
 use Rattle.a2_opcode.proofs.Lookup.{mnemonic-at}
 
 -- each mnemonic stands where its letters say
-place_by-name : (m : Mnemonic) → place_by (name_of m) ≡ mnemonic_number m
+place_by-name : (m : Mnemonic) → place_by (name_of m) ≡ tag_of mnemonics m
 unfolding place_by
 place_by-name Adc = refl
 place_by-name _ = refl
