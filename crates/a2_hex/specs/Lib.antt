@@ -2,4 +2,3 @@ pub mod Images
 pub mod ObjectText
 pub mod ObjectLines
 pub mod Texts
-pub mod Gathering

@@ -1,8 +1,9 @@
 -- The object lines of an image: this project's profile of the Monitor's lines that change memory (Apple II Reference Manual 1979, chapter 3).
-use Rattle.std.specs.Prelude.{ℕ, zero, suc, ◌+◌, ◌-◌, ◌%◌, ◌==◌, Bool, ◌&&◌, ◌||◌, not, List, [], ◌∷◌, ◌++◌, Option, Some, None, is_some, if◌then◌else◌}
+use Rattle.std.specs.Prelude.{◌≡◌, ℕ, zero, suc, ◌+◌, ◌-◌, ◌%◌, ◌==◌, Bool, ◌&&◌, ◌||◌, not, List, [], ◌∷◌, ◌++◌, Option, Some, None, is_some, Result, Ok, Err, if◌then◌else◌}
 use Rattle.std.specs.List.{flat_map}
 use Rattle.a2_text.specs.Digits.{hex_pair, hex_word}
 use Rattle.a2_text.specs.Signs.{sign}
+use Rattle.a2_stream.specs.Stream.{Taker, Sends, Breaks}
 use Rattle.a2_hex.specs.Images.{ram_end}
 
 -- a blank, and a byte of two digits
@@ -44,3 +45,8 @@ text_of_lines lines = flat_map (λ line. line ++ 10 ∷ []) lines
 -- the object lines of an image of RAM
 unfoldable pub object_text : (ℕ → Option ℕ) → List ℕ
 object_text image = text_of_lines (lines_below image ram_end)
+
+-- A line was put behind those gathered, and a front of all that may have gone out; or a write of those gathered broke off.
+abbrev pub Gathers : {T E : Type 0} → Taker → Taker → Result T E → List ℕ → List ℕ → List ℕ → Type 0
+Gathers old new (Ok _) before line after = (sent : List ℕ) × Sends old new sent × (sent ++ after ≡ before ++ line)
+Gathers old new (Err _) before line after = Breaks old new before

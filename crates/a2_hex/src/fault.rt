@@ -2,6 +2,7 @@
 
 ghost use Rattle.std.specs.Prelude.{◌≡◌, Some};
 ghost use Rattle.a2_hex.specs.Texts.{hex_fault_text};
+ghost use Rattle.a2_hex.specs.declared.fault.HexFault.TheVariants.{Memory};
 
 use a2_text::{RefusalText, refusal_text};
 use std::alloc::{AllocError, AllocFailed};
@@ -46,9 +47,6 @@ impl fmt::Display for HexFault {
 impl Error for HexFault {}
 
 impl From<AllocError> for HexFault {
-    ghost use Rattle.std.specs.Prelude.{◌≡◌};
-    ghost use Rattle.a2_hex.specs.declared.fault.HexFault.TheVariants.{Memory};
-
     ghost from_gives = { λ _ e. e ≡ Memory };
 
     fn from(_error: AllocError) -> HexFault {
@@ -57,9 +55,6 @@ impl From<AllocError> for HexFault {
 }
 
 impl<T: Drop> From<AllocFailed<T>> for HexFault {
-    ghost use Rattle.std.specs.Prelude.{◌≡◌};
-    ghost use Rattle.a2_hex.specs.declared.fault.HexFault.TheVariants.{Memory};
-
     ghost from_gives = { λ _ e. e ≡ Memory };
 
     fn from(_error: AllocFailed<T>) -> HexFault {

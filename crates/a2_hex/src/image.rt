@@ -90,23 +90,11 @@ impl<A: Allocator> Image<A> {
         ensures size { length ram.new ≡ ram_end }
         ensures laid { (a : ℕ) → a < ram_end → slice_index ram.new a ≡ unwrap_or (held self.now a) (slice_index ram.old a) }
     {
-        lay_cells(self.cells.as_slice(), self.start, self.end, ram);
-    }
-}
-
-// Lays over RAM the bytes of cells that have none but from `start` up to `end`.
-fn lay_cells(cells: &[Option<u8>], start: u16, end: u16, ram: &mut [u8])
-    requires cells { length cells.now ≡ ram_end }
-    requires within { IsWithin cells.now start end }
-    requires end { end ≤ ram_end }
-    requires size { length ram.old ≡ ram_end }
-    ensures size { length ram.new ≡ ram_end }
-    ensures laid { (a : ℕ) → slice_index ram.new a ≡ unwrap_or (held cells.now a) (slice_index ram.old a) }
-{
-    for address in start..end {
-        let at = usize::from(address);
-        if let Some(byte) = cells[at] {
-            ram[at] = byte;
+        for address in self.start..self.end {
+            let at = usize::from(address);
+            if let Some(byte) = self.cells[at] {
+                ram[at] = byte;
+            }
         }
     }
 }

@@ -7,7 +7,6 @@ ghost use Rattle.a2_stream.specs.Stream.{SendsOrBreaks};
 ghost use Rattle.a2_hex.specs.Images.{held, IsImage, ram_end};
 ghost use Rattle.a2_hex.specs.ObjectText as text;
 ghost use Rattle.a2_hex.specs.ObjectLines.{image_of};
-ghost use Rattle.a2_hex.specs.Gathering.{Gathers};
 
 use crate::image::Image;
 use a2_stream::{Output, WriteFault, put};
@@ -75,7 +74,7 @@ fn gather<W: Output>(
     writer: &mut W,
 ) -> Result<(), WriteFault>
     requires { length line.now ≤ 29 }
-    ensures { Gathers (W.taker writer.old) (W.taker writer.new) result piece.old.items line.now piece.new.items }
+    ensures { text.Gathers (W.taker writer.old) (W.taker writer.new) result piece.old.items line.now piece.new.items }
 {
     if piece.try_extend_from_slice(line).is_ok() {
         return Ok(());
