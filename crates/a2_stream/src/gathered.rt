@@ -38,8 +38,6 @@ impl Gathered {
 }
 
 impl Output for Gathered {
-    ghost use Rattle.std.specs.Prelude.{Some};
-
     ghost taker = { λ s. record { bytes = Some s.bytes.items; failures = s.failed } };
 
     fn write(&mut self, piece: &[u8]) -> Result<usize, WriteFault> {

@@ -33,8 +33,6 @@ impl<A: Allocator> Kept<A> {
 }
 
 impl<A: Allocator> Output for Kept<A> {
-    ghost use Rattle.std.specs.Prelude.{Some};
-
     ghost taker = { λ s. record { bytes = Some s.bytes.items; failures = s.failed } };
 
     fn write(&mut self, piece: &[u8]) -> Result<usize, WriteFault> {
