@@ -1,6 +1,6 @@
 //! A picture that is kept between two looks at a screen.
 
-ghost use Rattle.std.specs.Prelude.{◌≡◌, ◌<◌, ◌↔◌, ℕ, true, slice_set, slice_index_or, [], length, filter};
+ghost use Rattle.std.specs.Prelude.{◌≡◌, ◌<◌, ◌↔◌, ℕ, true, slice_set, slice_index_or, [], length};
 ghost use Rattle.a2_stream.specs.Stream.{SendsOrBreaks};
 ghost use Rattle.a2_page.specs.Kept.{FitsPage, IsStale, IsCompared, is_row_marked, with_row_marked, after_switch, after_refresh, marked_rows};
 ghost use Rattle.a2_page.specs.Grid.{Grid};
@@ -47,13 +47,6 @@ fn has_same_row(page: &[u8; 1024], other: &[u8; 1024], row: u8) -> bool
     ensures { (result ≡ true) ↔ (slice_index_or (page_grid page.now) row [] ≡ slice_index_or (page_grid other.now) row []) }
 {
     cells_in_row(page, row) == cells_in_row(other, row)
-}
-
-// How many of the rows are marked.
-fn count_marks(marks: &[bool; 24]) -> u8
-    ensures { result ≡ length (filter (λ mark. mark) marks.now) }
-{
-    marks.iter().filter(|mark| **mark).count() as u8
 }
 
 impl Picture {
@@ -145,7 +138,7 @@ impl Picture {
         ensures count { result ≡ marked_rows self.old }
     {
         let page = shown_page(view);
-        let count = count_marks(&self.marks);
+        let count = self.marks.iter().filter(|mark| **mark).count() as u8;
         for row in 0..24u8 {
             if self.marks[usize::from(row)] {
                 take_row(&mut self.page, page, row);
