@@ -1,7 +1,7 @@
 -- A board's bytes and devices tell the memory that it holds.
 use Rattle.std.proofs.Common.{sym, ◌∙◌}
 use Rattle.a2_page.specs.declared.Page.TheVariants.{One, Two}
-use Rattle.a2_bus.specs.OneMemory.{EachBoardHasOneMemory}
+use Rattle.a2_bus.specs.View.{EachBoardHasOneMemory}
 use Rattle.a2_bus.proofs.Agreement.{same_pages}
 use Rattle.a2_bus.proofs.Viewing.{memory_of-agrees}
 
