@@ -1,4 +1,3 @@
 pub mod Cutting
 mod NumberLaws
 pub mod WordLaws
-mod Decimals

@@ -1,12 +1,13 @@
 //! Numbers written in digits.
 
-ghost use Rattle.std.specs.Prelude.{◌≡◌, ◌≤◌, length};
+ghost use Rattle.std.specs.Prelude.{◌≡◌};
 ghost use Rattle.std.specs.Fmt.{decimal as decimal_of};
 ghost use Rattle.a2_text.specs.Digits as digits;
 
 use crate::numbers::capital;
 use crate::room::append;
 use arrayvec::ArrayVec;
+use itoa::Buffer;
 
 /// The two capital hexadecimal digits of a byte.
 pub fn hex_pair(byte: u8) -> [u8; 2]
@@ -27,29 +28,11 @@ pub fn hex_word(word: u16) -> [u8; 4]
     [a, b, c, d]
 }
 
-// At most 20 bytes in an array of their own.
-fn collected(bytes: &[u8]) -> ArrayVec<u8, 20>
-    requires { length bytes.now ≤ 20 }
-    ensures { result.items ≡ bytes.now }
-{
-    let mut all = ArrayVec::new();
-    append(&mut all, bytes);
-    all
-}
-
 /// The decimal digits of a number, without leading zeros.
 pub fn decimal(number: u64) -> ArrayVec<u8, 20>
     ensures { result.items ≡ decimal_of number }
 {
-    let mut digits = [0u8; 20];
-    let mut first = 20usize;
-    let mut rest = number;
-    while rest >= 10 {
-        first -= 1;
-        digits[first] = b'0' + (rest % 10) as u8;
-        rest /= 10;
-    }
-    first -= 1;
-    digits[first] = b'0' + rest as u8;
-    collected(&digits[first..])
+    let mut digits = ArrayVec::new();
+    append(&mut digits, Buffer::new().format(number).as_bytes());
+    digits
 }

@@ -56,8 +56,5 @@ pub fn only_word(text: &[u8]) -> Option<&[u8]>
     ensures { MatchOption result (word.only_word (word.words text.now) ≡ None) (λ w. word.only_word (word.words text.now) ≡ Some w.now) }
 {
     let (word, behind) = first_word(text)?;
-    match first_word(behind) {
-        Some(_) => None,
-        None => Some(word),
-    }
+    first_word(behind).is_none().then_some(word)
 }
