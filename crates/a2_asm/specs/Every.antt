@@ -1,16 +1,14 @@
 -- Every refusal of a source that is known at once: the first, and those of other lines. Where each line may lie in its place,
 -- those are of values; else they are of names and forms, which hang on no place and no value. This project's profile.
-use Rattle.std.specs.Prelude.{◌≡◌, ◌⊎◌, ℕ, ◌+◌, ◌==◌, Bool, not, List, [], ◌∷◌, ◌++◌, length, fold, filter, filter_map, Option, None, is_some, if◌then◌else◌}
+use Rattle.std.specs.Prelude.{◌≡◌, ◌⊎◌, ℕ, ◌+◌, ◌==◌, not, List, [], ◌∷◌, ◌++◌, length, fold, filter, filter_map, Option, None, is_some, if◌then◌else◌}
 use Rattle.std.specs.List.{list_all, cons_option}
 use Rattle.std.specs.Option.{option_map_or}
 use Rattle.a2_text.specs.Refusals.{◌otherwise◌, refuse_if}
-use Rattle.a2_opcode.specs.declared.Mnemonic.{Mnemonic}
 use Rattle.a2_syntax.specs.Bare.{NoAllocator, BareLine}
 use Rattle.a2_syntax.specs.Texts.{fault_line}
 use Rattle.a2_syntax.specs.declared.fault.Fault.{Fault}
 use Rattle.a2_syntax.specs.declared.fault.Fault.TheVariants as faults
 use Rattle.a2_syntax.specs.declared.source.Expr.{Expr}
-use Rattle.a2_syntax.specs.declared.source.Operand.{Operand}
 use Rattle.a2_syntax.specs.declared.source.Body.{Body}
 use Rattle.a2_syntax.specs.declared.source.Body.TheVariants.{Instr, Org, Equ, Dfb, Dw, Ds}
 use Rattle.a2_syntax.specs.declared.source.Line.{Line}
@@ -48,19 +46,11 @@ refuse_early all earlier number e =
 abbrev pub refuse_unknown : {A : Type 0} → Names → ℕ → List (Expr A) → Option Fault
 refuse_unknown all number es = refuse_if (not (list_all (is_known all) es)) (faults.Unknown number)
 
--- an instruction that the table lacks, wherever it lies
-abbrev pub lacks_form : {A : Type 0} → Names → Mnemonic → Operand A → Bool
-lacks_form earlier m operand = not (has_mode m (mode_of earlier 0 m operand))
-
--- an instruction's form, and then its names
-abbrev pub refuse_instr : {A : Type 0} → Names → Names → ℕ → Mnemonic → Operand A → Option Fault
-refuse_instr all earlier number m operand =
-    refuse_if (lacks_form earlier m operand) (faults.NoMode number) otherwise
-    option_map_or (refuse_name all number) (expr_of operand) None
-
--- what the names and the form of a line's body are refused for
+-- what the form of a line's body, which hangs on no place, and its names are refused for
 abbrev pub refuse_words : {A : Type 0} → Names → Names → ℕ → Body A → Option Fault
-refuse_words all earlier number (Instr m operand) = refuse_instr all earlier number m operand
+refuse_words all earlier number (Instr m operand) =
+    refuse_if (not (has_mode m (mode_of earlier 0 m operand))) (faults.NoMode number) otherwise
+    option_map_or (refuse_name all number) (expr_of operand) None
 refuse_words all earlier number (Org e) = refuse_early all earlier number e
 refuse_words all earlier number (Equ e) = refuse_early all earlier number e
 refuse_words all earlier number (Ds e) = refuse_early all earlier number e

@@ -3,10 +3,9 @@
 ghost use Rattle.std.specs.Prelude.{◌≡◌, ◌≢◌, ◌≤◌, ◌==◌, [], false, not, None, length, map, IfOk, OnOk};
 ghost use Rattle.a2_syntax.specs.Texts.{fault_line};
 ghost use Rattle.a2_syntax.specs.declared.fault.Fault.{Fault};
-ghost use Rattle.a2_asm.specs.Values.{Names as NameList};
-ghost use Rattle.a2_asm.specs.Layout.{names, mode_in};
+ghost use Rattle.a2_asm.specs.Layout.{names};
 ghost use Rattle.a2_asm.specs.Pass.{source_rows};
-ghost use Rattle.a2_asm.specs.Refusals.{first_behind, refuse_place, refuse_operand, lacks_row};
+ghost use Rattle.a2_asm.specs.Refusals.{first_behind, refuse_place};
 ghost use Rattle.a2_asm.specs.Entries.{entries};
 ghost use Rattle.a2_asm.specs.Every as every;
 ghost use Rattle.a2_asm.specs.Every.{AreLayoutRefusals};
@@ -18,8 +17,7 @@ use crate::modes::{has, mode_of};
 use crate::place::Place;
 use crate::program::Names;
 use crate::values::is_known;
-use a2_opcode::Mnemonic;
-use a2_syntax::{Body, Expr, Fault, Line, Operand, Source};
+use a2_syntax::{Body, Fault, Line, Source};
 use indexmap::IndexMap;
 use std::alloc::{AllocError, Allocator};
 
@@ -59,60 +57,6 @@ fn labels<A: Allocator + Copy>(alloc: A, lines: &[Line<A>]) -> Result<Names<A>, 
     Ok(known)
 }
 
-// Why ORG, EQU or DS is refused, by the names in it.
-fn refuse_early<A: Allocator>(
-    all: &Names<A>,
-    earlier: &Names<A>,
-    number: u16,
-    e: &Expr<A>,
-) -> Option<Fault>
-    ensures { result ≡ every.refuse_early (entries all.now) (entries earlier.now) number e.now }
-{
-    if !is_known(all, e) {
-        return Some(Fault::Unknown(number));
-    }
-    if !is_known(earlier, e) {
-        return Some(Fault::Forward(number));
-    }
-    None
-}
-
-// Why an instruction is refused, by its form and the names in it.
-fn refuse_instr<A: Allocator>(
-    all: &Names<A>,
-    earlier: &Names<A>,
-    number: u16,
-    mnemonic: Mnemonic,
-    operand: &Operand<A>,
-) -> Option<Fault>
-    ensures { result ≡ every.refuse_instr (entries all.now) (entries earlier.now) number mnemonic operand.now }
-{
-    if !has(mnemonic, mode_of(earlier, 0, mnemonic, operand)) {
-        return Some(Fault::NoMode(number));
-    }
-    match operand.expr() {
-        Some(e) if !is_known(all, e) => Some(Fault::Unknown(number)),
-        _ => None,
-    }
-}
-
-// Why what a line says is refused, by its form and the names in it.
-fn refuse_words<A: Allocator>(
-    all: &Names<A>,
-    earlier: &Names<A>,
-    number: u16,
-    body: &Body<A>,
-) -> Option<Fault>
-    ensures { result ≡ every.refuse_words (entries all.now) (entries earlier.now) number body.now }
-{
-    match body {
-        Body::Instr(mnemonic, operand) => refuse_instr(all, earlier, number, *mnemonic, operand),
-        Body::Org(e) | Body::Equ(e) | Body::Ds(e) => refuse_early(all, earlier, number, e),
-        Body::Dfb(es) | Body::Dw(es) if !are_known(all, es.get()) => Some(Fault::Unknown(number)),
-        _ => None,
-    }
-}
-
 // Why a line is refused, by its label, its form and the names in it.
 fn refuse_names_in<A: Allocator>(
     all: &Names<A>,
@@ -125,7 +69,22 @@ fn refuse_names_in<A: Allocator>(
     if is_taken(earlier, line) {
         return Some(Fault::Duplicate(number));
     }
-    refuse_words(all, earlier, number, &line.body)
+    let unknown = Some(Fault::Unknown(number));
+    match &line.body {
+        Body::Instr(m, operand) if !has(*m, mode_of(earlier, 0, *m, operand)) => {
+            Some(Fault::NoMode(number))
+        }
+        Body::Instr(_, operand) => match operand.expr() {
+            Some(e) if !is_known(all, e) => unknown,
+            _ => None,
+        },
+        Body::Org(e) | Body::Equ(e) | Body::Ds(e) if !is_known(all, e) => unknown,
+        Body::Org(e) | Body::Equ(e) | Body::Ds(e) if !is_known(earlier, e) => {
+            Some(Fault::Forward(number))
+        }
+        Body::Dfb(es) | Body::Dw(es) if !are_known(all, es.get()) => unknown,
+        _ => None,
+    }
 }
 
 // Of each line why it is refused, by its label, its form and the names in it.
@@ -147,23 +106,6 @@ fn by_names<A: Allocator + Copy>(alloc: A, lines: &[Line<A>]) -> Result<Vec<Faul
     Ok(faults)
 }
 
-// Why one of the values of a line in its place is refused.
-fn refuse_operand<A: Allocator + Copy>(
-    alloc: A,
-    known: &Names<A>,
-    place: Place,
-    body: &Body<A>,
-) -> Result<Option<Fault>, AllocError>
-    requires row { lacks_row place body.now ≡ false }
-    requires form { (earlier : NameList) × (place.mode ≡ mode_in earlier place.address body.now) }
-    ensures { IfOk result (λ refusal. refusal ≡ refuse_operand (entries known.now) place body.now) }
-{
-    match line_bytes(alloc, known, place, body) {
-        Ok(_) => Ok(None),
-        Err(fault) => Ok(Some(refused(fault)?)),
-    }
-}
-
 // Of each line in its place why one of its values is refused.
 fn by_values<A: Allocator + Copy>(
     alloc: A,
@@ -178,9 +120,9 @@ fn by_values<A: Allocator + Copy>(
 {
     let mut faults = Vec::new(alloc);
     for (i, line) in lines.iter().enumerate() {
-        let refusal = refuse_operand(alloc, known, places[i], &line.body)?;
-        if let Some(fault) = refusal {
-            faults.push(fault)?;
+        match line_bytes(alloc, known, places[i], &line.body) {
+            Ok(_) => {}
+            Err(fault) => faults.push(refused(fault)?)?,
         }
     }
     Ok(faults)
