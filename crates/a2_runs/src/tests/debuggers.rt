@@ -1,81 +1,49 @@
-//! Calls of a debugger, one after another, with what each answers and leaves of its counts.
+//! Lines of a debugger, one after another, with what each answers and leaves of its counts.
 
-use super::texts::{debugger_of, q_typed};
-use a2_debug::{Answer, Call, Debugger, Halt, perform_all};
-use a2_machine::Cause;
+use super::texts::debugger_of;
+use a2_debug::Debugger;
+use a2_stream::Kept;
 use std::alloc::Global;
 
-/// What is done with a debugger.
-#[derive(Clone, Copy)]
-enum Act {
-    Step(u32),
-    Go(u32),
-    Back(u32),
-    TypeQ,
-    SetBreak(&'static [u8]),
-    ClearBreak(&'static [u8]),
-}
-
-/// What is done, what it is answered, and what is so behind it: the count, the oldest count that can be gone back to, the steps
-/// that the last call made again, and those made in all.
-struct Row(Act, &'static str, u32, u32, u32, u128);
+/// A line, how its answer ends or how it is refused, and what is so behind it: the count, the oldest count that can be gone back
+/// to, the steps that the last call made again, and those made in all.
+struct Row(&'static str, &'static str, u32, u32, u32, u128);
 
 /// Looks at the keyboard again and again.
 const POLLS: &str = " ORG $300\nL LDA $C000\n JMP L\n";
 
 // Between two of eight checkpoints, and to the oldest.
 const FAR: [Row; 5] = [
-    Row(Act::Step(10_000), "limit", 10_000, 2048, 0, 10_000),
-    Row(Act::Back(7953), "G3 TOO FAR", 10_000, 2048, 0, 10_000),
-    Row(Act::Back(4096), "done", 5904, 2048, 784, 10_784),
-    Row(Act::Back(3856), "done", 2048, 2048, 0, 10_784),
-    Row(Act::Back(1), "G3 TOO FAR", 2048, 2048, 0, 10_784),
+    Row("step 10000", "\nSTOP LIMIT\n", 10_000, 2048, 0, 10_000),
+    Row("back 7953", "G3 TOO FAR", 10_000, 2048, 0, 10_000),
+    Row("back 4096", "CYCLES=20664\n", 5904, 2048, 784, 10_784),
+    Row("back 3856", "CYCLES=7168\n", 2048, 2048, 0, 10_784),
+    Row("back 1", "G3 TOO FAR", 2048, 2048, 0, 10_784),
 ];
 
-// What was dropped is not come back to: each step is made again from the checkpoint before it. And calls of each kind.
+// What was dropped is not come back to: each step is made again from the checkpoint before it. And lines of each kind.
 const NEAR: [Row; 14] = [
-    Row(Act::Step(1025), "limit", 1025, 0, 0, 1025),
-    Row(Act::Back(2), "done", 1023, 0, 1023, 2048),
-    Row(Act::TypeQ, "done", 1023, 0, 1023, 2048),
-    Row(Act::Step(2), "limit", 1025, 0, 1023, 2050),
-    Row(Act::Back(1), "done", 1024, 0, 0, 2050),
-    Row(Act::TypeQ, "done", 1024, 0, 0, 2050),
-    Row(Act::Step(1), "limit", 1025, 0, 0, 2051),
-    Row(Act::SetBreak(b"$0303"), "done", 1025, 0, 0, 2051),
-    Row(Act::Go(100), "break", 1027, 0, 0, 2053),
-    Row(Act::ClearBreak(b"M"), "G2 UNKNOWN NAME", 1027, 0, 0, 2053),
-    Row(Act::ClearBreak(b"$303"), "done", 1027, 0, 0, 2053),
-    Row(Act::Go(2), "limit", 1029, 0, 0, 2055),
-    Row(Act::Back(1), "done", 1028, 0, 4, 2059),
-    Row(Act::Back(1029), "G3 TOO FAR", 1028, 0, 4, 2059),
+    Row("step 1025", "\nSTOP LIMIT\n", 1025, 0, 0, 1025),
+    Row("back 2", "CYCLES=3581\n", 1023, 0, 1023, 2048),
+    Row("type Q", "", 1023, 0, 1023, 2048),
+    Row("step 2", "\nSTOP LIMIT\n", 1025, 0, 1023, 2050),
+    Row("back 1", "CYCLES=3584\n", 1024, 0, 0, 2050),
+    Row("type Q", "", 1024, 0, 0, 2050),
+    Row("step 1", "\nSTOP LIMIT\n", 1025, 0, 0, 2051),
+    Row("break $0303", "", 1025, 0, 0, 2051),
+    Row("go 100", "\nBREAK\n", 1027, 0, 0, 2053),
+    Row("clear M", "G2 UNKNOWN NAME", 1027, 0, 0, 2053),
+    Row("clear $303", "", 1027, 0, 0, 2053),
+    Row("go 2", "\nSTOP LIMIT\n", 1029, 0, 0, 2055),
+    Row("back 1", "CYCLES=3598\n", 1028, 0, 4, 2059),
+    Row("back 1029", "G3 TOO FAR", 1028, 0, 4, 2059),
 ];
 
-fn call_of(act: Act) -> Call<'static> {
-    match act {
-        Act::Step(steps) => Call::Step(steps),
-        Act::Go(steps) => Call::Go(steps),
-        Act::Back(steps) => Call::Back(steps),
-        Act::TypeQ => Call::TypeKeys(q_typed()),
-        Act::SetBreak(word) => Call::SetBreak(word),
-        Act::ClearBreak(word) => Call::ClearBreak(word),
-    }
-}
-
-// What a list of one call is answered, in a word or in the text of a refusal.
-fn text_of(answers: &[Answer]) -> &'static str {
-    match answers {
-        [Answer::Done] => "done",
-        [Answer::Halted(Halt::Break)] => "break",
-        [Answer::Halted(Halt::Stopped(Cause::Limit))] => "limit",
-        [Answer::Refused(fault)] => fault.text(),
-        _ => "another answer, more or none",
-    }
-}
-
-fn answer_of(alloc: Global, debugger: &mut Debugger, act: Act) -> &'static str {
-    match perform_all(alloc, debugger, &[call_of(act)]) {
-        Ok(answers) => text_of(answers.as_slice()),
-        Err(_) => "no memory",
+fn is_answered(alloc: Global, debugger: &mut Debugger, row: &Row) -> bool {
+    let mut text = Kept::new(alloc);
+    match debugger.line(row.0.as_bytes(), &mut text) {
+        Ok(()) => text.as_slice().ends_with(row.1.as_bytes()),
+        Err(fault) => fault.text() == row.1,
     }
 }
 
@@ -89,7 +57,7 @@ fn stands_as(debugger: &Debugger, row: &Row) -> bool {
 // The first of the rows that goes wrong.
 fn wrong_among(alloc: Global, debugger: &mut Debugger, rows: &[Row]) -> Option<usize> {
     for (number, row) in rows.iter().enumerate() {
-        if answer_of(alloc, debugger, row.0) != row.1 || !stands_as(debugger, row) {
+        if !is_answered(alloc, debugger, row) || !stands_as(debugger, row) {
             return Some(number);
         }
     }

@@ -1,7 +1,7 @@
 //! Readers and writers that fail at each of their calls.
 
 use super::texts::{
-    ASSEMBLE, DEBUG, Example, FREE, MONITOR, PER_CALL, Pinch, RUN, answer_of, debugger_of,
+    ASSEMBLE, DEBUG, Example, Fails, MONITOR, PER_CALL, Pinch, RUN, answer_of, debugger_of,
 };
 use a2_bus::Keys;
 use a2_debug::{DebugFault, Debugger};
@@ -11,48 +11,14 @@ use a2_run::{Options, RunFault, asm_text, run_text};
 use a2_stream::{Failing, FromRead, Kept, Pinched, ToWrite};
 use std::alloc::Global;
 
-/// Whose calls are to fail.
-#[derive(Clone, Copy)]
-enum Fails {
-    Source,
-    Script,
-    Writer,
-}
-
-// An example's answer where so many of these calls go through. Each second write that fails takes nothing.
-fn answer_behind(
-    alloc: Global,
-    example: &Example,
-    fails: Fails,
-    calls: u64,
-) -> Option<Result<(), RunFault>> {
-    let pinch = match fails {
-        Fails::Source => Pinch {
-            source: calls,
-            ..FREE
-        },
-        Fails::Script => Pinch {
-            script: calls,
-            ..FREE
-        },
-        Fails::Writer => Pinch {
-            writes: calls,
-            failing: if calls % 2 == 0 {
-                Failing::Refuses
-            } else {
-                Failing::TakesNothing
-            },
-            ..FREE
-        },
-    };
-    answer_of(alloc, alloc, example, pinch)
-}
-
 // With how many of these calls the whole goes out, where each that fails before is told, of those looked at.
 fn calls_of(alloc: Global, example: &Example, fails: Fails, step: u64) -> Option<u64> {
     for turn in 0..1000u64 {
         let calls = turn.saturating_mul(step);
-        match (answer_behind(alloc, example, fails, calls)?, fails) {
+        match (
+            answer_of(alloc, alloc, example, Pinch(fails, calls))?,
+            fails,
+        ) {
             (Ok(()), _) => return Some(calls),
             (Err(RunFault::Write), Fails::Writer) => {}
             (Err(RunFault::Read), Fails::Source | Fails::Script) => {}

@@ -42,18 +42,9 @@ enum Came {
     Wrong,
 }
 
-// What was asked for, where it is right.
-fn whole(is_right: bool) -> Came {
-    if is_right { Came::Whole } else { Came::Wrong }
-}
-
-// A refusal, where it is for want of memory.
-fn refused(is_memory: bool) -> Came {
-    if is_memory {
-        Came::Refused
-    } else {
-        Came::Wrong
-    }
+// What came, where it is right.
+fn if_right(is_right: bool, came: Came) -> Came {
+    if is_right { came } else { Came::Wrong }
 }
 
 // An image is told by its object lines.
@@ -65,8 +56,8 @@ fn has_lines<A: Allocator>(room: Global, image: &Image<A>, lines: &str) -> bool 
 // Loads what the assembler writes.
 fn image_comes(room: Global, ration: &Ration<Global>) -> Came {
     match load_lines(ration, ASSEMBLE.output.as_bytes()) {
-        Ok(image) => whole(has_lines(room, &image, ASSEMBLE.output)),
-        Err(fault) => refused(fault == HexFault::Memory),
+        Ok(image) => if_right(has_lines(room, &image, ASSEMBLE.output), Came::Whole),
+        Err(fault) => if_right(fault == HexFault::Memory, Came::Refused),
     }
 }
 
@@ -74,7 +65,10 @@ fn flat_comes(ration: &Ration<Global>) -> Came {
     match Flat::new(ration) {
         Ok(mut flat) => {
             flat.write(0xFFFF, 7);
-            whole(flat.read(0xFFFF) == 7 && flat.peek(0xFFFE) == Some(0))
+            if_right(
+                flat.read(0xFFFF) == 7 && flat.peek(0xFFFE) == Some(0),
+                Came::Whole,
+            )
         }
         Err(_) => Came::Refused,
     }
@@ -97,8 +91,8 @@ fn are_answers(answers: &[Answer], debugger: &Debugger) -> bool {
 fn answers(ration: &Ration<Global>, debugger: &mut Debugger) -> Came {
     let list = [Call::Step(5), Call::Back(2), Call::Back(4)];
     match perform_all(ration, debugger, &list) {
-        Ok(answers) => whole(are_answers(answers.as_slice(), debugger)),
-        Err(_) => refused(debugger.made() == 0),
+        Ok(answers) => if_right(are_answers(answers.as_slice(), debugger), Came::Whole),
+        Err(_) => if_right(debugger.made() == 0, Came::Refused),
     }
 }
 
@@ -113,7 +107,7 @@ fn answers_come(room: Global, ration: &Ration<Global>) -> Came {
 fn text_comes(room: Global, ration: &Ration<Global>, example: &Example) -> Came {
     match answer_of(room, ration, example, FREE) {
         Some(Ok(())) => Came::Whole,
-        Some(Err(fault)) => refused(fault == RunFault::Memory),
+        Some(Err(fault)) => if_right(fault == RunFault::Memory, Came::Refused),
         None => Came::Wrong,
     }
 }

@@ -132,44 +132,42 @@ pub fn debugger_of(alloc: Global, source: &str) -> Option<Debugger> {
     }
 }
 
-/// The key Q.
-pub fn q_typed() -> Keys {
-    Keys::one(b'Q')
-}
-
 /// How many bytes at most go through in a call of a reader or a writer.
 pub const PER_CALL: usize = 16;
 
-/// How many calls of a call's readers and of its writer go through, and how its writer fails behind them.
-#[derive(Clone, Copy)]
-pub struct Pinch {
-    pub source: u64,
-    pub script: u64,
-    pub writes: u64,
-    pub failing: Failing,
+/// Whose calls are to fail.
+#[derive(Clone, Copy, PartialEq, Eq)]
+pub enum Fails {
+    Source,
+    Script,
+    Writer,
 }
 
+/// Whose calls fail, and behind how many. Each second write that fails takes nothing.
+#[derive(Clone, Copy)]
+pub struct Pinch(pub Fails, pub u64);
+
 /// More calls than any text of these tests takes.
-pub const FREE: Pinch = Pinch {
-    source: 1000,
-    script: 1000,
-    writes: 1000,
-    failing: Failing::Refuses,
-};
+const FREELY: u64 = 1000;
+
+/// Nothing fails.
+pub const FREE: Pinch = Pinch(Fails::Writer, FREELY);
+
+impl Pinch {
+    // How many calls of these go through.
+    fn calls(self, fails: Fails) -> u64 {
+        if self.0 == fails { self.1 } else { FREELY }
+    }
+}
 
 // A reader that fails behind so many calls.
 fn slow(text: &str, calls: u64) -> Pinched<FromRead<&[u8]>> {
-    Pinched::new(
-        FromRead::new(text.as_bytes()),
-        PER_CALL,
-        calls,
-        Failing::Refuses,
-    )
+    let reader = FromRead::new(text.as_bytes());
+    Pinched::new(reader, PER_CALL, calls, Failing::Refuses)
 }
 
 /// Makes the call of an example, and gives its answer. It writes the whole of its output; a front of it where a write failed;
-/// and nothing where anything else is refused. Where it writes something else
-/// there is no answer.
+/// and nothing where anything else is refused. Where it writes something else there is no answer.
 pub fn answer_of<A: Allocator + Copy>(
     room: Global,
     alloc: A,
@@ -177,16 +175,18 @@ pub fn answer_of<A: Allocator + Copy>(
     pinch: Pinch,
 ) -> Option<Result<(), RunFault>> {
     let mut output = Vec::new(room);
-    let mut writer = Pinched::new(ToWrite::new(&mut output), 16, pinch.writes, pinch.failing);
-    let mut source = slow(example.source, pinch.source);
-    let mut script = slow(example.script, pinch.script);
+    let writes = pinch.calls(Fails::Writer);
+    let failing = if writes % 2 == 0 {
+        Failing::Refuses
+    } else {
+        Failing::TakesNothing
+    };
+    let mut writer = Pinched::new(ToWrite::new(&mut output), PER_CALL, writes, failing);
+    let mut source = slow(example.source, pinch.calls(Fails::Source));
+    let mut script = slow(example.script, pinch.calls(Fails::Script));
     let answer = make(alloc, example.call, &mut source, &mut script, &mut writer);
     drop(writer);
-    if is_told(example.output.as_bytes(), output.as_slice(), answer) {
-        Some(answer)
-    } else {
-        None
-    }
+    is_told(example.output.as_bytes(), output.as_slice(), answer).then_some(answer)
 }
 
 // Whether so much of a text goes out where a call answers so.
@@ -212,10 +212,10 @@ fn make<A: Allocator + Copy, R: Input, S: Input, W: Output>(
         attr: false,
     };
     match call {
-        Call::Run => match run_text(alloc, source, &q_typed(), u32::MAX, options, writer) {
-            Ok(_) => Ok(()),
-            Err(fault) => Err(fault),
-        },
+        Call::Run => {
+            run_text(alloc, source, &Keys::one(b'Q'), u32::MAX, options, writer)?;
+            Ok(())
+        }
         Call::Assemble => asm_text(alloc, source, writer),
         Call::Monitor => mon_text(alloc, script, writer),
         Call::Debug => debug_text(alloc, source, script, writer),
