@@ -19,7 +19,7 @@ ghost use Rattle.a2_machine.specs.State.{world_of_state, code_of, cause_of, most
 ghost use Rattle.a2_machine.specs.declared.Cause.TheVariants.{Limit};
 ghost use Rattle.a2_machine.specs.declared.Stop.TheVariants.{Cause as StopCause, Breakpoint};
 
-use crate::step::{Outcome, cause_at};
+use crate::step::cause_at;
 use crate::steps::{StepsMade, make_one_step, make_steps, make_steps_alone};
 use crate::watch::{NOTES, Watch};
 use crate::{Cause, Stop};
@@ -372,8 +372,7 @@ impl<A: Allocator> Machine<A> {
     fn most_within(&self, limit: u64) -> u64
         ensures { result ≡ steps_left limit self.now.state }
     {
-        let left = MOST_STEPS - self.steps;
-        if limit < left { limit } else { left }
+        limit.min(MOST_STEPS - self.steps)
     }
 
     // Counts steps that were made.
@@ -450,13 +449,13 @@ impl<A: Allocator> Machine<A> {
     {
         if self.steps < MOST_STEPS {
             return match make_one_step(&mut self.regs, self.board.space_mut(), &self.watch) {
-                Outcome::Made(cycles) => {
+                Ok(cycles) => {
                     self.cycles += u64::from(cycles);
                     self.steps += 1;
                     self.made = self.made.saturating_add(1);
                     None
                 }
-                Outcome::Stuck(cause) => Some(cause),
+                Err(cause) => Some(cause),
             };
         }
         Some(self.stop())

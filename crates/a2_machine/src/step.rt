@@ -20,37 +20,30 @@ use a2_services::live::{call, refusal};
 use a2_services::{Served, Service, service_at};
 use std::alloc::Allocator;
 
-/// What came of a step: one of so many cycles, or none for a cause.
-#[derive(Clone, Copy, PartialEq, Eq, Debug)]
-pub enum Outcome {
-    Made(u32),
-    Stuck(Cause),
-}
-
-// What a guarded step did, as an outcome.
+// What a guarded step did: one of so many cycles was made, or none for a cause.
 #[inline(always)]
-fn outcome_of(step: GuardedStep) -> Outcome
+fn outcome_of(step: GuardedStep) -> Result<u32, Cause>
     ensures { result ≡ Rattle.a2_machine.specs.Outcome.outcome_of step }
 {
     match step {
-        GuardedStep::Next(cycles) => Outcome::Made(cycles),
-        GuardedStep::Brk => Outcome::Stuck(Cause::Brk),
-        GuardedStep::Decimal => Outcome::Stuck(Cause::Decimal),
-        GuardedStep::Opcode => Outcome::Stuck(Cause::Opcode),
-        GuardedStep::Rom => Outcome::Stuck(Cause::Rom),
-        GuardedStep::Protected => Outcome::Stuck(Cause::CodeWrite),
+        GuardedStep::Next(cycles) => Ok(cycles),
+        GuardedStep::Brk => Err(Cause::Brk),
+        GuardedStep::Decimal => Err(Cause::Decimal),
+        GuardedStep::Opcode => Err(Cause::Opcode),
+        GuardedStep::Rom => Err(Cause::Rom),
+        GuardedStep::Protected => Err(Cause::CodeWrite),
     }
 }
 
-// What a call did, as an outcome.
+// The same of a call.
 #[inline(always)]
-fn outcome_of_call(answer: Served) -> Outcome
+fn outcome_of_call(answer: Served) -> Result<u32, Cause>
     ensures { result ≡ Rattle.a2_machine.specs.Outcome.outcome_of_call answer }
 {
     match answer {
-        Served::Next(cycles) => Outcome::Made(cycles),
-        Served::Window => Outcome::Stuck(Cause::Window),
-        Served::Keys => Outcome::Stuck(Cause::Keys),
+        Served::Next(cycles) => Ok(cycles),
+        Served::Window => Err(Cause::Window),
+        Served::Keys => Err(Cause::Keys),
     }
 }
 
@@ -63,18 +56,10 @@ fn call_at<C: Allocator>(pc: u16, watch: &Watch<C>) -> Result<Service, Cause>
         return Err(Cause::Returned);
     }
     match service_at(pc) {
-        Some(service) => {
-            if watch.blocks(service) {
-                Err(Cause::CodeWrite)
-            } else {
-                Ok(service)
-            }
-        }
-        None => Err(if watch.admits(pc) {
-            Cause::Rom
-        } else {
-            Cause::OffStatement
-        }),
+        Some(service) if watch.blocks(service) => Err(Cause::CodeWrite),
+        Some(service) => Ok(service),
+        None if watch.admits(pc) => Err(Cause::Rom),
+        None => Err(Cause::OffStatement),
     }
 }
 
@@ -85,7 +70,7 @@ fn make_step_above<A: Allocator, C: Allocator>(
     live: &mut Live,
     space: &mut AddressSpace<A>,
     watch: &Watch<C>,
-) -> Outcome
+) -> Result<u32, Cause>
     requires { ram_end ≤ live.old.pc }
     ensures outcome { IsOutcome watch.now (live_registers live.old) space.old (live_registers live.new) space.new result }
     ensures cost { cost_of result ≤ most_cost }
@@ -95,7 +80,7 @@ fn make_step_above<A: Allocator, C: Allocator>(
     let _a: u8 = live.a;
     match call_at(live.pc, watch) {
         Ok(service) => outcome_of_call(call(service, live, space)),
-        Err(cause) => Outcome::Stuck(cause),
+        Err(cause) => Err(cause),
     }
 }
 
@@ -107,7 +92,7 @@ pub fn make_step<A: Allocator, C: Allocator>(
     live: &mut Live,
     space: &mut AddressSpace<A>,
     watch: &Watch<C>,
-) -> Outcome
+) -> Result<u32, Cause>
     ensures outcome { IsOutcome watch.now (live_registers live.old) space.old (live_registers live.new) space.new result }
     ensures cost { cost_of result ≤ most_cost }
     ensures cycles { live.new.cycles ≡ live.old.cycles }
@@ -116,21 +101,11 @@ pub fn make_step<A: Allocator, C: Allocator>(
         return make_step_above(live, space, watch);
     }
     if !watch.admits(live.pc) {
-        return Outcome::Stuck(Cause::OffStatement);
+        return Err(Cause::OffStatement);
     }
     // For the prover alone: a look at RAM tells how long it is.
     let _ = space.peek(live.pc);
     outcome_of(live_step(live, space, watch))
-}
-
-// The cause of a step that was not made.
-fn cause_in(outcome: Outcome) -> Option<Cause>
-    ensures { result ≡ Rattle.a2_machine.specs.Outcome.cause_in outcome }
-{
-    match outcome {
-        Outcome::Made(_) => None,
-        Outcome::Stuck(cause) => Some(cause),
-    }
 }
 
 // Why there is no step, where PC is above RAM.
@@ -144,7 +119,7 @@ fn cause_above<A: Allocator, C: Allocator>(
     ensures { (before : ℕ) → stuck (bytes watch.now) (world_of (live_registers live.now) space.now before) ≡ result }
 {
     match call_at(live.pc, watch) {
-        Ok(service) => cause_in(outcome_of_call(refusal(service, live, space)?)),
+        Ok(service) => outcome_of_call(refusal(service, live, space)?).err(),
         Err(cause) => Some(cause),
     }
 }
@@ -166,5 +141,5 @@ pub fn cause_at<A: Allocator, C: Allocator>(
     }
     // For the prover alone: a look at RAM tells how long it is.
     let _ = space.peek(live.pc);
-    cause_in(outcome_of(live_refusal(live, space, watch)?))
+    outcome_of(live_refusal(live, space, watch)?).err()
 }

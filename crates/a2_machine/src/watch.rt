@@ -8,8 +8,7 @@ ghost use Rattle.a2_bus.specs.Memory.{ram_end};
 ghost use Rattle.a2_services.specs.Services.{reach as reach_of};
 ghost use Rattle.a2_machine.specs.ByteRun.{addresses_below};
 ghost use Rattle.a2_machine.specs.Marks.{begins, begins_by, lies, first_mark, whole_end, AreStarted, EndBy};
-ghost use Rattle.a2_machine.specs.Watches.{ArePlainMarks};
-ghost use Rattle.a2_machine.specs.Blocking.{is_blocked, BlocksBy};
+ghost use Rattle.a2_machine.specs.Watches.{ArePlainMarks, is_blocked, BlocksBy};
 ghost use Rattle.a2_machine.specs.Outcome.{admits as admits_of, protected_by};
 
 use a2_asm::{Program, Statement};
@@ -42,30 +41,24 @@ const ABOVE: u8 = 4;
 /// An instruction may begin there, and of three bytes from there on some are not in RAM.
 const BEGINS_LAST: u8 = 8;
 
-/// Which services may store into code, by their numbers.
+/// What marks come with: which services may store into code, by their numbers, and the end of the addresses where instructions begin.
 #[derive(Clone, Copy)]
-pub struct Blocked {
-    pub by: [bool; Service::COUNT],
+pub struct Marked {
+    pub blocked: [bool; Service::COUNT],
+    pub end: u16,
 }
 
-/// No service is blocked.
-const NONE_BLOCKED: Blocked = Blocked {
-    by: [false; Service::COUNT],
+/// That of no guard.
+const UNGUARDED: Marked = Marked {
+    blocked: [false; Service::COUNT],
+    end: RAM_END,
 };
-
-/// What a program's marks come with: the services that it blocks, and the end of the addresses where its instructions begin.
-#[derive(Clone, Copy)]
-struct Marked {
-    blocked: Blocked,
-    end: u16,
-}
 
 /// The guard, or none. Contracts see it as an option of the addresses at which instructions begin and lie.
 #[derive(Drop)]
 pub struct Watch<A: Allocator = Global> {
     marks: Vec<u8, A>,
-    blocked: Blocked,
-    end: u16,
+    marked: Marked,
     on: bool,
 }
 
@@ -80,7 +73,7 @@ impl<A: Allocator> Model for Watch<A> {
 
     ghost view = { λ w. guard_if w.on w.marks.items };
 
-    ghost invariant = { λ w. IsWatch w.on w.marks.items w.blocked w.end };
+    ghost invariant = { λ w. IsWatch w.on w.marks.items w.marked };
 }
 
 // Whether an instruction may begin where a mark stands.
@@ -92,12 +85,12 @@ fn has_begin(mark: u8) -> bool
 }
 
 // The services that may store at an address are blocked too.
-fn block(blocked: &mut Blocked, address: u16)
+fn block(blocked: &mut [bool; Service::COUNT], address: u16)
     ensures { (service : Service) → is_blocked blocked.new service
         ≡ (is_blocked blocked.old service || reach_of service address) }
 {
     for service in Service::ALL {
-        blocked.by[service as usize] |= reach(service, address);
+        blocked[service as usize] |= reach(service, address);
     }
 }
 
@@ -162,7 +155,7 @@ fn mark_code(marks: &mut [u8], address: usize)
 
 // The same, and the services that may store there are blocked.
 #[tactic(auto, using(crate::proofs::Marking::any_added))]
-fn mark_byte(marks: &mut [u8], blocked: &mut Blocked, address: usize)
+fn mark_byte(marks: &mut [u8], blocked: &mut [bool; Service::COUNT], address: usize)
     requires started { AreStarted marks.old }
     requires in_ram { address < ram_end }
     requires blocks { BlocksBy blocked.old (addresses_below ram_end (lies marks.old)) }
@@ -176,7 +169,7 @@ fn mark_byte(marks: &mut [u8], blocked: &mut Blocked, address: usize)
 }
 
 // Bytes of code lie from one address on, up to another.
-fn mark_bytes(marks: &mut [u8], blocked: &mut Blocked, start: usize, end: usize)
+fn mark_bytes(marks: &mut [u8], blocked: &mut [bool; Service::COUNT], start: usize, end: usize)
     requires started { AreStarted marks.old }
     requires order { start ≤ end }
     requires within { end ≤ ram_end }
@@ -207,13 +200,9 @@ fn mark_instruction(marks: &mut [u8], marked: &mut Marked, address: u16, bytes: 
     if address < RAM_END {
         let start = usize::from(address);
         let end = start + usize::from(bytes);
+        let end = end.min(usize::from(RAM_END));
         mark_begin(marks, start);
-        mark_bytes(
-            marks,
-            &mut marked.blocked,
-            start,
-            end.min(usize::from(RAM_END)),
-        );
+        mark_bytes(marks, &mut marked.blocked, start, end);
         if marked.end <= address {
             marked.end = address + 1;
         }
@@ -232,8 +221,8 @@ fn mark_statements(marks: &mut [u8], statements: &[Statement]) -> Marked
 {
     start_marks(marks, false);
     let mut marked = Marked {
-        blocked: NONE_BLOCKED,
         end: 0,
+        ..UNGUARDED
     };
     for statement in statements {
         if statement.instr.is_some() {
@@ -289,8 +278,7 @@ impl<A: Allocator> Watch<A> {
     {
         Ok(Watch {
             marks: free_marks(alloc)?,
-            blocked: NONE_BLOCKED,
-            end: RAM_END,
+            marked: UNGUARDED,
             on: false,
         })
     }
@@ -300,9 +288,7 @@ impl<A: Allocator> Watch<A> {
     pub fn set<C: Allocator>(&mut self, program: &Program<C>)
         ensures { self.new ≡ Some (guard_of_program program.now) }
     {
-        let marked = mark_all(&mut self.marks, program.statements());
-        self.blocked = marked.blocked;
-        self.end = marked.end;
+        self.marked = mark_all(&mut self.marks, program.statements());
         self.on = true;
     }
 
@@ -312,8 +298,7 @@ impl<A: Allocator> Watch<A> {
     {
         if self.on {
             free_all(&mut self.marks);
-            self.blocked = NONE_BLOCKED;
-            self.end = RAM_END;
+            self.marked = UNGUARDED;
             self.on = false;
         }
     }
@@ -325,8 +310,7 @@ impl<A: Allocator> Watch<A> {
         self.marks
             .as_mut_slice()
             .copy_from_slice(other.marks.as_slice());
-        self.blocked = other.blocked;
-        self.end = other.end;
+        self.marked = other.marked;
         self.on = other.on;
     }
 
@@ -350,7 +334,7 @@ impl<A: Allocator> Watch<A> {
     pub fn end(&self) -> u16
         ensures { (a : ℕ) → a < ram_end → admits_of self.now a ≡ true → a < result }
     {
-        self.end
+        self.marked.end
     }
 
     /// The marks, a byte for each address, on which plain steps may rest.
@@ -365,7 +349,7 @@ impl<A: Allocator> Watch<A> {
     pub fn blocks(&self, service: Service) -> bool
         ensures { result ≡ list_any (reach_of service) (protected_by self.now) }
     {
-        self.blocked.by[service as usize]
+        self.marked.blocked[service as usize]
     }
 }
 

@@ -3,12 +3,12 @@ use denote.Enum.Declared.{tag_of}
 use Rattle.a2_services.specs.contracts.Service.{the_type}
 use Rattle.a2_services.specs.declared.Service.{Service}
 use Rattle.a2_services.specs.Services.{reach}
-use Rattle.a2_machine.specs.Blocking.{is_blocked}
+use Rattle.a2_machine.specs.Watches.{is_blocked}
 use Rattle.a2_machine.proofs.watch.block.Given as goal
 
 -- those before this one are
 abbrev pub invariant-loop-service : goal.invariant-loop-service
 invariant-loop-service l = record {
-  size : length l.blocked.by ≡ 21;
+  size : length l.blocked ≡ 21;
   done : (s : Service) → is_blocked l.blocked s ≡ (is_blocked l.fn.blocked s || (nat_lt (tag_of the_type s) l.service-index && reach s l.address));
 }

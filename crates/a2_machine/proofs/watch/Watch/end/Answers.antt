@@ -4,4 +4,4 @@ use Rattle.a2_machine.proofs.watch.Watch.end.Goals as goal
 pub returns : goal.returns
 returns g c =
     rw (← c.self.view_is)
-    (admitted-ends c.self.inside.on c.self.inside.marks.items c.self.inside.blocked c.self.inside.end c.self.invariant)
+    (admitted-ends c.self.inside.on c.self.inside.marks.items c.self.inside.marked c.self.invariant)

@@ -4,4 +4,4 @@ use Rattle.a2_machine.proofs.watch.Watch.marks.Goals as goal
 pub returns : goal.returns
 returns g c =
     rw (← c.self.view_is, c.as_slice.ensures.value)
-    (plain-marks c.self.inside.on c.self.inside.marks.items c.self.inside.blocked c.self.inside.end c.self.invariant)
+    (plain-marks c.self.inside.on c.self.inside.marks.items c.self.inside.marked c.self.invariant)
