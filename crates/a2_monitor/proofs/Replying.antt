@@ -16,7 +16,7 @@ use Rattle.a2_monitor.specs.Answers.{IsAnswered, line_refusal}
 use Rattle.a2_monitor.specs.Replies.{IsReply}
 use Rattle.a2_monitor.specs.Texts.{monitor_fault_text}
 
-refusal_is : (line : List ℕ) (old : Sitting) (o : Option Command) → command_of line ≡ o
+pub refusal_is : (line : List ℕ) (old : Sitting) (o : Option Command) → command_of line ≡ o
     → line_refusal line old ≡ (elim o [ None ↦ Some fault.Syntax | Some command ↦ command_refusal command old.next ])
 refusal_is line old o h = rw (h, line_refusal)
 
