@@ -126,17 +126,8 @@ call-one TypeKeys rest (call.TypeKeys keys) (call.TypeKeys others) h k = ap (λ 
 call-one TypeKeys rest (call.TypeKeys keys) d h k = absurd k
 call-one verb rest c d h k = absurd h
 
-says_some : (verb : Verb) (rest : List ℕ) (c : Call) → Says verb rest c → SaysNone verb rest → ⊥
-says_some Step rest (call.Step n) h none = cc
-says_some Go rest (call.Go n) h none = cc
-says_some Back rest (call.Back n) h none = cc
-says_some Break rest (call.SetBreak word) h none = cc
-says_some Clear rest (call.ClearBreak word) h none = cc
-says_some TypeKeys rest (call.TypeKeys keys) h none = omega (arith, none h.0 keys h.1, h.2)
-says_some verb rest c h none = h
-
 screen_says : (line : List ℕ) (verb : Verb) (rest : List ℕ) (c : Call) → Says verb rest c → IsVerb line verb → IsVerb line Screen → ⊥
-screen_says line verb rest c h is screen = says_some Screen rest c (rw (verb-one line verb Screen is screen) at h) tt
+screen_says line verb rest c h is screen = rw (verb-one line verb Screen is screen) at h
 
 -- a blank line begins with no verb
 blank_none : (line : List ℕ) (verb : Verb) → first_word line ≡ [] → IsVerb line verb → ⊥
@@ -185,7 +176,7 @@ Refuses verb rest old why = (SaysNone verb rest × (why ≡ fault.Syntax)) ⊎ (
 
 done_unrefused : (verb : Verb) (rest text : List ℕ) (old other new : Stored) (why : DebugFault) → LookAlike old other
     → IsCallDone verb rest old text new → Refuses verb rest other why → ⊥
-done_unrefused verb rest text old other new why like a (inl none) = says_some verb rest a.call a.says none.0
+done_unrefused verb rest text old other new why like a (inl none) = none.0 a.call a.says
 done_unrefused verb rest text old other new why like a (inr (c, says, does)) =
     let one = said-one verb rest old other new other a.call c a.answer (Refused why) like a.says says a.does does in rw one.0 at a.spelt
 
@@ -206,8 +197,8 @@ never-both line text old other new why like (inr (inr (verb, is, a))) (inr (inr 
 refusal-one : (verb : Verb) (rest : List ℕ) (old other : Stored) (why reason : DebugFault) → LookAlike old other
     → Refuses verb rest old why → Refuses verb rest other reason → why ≡ reason
 refusal-one verb rest old other why reason like (inl none) (inl nor) = none.1 ∙ sym nor.1
-refusal-one verb rest old other why reason like (inl none) (inr (d, says, does)) = absurd (says_some verb rest d says none.0)
-refusal-one verb rest old other why reason like (inr (c, says, does)) (inl nor) = absurd (says_some verb rest c says nor.0)
+refusal-one verb rest old other why reason like (inl none) (inr (d, says, does)) = absurd (none.0 d says)
+refusal-one verb rest old other why reason like (inr (c, says, does)) (inl nor) = absurd (nor.0 c says)
 refusal-one verb rest old other why reason like (inr (c, says, does)) (inr (d, said, did)) =
     let one = said-one verb rest old other old other c d (Refused why) (Refused reason) like says said does did in
     let same : Refused why ≡ Refused reason = one.0 in

@@ -27,6 +27,7 @@ use Rattle.a2_debug.proofs.Keys.{NoneAbove-up_to, typed_then}
 use Rattle.a2_debug.proofs.Sessions.{session_next, session_typed, session_back}
 use Rattle.a2_debug.proofs.GoingOn.{reached}
 use Rattle.a2_debug.proofs.Listed.{refused_same}
+use Rattle.a2_debug.proofs.Saying.{lacking}
 
 -- Calls
 
@@ -196,22 +197,22 @@ by_option (Some x) some none = some x refl
 by_option None some none = none refl
 
 asked : (verb : Verb) (rest : List ℕ) → Asked verb rest
-asked Step rest = by_option (only_number (words rest)) (λ n e. inl (call.Step n, e)) (λ e. inr e)
-asked Go rest = by_option (only_number (words rest)) (λ n e. inl (call.Go n, e)) (λ e. inr e)
-asked Back rest = by_option (only_number (words rest)) (λ n e. inl (call.Back n, e)) (λ e. inr e)
-asked Break rest = by_option (only_word (words rest)) (λ word e. inl (call.SetBreak (record { ref_ptr = (0, 0); now = word }), e)) (λ e. inr e)
-asked Clear rest = by_option (only_word (words rest)) (λ word e. inl (call.ClearBreak (record { ref_ptr = (0, 0); now = word }), e)) (λ e. inr e)
-asked TypeKeys [] = inr (λ some keys h. omega (arith, some))
+asked Step rest = by_option (only_number (words rest)) (λ n e. inl (call.Step n, e)) (λ e. inr (lacking Step rest e))
+asked Go rest = by_option (only_number (words rest)) (λ n e. inl (call.Go n, e)) (λ e. inr (lacking Go rest e))
+asked Back rest = by_option (only_number (words rest)) (λ n e. inl (call.Back n, e)) (λ e. inr (lacking Back rest e))
+asked Break rest = by_option (only_word (words rest)) (λ word e. inl (call.SetBreak (record { ref_ptr = (0, 0); now = word }), e)) (λ e. inr (lacking Break rest e))
+asked Clear rest = by_option (only_word (words rest)) (λ word e. inl (call.ClearBreak (record { ref_ptr = (0, 0); now = word }), e)) (λ e. inr (lacking Clear rest e))
+asked TypeKeys [] = inr (lacking TypeKeys [] (λ some keys h. omega (arith, some)))
 asked TypeKeys (c ∷ cs) = go (spelt cs)
   where
     fits : (keys : List ℕ) → SpellsKeys cs keys → (length keys ≤ 4096) ⊎ (4096 < length keys) → Asked TypeKeys (c ∷ cs)
     fits keys h (inl low) = inl (call.TypeKeys keys, (omega arith, h, low))
-    fits keys h (inr high) = inr (λ some others k. rw (spells_only cs others keys k h) high)
+    fits keys h (inr high) = inr (lacking TypeKeys (c ∷ cs) (λ some others k. rw (spells_only cs others keys k h) high))
 
     go : Spelt cs → Asked TypeKeys (c ∷ cs)
     go (inl found) = fits found.0 found.1 (either (length found.0) 4096)
-    go (inr none) = inr (λ some keys h. absurd (none keys h))
-asked Screen rest = inr tt
+    go (inr none) = inr (lacking TypeKeys (c ∷ cs) (λ some keys h. absurd (none keys h)))
+asked Screen rest = inr (λ c says. says)
 
 -- Lines
 

@@ -7,7 +7,7 @@ use Rattle.a2_debug.proofs.marks.BreakSet.clear.Goals as goal
 pub invariant_of-self : goal.invariant_of-self
 invariant_of-self g c =
     let kept = filter_same _ (λ mark. not (mark == c.args.address)) _ (λ x b f' k. search rules) _ _ c.retain.ensures.filtered in
-    rw (kept, c.deref_mut.ensures.value)
+    rw kept
     (mark_cleared c.self.inside.places.items _ c.args.address (omega arith) c.self.invariant.0, omega (arith, c.retain.ensures.capacity, c.self.invariant.1))
 
 pub returns : goal.returns

@@ -1,0 +1,17 @@
+use Rattle.std.proofs.Common.{◌≢◌, [], rules, inr}
+use Rattle.a2_stream.proofs.Joined.{Sends-nil}
+use Rattle.a2_text.specs.Words.{behind_word}
+use Rattle.a2_debug.specs.declared.calls.Answer.TheVariants.{Done}
+use Rattle.a2_debug.specs.declared.commands.Verb.TheVariants.{Back}
+use Rattle.a2_debug.specs.Calls.{CallDoes}
+use Rattle.a2_debug.specs.Answers.{Says, IsVerb}
+use Rattle.a2_debug.proofs.Saying.{undone}
+use Rattle.a2_debug.proofs.debugger.Debugger.line.Goals as goal
+
+pub returns-in-Done-2 : goal.returns-in-Done-2
+returns-in-Done-2 g c =
+    let other : c.in_ok-verb.verb ≢ Back = search rules in
+    let is : IsVerb c.args.text.now c.in_ok-verb.verb = search rules in
+    let says : Says c.in_ok-verb.verb (behind_word c.args.text.now) c.in_ok-call.call = search rules in
+    let does : CallDoes c.args.self.now c.in_ok-call.call Done c.perform.new.debugger = search rules in
+    ([], inr (inr (c.in_ok-verb.verb, is, record { call = c.in_ok-call.call; answer = Done; says = says; does = does; spelt = undone _ _ other })), Sends-nil _)
