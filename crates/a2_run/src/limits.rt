@@ -15,16 +15,9 @@ pub const MOST_STEPS: u32 = 100_000_000;
 pub fn step_limit(word: &str) -> Option<u32>
     ensures { SomeIff result (IsStepLimit word.now) (digits_value 10 word.now) }
 {
-    if word.len() > 9 {
-        return None;
-    }
-    if word.starts_with('+') {
+    if word.len() > 9 || word.starts_with('+') {
         return None;
     }
     let limit: u32 = word.parse().ok()?;
-    if limit <= MOST_STEPS {
-        Some(limit)
-    } else {
-        None
-    }
+    (limit <= MOST_STEPS).then_some(limit)
 }

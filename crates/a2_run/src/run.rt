@@ -7,7 +7,7 @@ ghost use Rattle.a2_run.specs.Answers.{is_unread, is_write_fault, NothingSent};
 ghost use Rattle.a2_run.specs.Meaning.{IsRefused, IsRun, AreObjectLines};
 ghost use Rattle.a2_run.specs.DebugScripts.{IsDebugRefusal, IsDebugText, ReadsFail};
 ghost use Rattle.a2_run.specs.Scripts.{IsMonText, IsRefusedScript};
-ghost use Rattle.a2_run.specs.Status.{status_of, fault_status as status_of_fault, refusal_status as status_of_refusal};
+ghost use Rattle.a2_run.specs.Status.{status_of, fault_status as status_of_fault};
 
 use crate::debugging::debug_script;
 use crate::fault::ReadingFault;
@@ -41,18 +41,15 @@ pub fn read_front<A: Allocator + Copy, R: Input>(
     Ok(text)
 }
 
-/// Reads a text up to its end, but at most 65,537 bytes: one more than a text may have. Refused where a read fails, and
-/// for want of memory.
+/// Reads a text as [`read_front`] does, but at most 65,537 bytes: one more than a text may have, which shows that it is too
+/// long.
 pub fn read_text<A: Allocator + Copy, R: Input>(
     alloc: A,
     reader: &mut R,
 ) -> Result<Vec<u8, A>, ReadingFault>
     ensures text { IfOk result (λ text. IfSome (R.giver reader.old).bytes (λ input. text.items ≡ read_of input)) }
-    // Nothing is read past the byte that shows that the text is too long.
     ensures front { TakesAtMost 65537 (R.giver reader.old) (R.giver reader.new) }
-    // And a text that is given is whole, up to that byte.
     ensures through { IfOk result (λ _. LeavesBehind 65537 (R.giver reader.old) (R.giver reader.new)) }
-    // A read failed exactly where that is the fault.
     ensures counted { (R.giver reader.new).failures ≡ count_after (is_unread result) (R.giver reader.old).failures }
 {
     read_front(alloc, reader, MOST_READ)
@@ -165,22 +162,15 @@ pub fn debug_text<A: Allocator + Copy, R: Input, S: Input, W: Output>(
     debug_script(alloc, text.as_slice(), lines.as_slice(), writer)
 }
 
-// The status where a text is refused: 1, but 5 for want of memory.
-fn refusal_status(fault: &Fault) -> u8
-    ensures { result ≡ status_of_refusal fault.now }
-{
-    if matches!(fault, Fault::Memory) { 5 } else { 1 }
-}
-
 /// The status where a text has no answer: 1 for a refused source or script, 4 for a failed read or write, 5 for want of
 /// memory.
 pub fn fault_status(fault: &RunFault) -> u8
     ensures { result ≡ status_of_fault fault.now }
 {
     match fault {
-        RunFault::Source(fault) | RunFault::Script(fault) => refusal_status(fault),
+        RunFault::Memory | RunFault::Source(Fault::Memory) | RunFault::Script(Fault::Memory) => 5,
+        RunFault::Source(_) | RunFault::Script(_) => 1,
         RunFault::Read | RunFault::Write => 4,
-        RunFault::Memory => 5,
     }
 }
 
