@@ -1,5 +1,5 @@
 -- The names of a source and the lines that use them, one after another.
-use Rattle.std.proofs.Common.{◌≡◌, ℕ, ◌+◌, ◌<◌, nat_lt, Bool, true, false, cond, not, ◌||◌, List, [], ◌∷◌, ◌++◌, length, map, take, drop, get_or, slice_get, Bor, Some, None, unwrap_or, codes, if◌then◌else◌, refl, sym, ap, ◌∙◌, arith}
+use Rattle.std.proofs.Common.{◌≡◌, ℕ, ◌+◌, ◌<◌, ◌≤◌, drop_of_length-le, nat_lt, Bool, true, false, cond, not, ◌||◌, List, [], ◌∷◌, ◌++◌, length, map, take, drop, get_or, slice_get, Bor, Some, None, unwrap_or, codes, if◌then◌else◌, append_assoc, refl, sym, ap, ◌∙◌, arith}
 use Rattle.std.proofs.Math.Path.{ap₂}
 use Rattle.std.specs.Cmp.Lexicographic.{slice_cmp}
 use Rattle.std.specs.Fmt.{decimal}
@@ -23,43 +23,26 @@ use Rattle.a2_asm.specs.Values.{Names, name_value}
 use Rattle.a2_list.specs.Uses.{is_named, is_in, is_in_operand, is_used_by, is_used_in, uses, is_label, definition}
 use Rattle.a2_list.specs.NameTable.{width_of, number, numbers, use_columns, use_row, use_head, use_table}
 
--- the numbers from a line on
-numbers-one : {A : Type 0} (name : List ℕ) (n : ℕ) (line : Line A) (lines : List (Line A)) (b : Bool) → is_used_in name line ≡ b
-    → flat_map number (uses name n (line ∷ lines)) ≡ (if b then number n else []) ++ flat_map number (uses name (n + 1) lines)
-numbers-one name n line lines true h = rw h refl
-numbers-one name n line lines false h = rw h refl
-
-pub numbers-next : {A : Type 0} (name : List ℕ) (n i : ℕ) (lines : List (Line A)) (line : Line A) (used : Bool) → line ≡ get_or lines i line
+-- the uses from a line on
+pub uses-next : {A : Type 0} (name : List ℕ) (n i : ℕ) (lines : List (Line A)) (line : Line A) (used : Bool) → line ≡ get_or lines i line
     → used ≡ is_used_in name line → i < length lines
-    → flat_map number (uses name n (drop i lines)) ≡ (if used then number n else []) ++ flat_map number (uses name (n + 1) (drop (i + 1) lines))
-numbers-next name n i lines line used item is low =
-    ap (λ l. flat_map number (uses name n l)) (drop_more lines i line low)
-    ∙ ap (λ l. flat_map number (uses name n (l ∷ drop (i + 1) lines))) (sym item)
-    ∙ numbers-one name n line (drop (i + 1) lines) used (sym is)
+    → uses name n (drop i lines) ≡ (if used then n ∷ uses name (n + 1) (drop (i + 1) lines) else uses name (n + 1) (drop (i + 1) lines))
+uses-next name n i lines line used item is low =
+    ap (λ l. uses name n l) (drop_more lines i line low)
+    ∙ ap (λ l. uses name n (l ∷ drop (i + 1) lines)) (sym item)
+    ∙ ap (λ (b : Bool). if b then n ∷ uses name (n + 1) (drop (i + 1) lines) else uses name (n + 1) (drop (i + 1) lines)) (sym is)
 
--- no line uses a name
-none-one : {A : Type 0} (name : List ℕ) (n : ℕ) (line : Line A) (lines : List (Line A)) (b : Bool) → is_used_in name line ≡ b
-    → list_any (is_used_in name) (line ∷ lines) ≡ false → (list_any (is_used_in name) lines ≡ false → numbers (uses name (n + 1) lines) ≡ numbers [])
-    → numbers (uses name n (line ∷ lines)) ≡ numbers []
-none-one name n line lines true is h more = let e = rw is at h in cc
-none-one name n line lines false is h more = rw is (more (rw is at h))
+-- what is left to tell of uses, where some were told, or none, and the end of the row
+abbrev pub rest_of : Bool → List ℕ → List ℕ
+rest_of some ns = (if some then flat_map number ns else numbers ns) ++ codes "\n"
 
-pub numbers-none : {A : Type 0} (name : List ℕ) (n : ℕ) (lines : List (Line A)) → list_any (is_used_in name) lines ≡ false → numbers (uses name n lines) ≡ numbers []
-numbers-none name n [] h = refl
-numbers-none name n (line ∷ lines) h = none-one name n line lines (is_used_in name line) refl h (numbers-none name (n + 1) lines)
+pub rest-next : (some : Bool) (n : ℕ) (ns : List ℕ) → rest_of some (n ∷ ns) ≡ number n ++ rest_of true ns
+rest-next true n ns = append_assoc (number n) (flat_map number ns) (codes "\n")
+rest-next false n ns = append_assoc (number n) (flat_map number ns) (codes "\n")
 
--- one does
-some-one : {A : Type 0} (name : List ℕ) (n : ℕ) (line : Line A) (lines : List (Line A)) (b : Bool) → is_used_in name line ≡ b
-    → list_any (is_used_in name) (line ∷ lines) ≡ true
-    → (list_any (is_used_in name) lines ≡ true → numbers (uses name (n + 1) lines) ≡ flat_map number (uses name (n + 1) lines))
-    → numbers (uses name n (line ∷ lines)) ≡ flat_map number (uses name n (line ∷ lines))
-some-one name n line lines true is h more = rw is refl
-some-one name n line lines false is h more = rw is (more (rw is at h))
-
-pub numbers-some : {A : Type 0} (name : List ℕ) (n : ℕ) (lines : List (Line A)) → list_any (is_used_in name) lines ≡ true
-    → numbers (uses name n lines) ≡ flat_map number (uses name n lines)
-numbers-some name n [] h = cc
-numbers-some name n (line ∷ lines) h = some-one name n line lines (is_used_in name line) refl h (numbers-some name (n + 1) lines)
+pub rest-over : {A : Type 0} (some : Bool) (name : List ℕ) (n i : ℕ) (lines : List (Line A)) → length lines ≤ i
+    → rest_of some (uses name n (drop i lines)) ≡ rest_of some []
+rest-over some name n i lines over = ap (λ l. rest_of some (uses name n l)) (drop_of_length-le lines over)
 
 -- the names so far, and the next
 pub found-next : (names : Names) (i : ℕ) (entry : List ℕ × ℕ) (items : List (Bor (List ℕ))) (next : Bor (List ℕ)) → slice_get names i ≡ Some entry → next.now ≡ entry.0
@@ -80,6 +63,12 @@ ordered-next f items i d low =
     let count = length-map items now in
     ap (flat_map f) (drop_more (map now items) i [] (omega (arith, count, low)))
     ∙ ap (λ name. f name ++ flat_map f (drop (i + 1) (map now items))) (get_or-map now items i d [] low)
+
+pub ordered-over : (f : List ℕ → List ℕ) (items : List (Bor (List ℕ))) (i : ℕ) → length items ≤ i → flat_map f (drop i (map (λ x. x.now) items)) ≡ []
+ordered-over f items i over =
+    let now = λ (x : Bor (List ℕ)). x.now in
+    let count = length-map items now in
+    ap (flat_map f) (drop_of_length-le (map now items) (omega (arith, count, over)))
 
 -- what sorts references sorts what they point to
 pub sorted-texts : (items : List (Bor (List ℕ))) → IsSorted (λ x y. slice_cmp nat_cmp x.now y.now) items → IsSorted (slice_cmp nat_cmp) (map (λ x. x.now) items)

@@ -2,12 +2,12 @@
 -- cycles of their instructions; and the names with their values, or with the lines that use them. This project's profile.
 use Rattle.std.specs.Prelude.{◌≡◌, ℕ, zero, suc, ◌+◌, ◌-◌, ◌/◌, ◌==◌, ◌||◌, min, Bool, true, false, List, [], ◌∷◌, ◌++◌, length, codes, Option, Some, None, is_some, if◌then◌else◌}
 use Rattle.std.specs.List.{concat, flat_map}
+use Rattle.std.specs.Option.{option_and_then}
 use Rattle.std.specs.Fmt.{decimal}
 use Rattle.a2_text.specs.Digits.{hex_word}
 use Rattle.a2_text.specs.Lines.{lines}
 use Rattle.a2_hex.specs.Images.{held}
 use Rattle.a2_hex.specs.ObjectText.{after_blank, run}
-use Rattle.a2_opcode.specs.declared.Instr.{Instr}
 use Rattle.a2_opcode.specs.declared.Mode.{Mode}
 use Rattle.a2_opcode.specs.declared.Mode.TheVariants.{Relative}
 use Rattle.a2_opcode.specs.declared.Row.{Row}
@@ -40,13 +40,8 @@ is_branch Relative = true
 is_branch mode = false
 
 -- the row of the opcode table of a statement that is an instruction
-abbrev pub row_of_instr : Option Instr → Option Row
-row_of_instr None = None
-row_of_instr (Some i) = row i.mnemonic i.mode
-
 abbrev pub row_in : Option Statement → Option Row
-row_in None = None
-row_in (Some s) = row_of_instr s.instr
+row_in statement = option_and_then (λ s. option_and_then (λ i. row i.mnemonic i.mode) s.instr) statement
 
 -- `+` where a row may take more cycles: one where an index comes into another page, one or two where a branch is taken. MCS6500
 -- Programming Manual, appendix B
@@ -62,24 +57,14 @@ abbrev pub cycles_cell : Bool → ℕ → Option Statement → List ℕ
 cycles_cell false used statement = []
 cycles_cell true used statement = blanks (18 - used) ++ cycles_of (row_in statement)
 
--- the place at which the number of a line ends
-abbrev pub number_end : Bool → ℕ
-number_end cycles = if cycles then 27 else 23
-
--- a row of these parts
-unfoldable pub row_of_parts : List ℕ → List ℕ → List ℕ → List ℕ → List ℕ → List ℕ → List ℕ
-row_of_parts front cell gap digits before text = concat (front ∷ cell ∷ gap ∷ digits ∷ before ∷ text ∷ codes "\n" ∷ [])
-
--- the row of a line: the columns, the line's number, which ends at a place, and the line as it was written
-abbrev pub line_row : ℕ → List ℕ → List ℕ → List ℕ → List ℕ → List ℕ
-line_row end front cell digits text =
-    row_of_parts front cell (blanks (end - length front - length cell - length digits)) digits (before_text text) text
-
--- the row of a line with its statement
-abbrev pub first_row : Bool → (ℕ → Option ℕ) → Option Statement → ℕ → List ℕ → List ℕ
+-- the row of a line with its statement: the columns, the line's number, which ends at the 23rd place, or at the 27th where the
+-- cycles stand before it, and the line as it was written
+unfoldable pub first_row : Bool → (ℕ → Option ℕ) → Option Statement → ℕ → List ℕ → List ℕ
 first_row cycles byte_at statement n text =
     let front = first_columns byte_at statement in
-    line_row (number_end cycles) front (cycles_cell cycles (length front) statement) (decimal n) text
+    let cell = cycles_cell cycles (length front) statement in
+    let width = (if cycles then 27 else 23) - (length front + length cell) in
+    concat (front ∷ cell ∷ blanks (width - length (decimal n)) ∷ decimal n ∷ before_text text ∷ text ∷ codes "\n" ∷ [])
 
 -- the row of bytes behind the first three of a statement
 unfoldable pub bytes_row : List ℕ → List ℕ

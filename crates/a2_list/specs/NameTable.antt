@@ -29,14 +29,10 @@ abbrev pub numbers : List ℕ → List ℕ
 numbers [] = codes " -"
 numbers (n ∷ ns) = flat_map number (n ∷ ns)
 
--- the columns before the numbers of lines, with gaps behind name and line
-unfoldable pub columns_of_parts : List ℕ → List ℕ → List ℕ → List ℕ → List ℕ → List ℕ
-columns_of_parts name gap value line space =
-    concat (name ∷ gap ∷ codes "  " ∷ value ∷ codes "   " ∷ line ∷ space ∷ codes " " ∷ [])
-
--- a name, its value, and the number of the line that defines it
-abbrev pub use_columns : ℕ → List ℕ → ℕ → List ℕ → List ℕ
-use_columns width name value line = columns_of_parts name (blanks (width - length name)) (hex_word value) line (blanks (4 - length line))
+-- a name, its value, and the number of the line that defines it, with gaps behind name and number
+unfoldable pub use_columns : ℕ → List ℕ → ℕ → List ℕ → List ℕ
+use_columns width name value line =
+    concat (name ∷ blanks (width - length name) ∷ codes "  " ∷ hex_word value ∷ codes "   " ∷ line ∷ blanks (4 - length line) ∷ codes " " ∷ [])
 
 -- the row of a name: these, and the numbers of the lines that use it
 abbrev pub use_row : {A : Type 0} → ℕ → Names → List (Line A) → List ℕ → List ℕ
@@ -44,11 +40,8 @@ use_row width names lines name =
     use_columns width name (unwrap_or (name_value names name) 0) (decimal (definition name lines)) ++ (numbers (uses name 1 lines) ++ codes "\n")
 
 -- the head of the table, with a gap behind its first cell
-unfoldable pub head_of_parts : List ℕ → List ℕ
-head_of_parts gap = concat (codes "NAME" ∷ gap ∷ codes "  VALUE  LINE  USED IN LINES\n" ∷ [])
-
-abbrev pub use_head : ℕ → List ℕ
-use_head width = head_of_parts (blanks (width - 4))
+unfoldable pub use_head : ℕ → List ℕ
+use_head width = concat (codes "NAME" ∷ blanks (width - 4) ∷ codes "  VALUE  LINE  USED IN LINES\n" ∷ [])
 
 -- the table of names in an order
 abbrev pub use_table : {A : Type 0} → Names → List (Line A) → List (List ℕ) → List ℕ

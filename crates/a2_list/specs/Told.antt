@@ -2,19 +2,14 @@
 use Rattle.std.specs.Prelude.{◌≡◌, ◌⊎◌, ℕ, ◌-◌, ◌==◌, List, [], ◌++◌, codes, Option, Some, None, slice_get, if◌then◌else◌, Result, Ok, Err}
 use Rattle.a2_stream.specs.Stream.{Taker, Sends, Breaks}
 use Rattle.a2_text.specs.Lines.{lines}
-use Rattle.a2_syntax.specs.declared.fault.Fault.{Fault}
 use Rattle.a2_syntax.specs.Texts.{fault_line}
 use Rattle.a2_run.specs.declared.fault.RunFault.{RunFault}
 use Rattle.a2_run.specs.declared.fault.RunFault.TheVariants.{Source}
 use Rattle.a2_run.specs.Texts.{run_fault_text}
 
--- the line that a refusal is of, if it is of one; lines count from 1
-abbrev pub line_in : List (List ℕ) → Fault → Option (List ℕ)
-line_in texts fault = if fault_line fault == 0 then None else slice_get texts (fault_line fault - 1)
-
--- the same of a fault: one that is no refusal of the source is of no line
+-- the line that a fault is of, if it is a refusal of one; lines count from 1
 abbrev pub line_of : List (List ℕ) → RunFault → Option (List ℕ)
-line_of texts (Source refusal) = line_in texts refusal
+line_of texts (Source refusal) = if fault_line refusal == 0 then None else slice_get texts (fault_line refusal - 1)
 line_of texts _ = None
 
 -- a line and LF, where there is one

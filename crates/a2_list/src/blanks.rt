@@ -1,6 +1,6 @@
 //! What stands between columns.
 
-ghost use Rattle.std.specs.Prelude.{◌≡◌, ◌≤◌, length};
+ghost use Rattle.std.specs.Prelude.{◌≡◌, ◌-◌, ◌≤◌, length};
 ghost use Rattle.a2_list.specs.Blanks as spec;
 
 const BLANKS: &[u8] = b"                                ";
@@ -11,4 +11,11 @@ pub(crate) fn blanks(count: usize) -> &'static [u8]
     ensures few { length result.now ≤ 32 }
 {
     &BLANKS[..count.min(BLANKS.len())]
+}
+
+/// The blanks behind a text, or before it, in a column of a width, but at most 32.
+pub(crate) fn gap(width: usize, text: &[u8]) -> &[u8]
+    ensures { result.now ≡ spec.blanks (width - length text.now) }
+{
+    blanks(width.saturating_sub(text.len()))
 }

@@ -10,26 +10,17 @@ ghost use Rattle.a2_list.specs.Told.{IsTold, Tells};
 use crate::listing::{Shown, list_lines};
 use a2_run::RunFault;
 use a2_stream::{Output, put_all};
-use a2_syntax::Fault;
 use a2_text::cut;
 use std::alloc::Allocator;
-
-// The line that a refusal is of, if it is of one.
-fn line_refused<'a>(texts: &[&'a [u8]], fault: Fault) -> Option<&'a [u8]>
-    ensures { option_map (λ x. x.now) result ≡ told.line_in (map (λ x. x.now) texts.now) fault }
-{
-    match fault.line() {
-        0 => None,
-        number => texts.get(usize::from(number) - 1).copied(),
-    }
-}
 
 // The line that a fault is of, if it is of one.
 fn line_of<'a>(texts: &[&'a [u8]], fault: RunFault) -> Option<&'a [u8]>
     ensures { option_map (λ x. x.now) result ≡ told.line_of (map (λ x. x.now) texts.now) fault }
 {
     match fault {
-        RunFault::Source(refusal) => line_refused(texts, refusal),
+        RunFault::Source(refusal) if refusal.line() > 0 => {
+            texts.get(usize::from(refusal.line()) - 1).copied()
+        }
         _ => None,
     }
 }

@@ -4,7 +4,7 @@ ghost use Rattle.std.specs.Prelude.{◌≡◌, ◌<◌, length, MatchOption, IfS
 ghost use Rattle.std.specs.List.{list_any, position};
 ghost use Rattle.a2_list.specs.Uses as uses;
 
-use a2_syntax::{Body, Expr, Line, Name, Operand, Term};
+use a2_syntax::{Body, Expr, Line, Name, Term};
 use std::alloc::Allocator;
 
 // Whether a term is a name.
@@ -24,16 +24,6 @@ fn is_in<A: Allocator>(name: &str, e: &Expr<A>) -> bool
     e.terms.get().iter().any(|t| is_named(name, &t.term))
 }
 
-// Whether a name stands in an operand.
-fn is_in_operand<A: Allocator>(name: &str, operand: &Operand<A>) -> bool
-    ensures { result ≡ uses.is_in_operand name.now operand.now }
-{
-    match operand.expr() {
-        Some(e) => is_in(name, e),
-        None => false,
-    }
-}
-
 // Whether a name stands in one of some expressions.
 fn is_in_any<A: Allocator>(name: &str, es: &[Expr<A>]) -> bool
     ensures { result ≡ list_any (uses.is_in name.now) es.now }
@@ -47,17 +37,10 @@ pub(crate) fn is_used_in<A: Allocator>(name: &str, line: &Line<A>) -> bool
 {
     match &line.body {
         Body::Empty | Body::Asc(_) => false,
-        Body::Instr(_, operand) => is_in_operand(name, operand),
+        Body::Instr(_, operand) => operand.expr().is_some_and(|e| is_in(name, e)),
         Body::Org(e) | Body::Equ(e) | Body::Ds(e) => is_in(name, e),
         Body::Dfb(es) | Body::Dw(es) => is_in_any(name, es.get()),
     }
-}
-
-/// Whether one of some lines uses a name.
-pub(crate) fn is_used<A: Allocator>(name: &str, lines: &[Line<A>]) -> bool
-    ensures { result ≡ list_any (uses.is_used_in name.now) lines.now }
-{
-    lines.iter().any(|line| is_used_in(name, line))
 }
 
 // Whether a name is a label.

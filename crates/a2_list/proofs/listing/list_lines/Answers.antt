@@ -1,15 +1,83 @@
-use Rattle.std.proofs.Common.{Bool, sym, subst}
-use Rattle.a2_run.specs.Answers.{Answers, OfSource}
-use Rattle.a2_run.specs.Meaning.{IsRefused}
-use Rattle.a2_list.specs.Listing.{IsListing}
-use Rattle.a2_list.specs.declared.listing.Shown.{Shown}
+use Rattle.std.proofs.Common.{◌++◌, ℕ, List, Bor, map, sym, subst}
+use Rattle.std.proofs.lemmas.Result.{err_from_is_err_and}
+use Rattle.a2_stream.proofs.Joined.{Sends-nil, Sends-then, Breaks-then, Breaks-more}
+use Rattle.a2_list.specs.Listing.{rows_and_gap, name_rows}
+use Rattle.a2_list.specs.NameTable.{AreInOrder, use_table}
+use Rattle.a2_list.proofs.Listed.{name-listing, table-listing, use-listing}
 use Rattle.a2_list.proofs.listing.list_lines.Goals as goal
+
+pub returns-in_err-order-clause-meaning : goal.returns-in_err-order-clause-meaning
+returns-in_err-order-clause-meaning g c =
+    let fault = err_from_is_err_and c.from_residual-in_err-order.result c.from_residual-in_err-order.ensures.1 in
+    rw (fault.1, fault.2) (Sends-nil (g.W.Output.taker c.args.writer.now))
+
+pub returns-in_err-put_lines-clause-meaning : goal.returns-in_err-put_lines-clause-meaning
+returns-in_err-put_lines-clause-meaning g c =
+    let fault = err_from_is_err_and c.from_residual-in_err-put_lines.result c.from_residual-in_err-put_lines.ensures.1 in
+    let texts = map (λ (x : Bor (List ℕ)). x.now) c.args.texts.now in
+    let order = map (λ (x : Bor (List ℕ)). x.now) c.in_ok-order.order.items in
+    let program = c.in_ok-program.program in
+    rw (fault.1, fault.2) (
+      tt,
+      rows_and_gap c.args.shown.cycles program texts ++ use_table program.names c.in-Ok.parsed order,
+      table-listing c.args.shown c.args.source.now program texts c.in-Ok.parsed order c.if-shown.true c.in_ok-program.ensures.made c.in-Ok.ensures.read c.in_ok-order.ensures c.requires,
+      Breaks-more _ _ (rows_and_gap c.args.shown.cycles program texts) (use_table program.names c.in-Ok.parsed order) c.in_err-put_lines.ensures,
+    )
+
+pub returns-in_err-put_use_table-clause-meaning : goal.returns-in_err-put_use_table-clause-meaning
+returns-in_err-put_use_table-clause-meaning g c =
+    let fault = err_from_is_err_and c.from_residual-in_err-put_use_table.result c.from_residual-in_err-put_use_table.ensures.1 in
+    let texts = map (λ (x : Bor (List ℕ)). x.now) c.args.texts.now in
+    let order = map (λ (x : Bor (List ℕ)). x.now) c.as_slice.result.now in
+    let program = c.in_ok-program.program in
+    let sorted = subst (λ (l : List (Bor (List ℕ))). AreInOrder program.names (map (λ x. x.now) l)) (sym c.as_slice.ensures.value) c.in_ok-order.ensures in
+    rw (fault.1, fault.2) (
+      tt,
+      rows_and_gap c.args.shown.cycles program texts ++ use_table program.names c.lines.result.now order,
+      use-listing c.args.shown c.args.source.now program texts c.in-Ok.parsed c.lines.result.now order c.if-shown.true c.in_ok-program.ensures.made c.in-Ok.ensures.read c.lines.ensures.is sorted c.requires,
+      Breaks-then _ _ _ (rows_and_gap c.args.shown.cycles program texts) (use_table program.names c.lines.result.now order) c.in_ok-put_lines.ensures c.in_err-put_use_table.ensures,
+    )
 
 pub returns-then-shown-clause-meaning : goal.returns-then-shown-clause-meaning
 returns-then-shown-clause-meaning g c =
-    subst
-    (λ (b : Bool).
-    let shown : Shown = record { cycles = c.args.shown.cycles; uses = b } in
-    Answers (OfSource (IsRefused c.args.source.now)) (λ _. IsListing shown c.args.source.now) (g.W.Output.taker c.args.writer.now)
-    (g.W.Output.taker c.list_uses.new.writer) c.list_uses.result)
-    (sym c.if-shown.true) c.list_uses.ensures.meaning
+    let texts = map (λ (x : Bor (List ℕ)). x.now) c.args.texts.now in
+    let order = map (λ (x : Bor (List ℕ)). x.now) c.as_slice.result.now in
+    let program = c.in_ok-program.program in
+    let sorted = subst (λ (l : List (Bor (List ℕ))). AreInOrder program.names (map (λ x. x.now) l)) (sym c.as_slice.ensures.value) c.in_ok-order.ensures in (
+      rows_and_gap c.args.shown.cycles program texts ++ use_table program.names c.lines.result.now order,
+      use-listing c.args.shown c.args.source.now program texts c.in-Ok.parsed c.lines.result.now order c.if-shown.true c.in_ok-program.ensures.made c.in-Ok.ensures.read c.lines.ensures.is sorted c.requires,
+      Sends-then _ _ _ (rows_and_gap c.args.shown.cycles program texts) (use_table program.names c.lines.result.now order) c.in_ok-put_lines.ensures c.in_ok-put_use_table.ensures,
+    )
+
+pub returns-in_err-put_lines-2-clause-meaning : goal.returns-in_err-put_lines-2-clause-meaning
+returns-in_err-put_lines-2-clause-meaning g c =
+    let fault = err_from_is_err_and c.from_residual-in_err-put_lines-2.result c.from_residual-in_err-put_lines-2.ensures.1 in
+    let texts = map (λ (x : Bor (List ℕ)). x.now) c.args.texts.now in
+    let program = c.in_ok-program.program in
+    rw (fault.1, fault.2) (
+      tt,
+      rows_and_gap c.args.shown.cycles program texts ++ name_rows program.names,
+      name-listing c.args.shown c.args.source.now program texts c.if-shown.false c.in_ok-program.ensures.made c.requires,
+      Breaks-more _ _ (rows_and_gap c.args.shown.cycles program texts) (name_rows program.names) c.in_err-put_lines-2.ensures,
+    )
+
+pub returns-in_err-put_names-clause-meaning : goal.returns-in_err-put_names-clause-meaning
+returns-in_err-put_names-clause-meaning g c =
+    let fault = err_from_is_err_and c.from_residual-in_err-put_names.result c.from_residual-in_err-put_names.ensures.1 in
+    let texts = map (λ (x : Bor (List ℕ)). x.now) c.args.texts.now in
+    let program = c.in_ok-program.program in
+    rw (fault.1, fault.2) (
+      tt,
+      rows_and_gap c.args.shown.cycles program texts ++ name_rows program.names,
+      name-listing c.args.shown c.args.source.now program texts c.if-shown.false c.in_ok-program.ensures.made c.requires,
+      Breaks-then _ _ _ (rows_and_gap c.args.shown.cycles program texts) (name_rows program.names) c.in_ok-put_lines-2.ensures (rw c.names.ensures at c.in_err-put_names.ensures),
+    )
+
+pub returns-clause-meaning : goal.returns-clause-meaning
+returns-clause-meaning g c =
+    let texts = map (λ (x : Bor (List ℕ)). x.now) c.args.texts.now in
+    let program = c.in_ok-program.program in (
+      rows_and_gap c.args.shown.cycles program texts ++ name_rows program.names,
+      name-listing c.args.shown c.args.source.now program texts c.if-shown.false c.in_ok-program.ensures.made c.requires,
+      Sends-then _ _ _ (rows_and_gap c.args.shown.cycles program texts) (name_rows program.names) c.in_ok-put_lines-2.ensures (rw c.names.ensures at c.in_ok-put_names.ensures),
+    )
