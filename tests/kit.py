@@ -115,8 +115,8 @@ def keep_what_is_checked(made):
 
 def share_processors(made):
     """Has a proof of `rt ci` take the processors that no other crate is ready for, and no wrong body that is tried beside it: in a chain of
-    crates, and at the end. Several that share a proof take up to a third more in all, so each has one while others wait. The last crate
-    has half of them whatever is tried, for all wait for it."""
+    crates, and at the end. Several that share a proof take up to a third more in all, so each has one while others wait. The last ones, for
+    which no other crate waits, have half of them whatever is tried beside them."""
     whole = made.Crate.ci
     is_there = lambda it: os.path.exists(f"{it.folder}/out/{it.name}" if it.is_program else it.rlib)
 
@@ -125,7 +125,7 @@ def share_processors(made):
         ready = sum(all(map(is_there, it.below())) for it in left)
         if not tests and flags == ["--jobs", "1"] and ready:
             free = made.processors() - checks_below(os.getppid())
-            at_least = made.processors() // 2 if len(left) == 1 else 1
+            at_least = made.processors() // 2 if ready == len(left) else 1
             flags = ["--jobs", str(max(free // ready, at_least))]
         return whole(self, flags, tests)
 
