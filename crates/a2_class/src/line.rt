@@ -221,20 +221,6 @@ fn are_all(kind: Kind, text: &[u8]) -> bool {
     true
 }
 
-// All causes.
-const CAUSES: [Cause; 10] = [
-    Cause::Returned,
-    Cause::CodeWrite,
-    Cause::Window,
-    Cause::Keys,
-    Cause::OffStatement,
-    Cause::Rom,
-    Cause::Opcode,
-    Cause::Brk,
-    Cause::Decimal,
-    Cause::Limit,
-];
-
 // Whether two texts have the same words.
 fn are_same_words(text: &[u8], other: &[u8]) -> bool {
     match first_word(text) {
@@ -248,7 +234,7 @@ fn are_same_words(text: &[u8], other: &[u8]) -> bool {
 
 // The cause whose name a text is.
 fn cause_in(rest: &[u8]) -> Option<Cause> {
-    for cause in &CAUSES {
+    for cause in &Cause::ALL {
         if are_same_words(cause.name(), rest) {
             return Some(*cause);
         }

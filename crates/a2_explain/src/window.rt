@@ -6,7 +6,7 @@ use a2_bus::locations::{CH, CV, WNDBTM, WNDLFT, WNDTOP, WNDWDTH};
 use a2_machine::Machine;
 use a2_places::statement_at;
 use a2_run::RunFault;
-use a2_services::{Service, service_at};
+use a2_services::{Needs, row_of, service_at};
 use a2_stream::{Output, WriteFault, put};
 use a2_text::hex_pair;
 use std::alloc::Allocator;
@@ -123,18 +123,13 @@ fn put_change<A: Allocator, W: Output>(
     put(b"\n", writer)
 }
 
-// Whether a service wants a block on the screen, and no window.
-fn is_of_blocks(service: Service) -> bool {
-    matches!(
-        service,
-        Service::Plot | Service::Hline | Service::Vline | Service::Scrn
-    )
-}
-
-// Whether a service at an address wants the window and the cursor on the screen.
+// Whether a service at an address wants the window on the screen, and not a block.
 fn wants_window(pc: u16) -> bool {
     match service_at(pc) {
-        Some(service) => !is_of_blocks(service),
+        Some(service) => matches!(
+            row_of(service).needs,
+            Needs::Window | Needs::Cursor | Needs::Line
+        ),
         None => false,
     }
 }
