@@ -41,7 +41,7 @@ def processes():
 
 
 def checks_below(top):
-    """How many checks run below a process."""
+    """How many checks run below a process. One that others share waits for these, and is none."""
     above = {process: parent for process, (parent, _) in processes().items()}
 
     def is_below(process):
@@ -49,7 +49,8 @@ def checks_below(top):
             process = above[process]
         return process == top
 
-    return sum(is_below(it) and is_check(it) for it in above)
+    found = {it for it in above if is_check(it) and is_below(it)}
+    return len(found - {above[it] for it in found})
 
 
 def is_check(process):
