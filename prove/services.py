@@ -3,6 +3,7 @@ have it, and what they do in a trial."""
 
 import re
 from pathlib import Path
+from typing import NamedTuple
 
 from .language import Reader, spelt
 from .promises import Changes, Clause, Promise
@@ -11,30 +12,51 @@ from .terms import list_of
 from .written import said
 
 CRATES = Path(__file__).resolve().parent.parent / "crates"
-SERVICE_ROW = re.compile(r"^service_row (\w+) = row_at (?:0x(\w{4})|at\.(\w+)) need\.\w+ reaches\.\w+ span\.(\w+)$", re.M)
+SERVICE_ROW = re.compile(
+    r"^service_row (\w+) = row_at (?:0x(\w{4})|at\.(\w+)) need\.(\w+) reaches\.(\w+) span\.(\w+) set\.\w+ set\.(\w+) cells\.(\w+)$", re.M
+)
 LOCATION = re.compile(r"^(\w+) = 0x(\w{4})$", re.M)
 
 
+class Row(NamedTuple):
+    """A service's row, as a2_services has it."""
+
+    address: int
+    needs: str
+    reach: str
+    takes: str
+    sets: str
+    on_screen: str
+
+    @property
+    def is_hook(self):
+        """Whether it jumps where a hook leads, so that another step comes behind it."""
+        return self.takes in ("OutputHook", "InputHook")
+
+
 def rows():
-    """The address of each service and how long it takes, by its name, as the rows of a2_services have them."""
+    """The row of each service by its name."""
     places = dict(LOCATION.findall((CRATES / "a2_bus/specs/Locations.antt").read_text(encoding="utf-8")))
     found = SERVICE_ROW.findall((CRATES / "a2_services/specs/Rows.antt").read_text(encoding="utf-8"))
-    return {name.upper(): (int(number or places[place], 16), takes) for name, number, place, takes in found}
+    return {name.upper(): Row(int(number or places[place], 16), *rest) for name, number, place, *rest in found}
 
 
-ADDRESSES = {name: address for name, (address, _) in rows().items()}
-# Those that jump where a hook leads, so that another step comes behind them.
-HOOKS = {name for name, (_, takes) in rows().items() if takes == "Hook"}
+ROWS = rows()
+ADDRESSES = {name: row.address for name, row in ROWS.items()}
+HOOKS = {name for name, row in ROWS.items() if row.is_hook}
 WINDOW = ("$21 >= 1", "$20 + $21 <= 40", "$22 < $23", "$23 <= 24")
 CURSOR = (*WINDOW, "$25 < 24", "$20 + $24 < 40")
-HOOK = (*CURSOR, "word $36 = #$FDF0")
+# The hooks of output and input where they lead to COUT1 and to KEYIN.
+HOOK, KEY_HOOK = (*CURSOR, "word $36 = #$FDF0"), ("word $38 = #$FD1B",)
 LEFT = ("$25 < 24", "$20 + $24 < 40")
-# CH and CV, BASL and BASH, the mask of characters, and page 1
-PLACE, BASE, MASK, PAGE = (0x24, 0x25), (0x28, 0x29), (0x32, 0x32), (0x400, 0x7FF)
+# CH and CV, BASL and BASH, the mask of characters, and page 1; the line that GETLN reads
+PLACE, BASE, MASK, PAGE, LINE = (0x24, 0x25), (0x28, 0x29), (0x32, 0x32), (0x400, 0x7FF), (0x200, 0x2FF)
+# What a service wants by its needs, or by its hook, and where it may store.
+WANTED = {"Nothing": (), "Key": (), "Window": WINDOW, "Cursor": CURSOR, "Line": CURSOR, "OutputHook": HOOK, "InputHook": KEY_HOOK}
+REACHED = {"Nowhere": (), "Mask": (MASK,), "Base": (BASE,), "Page": (PAGE,), "Screen": (PLACE, BASE, PAGE), "ScreenAndLine": (PLACE, BASE, LINE, PAGE)}
 BLANK, RETURN, FEED, BACKSPACE = 0xA0, 0x8D, 0x8A, 0x88
-# The input hook where it leads to KEYIN; the line that GETLN reads, the most keys of one, and the keys that edit it.
-KEY_HOOK = ("word $38 = #$FD1B",)
-LINE, LINE_START, MOST_OF_LINE, RETURN_KEY = (0x200, 0x2FF), 0x200, 255, 0x0D
+# Where a line begins, the most keys of one, the key that ends it, and those that edit it.
+LINE_START, MOST_OF_LINE, RETURN_KEY = LINE[0], 255, 0x0D
 EDITING = {0x08: "a left arrow", 0x15: "a right arrow", 0x18: "Ctrl-X"}
 
 
@@ -45,11 +67,20 @@ def clauses(texts):
 class Service:
     """A service, called as a routine with a promise is; it needs no proof but a rule."""
 
-    def __init__(self, name, wanted, left, rule, registers="", ranges=(PLACE, BASE, PAGE), keys=(), known=None, stores=()):
-        self.name, self.wanted, self.rule = name, wanted, rule
+    def __init__(self, name, left=(), known=None, rule="refl", keys=(), stores=(), byte=None):
+        self.name, self.row = name, ROWS[name]
+        self.wanted = WANTED[self.row.takes if self.row.is_hook else self.row.needs]
+        self.rule = f"{name.lower()}_serves @ {rule}{' refl' if self.row.is_hook else ''}"
         # the registers that are numbers behind it, each with the name of the fact; and the bytes
         self.known, self.stores = known or {}, list(stores)
-        self.promise = Promise(name, 0, ADDRESSES[name], clauses(wanted), clauses(left), Changes(set(registers), list(ranges)), list(keys))
+        # the byte of RAM that it sets, by its address
+        self.byte = byte
+        left = (*left, f"${byte[0]:02X} = #${byte[1]:02X}") if byte else left
+        registers = set() if self.row.sets == "Empty" else {self.row.sets}
+        # (what the output hook leads to is COUT1)
+        reach = ROWS["COUT1" if self.row.takes == "OutputHook" else name].reach
+        changes = Changes(registers, list(REACHED[reach]))
+        self.promise = Promise(name, 0, self.row.address, clauses(self.wanted), clauses(left), changes, list(keys))
 
     def changed(self, s):
         return self.promise.changes.ranges
@@ -58,21 +89,30 @@ class Service:
         """The proof that it keeps what is promised, where it is called with this S."""
         return f"({self.rule.replace('@', f'code {s} (omega arith)')})"
 
+    def fits(self, screen):
+        """Whether window, cursor and hook let it be called."""
+        word = lambda at: screen.memory[at] + 256 * screen.memory[at + 1]
+        if self.row.takes == "InputHook":
+            return word(0x38) == ADDRESSES["KEYIN"]
+        if self.row.takes == "OutputHook" and word(0x36) != ADDRESSES["COUT1"]:
+            return False
+        return (screen.is_window or not self.wanted) and (screen.has_cursor or LEFT[0] not in self.wanted)
+
 
 SERVICES = {
-    it.promise.address: it
+    it.row.address: it
     for it in (
-        Service("HOME", WINDOW, LEFT, "home_serves @ refl"),
-        Service("PRBYTE", CURSOR, LEFT, "prbyte_serves @ refl"),
-        Service("PRHEX", CURSOR, LEFT, "prhex_serves @ refl"),
-        Service("COUT1", CURSOR, LEFT, "cout1_serves @ refl"),
-        Service("COUT", HOOK, LEFT, "cout_serves @ refl refl"),
-        Service("CROUT", HOOK, (*LEFT, "A = 141"), "crout_serves @ refl refl", "A", known={"A": (0x8D, "e3")}),
-        Service("VTAB", CURSOR, (), "vtab_serves @ refl", ranges=[BASE]),
-        Service("CLREOL", CURSOR, (), "clreol_serves @ refl", ranges=[PAGE]),
-        Service("SETINV", (), ("$32 = #$3F",), "setinv_serves @ refl", ranges=[MASK]),
-        Service("SETNORM", (), ("$32 = #$FF",), "setnorm_serves @ refl", ranges=[MASK]),
-        Service("WAIT", (), ("A = 0",), "wait_serves @ refl", "A", [], known={"A": (0, "e1")}),
+        Service("HOME", LEFT),
+        Service("PRBYTE", LEFT),
+        Service("PRHEX", LEFT),
+        Service("COUT1", LEFT),
+        Service("COUT", LEFT),
+        Service("CROUT", (*LEFT, "A = 141"), {"A": (0x8D, "e3")}),
+        Service("VTAB"),
+        Service("CLREOL"),
+        Service("SETINV", byte=(0x32, 0x3F)),
+        Service("SETNORM", byte=(0x32, 0xFF)),
+        Service("WAIT", ("A = 0",), {"A": (0, "e1")}),
     )
 }
 # Those that take keys, and others.
@@ -101,18 +141,16 @@ class KeyTaker(Service):
     """KEYIN, or RDKEY where its hook leads there, as it takes this key."""
 
     def __init__(self, address, key):
-        wanted, rule = ((), "keyin_serves @") if address == KEYIN else (KEY_HOOK, "rdkey_serves @")
-        rule = f"{rule} {key} (omega arith) refl{' refl' if address == RDKEY else ''}"
-        super().__init__(TAKERS[address], wanted, (), rule, "A", [], [key], {"A": (0x80 + key, "e1")})
+        super().__init__(TAKERS[address], (), {"A": (0x80 + key, "e1")}, f"{key} (omega arith) refl", [key])
+        self.promise.changes.registers = {"A"}
 
 
 class LineTaker(Service):
     """GETLN as it takes the keys of this line, and RETURN."""
 
     def __init__(self, line):
-        rule = f"getln_serves @ {list_of(line)} refl (omega arith) refl"
-        ranges, known = [PLACE, BASE, LINE, PAGE], {"X": (len(line), "e3")}
-        super().__init__("GETLN", CURSOR, LEFT, rule, "X", ranges, [*line, RETURN_KEY], known, line_stores(line))
+        known = {"X": (len(line), "e3")}
+        super().__init__("GETLN", LEFT, known, f"{list_of(line)} refl (omega arith) refl", [*line, RETURN_KEY], line_stores(line))
 
 
 def line_stores(line):
@@ -239,33 +277,29 @@ class Screen:
 def served(it, registers, memory):
     """Does what a service does; the addresses that it stores at, or None where window, cursor or hook do not let it."""
     screen = Screen(memory)
-    if it.wanted and it.wanted != KEY_HOOK and not (screen.is_window and (it.wanted == WINDOW or screen.has_cursor)):
-        return None
-    if it.wanted == HOOK and (memory[0x36], memory[0x37]) != (0xF0, 0xFD):
-        return None
-    if it.wanted == KEY_HOOK and (memory[0x38], memory[0x39]) != (0x1B, 0xFD):
+    if not it.fits(screen):
         return None
     registers.update({letter: number for letter, (number, _) in it.known.items()})
-    if it.name in ("SETINV", "SETNORM"):
-        screen.store(0x32, 0x3F if it.name == "SETINV" else 0xFF)
-    elif it.name == "CLREOL":
-        screen.clear_to_end()
-    elif it.name not in ("WAIT", "KEYIN", "RDKEY"):
-        put_by(it, registers, screen)
+    if it.byte:
+        screen.store(*it.byte)
+    show(it, registers, screen)
+    if BASE in it.promise.changes.ranges:
         screen.base()
     return screen.stored
 
 
-def put_by(it, registers, screen):
-    """What a service puts that leaves the base address."""
-    name = it.name
-    if name == "GETLN":
+def show(it, registers, screen):
+    """What a service does with cells of the screen; a hook what it leads to does."""
+    does = "PutsByte" if it.row.takes == "OutputHook" else it.row.on_screen
+    if does == "ReadsLine":
         screen.read(it.promise.keys)
-    if name == "HOME":
+    if does == "ClearsWindow":
         screen.clear()
-    if name == "PRBYTE":
+    if does == "ClearsToEnd":
+        screen.clear_to_end()
+    if does == "PutsDigits":
         screen.put_digit(registers["A"] >> 4)
-    if name in ("PRBYTE", "PRHEX"):
+    if does in ("PutsDigits", "PutsDigit"):
         screen.put_digit(registers["A"] & 15)
-    if name in ("COUT", "COUT1", "CROUT"):
+    if does == "PutsByte":
         screen.put(registers["A"])

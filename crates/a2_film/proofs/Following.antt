@@ -11,10 +11,10 @@ use Rattle.a2_bus.specs.Devices.{Devices, key_taken, switched, after_access}
 use Rattle.a2_bus.specs.Memory.{Memory, ram_byte, ram_end, with_ram, memory_access}
 use Rattle.a2_core.specs.Instruction.{performed}
 use Rattle.a2_cpu.proofs.Simulation.{performed-alike}
-use Rattle.a2_services.specs.declared.Service.{Service}
-use Rattle.a2_services.specs.declared.Service.TheVariants.{Cout, Cout1, Crout, Home, Prbyte, Prhex, Setinv, Setnorm, Vtab, Clreol}
-use Rattle.a2_services.specs.declared.Service.TheVariants.{Clreop, Rdkey, Keyin, Getln, Wait, Setcol, Plot, Hline, Vline, Scrn}
-use Rattle.a2_services.specs.declared.Service.TheVariants.{Clrscr}
+use Rattle.a2_services.specs.declared.rows.Service.{Service}
+use Rattle.a2_services.specs.declared.rows.Service.TheVariants.{Cout, Cout1, Crout, Home, Prbyte, Prhex, Setinv, Setnorm, Vtab, Clreol}
+use Rattle.a2_services.specs.declared.rows.Service.TheVariants.{Clreop, Rdkey, Keyin, Getln, Wait, Setcol, Plot, Hline, Vline, Scrn}
+use Rattle.a2_services.specs.declared.rows.Service.TheVariants.{Clrscr}
 use Rattle.a2_services.specs.World.{World}
 use Rattle.a2_services.specs.Blocks.{painted, painted_across, painted_down, span_of, black}
 use Rattle.a2_services.specs.Put.{window_of, with_cursor_column, with_cursor_row, prompt_character, with_page1, after_put}

@@ -17,7 +17,7 @@ use Rattle.a2_core.specs.Registers.{Registers, StatusFlags, byte_of_flags, flags
 use Rattle.a2_cpu.specs.Stores.{stores_of, IsNotIn}
 use Rattle.a2_cpu.specs.StepStores.{none_if, stores_at}
 use Rattle.a2_cpu.proofs.StoresLemmas.{performed-stores}
-use Rattle.a2_services.specs.declared.Service.{Service}
+use Rattle.a2_services.specs.declared.rows.Service.{Service}
 use Rattle.a2_services.specs.Services.{service_at, served}
 use Rattle.a2_services.specs.World.{World}
 use Rattle.a2_machine.specs.declared.Cause.{Cause}

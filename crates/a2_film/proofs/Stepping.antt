@@ -13,7 +13,7 @@ use Rattle.a2_core.specs.Registers.{Registers}
 use Rattle.a2_cpu.specs.StepStores.{none_if, stores_at, step_stores}
 use Rattle.a2_core.specs.View.{registers_of}
 use Rattle.a2_cpu.specs.View.{before_step}
-use Rattle.a2_services.specs.declared.Service.{Service}
+use Rattle.a2_services.specs.declared.rows.Service.{Service}
 use Rattle.a2_services.specs.Services.{service_at, reach, served}
 use Rattle.a2_services.proofs.Effects.{served-kept}
 use Rattle.a2_services.specs.World.{World, world_of}

@@ -9,7 +9,7 @@ use Rattle.a2_page.specs.declared.Switches.{Switches}
 use Rattle.a2_core.specs.Registers.{Registers, byte_of_flags}
 use Rattle.a2_core.specs.View.{registers_of}
 use Rattle.a2_services.specs.World.{World}
-use Rattle.a2_services.specs.declared.Service.{Service}
+use Rattle.a2_services.specs.declared.rows.Service.{Service}
 use Rattle.a2_services.specs.Services.{reach}
 use Rattle.a2_machine.specs.declared.Cause.{Cause}
 use Rattle.a2_machine.specs.Meaning.{Code}

@@ -20,7 +20,7 @@ use Rattle.a2_core.specs.Instruction.{performed}
 use Rattle.a2_cpu.specs.Stores.{stores_of, IsNotIn}
 use Rattle.a2_cpu.proofs.StoresLemmas.{performed-stores}
 use Rattle.a2_cpu.proofs.EffectStores.{stores_of-is}
-use Rattle.a2_services.specs.declared.Service.{Service}
+use Rattle.a2_services.specs.declared.rows.Service.{Service}
 use Rattle.a2_services.specs.World.{World}
 use Rattle.a2_services.specs.Services.{service_at, served}
 use Rattle.a2_asm.specs.Assembled.{Assembled}

@@ -7,8 +7,8 @@ use Rattle.std.proofs.lemmas.List.{get_or-map, get_or-set_same, get_or-set_other
 use Rattle.std.proofs.lemmas.List.FromFn.{get_or-range_with_len}
 use denote.Enum.Declared.{tag_of}
 use Rattle.a2_services.specs.contracts.Service.{the_type}
-use Rattle.a2_services.specs.declared.Service.{Service}
-use Rattle.a2_services.specs.declared.Service.TheVariants.{Cout}
+use Rattle.a2_services.specs.declared.rows.Service.{Service}
+use Rattle.a2_services.specs.declared.rows.Service.TheVariants.{Cout}
 use Rattle.a2_services.specs.Rows.{services}
 use Rattle.a2_services.specs.Services.{reach}
 

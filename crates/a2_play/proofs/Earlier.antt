@@ -7,7 +7,7 @@ use Rattle.std.proofs.lemmas.List.Elements.{All-filter}
 use Rattle.a2_asm.specs.Assembled.{Assembled}
 use Rattle.a2_bus.specs.Memory.{memory_access}
 use Rattle.a2_core.specs.Instruction.{performed}
-use Rattle.a2_services.specs.declared.Service.{Service}
+use Rattle.a2_services.specs.declared.rows.Service.{Service}
 use Rattle.a2_services.specs.World.{World}
 use Rattle.a2_services.specs.Services.{service_at, served}
 use Rattle.a2_machine.specs.declared.Cause.{Cause}

@@ -6,7 +6,7 @@ use Rattle.a2_page.specs.Window.{IsWindow}
 use Rattle.a2_bus.specs.Locations as at
 use Rattle.a2_bus.specs.Memory.{Memory, with_ram}
 use Rattle.a2_bus.proofs.Frame.{ram_byte-page1}
-use Rattle.a2_services.specs.declared.Service.TheVariants.{Home, Clreol, Clreop, Clrscr}
+use Rattle.a2_services.specs.declared.rows.Service.TheVariants.{Home, Clreol, Clreop, Clrscr}
 use Rattle.a2_services.specs.Blocks.{black}
 use Rattle.a2_services.specs.Fits.{CursorFits}
 use Rattle.a2_services.specs.Put.{window_of, cursor_column, cursor_row, screen_column, with_page1, with_cursor_row, with_cursor_column, with_base_address}

@@ -3,8 +3,8 @@ use Rattle.std.specs.Prelude.{◌≡◌, ℕ, Bool, true, List, [], refl}
 use Rattle.std.proofs.Common.{sym, ◌∙◌, subst₂}
 use Rattle.a2_bus.specs.Locations as at
 use Rattle.a2_bus.specs.Memory.{Memory}
-use Rattle.a2_services.specs.declared.Service.{Service}
-use Rattle.a2_services.specs.declared.Service.TheVariants.{Cout, Crout, Setinv, Setnorm, Rdkey, Wait}
+use Rattle.a2_services.specs.declared.rows.Service.{Service}
+use Rattle.a2_services.specs.declared.rows.Service.TheVariants.{Cout, Crout, Setinv, Setnorm, Rdkey, Wait}
 use Rattle.a2_services.specs.Services.{fits, effect, back, with_memory, with_a}
 use Rattle.a2_services.specs.World.{World}
 use Rattle.a2_services.proofs.Counting.{returned_devices}

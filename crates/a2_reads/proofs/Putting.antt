@@ -13,7 +13,7 @@ use Rattle.a2_bus.proofs.Viewing.{cell_written}
 use Rattle.a2_services.specs.Bytes.{carriage_return, line_feed, backspace}
 use Rattle.a2_services.specs.Fits.{CursorFits}
 use Rattle.a2_services.specs.Put.{window_of, cursor_column, cursor_row, screen_column, with_cursor_column, with_page1, after_line_feed, after_return, after_backspace, after_character, after_put_unmasked, after_put, masked_by}
-use Rattle.a2_services.specs.declared.Service.TheVariants.{Cout1, Prbyte, Prhex, Vtab}
+use Rattle.a2_services.specs.declared.rows.Service.TheVariants.{Cout1, Prbyte, Prhex, Vtab}
 use Rattle.a2_services.specs.Services.{window_fits, cursor_fits, digit_byte, back, output, effect}
 use Rattle.a2_services.specs.World.{World}
 use Rattle.a2_services.proofs.Fitting.{row_at_column, window_kept, window_kept-page, put_fits}

@@ -13,7 +13,7 @@ use Rattle.a2_core.specs.Place.{Place, accumulator, address, pointer, place_of}
 use Rattle.a2_core.specs.Effect.{Effect, Replacement, sets, takes, replaces, stores, pushes, pulls, branches, jumps, calls, returns, returns_from_interrupt, breaks, effect_of}
 use Rattle.a2_core.specs.Instruction.{after_effect, called, called_place, gone_to, jumped, jumped_through, next_address, operand_byte, performed, pulled, replaced_registers, returned, returned_from_interrupt, with_pc}
 use Rattle.a2_services.specs.World.{World}
-use Rattle.a2_services.specs.declared.Service.{Service}
+use Rattle.a2_services.specs.declared.rows.Service.{Service}
 use Rattle.a2_services.specs.Services.{fits, service_at}
 use Rattle.a2_machine.specs.declared.Cause.{Cause}
 use Rattle.a2_machine.specs.Meaning.{Code, Decoded, found_at_pc, next, stuck, world_at}

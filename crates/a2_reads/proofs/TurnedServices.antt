@@ -8,8 +8,8 @@ use Rattle.a2_page.specs.Text.{block, blocks_of, plotted}
 use Rattle.a2_bus.specs.Locations as at
 use Rattle.a2_bus.specs.Memory.{Memory, ram_byte, with_ram}
 use Rattle.a2_core.specs.Registers.{Registers}
-use Rattle.a2_services.specs.declared.Service.{Service}
-use Rattle.a2_services.specs.declared.Service.TheVariants.{Cout, Cout1, Crout, Home, Prbyte, Prhex, Setinv, Setnorm, Vtab, Clreol, Clreop, Rdkey, Keyin, Getln, Wait, Setcol, Plot, Hline, Vline, Scrn, Clrscr}
+use Rattle.a2_services.specs.declared.rows.Service.{Service}
+use Rattle.a2_services.specs.declared.rows.Service.TheVariants.{Cout, Cout1, Crout, Home, Prbyte, Prhex, Setinv, Setnorm, Vtab, Clreol, Clreop, Rdkey, Keyin, Getln, Wait, Setcol, Plot, Hline, Vline, Scrn, Clrscr}
 use Rattle.a2_services.specs.declared.rows.Needs.{Needs}
 use Rattle.a2_services.specs.declared.rows.Needs.TheVariants as need
 use Rattle.a2_services.specs.declared.rows.Takes.{Takes}
@@ -254,7 +254,8 @@ module _ (turn : ℕ) where
   same_needs needs r s m = refl
 
   same_span : (takes : Takes) (r : Registers) (s : ℕ) → cycles_of takes (record r { s = s }) ≡ cycles_of takes r
-  same_span span.Hook r s = refl
+  same_span span.OutputHook r s = refl
+  same_span span.InputHook r s = refl
   same_span span.Six r s = refl
   same_span span.Wait r s = refl
 

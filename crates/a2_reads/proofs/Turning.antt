@@ -15,7 +15,7 @@ use Rattle.a2_core.specs.Effect.{effect_of}
 use Rattle.a2_core.specs.Place.{place_of}
 use Rattle.a2_core.specs.Registers.{Registers}
 use Rattle.a2_cpu.specs.Stores.{stores_of}
-use Rattle.a2_services.specs.declared.Service.{Service}
+use Rattle.a2_services.specs.declared.rows.Service.{Service}
 use Rattle.a2_services.specs.Services.{service_at, fits, reach, served}
 use Rattle.a2_services.specs.World.{World}
 use Rattle.a2_machine.specs.ByteRun.{bytes, decoded_or_cause}

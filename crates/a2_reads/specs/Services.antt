@@ -10,10 +10,17 @@ use Rattle.a2_bus.specs.Memory.{Memory, ram_byte}
 use Rattle.a2_core.specs.Registers.{Registers}
 use Rattle.a2_services.specs.Blocks.{span_of}
 use Rattle.a2_services.specs.Bytes.{carriage_return, line_feed, backspace}
-use Rattle.a2_services.specs.declared.Service.{Service}
-use Rattle.a2_services.specs.declared.Service.TheVariants.{Cout, Cout1, Crout, Home, Prbyte, Prhex, Setinv, Setnorm, Vtab, Clreol, Clreop, Rdkey, Keyin, Getln, Wait, Setcol, Plot, Hline, Vline, Scrn, Clrscr}
+use Rattle.a2_services.specs.declared.rows.Service.{Service}
 use Rattle.a2_services.specs.declared.rows.Needs.{Needs}
 use Rattle.a2_services.specs.declared.rows.Needs.TheVariants as need
+use Rattle.a2_services.specs.declared.rows.Reach.{Reach}
+use Rattle.a2_services.specs.declared.rows.Reach.TheVariants as reaches
+use Rattle.a2_services.specs.declared.rows.Takes.{Takes}
+use Rattle.a2_services.specs.declared.rows.Takes.TheVariants as span
+use Rattle.a2_services.specs.declared.rows.RegisterSet.{RegisterSet}
+use Rattle.a2_services.specs.declared.rows.RegisterSet.TheVariants as set
+use Rattle.a2_services.specs.declared.rows.OnScreen.{OnScreen}
+use Rattle.a2_services.specs.declared.rows.OnScreen.TheVariants as cells
 use Rattle.a2_services.specs.Rows.{service_row}
 use Rattle.a2_services.specs.Put.{window_of, cursor_column, cursor_row, screen_column, inverse_mask, masked_by, after_put}
 use Rattle.a2_services.specs.Services.{digit_byte}
@@ -22,32 +29,29 @@ use Rattle.a2_uses.specs.Reads.{pull_address}
 use Rattle.a2_uses.specs.declared.Part.{Part}
 use Rattle.a2_uses.specs.declared.Part.TheVariants.{A as part_a, X as part_x, Y as part_y}
 
--- A service needs no key. Of the others, KEYIN and GETLN, it is not said here what they read and where they store.
+-- Of a service all is read off its row, in a2_services.
+
+-- A service needs no key. Of the others it is not said here what they read and where they store.
+abbrev pub needs_no_key : Needs → Bool
+needs_no_key need.Key = false
+needs_no_key need.Line = false
+needs_no_key _ = true
+
 abbrev pub is_keyless : Service → Bool
-is_keyless Keyin = false
-is_keyless Getln = false
-is_keyless _ = true
+is_keyless service = needs_no_key (service_row service).needs
+
+abbrev pub parts_in : RegisterSet → List Part
+parts_in set.Empty = []
+parts_in set.A = part_a ∷ []
+parts_in set.X = part_x ∷ []
+parts_in set.AAndY = part_a ∷ part_y ∷ []
 
 -- the registers that a service looks at, and those that it sets
 abbrev pub service_needs : Service → List Part
-service_needs Cout1 = part_a ∷ []
-service_needs Prbyte = part_a ∷ []
-service_needs Prhex = part_a ∷ []
-service_needs Wait = part_a ∷ []
-service_needs Setcol = part_a ∷ []
-service_needs Plot = part_a ∷ part_y ∷ []
-service_needs Hline = part_a ∷ part_y ∷ []
-service_needs Vline = part_a ∷ part_y ∷ []
-service_needs Scrn = part_a ∷ part_y ∷ []
-service_needs _ = []
+service_needs service = parts_in (service_row service).looks_at
 
 abbrev pub service_sets : Service → List Part
-service_sets Crout = part_a ∷ []
-service_sets Wait = part_a ∷ []
-service_sets Scrn = part_a ∷ []
-service_sets Keyin = part_a ∷ []
-service_sets Getln = part_x ∷ []
-service_sets _ = []
+service_sets service = parts_in (service_row service).sets
 
 -- Cells of page 1
 
@@ -132,24 +136,29 @@ fit_bytes need.Down = at.v2 ∷ []
 fit_bytes _ = []
 
 -- those that say where it goes on: a hook's, or the return address
+abbrev pub way_by : Takes → ℕ → List ℕ
+way_by span.OutputHook s = at.csw ∷ (at.csw + 1) ∷ []
+way_by span.InputHook s = at.ksw ∷ (at.ksw + 1) ∷ []
+way_by _ s = pull_address s 1 ∷ pull_address s 2 ∷ []
+
 abbrev pub way_bytes : Service → ℕ → List ℕ
-way_bytes Cout s = at.csw ∷ (at.csw + 1) ∷ []
-way_bytes Crout s = at.csw ∷ (at.csw + 1) ∷ []
-way_bytes Rdkey s = at.ksw ∷ (at.ksw + 1) ∷ []
-way_bytes _ s = pull_address s 1 ∷ pull_address s 2 ∷ []
+way_bytes service s = way_by (service_row service).takes s
 
 -- those of which it makes what it stores
-abbrev pub bytes_used : Service → Registers → Memory → List ℕ
-bytes_used Cout1 registers memory = at.invflg ∷ put_moves registers.a memory
-bytes_used Prbyte registers memory =
+abbrev pub bytes_made_of : OnScreen → Registers → Memory → List ℕ
+bytes_made_of cells.PutsByte registers memory = at.invflg ∷ put_moves registers.a memory
+bytes_made_of cells.PutsDigits registers memory =
     let high = digit_byte (registers.a / 16) in
     at.invflg ∷ put_moves high memory ++ put_moves (digit_byte (registers.a % 16)) (after_put high memory)
-bytes_used Prhex registers memory = at.invflg ∷ put_moves (digit_byte (registers.a % 16)) memory
-bytes_used Plot registers memory = at.color ∷ block_cell registers.a registers.y ∷ []
-bytes_used Hline registers memory = at.color ∷ blocks_across registers memory
-bytes_used Vline registers memory = at.color ∷ blocks_down registers memory
-bytes_used Scrn registers memory = block_cell registers.a registers.y ∷ []
-bytes_used _ registers memory = []
+bytes_made_of cells.PutsDigit registers memory = at.invflg ∷ put_moves (digit_byte (registers.a % 16)) memory
+bytes_made_of cells.PaintsBlock registers memory = at.color ∷ block_cell registers.a registers.y ∷ []
+bytes_made_of cells.PaintsAcross registers memory = at.color ∷ blocks_across registers memory
+bytes_made_of cells.PaintsDown registers memory = at.color ∷ blocks_down registers memory
+bytes_made_of cells.LooksAtBlock registers memory = block_cell registers.a registers.y ∷ []
+bytes_made_of _ registers memory = []
+
+abbrev pub bytes_used : Service → Registers → Memory → List ℕ
+bytes_used service registers memory = bytes_made_of (service_row service).on_screen registers memory
 
 unfoldable pub service_reads : Service → World → List ℕ
 service_reads service world =
@@ -165,23 +174,32 @@ base_bytes = at.basl ∷ at.bash ∷ []
 abbrev pub output_bytes : List ℕ
 output_bytes = at.ch ∷ at.cv ∷ base_bytes
 
+-- the bytes of its reach that it stores at, but for the cells of the screen
+abbrev pub bytes_set : Reach → List ℕ
+bytes_set reaches.Screen = output_bytes
+bytes_set reaches.Mask = at.invflg ∷ []
+bytes_set reaches.Base = base_bytes
+bytes_set reaches.BaseAndPage = base_bytes
+bytes_set reaches.Color = at.color ∷ []
+bytes_set reaches.Graphics = at.color ∷ at.v2 ∷ []
+bytes_set _ = []
+
+-- the cells that it changes
+abbrev pub cells_changed : OnScreen → Registers → Memory → List ℕ
+cells_changed cells.PutsByte registers memory = put_changes registers.a memory
+cells_changed cells.PutsDigits registers memory =
+    let high = digit_byte (registers.a / 16) in
+    put_changes high memory ++ put_changes (digit_byte (registers.a % 16)) (after_put high memory)
+cells_changed cells.PutsDigit registers memory = put_changes (digit_byte (registers.a % 16)) memory
+cells_changed cells.ClearsWindow registers memory = window_cells (window_of memory)
+cells_changed cells.ClearsToEnd registers memory = cells_to_end memory
+cells_changed cells.ClearsBelow registers memory = cells_to_end memory ++ cells_below memory
+cells_changed cells.PaintsBlock registers memory = block_cell registers.a registers.y ∷ []
+cells_changed cells.PaintsAcross registers memory = blocks_across registers memory
+cells_changed cells.PaintsDown registers memory = blocks_down registers memory
+cells_changed cells.ClearsBlocks registers memory = window_cells (record { left = 0; width = 40; top = 0; bottom = 24 })
+cells_changed _ registers memory = []
+
 unfoldable pub service_stores : Service → World → List ℕ
-service_stores Cout1 world = output_bytes ++ put_changes world.registers.a world.memory
-service_stores Home world = output_bytes ++ window_cells (window_of world.memory)
-service_stores Prbyte world =
-    let high = digit_byte (world.registers.a / 16) in
-    output_bytes ++ put_changes high world.memory
-    ++ put_changes (digit_byte (world.registers.a % 16)) (after_put high world.memory)
-service_stores Prhex world = output_bytes ++ put_changes (digit_byte (world.registers.a % 16)) world.memory
-service_stores Setinv world = at.invflg ∷ []
-service_stores Setnorm world = at.invflg ∷ []
-service_stores Vtab world = base_bytes
-service_stores Clreol world = cells_to_end world.memory
-service_stores Clreop world = base_bytes ++ cells_to_end world.memory ++ cells_below world.memory
-service_stores Setcol world = at.color ∷ []
-service_stores Plot world = block_cell world.registers.a world.registers.y ∷ []
-service_stores Hline world = blocks_across world.registers world.memory
-service_stores Vline world = blocks_down world.registers world.memory
-service_stores Clrscr world =
-    at.color ∷ at.v2 ∷ window_cells (record { left = 0; width = 40; top = 0; bottom = 24 })
-service_stores _ world = []
+service_stores service world =
+    bytes_set (service_row service).reach ++ cells_changed (service_row service).on_screen world.registers world.memory

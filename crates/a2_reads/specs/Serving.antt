@@ -5,7 +5,7 @@ use Rattle.std.specs.List.{list_any}
 use Rattle.a2_page.specs.Grid.{IsGrid}
 use Rattle.a2_bus.specs.Memory.{ram_byte}
 use Rattle.a2_cpu.specs.Stores.{IsNotIn}
-use Rattle.a2_services.specs.declared.Service.{Service}
+use Rattle.a2_services.specs.declared.rows.Service.{Service}
 use Rattle.a2_services.specs.Services.{fits, served}
 use Rattle.a2_services.specs.World.{World}
 use Rattle.a2_uses.specs.declared.Part.{Part}

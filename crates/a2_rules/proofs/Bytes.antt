@@ -10,7 +10,7 @@ use Rattle.a2_asm.specs.Programs.{instr_at, IsSound}
 use Rattle.a2_cpu.specs.BusStep.{Refusal, refusal_of}
 use Rattle.a2_core.specs.Instruction.{performed}
 use Rattle.a2_cpu.specs.Stores.{stores_of}
-use Rattle.a2_services.specs.declared.Service.{Service}
+use Rattle.a2_services.specs.declared.rows.Service.{Service}
 use Rattle.a2_services.specs.World.{World}
 use Rattle.a2_services.specs.Services.{service_at, reach, served}
 use Rattle.a2_machine.specs.declared.Cause.{Cause}

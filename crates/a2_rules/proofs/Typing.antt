@@ -5,7 +5,7 @@ use Rattle.std.proofs.Common.{sym, ap, ◌∙◌, subst, arith, append_assoc}
 use Rattle.std.proofs.lemmas.Bool.Decides.{nat_tests}
 use Rattle.a2_bus.specs.Devices.{Devices}
 use Rattle.a2_bus.specs.Memory.{Memory, ram_byte}
-use Rattle.a2_services.specs.declared.Service.TheVariants.{Getln, Keyin, Rdkey}
+use Rattle.a2_services.specs.declared.rows.Service.TheVariants.{Getln, Keyin, Rdkey}
 use Rattle.a2_services.specs.Fits.{CursorFits}
 use Rattle.a2_services.specs.Put.{prompt_character, after_put, with_base_address}
 use Rattle.a2_services.specs.Reading.{reading}

@@ -7,8 +7,8 @@ use Rattle.a2_page.specs.Grid.{Grid, byte_in}
 use Rattle.a2_page.specs.Text.{blocks_of, plotted}
 use Rattle.a2_bus.specs.Memory.{Memory, ram_byte, with_ram}
 use Rattle.a2_bus.proofs.Frame.{ram_byte-with_ram, ram_byte-page1}
-use Rattle.a2_services.specs.declared.Service.{Service}
-use Rattle.a2_services.specs.declared.Service.TheVariants.{Cout, Cout1, Crout, Home, Prbyte, Prhex, Setinv, Setnorm, Vtab, Clreol, Clreop, Rdkey, Keyin, Getln, Wait, Setcol, Plot, Hline, Vline, Scrn, Clrscr}
+use Rattle.a2_services.specs.declared.rows.Service.{Service}
+use Rattle.a2_services.specs.declared.rows.Service.TheVariants.{Cout, Cout1, Crout, Home, Prbyte, Prhex, Setinv, Setnorm, Vtab, Clreol, Clreop, Rdkey, Keyin, Getln, Wait, Setcol, Plot, Hline, Vline, Scrn, Clrscr}
 use Rattle.a2_services.specs.World.{World}
 use Rattle.a2_services.specs.Put.{prompt_character, with_page1, after_put}
 use Rattle.a2_services.specs.Services.{reach, output_reach, Reading, line_read, with_key_taken, back, effect, output, with_memory, with_a, with_x, served, cleared_to_end, cleared_below}

@@ -11,7 +11,7 @@ use Rattle.a2_bus.proofs.Agreement.{written, devices-with_grid}
 use Rattle.a2_services.specs.Put.{after_line_feed, after_return, after_backspace, after_character, after_put_unmasked, after_put, prompt_character, inverse_mask, masked_by, with_cursor_column}
 use Rattle.a2_services.specs.Services.{Reading, byte_of_key, after_byte, after_cancel, after_prompt, line_read, with_key_taken, cleared_to_end, lacks_keys, effect, back, with_a, with_memory}
 use Rattle.a2_services.specs.World.{World}
-use Rattle.a2_services.specs.declared.Service.TheVariants.{Keyin}
+use Rattle.a2_services.specs.declared.rows.Service.TheVariants.{Keyin}
 use Rattle.a2_services.specs.Reading.{reading, rest_of, kept, first_of}
 
 -- What is put changes no device

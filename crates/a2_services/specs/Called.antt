@@ -6,7 +6,7 @@ use Rattle.a2_bus.specs.View.{memory_of}
 use Rattle.a2_core.specs.declared.live.Live.{Live}
 use Rattle.a2_core.specs.Live.{live_registers}
 use Rattle.a2_core.specs.Registers.{Registers}
-use Rattle.a2_services.specs.declared.Service.{Service}
+use Rattle.a2_services.specs.declared.rows.Service.{Service}
 use Rattle.a2_services.specs.declared.Served.{Served}
 use Rattle.a2_services.specs.declared.Served.TheVariants as answer
 use Rattle.a2_services.specs.Services.{fits, lacks_keys, effect, served, reach}

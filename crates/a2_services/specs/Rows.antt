@@ -2,42 +2,55 @@
 -- all else is this project's profile.
 use Rattle.std.specs.Prelude.{ℕ, List, [], ◌∷◌, codes}
 use Rattle.a2_bus.specs.Locations as at
-use Rattle.a2_services.specs.declared.Service.{Service}
-use Rattle.a2_services.specs.declared.Service.TheVariants.{Cout, Cout1, Crout, Home, Prbyte, Prhex, Setinv, Setnorm, Vtab, Clreol, Clreop, Rdkey, Keyin, Getln, Wait, Setcol, Plot, Hline, Vline, Scrn, Clrscr}
+use Rattle.a2_services.specs.declared.rows.Service.{Service}
+use Rattle.a2_services.specs.declared.rows.Service.TheVariants.{Cout, Cout1, Crout, Home, Prbyte, Prhex, Setinv, Setnorm, Vtab, Clreol, Clreop, Rdkey, Keyin, Getln, Wait, Setcol, Plot, Hline, Vline, Scrn, Clrscr}
 use Rattle.a2_services.specs.declared.rows.Needs.{Needs}
 use Rattle.a2_services.specs.declared.rows.Needs.TheVariants as need
 use Rattle.a2_services.specs.declared.rows.Reach.{Reach}
 use Rattle.a2_services.specs.declared.rows.Reach.TheVariants as reaches
 use Rattle.a2_services.specs.declared.rows.Takes.{Takes}
 use Rattle.a2_services.specs.declared.rows.Takes.TheVariants as span
+use Rattle.a2_services.specs.declared.rows.RegisterSet.{RegisterSet}
+use Rattle.a2_services.specs.declared.rows.RegisterSet.TheVariants as set
+use Rattle.a2_services.specs.declared.rows.OnScreen.{OnScreen}
+use Rattle.a2_services.specs.declared.rows.OnScreen.TheVariants as cells
 use Rattle.a2_services.specs.declared.rows.Row.{Row}
 
--- where it is called, what it needs, where it may store, and how long it takes
-abbrev pub row_at : ℕ → Needs → Reach → Takes → Row
-row_at address needs reach takes = record { address = address; needs = needs; reach = reach; takes = takes }
+-- where it is called, what it needs, where it may store, and how long it takes; the registers that it looks at and those that it
+-- sets, and what it does with cells of the screen
+abbrev pub row_at : ℕ → Needs → Reach → Takes → RegisterSet → RegisterSet → OnScreen → Row
+row_at address needs reach takes looks_at sets on_screen = record {
+  address = address;
+  needs = needs;
+  reach = reach;
+  takes = takes;
+  looks_at = looks_at;
+  sets = sets;
+  on_screen = on_screen;
+}
 
 abbrev pub service_row : Service → Row
-service_row Cout = row_at 0xFDED need.Nothing reaches.Nowhere span.Hook
-service_row Cout1 = row_at at.cout1 need.Cursor reaches.Screen span.Six
-service_row Crout = row_at 0xFD8E need.Nothing reaches.Nowhere span.Hook
-service_row Home = row_at 0xFC58 need.Window reaches.Screen span.Six
-service_row Prbyte = row_at 0xFDDA need.Cursor reaches.Screen span.Six
-service_row Prhex = row_at 0xFDE3 need.Cursor reaches.Screen span.Six
-service_row Setinv = row_at 0xFE80 need.Nothing reaches.Mask span.Six
-service_row Setnorm = row_at 0xFE84 need.Nothing reaches.Mask span.Six
-service_row Vtab = row_at 0xFC22 need.Cursor reaches.Base span.Six
-service_row Clreol = row_at 0xFC9C need.Cursor reaches.Page span.Six
-service_row Clreop = row_at 0xFC42 need.Cursor reaches.BaseAndPage span.Six
-service_row Rdkey = row_at 0xFD0C need.Nothing reaches.Nowhere span.Hook
-service_row Keyin = row_at at.keyin need.Key reaches.Nowhere span.Six
-service_row Getln = row_at 0xFD6A need.Line reaches.ScreenAndLine span.Six
-service_row Wait = row_at 0xFCA8 need.Nothing reaches.Nowhere span.Wait
-service_row Setcol = row_at 0xF864 need.Nothing reaches.Color span.Six
-service_row Plot = row_at 0xF800 need.Block reaches.Page span.Six
-service_row Hline = row_at 0xF819 need.Across reaches.Page span.Six
-service_row Vline = row_at 0xF828 need.Down reaches.Page span.Six
-service_row Scrn = row_at 0xF871 need.Block reaches.Nowhere span.Six
-service_row Clrscr = row_at 0xF832 need.Nothing reaches.Graphics span.Six
+service_row Cout = row_at 0xFDED need.Nothing reaches.Nowhere span.OutputHook set.Empty set.Empty cells.Nothing
+service_row Cout1 = row_at at.cout1 need.Cursor reaches.Screen span.Six set.A set.Empty cells.PutsByte
+service_row Crout = row_at 0xFD8E need.Nothing reaches.Nowhere span.OutputHook set.Empty set.A cells.Nothing
+service_row Home = row_at 0xFC58 need.Window reaches.Screen span.Six set.Empty set.Empty cells.ClearsWindow
+service_row Prbyte = row_at 0xFDDA need.Cursor reaches.Screen span.Six set.A set.Empty cells.PutsDigits
+service_row Prhex = row_at 0xFDE3 need.Cursor reaches.Screen span.Six set.A set.Empty cells.PutsDigit
+service_row Setinv = row_at 0xFE80 need.Nothing reaches.Mask span.Six set.Empty set.Empty cells.Nothing
+service_row Setnorm = row_at 0xFE84 need.Nothing reaches.Mask span.Six set.Empty set.Empty cells.Nothing
+service_row Vtab = row_at 0xFC22 need.Cursor reaches.Base span.Six set.Empty set.Empty cells.Nothing
+service_row Clreol = row_at 0xFC9C need.Cursor reaches.Page span.Six set.Empty set.Empty cells.ClearsToEnd
+service_row Clreop = row_at 0xFC42 need.Cursor reaches.BaseAndPage span.Six set.Empty set.Empty cells.ClearsBelow
+service_row Rdkey = row_at 0xFD0C need.Nothing reaches.Nowhere span.InputHook set.Empty set.Empty cells.Nothing
+service_row Keyin = row_at at.keyin need.Key reaches.Nowhere span.Six set.Empty set.A cells.Nothing
+service_row Getln = row_at 0xFD6A need.Line reaches.ScreenAndLine span.Six set.Empty set.X cells.ReadsLine
+service_row Wait = row_at 0xFCA8 need.Nothing reaches.Nowhere span.Wait set.A set.A cells.Nothing
+service_row Setcol = row_at 0xF864 need.Nothing reaches.Color span.Six set.A set.Empty cells.Nothing
+service_row Plot = row_at 0xF800 need.Block reaches.Page span.Six set.AAndY set.Empty cells.PaintsBlock
+service_row Hline = row_at 0xF819 need.Across reaches.Page span.Six set.AAndY set.Empty cells.PaintsAcross
+service_row Vline = row_at 0xF828 need.Down reaches.Page span.Six set.AAndY set.Empty cells.PaintsDown
+service_row Scrn = row_at 0xF871 need.Block reaches.Nowhere span.Six set.AAndY set.A cells.LooksAtBlock
+service_row Clrscr = row_at 0xF832 need.Nothing reaches.Graphics span.Six set.Empty set.Empty cells.ClearsBlocks
 
 -- the services, in order
 abbrev pub services : List Service

@@ -11,8 +11,8 @@ use Rattle.a2_bus.specs.Locations as at
 use Rattle.a2_bus.specs.Memory.{Memory, ram_byte, with_ram, memory_access}
 use Rattle.a2_core.specs.Instruction.{returned, with_pc}
 use Rattle.a2_core.specs.Registers.{Registers}
-use Rattle.a2_services.specs.declared.Service.{Service}
-use Rattle.a2_services.specs.declared.Service.TheVariants.{Cout, Cout1, Crout, Home, Prbyte, Prhex, Setinv, Setnorm, Vtab, Clreol, Clreop, Rdkey, Keyin, Getln, Wait, Setcol, Plot, Hline, Vline, Scrn, Clrscr}
+use Rattle.a2_services.specs.declared.rows.Service.{Service}
+use Rattle.a2_services.specs.declared.rows.Service.TheVariants.{Cout, Cout1, Crout, Home, Prbyte, Prhex, Setinv, Setnorm, Vtab, Clreol, Clreop, Rdkey, Keyin, Getln, Wait, Setcol, Plot, Hline, Vline, Scrn, Clrscr}
 use Rattle.a2_services.specs.declared.rows.Needs.{Needs}
 use Rattle.a2_services.specs.declared.rows.Needs.TheVariants as need
 use Rattle.a2_services.specs.declared.rows.Reach.{Reach}
@@ -183,7 +183,8 @@ wait_cycles a = if a == 0 then 167293 else (14 + 27 * a + 5 * a * a) / 2
 
 -- how long a service takes, by the registers before it
 abbrev pub cycles_of : Takes → Registers → ℕ
-cycles_of span.Hook registers = 5
+cycles_of span.OutputHook registers = 5
+cycles_of span.InputHook registers = 5
 cycles_of span.Six registers = 6
 cycles_of span.Wait registers = wait_cycles registers.a
 

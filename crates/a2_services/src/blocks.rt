@@ -4,7 +4,7 @@
 ghost use Rattle.std.specs.Prelude.{◌≡◌, ◌<◌, true};
 ghost use Rattle.a2_bus.specs.View.{memory_of};
 ghost use Rattle.a2_core.specs.Live.{live_registers};
-ghost use Rattle.a2_services.specs.declared.Service.TheVariants.{Setcol, Plot, Hline, Vline, Scrn, Clrscr};
+ghost use Rattle.a2_services.specs.declared.rows.Service.TheVariants.{Setcol, Plot, Hline, Vline, Scrn, Clrscr};
 ghost use Rattle.a2_services.specs.Blocks.{half_of as half_by, painted};
 ghost use Rattle.a2_services.specs.Called.{IsDone};
 ghost use Rattle.a2_services.specs.Services.{fits as fits_of};

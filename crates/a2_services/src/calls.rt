@@ -5,7 +5,7 @@ ghost use Rattle.a2_page.specs.Window.{IsWindow};
 ghost use Rattle.a2_bus.specs.Memory.{ram_end};
 ghost use Rattle.a2_bus.specs.View.{memory_of};
 ghost use Rattle.a2_core.specs.Live.{live_registers};
-ghost use Rattle.a2_services.specs.declared.Service.TheVariants.{Cout1, Home, Prbyte, Prhex, Keyin, Wait, Getln};
+ghost use Rattle.a2_services.specs.declared.rows.Service.TheVariants.{Cout1, Home, Prbyte, Prhex, Keyin, Wait, Getln};
 ghost use Rattle.a2_services.specs.Put.{window_of};
 ghost use Rattle.a2_services.specs.Services.{fits as fits_of, lacks_keys as lacks_keys_of, cycles_of as cycles_by, wait_cycles as wait_cycles_of};
 ghost use Rattle.a2_services.specs.Fits.{CursorFits};
@@ -118,7 +118,7 @@ fn cycles_of(takes: Takes, live: &Live) -> u32
     ensures { result ≡ cycles_by takes (live_registers live.now) }
 {
     match takes {
-        Takes::Hook => HOOK_CYCLES,
+        Takes::OutputHook | Takes::InputHook => HOOK_CYCLES,
         Takes::Six => 6,
         Takes::Wait => wait_cycles(live.a),
     }

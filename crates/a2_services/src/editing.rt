@@ -3,7 +3,7 @@
 
 ghost use Rattle.std.specs.Prelude.{◌≡◌};
 ghost use Rattle.a2_bus.specs.View.{memory_of};
-ghost use Rattle.a2_services.specs.declared.Service.TheVariants.{Setinv, Setnorm, Vtab, Clreol, Clreop};
+ghost use Rattle.a2_services.specs.declared.rows.Service.TheVariants.{Setinv, Setnorm, Vtab, Clreol, Clreop};
 ghost use Rattle.a2_services.specs.Called.{IsDone};
 ghost use Rattle.a2_services.specs.Fits.{CursorFits};
 ghost use Rattle.a2_services.specs.Services.{cleared_below};

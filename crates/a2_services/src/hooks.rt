@@ -4,7 +4,7 @@
 ghost use Rattle.std.specs.Prelude.{◌≡◌, ◌+◌, ◌<◌, ℕ, length};
 ghost use Rattle.a2_bus.specs.Memory.{ram_end};
 ghost use Rattle.a2_core.specs.Live.{live_registers};
-ghost use Rattle.a2_services.specs.declared.Service.TheVariants.{Cout, Crout, Rdkey};
+ghost use Rattle.a2_services.specs.declared.rows.Service.TheVariants.{Cout, Crout, Rdkey};
 ghost use Rattle.a2_services.specs.World.{world_of};
 ghost use Rattle.a2_services.specs.Called.{IsDone};
 ghost use Rattle.a2_services.specs.Services.{through};

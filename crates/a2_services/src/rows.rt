@@ -1,11 +1,72 @@
-//! The services' rows: the name of each, where it is called, what it needs, where it may store and how long it takes.
+//! The services' rows: what each is, its name, where it is called, what it needs, where it may store, how long it takes, which
+//! registers it looks at and sets, and what it does on the screen.
 
 ghost use Rattle.std.specs.Prelude.{◌≡◌, ◌≤◌, length};
 ghost use Rattle.a2_services.specs.Rows.{service_row as row_by, service_name as name_of};
 ghost use Rattle.a2_services.specs.Services.{service_at as service_at_of};
 
-use crate::Service;
 use a2_bus::locations::{COUT1, KEYIN};
+
+/// A service of the Monitor. A hook takes 5 cycles, WAIT as many as A says, each other 6 (this project's profile).
+///
+/// The output services are COUT1, HOME, PRBYTE, PRHEX and GETLN. They work in the window that $20 to $23 say (its left
+/// edge, width, top row and the row below its last), and each stores in $28 and $29, as it ends, the address of the
+/// window's left edge in the cursor's row. The cursor is column $24 of the window and row $25 of the screen.
+///
+/// Lo-res blocks stand on page 1 in 48 rows of 40. A block takes its colour from $30: the low four bits in rows 0, 2, 4 and
+/// so on, the high four in the others.
+#[derive(Clone, Copy, Debug, PartialEq, Eq)]
+pub enum Service {
+    /// COUT, $FDED, a hook: PC becomes the word at $36 and $37.
+    Cout,
+    /// COUT1, $FDF0: puts the byte in A at the cursor. A byte from $A0 on is first masked by $32. $8D is a return, $8A a
+    /// line feed and $88 a backspace; other bytes from $80 to $9F do nothing.
+    Cout1,
+    /// CROUT, $FD8E, a hook: A = $8D, a return, and PC becomes the word at $36 and $37.
+    Crout,
+    /// HOME, $FC58: makes the window blank and puts the cursor at its top left.
+    Home,
+    /// PRBYTE, $FDDA: puts the two hexadecimal digits of A, as capitals with bit 7 set.
+    Prbyte,
+    /// PRHEX, $FDE3: puts the hexadecimal digit of A's low four bits, as a capital with bit 7 set.
+    Prhex,
+    /// SETINV, $FE80: $32 = $3F, so that characters are put in inverse.
+    Setinv,
+    /// SETNORM, $FE84: $32 = $FF, so that characters are put as they are.
+    Setnorm,
+    /// VTAB, $FC22: stores in $28 and $29 the address of the window's left edge in the cursor's row.
+    Vtab,
+    /// CLREOL, $FC9C: makes the cursor's row blank from the cursor to the window's right edge.
+    Clreol,
+    /// CLREOP, $FC42: makes the window blank from the cursor on: the rest of its row and the rows below. Stores in $28 and
+    /// $29 as VTAB does.
+    Clreop,
+    /// RDKEY, $FD0C, a hook: PC becomes the word at $38 and $39.
+    Rdkey,
+    /// KEYIN, $FD1B: takes the first waiting key; A = that key with bit 7 set.
+    Keyin,
+    /// GETLN, $FD6A: puts the prompt of $33 and takes keys up to a return; the line is left at $0200, and X = its
+    /// length without the return. A key stands for itself with bit 7 set, the right arrow for the byte that the cursor
+    /// stands on, and a byte from $E0 on loses $20, so small letters become capitals. Keys are echoed unmasked. The
+    /// left arrow takes the last byte back, or where there is none puts a return and the prompt; control X, or the
+    /// 256th byte, puts `\`, a return and the prompt, and the line begins anew. The return makes the cursor's row blank
+    /// from the cursor to the window's right edge, and is put.
+    Getln,
+    /// WAIT, $FCA8: A = 0, after (14 + 27a + 5a²) / 2 cycles, where a is A before the call; after 167,293 where a is 0.
+    Wait,
+    /// SETCOL, $F864: $30 = 17 times A's low four bits, the colour of blocks in all rows.
+    Setcol,
+    /// PLOT, $F800: the block of row A and column Y takes its colour.
+    Plot,
+    /// HLINE, $F819: so do the blocks of row A from column Y to the column in $2C, or to Y where that is greater.
+    Hline,
+    /// VLINE, $F828: so do the blocks of column Y from row A to the row in $2D, or to A where that is greater.
+    Vline,
+    /// SCRN, $F871: A = the colour, 0 to 15, of the block of row A and column Y.
+    Scrn,
+    /// CLRSCR, $F832: all blocks become black, $30 = 0 and $2D = 47.
+    Clrscr,
+}
 
 /// What a service needs of window, cursor, keys and registers.
 #[derive(Clone, Copy)]
@@ -52,12 +113,53 @@ pub enum Reach {
 /// How long a service takes.
 #[derive(Clone, Copy)]
 pub enum Takes {
-    /// 5 cycles: a hook's jump.
-    Hook,
+    /// 5 cycles: a jump by the output hook.
+    OutputHook,
+    /// 5 cycles: a jump by the input hook.
+    InputHook,
     /// 6 cycles.
     Six,
     /// As many as WAIT does by A.
     Wait,
+}
+
+/// Which of A, X and Y.
+#[derive(Clone, Copy)]
+pub enum RegisterSet {
+    Empty,
+    A,
+    X,
+    AAndY,
+}
+
+/// What a service does with cells of page 1.
+#[derive(Clone, Copy)]
+pub enum OnScreen {
+    Nothing,
+    /// Puts the byte in A.
+    PutsByte,
+    /// Puts the two hexadecimal digits of A.
+    PutsDigits,
+    /// Puts that of A's low four bits.
+    PutsDigit,
+    /// Puts the prompt, and the line that keys make.
+    ReadsLine,
+    /// Makes the window blank.
+    ClearsWindow,
+    /// Makes the cursor's row blank, up to the window's right edge.
+    ClearsToEnd,
+    /// And the rows of the window below it.
+    ClearsBelow,
+    /// Colours the block of row A and column Y.
+    PaintsBlock,
+    /// And those up to the column in H2.
+    PaintsAcross,
+    /// Colours the block of row A and column Y, and those up to the row in V2.
+    PaintsDown,
+    /// Looks at the block of row A and column Y.
+    LooksAtBlock,
+    /// Makes all blocks black.
+    ClearsBlocks,
 }
 
 /// A service's row.
@@ -67,6 +169,9 @@ pub struct Row {
     pub needs: Needs,
     pub reach: Reach,
     pub takes: Takes,
+    pub looks_at: RegisterSet,
+    pub sets: RegisterSet,
+    pub on_screen: OnScreen,
 }
 
 // Those of the services that are looked for first.
@@ -74,53 +179,66 @@ const COUT: u16 = 0xFDED;
 
 const PLOT: u16 = 0xF800;
 
-// Makes something of each service's row: what it is, its name, where it is called, what it needs, where it may store and how
-// long it takes.
+// Makes something of each service's row: what it is, its name, where it is called, what it needs, where it may store, how long it
+// takes, which registers it looks at and sets, and what it does on the screen.
 macro_rules! services {
     ($make:ident $($of:ident)?) => {
         $make!($($of)?;
-            Cout b"COUT" COUT Nothing Nowhere Hook, Cout1 b"COUT1" COUT1 Cursor Screen Six,
-            Crout b"CROUT" 0xFD8E Nothing Nowhere Hook, Home b"HOME" 0xFC58 Window Screen Six,
-            Prbyte b"PRBYTE" 0xFDDA Cursor Screen Six, Prhex b"PRHEX" 0xFDE3 Cursor Screen Six,
-            Setinv b"SETINV" 0xFE80 Nothing Mask Six, Setnorm b"SETNORM" 0xFE84 Nothing Mask Six,
-            Vtab b"VTAB" 0xFC22 Cursor Base Six, Clreol b"CLREOL" 0xFC9C Cursor Page Six,
-            Clreop b"CLREOP" 0xFC42 Cursor BaseAndPage Six, Rdkey b"RDKEY" 0xFD0C Nothing Nowhere Hook,
-            Keyin b"KEYIN" KEYIN Key Nowhere Six, Getln b"GETLN" 0xFD6A Line ScreenAndLine Six,
-            Wait b"WAIT" 0xFCA8 Nothing Nowhere Wait, Setcol b"SETCOL" 0xF864 Nothing Color Six,
-            Plot b"PLOT" PLOT Block Page Six, Hline b"HLINE" 0xF819 Across Page Six,
-            Vline b"VLINE" 0xF828 Down Page Six, Scrn b"SCRN" 0xF871 Block Nowhere Six,
-            Clrscr b"CLRSCR" 0xF832 Nothing Graphics Six
+            Cout b"COUT" COUT Nothing Nowhere OutputHook Empty Empty Nothing,
+            Cout1 b"COUT1" COUT1 Cursor Screen Six A Empty PutsByte,
+            Crout b"CROUT" 0xFD8E Nothing Nowhere OutputHook Empty A Nothing,
+            Home b"HOME" 0xFC58 Window Screen Six Empty Empty ClearsWindow,
+            Prbyte b"PRBYTE" 0xFDDA Cursor Screen Six A Empty PutsDigits,
+            Prhex b"PRHEX" 0xFDE3 Cursor Screen Six A Empty PutsDigit,
+            Setinv b"SETINV" 0xFE80 Nothing Mask Six Empty Empty Nothing,
+            Setnorm b"SETNORM" 0xFE84 Nothing Mask Six Empty Empty Nothing,
+            Vtab b"VTAB" 0xFC22 Cursor Base Six Empty Empty Nothing,
+            Clreol b"CLREOL" 0xFC9C Cursor Page Six Empty Empty ClearsToEnd,
+            Clreop b"CLREOP" 0xFC42 Cursor BaseAndPage Six Empty Empty ClearsBelow,
+            Rdkey b"RDKEY" 0xFD0C Nothing Nowhere InputHook Empty Empty Nothing,
+            Keyin b"KEYIN" KEYIN Key Nowhere Six Empty A Nothing,
+            Getln b"GETLN" 0xFD6A Line ScreenAndLine Six Empty X ReadsLine,
+            Wait b"WAIT" 0xFCA8 Nothing Nowhere Wait A A Nothing,
+            Setcol b"SETCOL" 0xF864 Nothing Color Six A Empty Nothing,
+            Plot b"PLOT" PLOT Block Page Six AAndY Empty PaintsBlock,
+            Hline b"HLINE" 0xF819 Across Page Six AAndY Empty PaintsAcross,
+            Vline b"VLINE" 0xF828 Down Page Six AAndY Empty PaintsDown,
+            Scrn b"SCRN" 0xF871 Block Nowhere Six AAndY A LooksAtBlock,
+            Clrscr b"CLRSCR" 0xF832 Nothing Graphics Six Empty Empty ClearsBlocks
         )
     };
 }
 
 macro_rules! rows {
-    ($of:ident; $($service:ident $name:literal $address:tt $needs:ident $reach:ident $takes:ident),*) => {
+    ($of:ident; $($service:ident $name:literal $address:tt $needs:ident $reach:ident $takes:ident $looks_at:ident $sets:ident $on_screen:ident),*) => {
         match $of {
             $(Service::$service => Row {
                 address: $address,
                 needs: Needs::$needs,
                 reach: Reach::$reach,
                 takes: Takes::$takes,
+                looks_at: RegisterSet::$looks_at,
+                sets: RegisterSet::$sets,
+                on_screen: OnScreen::$on_screen,
             }),*
         }
     };
 }
 
 macro_rules! places {
-    ($of:ident; $($service:ident $name:literal $address:tt $needs:ident $reach:ident $takes:ident),*) => {
+    ($of:ident; $($service:ident $name:literal $address:tt $($rest:ident)*),*) => {
         match $of { $($address => Some(Service::$service),)* _ => None }
     };
 }
 
 macro_rules! names {
-    ($of:ident; $($service:ident $name:literal $address:tt $needs:ident $reach:ident $takes:ident),*) => {
+    ($of:ident; $($service:ident $name:literal $address:tt $($rest:ident)*),*) => {
         match $of { $(Service::$service => $name),* }
     };
 }
 
 macro_rules! all {
-    (; $($service:ident $name:literal $address:tt $needs:ident $reach:ident $takes:ident),*) => {
+    (; $($service:ident $name:literal $address:tt $($rest:ident)*),*) => {
         [$(Service::$service),*]
     };
 }

@@ -11,7 +11,7 @@ use Rattle.a2_core.specs.Registers.{Registers}
 use Rattle.a2_cpu.specs.StepStores.{none_if, stores_at}
 use Rattle.a2_core.specs.Instruction.{state_of}
 use Rattle.a2_places.specs.declared.places.Span.{Span}
-use Rattle.a2_services.specs.declared.Service.{Service}
+use Rattle.a2_services.specs.declared.rows.Service.{Service}
 use Rattle.a2_services.specs.Services.{service_at}
 use Rattle.a2_services.specs.World.{World, world_of}
 use Rattle.a2_machine.specs.declared.Cause.{Cause}

@@ -5,7 +5,7 @@ use Rattle.std.proofs.Common.{sym, ap, ◌∙◌, subst, arith, true≢false}
 use Rattle.std.proofs.lemmas.Bool.Decides.{nat_tests}
 use Rattle.a2_bus.specs.BusState.{BusState}
 use Rattle.a2_core.specs.Registers.{Registers}
-use Rattle.a2_services.specs.declared.Service.{Service}
+use Rattle.a2_services.specs.declared.rows.Service.{Service}
 use Rattle.a2_services.specs.Called.{IsCallMade}
 use Rattle.a2_services.specs.Services.{reach, service_at}
 use Rattle.a2_services.specs.World.{world_of}

@@ -5,8 +5,10 @@ use Rattle.std.specs.List.{flat_map}
 use Rattle.a2_bus.specs.Memory.{Memory}
 use Rattle.a2_core.specs.Registers.{Registers}
 use Rattle.a2_page.specs.Grid.{blank}
-use Rattle.a2_services.specs.declared.Service.{Service}
-use Rattle.a2_services.specs.declared.Service.TheVariants.{Cout1, Prbyte, Prhex, Getln}
+use Rattle.a2_services.specs.declared.rows.Service.{Service}
+use Rattle.a2_services.specs.declared.rows.OnScreen.{OnScreen}
+use Rattle.a2_services.specs.declared.rows.OnScreen.TheVariants as cells
+use Rattle.a2_services.specs.Rows.{service_row}
 use Rattle.a2_services.specs.Bytes.{carriage_return, line_feed, backspace, cancel, backslash}
 use Rattle.a2_services.specs.Put.{prompt_character}
 use Rattle.a2_services.specs.Services.{digit_byte}
@@ -45,13 +47,16 @@ line_printed prompt (key ∷ keys) len =
 
 -- What a service prints: each byte that it puts and that is a character, before INVFLG masks it. COUT and CROUT are hooks, and print
 -- by COUT1, if they lead there.
-abbrev pub printed_by : Service → Registers → Memory → List ℕ
-printed_by Cout1 registers memory = shown registers.a
-printed_by Prbyte registers memory = shown (digit_byte (registers.a / 16)) ++ shown (digit_byte (registers.a % 16))
-printed_by Prhex registers memory = shown (digit_byte (registers.a % 16))
-printed_by Getln registers memory =
+abbrev pub printed_on : OnScreen → Registers → Memory → List ℕ
+printed_on cells.PutsByte registers memory = shown registers.a
+printed_on cells.PutsDigits registers memory = shown (digit_byte (registers.a / 16)) ++ shown (digit_byte (registers.a % 16))
+printed_on cells.PutsDigit registers memory = shown (digit_byte (registers.a % 16))
+printed_on cells.ReadsLine registers memory =
     shown (prompt_character memory) ++ line_printed (prompt_character memory) memory.devices.keys 0
-printed_by _ registers memory = []
+printed_on _ registers memory = []
+
+abbrev pub printed_by : Service → Registers → Memory → List ℕ
+printed_by service registers memory = printed_on (service_row service).on_screen registers memory
 
 -- the bytes that texts say, each text behind the one before: characters with bit 7 set
 abbrev pub bytes_of_texts : List Text → List ℕ

@@ -3,7 +3,7 @@
 //! Each function here marks what it says, and answers false where the routine may not store at one of the addresses, or it is not
 //! in RAM or holds the return address.
 
-ghost use Rattle.std.specs.Prelude.{◌<◌, ◌≤◌, ◌+◌, ℕ, [], ◌∷◌, ◌++◌, map, IfSome, IsTrue};
+ghost use Rattle.std.specs.Prelude.{◌≡◌, ◌<◌, ◌≤◌, ◌+◌, ℕ, [], ◌∷◌, ◌++◌, map, IfSome, IsTrue};
 ghost use Rattle.a2_page.specs.Cells.{numbers_from};
 ghost use Rattle.a2_bus.specs.Memory.{Memory};
 ghost use Rattle.a2_bus.specs.View.{memory_of};
@@ -11,8 +11,8 @@ ghost use Rattle.a2_core.specs.View.{registers_of};
 ghost use Rattle.a2_services.specs.Blocks.{span_of};
 ghost use Rattle.a2_services.specs.Put.{after_put, window_of};
 ghost use Rattle.a2_services.specs.World.{world_of};
-ghost use Rattle.a2_reads.specs.Services.{base_bytes, block_cell, cells_below, cells_to_end};
-ghost use Rattle.a2_reads.specs.Services.{changed_by, output_bytes, put_changes, service_stores, window_cells};
+ghost use Rattle.a2_reads.specs.Services.{block_cell, bytes_set as bytes_set_by, cells_below, cells_changed, cells_to_end};
+ghost use Rattle.a2_reads.specs.Services.{changed_by, put_changes, service_stores, window_cells};
 ghost use Rattle.a2_trial.specs.Screen.{IsCursor, IsOnScreen, window_by};
 ghost use Rattle.a2_trial.specs.Walking.{AreMarked};
 
@@ -25,7 +25,7 @@ use a2_cpu::Regs;
 use a2_page::{Page, address};
 use a2_promise::Changes;
 use a2_services::bytes::digit_byte;
-use a2_services::{Service, load, masked};
+use a2_services::{OnScreen, Reach, Service, load, masked, row_of};
 use std::alloc::Global;
 
 // The whole screen.
@@ -146,10 +146,20 @@ fn cursor_on_screen(space: &AddressSpace<Global>) -> Option<Cursor>
     }
 }
 
-// What CLREOP changes.
-fn mark_clreop(stored: &mut Stored, changes: &Changes, space: &AddressSpace<Global>) -> bool
+// From the cursor to the window's right edge, if it lies on the screen.
+fn mark_row(stored: &mut Stored, changes: &Changes, space: &AddressSpace<Global>) -> bool
+    ensures { IsTrue result → AreMarked stored.old stored.new changes.now (cells_to_end (memory_of space.now)) }
+{
+    match cursor_on_screen(space) {
+        Some(cursor) => mark_to_end(stored, changes, &cursor),
+        None => false,
+    }
+}
+
+// These, and the rows of the window below.
+fn mark_below(stored: &mut Stored, changes: &Changes, space: &AddressSpace<Global>) -> bool
     ensures { IsTrue result → let memory = memory_of space.now in
-        AreMarked stored.old stored.new changes.now (base_bytes ++ cells_to_end memory ++ cells_below memory) }
+        AreMarked stored.old stored.new changes.now (cells_to_end memory ++ cells_below memory) }
 {
     let Some(cursor) = cursor_on_screen(space) else {
         return false;
@@ -158,45 +168,38 @@ fn mark_clreop(stored: &mut Stored, changes: &Changes, space: &AddressSpace<Glob
         top: cursor.row + 1,
         ..cursor
     };
-    mark_each(stored, changes, &[BASL, BASH])
-        && mark_to_end(stored, changes, &cursor)
-        && mark_window(stored, changes, &below)
+    mark_to_end(stored, changes, &cursor) && mark_window(stored, changes, &below)
 }
 
-// What HOME does; false where the window does not lie on the screen.
-fn mark_home(stored: &mut Stored, changes: &Changes, space: &AddressSpace<Global>) -> bool
-    ensures { IsTrue result
-        → AreMarked stored.old stored.new changes.now (output_bytes ++ window_cells (window_of (memory_of space.now))) }
+// The window's cells; false where it does not lie on the screen.
+fn mark_whole_window(stored: &mut Stored, changes: &Changes, space: &AddressSpace<Global>) -> bool
+    ensures { IsTrue result → AreMarked stored.old stored.new changes.now (window_cells (window_of (memory_of space.now))) }
 {
     let window = Cursor {
         row: 0,
         column: 0,
         ..cursor_in(space)
     };
-    if !is_on_screen(&window) {
-        return false;
-    }
-    mark_each(stored, changes, &[CH, CV, BASL, BASH]) && mark_window(stored, changes, &window)
+    is_on_screen(&window) && mark_window(stored, changes, &window)
 }
 
-// What COUT1 does of a byte.
+// What putting a byte changes.
 fn mark_output(
     stored: &mut Stored,
     changes: &Changes,
     byte: u8,
     space: &AddressSpace<Global>,
 ) -> bool
-    ensures { IsTrue result → AreMarked stored.old stored.new changes.now
-        (output_bytes ++ put_changes byte (memory_of space.now)) }
+    ensures { IsTrue result → AreMarked stored.old stored.new changes.now (put_changes byte (memory_of space.now)) }
 {
     let Some(cursor) = cursor_on_screen(space) else {
         return false;
     };
     let byte = masked(byte, load(space, INVFLG));
-    mark_each(stored, changes, &[CH, CV, BASL, BASH]) && mark_put(stored, changes, byte, &cursor)
+    mark_put(stored, changes, byte, &cursor)
 }
 
-// What it does of one byte and then of another.
+// What putting one byte and then another does.
 fn mark_both(
     stored: &mut Stored,
     changes: &Changes,
@@ -205,7 +208,7 @@ fn mark_both(
     space: &AddressSpace<Global>,
 ) -> bool
     ensures { IsTrue result → let memory = memory_of space.now in AreMarked stored.old stored.new changes.now
-        (output_bytes ++ put_changes first memory ++ put_changes second (after_put first memory)) }
+        (put_changes first memory ++ put_changes second (after_put first memory)) }
 {
     let Some(cursor) = cursor_on_screen(space) else {
         return false;
@@ -214,6 +217,53 @@ fn mark_both(
     let behind_first = behind(masked(first, mask), cursor);
     let next = masked(second, mask);
     mark_output(stored, changes, first, space) && mark_put(stored, changes, next, &behind_first)
+}
+
+// The bytes of a reach at which a service with that reach stores, but for the cells of the screen.
+fn bytes_set(reach: Reach) -> &'static [u16]
+    ensures { result.now ≡ bytes_set_by reach }
+{
+    match reach {
+        Reach::Screen => &[CH, CV, BASL, BASH],
+        Reach::Mask => &[INVFLG],
+        Reach::Base | Reach::BaseAndPage => &[BASL, BASH],
+        Reach::Color => &[COLOR],
+        Reach::Graphics => &[COLOR, V2],
+        Reach::Nowhere | Reach::ScreenAndLine | Reach::Page => &[],
+    }
+}
+
+// The cells that a service changes, by what it does on the screen.
+fn mark_changed(
+    on_screen: OnScreen,
+    stored: &mut Stored,
+    changes: &Changes,
+    regs: &Regs,
+    space: &AddressSpace<Global>,
+) -> bool
+    ensures { IsTrue result → AreMarked stored.old stored.new changes.now
+        (cells_changed on_screen (registers_of regs.now) (memory_of space.now)) }
+{
+    let low = digit_byte(regs.a % 16);
+    match on_screen {
+        OnScreen::PutsByte => mark_output(stored, changes, regs.a, space),
+        OnScreen::PutsDigits => mark_both(stored, changes, digit_byte(regs.a / 16), low, space),
+        OnScreen::PutsDigit => mark_output(stored, changes, low, space),
+        OnScreen::ClearsWindow => mark_whole_window(stored, changes, space),
+        OnScreen::ClearsToEnd => mark_row(stored, changes, space),
+        OnScreen::ClearsBelow => mark_below(stored, changes, space),
+        OnScreen::PaintsBlock => mark_block(stored, changes, regs.a, regs.y),
+        OnScreen::PaintsAcross => mark_blocks_across(
+            stored,
+            changes,
+            regs.a,
+            regs.y,
+            load(space, H2),
+        ),
+        OnScreen::PaintsDown => mark_blocks_down(stored, changes, regs.a, load(space, V2), regs.y),
+        OnScreen::ClearsBlocks => mark_window(stored, changes, &WHOLE_SCREEN),
+        OnScreen::Nothing | OnScreen::ReadsLine | OnScreen::LooksAtBlock => true,
+    }
 }
 
 /// Marks the addresses at which a service stores.
@@ -229,26 +279,7 @@ pub(crate) fn mark_places(
         → AreMarked stored.old stored.new changes.now (service_stores service
         (world_of (registers_of regs.now) space.now before)) }
 {
-    let low = digit_byte(regs.a % 16);
-    match service {
-        Service::Cout1 => mark_output(stored, changes, regs.a, space),
-        Service::Home => mark_home(stored, changes, space),
-        Service::Prbyte => mark_both(stored, changes, digit_byte(regs.a / 16), low, space),
-        Service::Prhex => mark_output(stored, changes, low, space),
-        Service::Setinv | Service::Setnorm => mark(stored, changes, INVFLG),
-        Service::Vtab => mark_each(stored, changes, &[BASL, BASH]),
-        Service::Clreol => match cursor_on_screen(space) {
-            Some(cursor) => mark_to_end(stored, changes, &cursor),
-            None => false,
-        },
-        Service::Clreop => mark_clreop(stored, changes, space),
-        Service::Setcol => mark(stored, changes, COLOR),
-        Service::Plot => mark_block(stored, changes, regs.a, regs.y),
-        Service::Hline => mark_blocks_across(stored, changes, regs.a, regs.y, load(space, H2)),
-        Service::Vline => mark_blocks_down(stored, changes, regs.a, load(space, V2), regs.y),
-        Service::Clrscr => {
-            mark_each(stored, changes, &[COLOR, V2]) && mark_window(stored, changes, &WHOLE_SCREEN)
-        }
-        _ => true,
-    }
+    let row = row_of(service);
+    mark_each(stored, changes, bytes_set(row.reach))
+        && mark_changed(row.on_screen, stored, changes, regs, space)
 }

@@ -12,7 +12,7 @@ use a2_cpu::Regs;
 use a2_page::BLANK;
 use a2_promise::Text;
 use a2_services::bytes::{BACKSLASH, BACKSPACE, CANCEL, LINE_FEED, RETURN, digit_byte};
-use a2_services::{Service, load};
+use a2_services::{OnScreen, Service, load, row_of};
 use std::alloc::{AllocError, Global};
 
 // Adds a byte that is put, if that is a character.
@@ -116,14 +116,14 @@ pub fn push_printed(
     ensures { OnOk result (printed.new.items
         ≡ printed.old.items ++ said.printed_by service (registers_of regs.now) (memory_of space.now)) }
 {
-    match service {
-        Service::Cout1 => push_shown(printed, regs.a),
-        Service::Prbyte => {
+    match row_of(service).on_screen {
+        OnScreen::PutsByte => push_shown(printed, regs.a),
+        OnScreen::PutsDigits => {
             push_shown(printed, digit_byte(regs.a / 16))?;
             push_shown(printed, digit_byte(regs.a % 16))
         }
-        Service::Prhex => push_shown(printed, digit_byte(regs.a % 16)),
-        Service::Getln => push_getln(printed, load(space, PROMPT), keys_of(space)),
+        OnScreen::PutsDigit => push_shown(printed, digit_byte(regs.a % 16)),
+        OnScreen::ReadsLine => push_getln(printed, load(space, PROMPT), keys_of(space)),
         _ => Ok(()),
     }
 }

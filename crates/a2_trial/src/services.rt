@@ -11,7 +11,7 @@ ghost use Rattle.a2_services.specs.Blocks.{span_of};
 ghost use Rattle.a2_services.specs.Put.{after_put};
 ghost use Rattle.a2_services.specs.World.{world_of};
 ghost use Rattle.a2_reads.specs.Reads.{Knows};
-ghost use Rattle.a2_reads.specs.Services.{block_cell, bytes_used, fit_bytes, is_keyless as is_keyless_by, moved_by, put_moves};
+ghost use Rattle.a2_reads.specs.Services.{block_cell, bytes_made_of, fit_bytes, is_keyless as is_keyless_by, moved_by, parts_in as parts_by, put_moves};
 ghost use Rattle.a2_reads.specs.Services.{service_needs, service_reads, service_sets, way_bytes, window_cells};
 ghost use Rattle.a2_trial.specs.Screen.{IsCursor, IsOnScreen, window_by};
 ghost use Rattle.a2_trial.specs.Walking.{known_now};
@@ -24,49 +24,51 @@ use a2_bus::locations::{CH, COLOR, CSW, CV, H2, INVFLG, KSW, V2, WNDBTM, WNDLFT,
 use a2_cpu::Regs;
 use a2_page::{Page, address};
 use a2_services::bytes::digit_byte;
-use a2_services::{Needs, Service, load, masked, row_of};
+use a2_services::{Needs, OnScreen, RegisterSet, Service, Takes, load, masked, row_of};
 use a2_uses::{Part, pull_address};
 use std::alloc::Global;
+
+// The registers of a set.
+fn parts_in(registers: RegisterSet) -> &'static [Part]
+    ensures { result.now ≡ parts_by registers }
+{
+    match registers {
+        RegisterSet::Empty => &[],
+        RegisterSet::A => &[Part::A],
+        RegisterSet::X => &[Part::X],
+        RegisterSet::AAndY => &[Part::A, Part::Y],
+    }
+}
 
 /// The registers that a service looks at.
 pub(crate) fn taken_by(service: Service) -> &'static [Part]
     ensures { result.now ≡ service_needs service }
 {
-    match service {
-        Service::Cout1 | Service::Prbyte | Service::Prhex | Service::Wait | Service::Setcol => &[
-            Part::A,
-        ],
-        Service::Plot | Service::Hline | Service::Vline | Service::Scrn => &[Part::A, Part::Y],
-        _ => &[],
-    }
+    parts_in(row_of(service).looks_at)
 }
 
 /// Those that it sets.
 pub(crate) fn given_by(service: Service) -> &'static [Part]
     ensures { result.now ≡ service_sets service }
 {
-    match service {
-        Service::Crout | Service::Keyin | Service::Wait | Service::Scrn => &[Part::A],
-        Service::Getln => &[Part::X],
-        _ => &[],
-    }
+    parts_in(row_of(service).sets)
 }
 
 /// Whether a service needs no key.
 pub(crate) fn is_keyless(service: Service) -> bool
     ensures { result ≡ is_keyless_by service }
 {
-    !matches!(service, Service::Keyin | Service::Getln)
+    !matches!(row_of(service).needs, Needs::Key | Needs::Line)
 }
 
 // The two bytes that say where a service goes on.
 fn way_of(service: Service, s: u8) -> [u16; 2]
     ensures { result ≡ way_bytes service s }
 {
-    match service {
-        Service::Cout | Service::Crout => [CSW, CSW + 1],
-        Service::Rdkey => [KSW, KSW + 1],
-        _ => [pull_address(s, 1), pull_address(s, 2)],
+    match row_of(service).takes {
+        Takes::OutputHook => [CSW, CSW + 1],
+        Takes::InputHook => [KSW, KSW + 1],
+        Takes::Six | Takes::Wait => [pull_address(s, 1), pull_address(s, 2)],
     }
 }
 
@@ -193,31 +195,31 @@ fn are_both_known(
     are_moved_known(known, stored, next, &behind(put, cursor))
 }
 
-// Whether all is known of which a service makes what it stores.
+// Whether all is known of which a service makes what it stores, by what it does on the screen.
 fn is_used_known(
-    service: Service,
+    on_screen: OnScreen,
     known: &[bool],
     stored: &Stored,
     regs: &Regs,
     space: &AddressSpace<Global>,
 ) -> bool
     ensures { IsTrue result → Knows (known_now known.now stored.now)
-        (bytes_used service (registers_of regs.now) (memory_of space.now)) }
+        (bytes_made_of on_screen (registers_of regs.now) (memory_of space.now)) }
 {
     let low = digit_byte(regs.a % 16);
-    match service {
-        Service::Cout1 => is_put_known(known, stored, regs.a, space),
-        Service::Prbyte => are_both_known(known, stored, digit_byte(regs.a / 16), low, space),
-        Service::Prhex => is_put_known(known, stored, low, space),
-        Service::Scrn => is_block_known(known, stored, regs.a, regs.y),
-        Service::Plot => {
+    match on_screen {
+        OnScreen::PutsByte => is_put_known(known, stored, regs.a, space),
+        OnScreen::PutsDigits => are_both_known(known, stored, digit_byte(regs.a / 16), low, space),
+        OnScreen::PutsDigit => is_put_known(known, stored, low, space),
+        OnScreen::LooksAtBlock => is_block_known(known, stored, regs.a, regs.y),
+        OnScreen::PaintsBlock => {
             is_known_now(known, stored, COLOR) && is_block_known(known, stored, regs.a, regs.y)
         }
-        Service::Hline => {
+        OnScreen::PaintsAcross => {
             is_known_now(known, stored, COLOR)
                 && are_known_across(known, stored, regs.a, regs.y, load(space, H2))
         }
-        Service::Vline => {
+        OnScreen::PaintsDown => {
             is_known_now(known, stored, COLOR)
                 && are_known_down(known, stored, regs.a, load(space, V2), regs.y)
         }
@@ -241,5 +243,5 @@ pub(crate) fn is_all_known(
     {
         return false;
     }
-    is_used_known(service, known, stored, regs, space)
+    is_used_known(row_of(service).on_screen, known, stored, regs, space)
 }

@@ -1,7 +1,7 @@
 use Rattle.std.specs.Prelude.{◌≡◌, ◌||◌, ◌&&◌, nat_lt, length}
 use denote.Enum.Declared.{tag_of}
 use Rattle.a2_services.specs.contracts.Service.{the_type}
-use Rattle.a2_services.specs.declared.Service.{Service}
+use Rattle.a2_services.specs.declared.rows.Service.{Service}
 use Rattle.a2_services.specs.Services.{reach}
 use Rattle.a2_machine.specs.Watches.{is_blocked}
 use Rattle.a2_machine.proofs.watch.block.Given as goal

@@ -1,9 +1,9 @@
-use Rattle.std.specs.Prelude.{◌≡◌, ◌++◌}
+use Rattle.std.specs.Prelude.{◌≡◌}
 use Rattle.std.proofs.Common.{sym, ap, ◌∙◌, subst}
 use Rattle.a2_bus.specs.Memory.{Memory}
 use Rattle.a2_bus.specs.View.{memory_of}
 use Rattle.a2_services.specs.Put.{after_put, after_put_unmasked, inverse_mask}
-use Rattle.a2_reads.specs.Services.{changed_by, masked, output_bytes, put_changes}
+use Rattle.a2_reads.specs.Services.{changed_by, masked, put_changes}
 use Rattle.a2_trial.specs.Screen.{IsCursor}
 use Rattle.a2_trial.specs.Walking.{AreMarked}
 use Rattle.a2_trial.proofs.Cursors.{mask_kept, put_masked, under_mask}
@@ -22,6 +22,6 @@ returns-then-mark_output c = λ is.
     let behind : IsCursor c.behind-behind_first.result n =
     subst (IsCursor c.behind-behind_first.result) put (c.behind-behind_first.ensures.cursor m c.in-Some.ensures.0) in
     both_marked c.args.stored.now c.mark_output.new.stored c.mark_put.new.stored c.args.changes.now
-    (output_bytes ++ put_changes c.args.first m) (put_changes c.args.second n) (c.mark_output.ensures c.if-mark_output.true)
+    (put_changes c.args.first m) (put_changes c.args.second n) (c.mark_output.ensures c.if-mark_output.true)
     (subst (λ b. AreMarked c.mark_output.new.stored c.mark_put.new.stored c.args.changes.now (changed_by b n)) next
     (c.mark_put.ensures is n behind))

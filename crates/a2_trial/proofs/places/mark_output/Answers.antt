@@ -1,16 +1,13 @@
 use Rattle.std.proofs.Common.{sym, ◌∙◌, subst}
 use Rattle.a2_bus.specs.Memory.{Memory}
 use Rattle.a2_bus.specs.View.{memory_of}
-use Rattle.a2_reads.specs.Services.{changed_by, output_bytes, put_changes}
+use Rattle.a2_reads.specs.Services.{changed_by}
 use Rattle.a2_trial.specs.Walking.{AreMarked}
 use Rattle.a2_trial.proofs.Cursors.{under_mask}
-use Rattle.a2_trial.proofs.Marks.{both_marked}
 use Rattle.a2_trial.proofs.places.mark_output.Goals as goal
 
-pub returns-then-mark_each : goal.returns-then-mark_each
-returns-then-mark_each c = λ is.
+pub returns : goal.returns
+returns c = λ is.
     let m : Memory = memory_of c.args.space.now in
-    both_marked c.args.stored.now c.mark_each.new.stored c.mark_put.new.stored c.args.changes.now output_bytes (put_changes c.args.byte m)
-    (c.mark_each.ensures c.if-mark_each.true)
-    (subst (λ byte. AreMarked c.mark_each.new.stored c.mark_put.new.stored c.args.changes.now (changed_by byte m))
-    (c.masked-byte.ensures ∙ under_mask c.args.byte c.load.result m (sym c.load.ensures.byte)) (c.mark_put.ensures is m c.in-Some.ensures.0))
+    subst (λ byte. AreMarked c.args.stored.now c.mark_put.new.stored c.args.changes.now (changed_by byte m))
+    (c.masked-byte.ensures ∙ under_mask c.args.byte c.load.result m (sym c.load.ensures.byte)) (c.mark_put.ensures is m c.in-Some.ensures.0)
