@@ -49,7 +49,7 @@ fn outcome_of_call(answer: Served) -> Result<u32, Cause>
 
 // The service that is to be called at an address above RAM, or the cause that stands before any call.
 #[inline(always)]
-#[tactic(auto, using(crate::proofs::Calls::found_above, crate::proofs::Outcomes::code_protected), unfolding(crate::specs::Meaning::stuck, crate::specs::Meaning::stuck_at))]
+#[tactic(auto, using(crate::proofs::Calls::stuck_above), unfolding(crate::specs::Meaning::stuck_at))]
 fn call_at<C: Allocator>(pc: u16, watch: &Watch<C>) -> Result<Service, Cause>
     requires { ram_end ≤ pc }
     ensures { IsCallAt watch.now pc result }
