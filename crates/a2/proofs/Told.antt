@@ -1,12 +1,12 @@
 -- What is told goes with the status.
-use Rattle.std.specs.Prelude.{codes}
+use Rattle.std.specs.Prelude.{Bool, true, false, if◌then◌else◌, codes}
 use Rattle.std.proofs.Common.{◌≡◌, ◌⊎◌, ℕ, Result, Ok, Err, refl, sym, subst, arith, inl, inr}
 use Rattle.a2_stream.specs.Stream.{Giver, Taker}
 use Rattle.a2_syntax.specs.declared.fault.Fault.{Fault}
 use Rattle.a2_syntax.specs.declared.fault.Fault.TheVariants as refusal
 use Rattle.a2_syntax.specs.Texts.{fault_text}
-use Rattle.a2_machine.specs.declared.Cause.{Cause}
-use Rattle.a2_machine.specs.declared.Cause.TheVariants as stop
+use Rattle.a2_machine.specs.declared.causes.Cause.{Cause}
+use Rattle.a2_machine.specs.Causes.{is_own_end}
 use Rattle.a2_run.specs.declared.fault.RunFault.{RunFault}
 use Rattle.a2_run.specs.declared.fault.RunFault.TheVariants.{Source, Script, Read, Write, Memory}
 use Rattle.a2_run.specs.Status.{cause_status, fault_status, refusal_status, status_of}
@@ -91,16 +91,11 @@ told_fault told told' Write line = by_4 told told' (inr line)
 told_fault told told' Memory line = by_5 told told' line
 
 told_cause : (told told' : Taker) (cause : Cause) → told' ≡ told → IsToldBy (cause_status cause) told told'
-told_cause told told' stop.Returned same = by_0 told told' same
-told_cause told told' stop.Brk same = by_0 told told' same
-told_cause told told' stop.CodeWrite same = by_3 told told' same
-told_cause told told' stop.Window same = by_3 told told' same
-told_cause told told' stop.Keys same = by_3 told told' same
-told_cause told told' stop.OffStatement same = by_3 told told' same
-told_cause told told' stop.Rom same = by_3 told told' same
-told_cause told told' stop.Opcode same = by_3 told told' same
-told_cause told told' stop.Decimal same = by_3 told told' same
-told_cause told told' stop.Limit same = by_3 told told' same
+told_cause told told' cause same = go (is_own_end cause)
+  where
+    go : (is_own : Bool) → IsToldBy (if is_own then 0 else 3) told told'
+    go true = by_0 told told' same
+    go false = by_3 told told' same
 
 told_done : (told told' : Taker) (answer : Result (Unit {0}) RunFault) → TellsFault answer told told' → IsToldBy (done_status answer) told told'
 told_done told told' (Ok _) same = by_0 told told' same

@@ -1,7 +1,7 @@
 -- What the program does: with a text that an input gives, with files, with words. This project's profile.
 use Rattle.std.specs.Prelude.{◌≡◌, ◌⊎◌, ℕ, ◌≤◌, List, [], Result, Err, IfSome, MatchOption, MatchResult, true}
 use Rattle.a2_stream.specs.Stream.{Giver, Taker, Sends, TakesAtMost, count_after}
-use Rattle.a2_machine.specs.declared.Cause.{Cause}
+use Rattle.a2_machine.specs.declared.causes.Cause.{Cause}
 use Rattle.a2_run.specs.declared.Options.{Options}
 use Rattle.a2_run.specs.declared.fault.RunFault.{RunFault}
 use Rattle.a2_run.specs.declared.fault.RunFault.TheVariants.{Read}

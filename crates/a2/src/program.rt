@@ -2,7 +2,7 @@
 
 ghost use Rattle.std.specs.Prelude.{◌≡◌, ◌≢◌, ◌⊎◌, ◌<◌, ◌≤◌, [], Result, Ok, Err, IfErr, IsErr, IsOk, MatchResult, length, map};
 ghost use Rattle.std.specs.Prelude.{string_bytes};
-ghost use Rattle.a2_machine.specs.declared.Cause.{Cause as Stop};
+ghost use Rattle.a2_machine.specs.declared.causes.Cause.{Cause as Stop};
 ghost use Rattle.a2_run.specs.declared.fault.RunFault.{RunFault as Fault};
 ghost use Rattle.a2_run.specs.declared.fault.RunFault.TheVariants.{Read};
 ghost use Rattle.a2_run.specs.Limits.{default_steps};

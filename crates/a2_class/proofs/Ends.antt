@@ -5,7 +5,7 @@ use Rattle.a2_stream.specs.Stream.{Taker}
 use Rattle.a2_services.specs.World.{World}
 use Rattle.a2_asm.specs.Assembled.{Assembled}
 use Rattle.a2_asm.specs.Programs.{IsSound}
-use Rattle.a2_machine.specs.declared.Cause.{Cause}
+use Rattle.a2_machine.specs.declared.causes.Cause.{Cause}
 use Rattle.a2_machine.specs.Meaning.{End, IsEnd}
 use Rattle.a2_machine.specs.ByteRun.{Guard, bytes}
 use Rattle.a2_machine.specs.State.{Device, IsMachineRun, world_of_state, code_of, most_steps, steps_left}

@@ -13,7 +13,7 @@ use Rattle.a2_core.specs.Registers.{Registers, byte_of_flags}
 use Rattle.a2_asm.specs.declared.program.Statement.{Statement}
 use Rattle.a2_asm.specs.Assembled.{Assembled}
 use Rattle.a2_asm.specs.Values.{name_value}
-use Rattle.a2_machine.specs.declared.Cause.{Cause}
+use Rattle.a2_machine.specs.declared.causes.Cause.{Cause}
 use Rattle.a2_machine.specs.Meaning.{End}
 use Rattle.a2_machine.specs.State.{MachineState, world_of_state}
 use Rattle.a2_run.specs.Meaning.{picture_of}

@@ -5,7 +5,6 @@ use crate::call::append;
 use crate::line::{Asked, Line, behind};
 use crate::rows::{first_row, row_count, row_fits};
 use crate::settings::name_in;
-use a2_machine::Cause;
 use a2_opcode::Mnemonic;
 use a2_places::statement_at;
 use a2_text::{decimal, hex_pair, hex_word, is_blank};
@@ -199,7 +198,7 @@ fn tell_difference<A: Allocator>(
 
 // Tells where a run ended that did not come to its end by itself.
 fn tell_end<A: Allocator>(text: &mut Vec<u8, A>, ending: &Ending<A>) -> Result<(), AllocError> {
-    if matches!(ending.cause, Cause::Returned | Cause::Brk) {
+    if ending.cause.is_own_end() {
         return Ok(());
     }
     let pc = ending.machine.regs().pc;

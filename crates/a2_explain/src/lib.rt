@@ -12,4 +12,4 @@ mod window;
 
 pub use course::Course;
 pub use scene::{Scene, put_address, put_number, put_place};
-pub use stop::{explain_stop, meaning, tell_stop};
+pub use stop::{explain_stop, tell_stop};

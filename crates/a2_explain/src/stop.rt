@@ -27,23 +27,6 @@ const CODE_STORES: &[u8] =
 const SERVICE_STORES: &[u8] =
     b"a2x: that service stores at $24 to $29 and on the screen, $0400 to $07FF, GETLN at $0200 too: keep code away\n";
 
-/// What a cause means at the place where PC stands, in words.
-pub fn meaning(cause: Cause) -> &'static [u8] {
-    match cause {
-        Cause::Returned => b"the last RTS was done",
-        Cause::CodeWrite => b"what stands there would store into the bytes of an instruction",
-        Cause::Window =>
-            b"the service there needs its window and cursor, or the block, on the screen",
-        Cause::Keys => b"the service there needs a key, and none is left (--keys)",
-        Cause::OffStatement => b"no instruction of the source begins there",
-        Cause::Rom => b"there is no RAM at $C000 and above",
-        Cause::Opcode => b"the byte there is no documented opcode",
-        Cause::Brk => b"there is a BRK",
-        Cause::Decimal => b"ADC and SBC do no decimal arithmetic: CLD clears D",
-        Cause::Limit => b"the limit of steps is reached (--limit)",
-    }
-}
-
 // Whether the instruction at an address takes its next address from the stack.
 fn returns<A: Allocator>(program: &Program<A>, address: u16) -> bool {
     match program.instr_at(address) {
@@ -169,7 +152,7 @@ fn put_stop<A: Allocator, W: Output>(
     put(b"a2x: stopped at ", writer)?;
     put_place(scene, pc, writer)?;
     put(b": ", writer)?;
-    put(meaning(cause), writer)?;
+    put(cause.sentence(), writer)?;
     put(b"\n", writer)
 }
 
@@ -247,7 +230,7 @@ fn explain<A: Allocator + Copy, W: Output>(
     writer: &mut W,
 ) -> Result<(), RunFault> {
     let stop = stop_of(alloc, scene.program, course)?;
-    if matches!(stop.cause, Cause::Returned | Cause::Brk) {
+    if stop.cause.is_own_end() {
         return Ok(());
     }
     put_stop(scene, stop.pc, stop.cause, writer)?;

@@ -20,8 +20,8 @@ use Rattle.a2_cpu.proofs.StoresLemmas.{performed-stores}
 use Rattle.a2_services.specs.declared.rows.Service.{Service}
 use Rattle.a2_services.specs.Services.{service_at, served}
 use Rattle.a2_services.specs.World.{World}
-use Rattle.a2_machine.specs.declared.Cause.{Cause}
-use Rattle.a2_machine.specs.declared.Cause.TheVariants.{Returned, CodeWrite, OffStatement}
+use Rattle.a2_machine.specs.declared.causes.Cause.{Cause}
+use Rattle.a2_machine.specs.declared.causes.Cause.TheVariants.{Returned, CodeWrite, OffStatement}
 use Rattle.a2_machine.specs.ByteRun.{Guard, bytes, decoded_or_cause}
 use Rattle.a2_machine.specs.Meaning.{Code, Decoded, cause_of_refusal, instruction_cause, service_cause, return_address, stuck_at}
 use Rattle.a2_machine.specs.Meaning.{next_at, found_at_pc, stuck, next, world_at}

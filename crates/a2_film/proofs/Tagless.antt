@@ -15,9 +15,8 @@ use Rattle.a2_asm.specs.Assembled.{Assembled}
 use Rattle.a2_bus.specs.Memory.{ram_byte, ram_end}
 use Rattle.a2_core.specs.Registers.{byte_of_flags}
 use Rattle.a2_services.specs.World.{World}
-use Rattle.a2_machine.specs.declared.Cause.{Cause}
-use Rattle.a2_machine.specs.declared.Cause.TheVariants.{Returned, CodeWrite, Window, Keys, OffStatement, Rom, Opcode, Brk}
-use Rattle.a2_machine.specs.declared.Cause.TheVariants.{Decimal, Limit}
+use Rattle.a2_machine.specs.declared.causes.Cause.{Cause}
+use Rattle.a2_machine.specs.declared.causes.Cause.TheVariants.{Returned}
 use Rattle.a2_machine.specs.Meaning.{Code, world_at}
 use Rattle.a2_machine.specs.Output.{cause_line}
 use Rattle.a2_film.specs.Changes.{Store, Change, switch_digit, differing, change_of}
@@ -185,15 +184,7 @@ rows-tagless code start (suc n) =
 
 cause-tagless : (cause : Cause) → HasNoTag (cause_line cause)
 cause-tagless Returned = by_test (cause_line Returned) refl
-cause-tagless CodeWrite = by_test (cause_line CodeWrite) refl
-cause-tagless Window = by_test (cause_line Window) refl
-cause-tagless Keys = by_test (cause_line Keys) refl
-cause-tagless OffStatement = by_test (cause_line OffStatement) refl
-cause-tagless Rom = by_test (cause_line Rom) refl
-cause-tagless Opcode = by_test (cause_line Opcode) refl
-cause-tagless Brk = by_test (cause_line Brk) refl
-cause-tagless Decimal = by_test (cause_line Decimal) refl
-cause-tagless Limit = by_test (cause_line Limit) refl
+cause-tagless cause = by_test (cause_line cause) refl
 
 -- What stands before the rows
 

@@ -6,7 +6,7 @@ use Rattle.a2_stream.specs.Stream.{Taker, Sends, Breaks}
 use Rattle.a2_stream.proofs.Joined.{Sends-then, Breaks-then, Breaks-more}
 use Rattle.a2_text.specs.Lines.{lines}
 use Rattle.a2_services.specs.World.{World}
-use Rattle.a2_machine.specs.declared.Cause.{Cause}
+use Rattle.a2_machine.specs.declared.causes.Cause.{Cause}
 use Rattle.a2_bus.specs.Devices.{Devices}
 use Rattle.a2_bus.proofs.Viewing.{devices_seen}
 use Rattle.a2_machine.specs.ByteRun.{Guard, bytes}

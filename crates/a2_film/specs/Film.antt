@@ -4,7 +4,7 @@ use Rattle.std.specs.List.{flat_map}
 use Rattle.a2_text.specs.Lines.{lines}
 use Rattle.a2_asm.specs.Assembled.{Assembled}
 use Rattle.a2_services.specs.World.{World}
-use Rattle.a2_machine.specs.declared.Cause.{Cause}
+use Rattle.a2_machine.specs.declared.causes.Cause.{Cause}
 use Rattle.a2_machine.specs.Meaning.{Code, End, IsEnd}
 use Rattle.a2_run.specs.Meaning.{IsProgramOf, code_of_run, start_of_run}
 use Rattle.a2_film_page.specs.Page as page

@@ -11,7 +11,7 @@ use Rattle.a2_core.specs.View.{registers_of}
 use Rattle.a2_services.specs.World.{World}
 use Rattle.a2_services.specs.declared.rows.Service.{Service}
 use Rattle.a2_services.specs.Services.{reach}
-use Rattle.a2_machine.specs.declared.Cause.{Cause}
+use Rattle.a2_machine.specs.declared.causes.Cause.{Cause}
 use Rattle.a2_machine.specs.Meaning.{Code}
 use Rattle.a2_machine.specs.State.{Device, world_of_state, cause_of, IsStep}
 use Rattle.a2_film_page.specs.Page as page

@@ -118,7 +118,27 @@ const esc=t=>t.replace(/[&<>"]/g,c=>"&#"+c.charCodeAt()+";");
 let T=$("film").textContent;const F={source:[],list:[],names:[],ch:[]},start=new Uint8Array(RAM);
 const utf=t=>{const b=[];for(let i=0;i<t.length;i++)b.push(t[i]=="\\"?X(t.substr((i+=2)-1,2)):t.charCodeAt(i));const u=new Uint8Array(b);try{return new TextDecoder("utf-8",{fatal:true}).decode(u)}catch{return chr(...b)}};
 // the Monitor's services: address, name, and what each does
-const svc={},SAY={};for(const q of "F800 PLOT draws a block|F819 HLINE draws a row of blocks|F828 VLINE draws a column of blocks|F832 CLRSCR clears the blocks|F864 SETCOL sets the colour of blocks|F871 SCRN reads the colour of a block|FC22 VTAB sets the cursor's row|FC42 CLREOP clears the rest of the window|FC58 HOME clears the text window|FC9C CLREOL clears the rest of the row|FCA8 WAIT lets time pass|FD0C RDKEY asks the input hook for a key|FD1B KEYIN takes a key|FD6A GETLN takes a line of keys|FD8E CROUT sends a RETURN through the output hook|FDDA PRBYTE shows A as two hexadecimal digits|FDE3 PRHEX shows A's low digit|FDED COUT sends the character in A through the output hook|FDF0 COUT1 shows the character in A|FE80 SETINV makes text inverse from here on|FE84 SETNORM makes text normal from here on".split("|")){const[a,n,...w]=q.split(" ");SAY[svc[X(a)]=n]=w.join(" ")}
+const svc={},SAY={};for(const[a,n,w]of [["F800","PLOT","the block of row A and column Y takes its colour"],
+["F819","HLINE","so do the blocks of row A from column Y to the column in $2C, or to Y where that is greater"],
+["F828","VLINE","so do the blocks of column Y from row A to the row in $2D, or to A where that is greater"],
+["F832","CLRSCR","all blocks become black, $30 = 0 and $2D = 47"],
+["F864","SETCOL","$30 = 17 times A's low four bits, the colour of blocks in all rows"],
+["F871","SCRN","A = the colour, 0 to 15, of the block of row A and column Y"],
+["FC22","VTAB","stores in $28 and $29 the address of the window's left edge in the cursor's row"],
+["FC42","CLREOP","makes the window blank from the cursor on: the rest of its row and the rows below"],
+["FC58","HOME","makes the window blank and puts the cursor at its top left"],
+["FC9C","CLREOL","makes the cursor's row blank from the cursor to the window's right edge"],
+["FCA8","WAIT","A = 0, after (14 + 27a + 5a\u00b2) / 2 cycles, where a is A before the call; after 167,293 where a is 0"],
+["FD0C","RDKEY","PC becomes the word at $38 and $39"],
+["FD1B","KEYIN","takes the first waiting key; A = that key with bit 7 set"],
+["FD6A","GETLN","puts the prompt of $33 and takes keys up to a return; the line is left at $0200, and X = its length without the return"],
+["FD8E","CROUT","A = $8D, a return, and PC becomes the word at $36 and $37"],
+["FDDA","PRBYTE","puts the two hexadecimal digits of A, as capitals with bit 7 set"],
+["FDE3","PRHEX","puts the hexadecimal digit of A's low four bits, as a capital with bit 7 set"],
+["FDED","COUT","PC becomes the word at $36 and $37"],
+["FDF0","COUT1","puts the byte in A at the cursor"],
+["FE80","SETINV","$32 = $3F, so that characters are put in inverse"],
+["FE84","SETNORM","$32 = $FF, so that characters are put as they are"]])SAY[svc[X(a)]=n]=esc(w);
 const D=c=>c<58?c-48:c<71&&c>64?c-55:-1;
 // m, an address and the bytes of RAM from there on; where they end
 function bytesAt(t,i,f){let a=X(t.substr(i+1,4));for(i+=5;D(t.charCodeAt(i))>=0;i+=2)f(a++,X(t.substr(i,2)));return i}
@@ -178,7 +198,17 @@ $("chap").hidden=!CH.length;$("chs").innerHTML=CH.map((c,i)=>"<option"+(c.k<0?" 
 const chap=()=>CH.findLastIndex(c=>c.k>=0&&c.k<=at),walk=d=>{const c=d>0?CH.find(c=>c.k>at):CH.findLast(c=>c.k>=0&&c.k<at);if(c)go(c.k)};
 $("chs").onchange=e=>go(CH[e.target.selectedIndex].k);
 // ---- plain words
-const STOP={RETURNED:"The program has ended well: its last RTS returned.",BRK:"The program came to a BRK, which ends a run.",LIMIT:"The steps allowed are used up; the program had not ended.","OFF STATEMENT":"No instruction of the source begins at PC, and no service does: the program ran past its end, or jumped into data.","CODE WRITE":"The next step would write over the program's own instructions.",WINDOW:"The text window, the cursor or a block lies outside the screen.",KEYS:"The program wants a key, and none is left.",DECIMAL:"There is no decimal arithmetic here, and flag D is set.",ROM:"Nothing can be run from $C000 on but the services.",OPCODE:"The byte at PC is no instruction."};
+// the causes of a stop: name, and what it means where PC stands
+const STOP={"RETURNED":"the last RTS was done",
+"CODE WRITE":"what stands there would store into the bytes of an instruction",
+"WINDOW":"the service there needs its window and cursor, or the block, on the screen",
+"KEYS":"the service there needs a key, and none is left (--keys)",
+"OFF STATEMENT":"no instruction of the source begins there",
+"ROM":"there is no RAM at $C000 and above",
+"OPCODE":"the byte there is no documented opcode",
+"BRK":"there is a BRK",
+"DECIMAL":"ADC and SBC do no decimal arithmetic: CLD clears D",
+"LIMIT":"the limit of steps is reached (--limit)"};
 const lineOf=k=>{while(k>=0&&!(PC[k]in LINE))k--;return k<0?0:LINE[PC[k]]};
 const place=p=>svc[p]?svc[p]:p in LINE?"line "+LINE[p]:p==0xff69?"the end of the run":hx(p,4);
 const nm=a=>hx(a,4)+(NAME[a]&&a>9?" ("+NAME[a]+")":"");
@@ -282,7 +312,7 @@ if(t){const y=t.offsetTop;if(y<s.scrollTop+60||y>s.scrollTop+s.clientHeight-60)s
 for(const q of hot){const v=hits[q[0]];if(v!=q[2]){q[2]=v;q[1].textContent=v||"";q[1].style.setProperty("--w",v?.06+.5*log(1+v)/MOST:0)}}
 const st=at?PC[at-1]:0,ci=chap(),c=CH[ci];$("chs").selectedIndex=ci;
 $("say").innerHTML=(c?'<p class="chap"><b>'+(ci+1)+" of "+CH.length+"</b> "+CH.filter(d=>d.k==c.k).map(d=>esc(d.t)).join("<br>")+"</p>":"")+"<p>"+(at?(svc[st]?"<code>"+svc[st]+"</code>, a service called from line "+wl:st in LINE?"Line "+wl+" <code>"+esc(code[wl-1])+"</code>":"Instruction at <code>"+hx(st,4)+"</code>")+": "+words(at)+".":B?"<b>The film begins here,</b> "+B+" steps into the run.":"<b>The start.</b> Nothing has been done yet.")+"</p>"+
-(at==N?'<p class="stop'+(F.stop=="RETURNED"?" ok":"")+'">The run stops here, '+F.stop+": "+(STOP[F.stop]||"")+(ln?" PC is at line "+ln+', <code>'+esc(code[ln-1])+"</code>.":F.stop=="RETURNED"?"":" PC is "+hx(PC[at],4)+(svc[PC[at]]?", "+svc[PC[at]]:"")+".")+"</p>":"<p>Next: "+(svc[PC[at]]?"the service <code>"+svc[PC[at]]+"</code>":ln?"line "+ln+" <code>"+esc(code[ln-1])+"</code>":hx(PC[at],4))+".</p>");
+(at==N?'<p class="stop'+(F.stop=="RETURNED"?" ok":"")+'">The run stops at '+(ln?"line "+ln+" <code>"+esc(code[ln-1])+"</code>":hx(PC[at],4)+(svc[PC[at]]?", the service <code>"+svc[PC[at]]+"</code>":""))+", "+F.stop+": "+esc(STOP[F.stop]||"")+".</p>":"<p>Next: "+(svc[PC[at]]?"the service <code>"+svc[PC[at]]+"</code>":ln?"line "+ln+" <code>"+esc(code[ln-1])+"</code>":hx(PC[at],4))+".</p>");
 let r="";
 for(const n of["A","X","Y","S","P","PC"]){const c=n=="PC"?PC:REG[n.toLowerCase()],v=c[at];r+='<button data-r="'+n+'"'+(at&&v!=c[at-1]&&n!="PC"?' class="ch"':"")+' aria-label="'+n+" "+h(v,2)+'"><small>'+n+("AXY".includes(n)?" = "+v:"")+"</small><b>"+h(v,n=="PC"?4:2)+"</b></button>"}
 $("regs").innerHTML=r;

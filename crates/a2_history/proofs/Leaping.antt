@@ -5,7 +5,7 @@ use Rattle.std.proofs.lemmas.Bool.{ne_eqb, cond-false}
 use Rattle.a2_bus.specs.Memory.{ram_byte}
 use Rattle.a2_live.specs.Shown.{Shown}
 use Rattle.a2_services.specs.World.{World}
-use Rattle.a2_machine.specs.declared.Cause.{Cause}
+use Rattle.a2_machine.specs.declared.causes.Cause.{Cause}
 use Rattle.a2_machine.specs.ByteRun.{bytes}
 use Rattle.a2_machine.specs.Looks.{shown_between, shown_at, seen_after}
 use Rattle.a2_machine.specs.Meaning.{Code, stuck, next, world_at}

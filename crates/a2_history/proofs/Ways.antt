@@ -3,7 +3,7 @@ use Rattle.std.specs.Prelude.{IfSome, IfNone, is_some, is_ok, All, Result, Ok, E
 use Rattle.std.proofs.lemmas.List.Elements.{All-push, All-filter}
 use Rattle.std.proofs.Common.{◌≡◌, ◌⊎◌, inl, inr, ℕ, zero, suc, ◌+◌, ◌<◌, ◌≤◌, Bool, true, false, true≢false, List, [], ◌∷◌, ◌++◌, Option, Some, None, refl, sym, ap, subst, ◌∙◌, arith, cond}
 use Rattle.a2_services.specs.World.{World}
-use Rattle.a2_machine.specs.declared.Cause.{Cause}
+use Rattle.a2_machine.specs.declared.causes.Cause.{Cause}
 use Rattle.a2_machine.specs.ByteRun.{bytes}
 use Rattle.a2_machine.specs.Meaning.{Code, stuck, next}
 use Rattle.a2_machine.specs.State.{MachineState, Device, world_of_state, code_of, cause_of, most_steps, IsStep}

@@ -1,7 +1,7 @@
 -- The ways through a run.
 use Rattle.std.specs.Prelude.{◌≡◌, ◌⊎◌, ℕ, ◌+◌, ◌<◌, ◌≤◌, Bool, true, false, nat_le, List, [], ◌∷◌, ◌++◌, filter, All, Option, Some, None}
 use Rattle.a2_services.specs.World.{World}
-use Rattle.a2_machine.specs.declared.Cause.TheVariants.{Limit}
+use Rattle.a2_machine.specs.declared.causes.Cause.TheVariants.{Limit}
 use Rattle.a2_live.specs.Shown.{Shown}
 use Rattle.a2_machine.specs.Meaning.{stuck}
 use Rattle.a2_machine.specs.Looks.{shown_between}

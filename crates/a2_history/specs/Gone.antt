@@ -1,8 +1,8 @@
 -- How going forwards ended, before it is told. No public clause cites this file.
 use Rattle.std.specs.Prelude.{◌≡◌, ◌⊎◌, ℕ, ◌<◌, ◌≤◌, Bool, true, false, Option, Some, None}
 use Rattle.a2_services.specs.World.{World}
-use Rattle.a2_machine.specs.declared.Cause.{Cause}
-use Rattle.a2_machine.specs.declared.Cause.TheVariants.{Limit}
+use Rattle.a2_machine.specs.declared.causes.Cause.{Cause}
+use Rattle.a2_machine.specs.declared.causes.Cause.TheVariants.{Limit}
 use Rattle.a2_machine.specs.Meaning.{stuck}
 use Rattle.a2_machine.specs.State.{MachineState, world_of_state, code_of}
 use Rattle.a2_history.specs.declared.Halt.{Halt}

@@ -26,8 +26,8 @@ use Rattle.a2_services.specs.Services.{service_at, served}
 use Rattle.a2_asm.specs.Assembled.{Assembled}
 use Rattle.a2_asm.specs.declared.program.Statement.{Statement}
 use Rattle.a2_asm.specs.Programs.{covers, is_code, Holds}
-use Rattle.a2_machine.specs.declared.Cause.{Cause}
-use Rattle.a2_machine.specs.declared.Cause.TheVariants.{Returned, OffStatement}
+use Rattle.a2_machine.specs.declared.causes.Cause.{Cause}
+use Rattle.a2_machine.specs.declared.causes.Cause.TheVariants.{Returned, OffStatement}
 use Rattle.a2_machine.specs.ByteRun.{Guard, bytes, decoded_or_cause}
 use Rattle.a2_machine.specs.Guarded.{HoldsCode}
 use Rattle.a2_machine.specs.Meaning.{Code, Decoded, service_cause, return_address, found_at_pc, stuck_at, stuck, next_at, next}

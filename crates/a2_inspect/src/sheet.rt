@@ -7,7 +7,7 @@ use crate::changes::{put_bytes, put_registers, put_screen_changes};
 use crate::order::{Outcome, Show};
 use crate::stops::{Break, Condition, Moment, Register, Relation, Subject, in_register};
 use crate::verbs::Verb;
-use a2_explain::{Scene, meaning, put_address, put_place};
+use a2_explain::{Scene, put_address, put_place};
 use a2_history::Entry;
 use a2_machine::{Cause, Machine, write_registers};
 use a2_opcode::list_line;
@@ -185,7 +185,7 @@ fn put_cause<A: Allocator>(cause: Cause, most: u32, sheet: &mut Sheet<A>) {
             decimal(u64::from(most)).as_slice(),
             b" steps are the most of one line (--limit)\n",
         ]),
-        _ => sheet.put_all(&[b"stopped: ", meaning(cause), b"\n"]),
+        _ => sheet.put_all(&[b"stopped: ", cause.sentence(), b"\n"]),
     }
 }
 

@@ -4,7 +4,7 @@ use Rattle.std.proofs.Common.{ap₂, ◌∙◌}
 use Rattle.a2_opcode.specs.declared.Instr.{Instr}
 use Rattle.a2_bus.specs.Memory.{Memory, ram_byte}
 use Rattle.a2_services.specs.World.{World}
-use Rattle.a2_machine.specs.declared.Cause.TheVariants.{Returned}
+use Rattle.a2_machine.specs.declared.causes.Cause.TheVariants.{Returned}
 use Rattle.a2_machine.specs.Meaning.{Code, IsEnd}
 use Rattle.a2_machine.proofs.Walks.{walked, Leads, to_end}
 use Rattle.a2_machine.proofs.Computing.{returns_there}

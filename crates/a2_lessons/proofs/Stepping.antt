@@ -10,7 +10,7 @@ use Rattle.a2_cpu.specs.Stores.{stores_of}
 use Rattle.a2_services.specs.declared.rows.Service.{Service}
 use Rattle.a2_services.specs.World.{World}
 use Rattle.a2_services.specs.Services.{service_at, served}
-use Rattle.a2_machine.specs.declared.Cause.TheVariants.{Returned, CodeWrite}
+use Rattle.a2_machine.specs.declared.causes.Cause.TheVariants.{Returned, CodeWrite}
 use Rattle.a2_machine.specs.Meaning.{Code, Decoded, service_cause, instruction_cause, cause_of_refusal, return_address, found_at_pc, stuck, stuck_at, next, next_at}
 use Rattle.a2_machine.proofs.Walks.{walked}
 

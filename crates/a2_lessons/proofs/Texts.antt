@@ -20,8 +20,8 @@ use Rattle.a2_asm.specs.Programs.{IsProgram, instr_at, is_code}
 use Rattle.a2_asm.proofs.MadeLaws.{IsMade, made-of, refusal-of}
 use Rattle.a2_bus.specs.Memory.{ram_end}
 use Rattle.a2_services.specs.World.{World}
-use Rattle.a2_machine.specs.declared.Cause.{Cause}
-use Rattle.a2_machine.specs.declared.Cause.TheVariants.{Returned}
+use Rattle.a2_machine.specs.declared.causes.Cause.{Cause}
+use Rattle.a2_machine.specs.declared.causes.Cause.TheVariants.{Returned}
 use Rattle.a2_machine.specs.Meaning.{Code, IsEnd, stuck, statements}
 use Rattle.a2_machine.specs.ByteRun.{addresses_below}
 use Rattle.a2_machine.specs.ProgramGuard.{guard_of_program}

@@ -2,7 +2,7 @@
 use Rattle.std.specs.Prelude.{◌≤◌, ℕ, true, false, List, ◌++◌, codes, replicate, [], ◌∷◌}
 use Rattle.std.specs.List.{concat}
 use Rattle.a2_core.specs.Registers.{Registers}
-use Rattle.a2_machine.specs.declared.Cause.TheVariants.{Returned}
+use Rattle.a2_machine.specs.declared.causes.Cause.TheVariants.{Returned}
 use Rattle.a2_machine.specs.Output.{register_line, cause_line}
 use Rattle.a2_lessons.specs.Runs.{RunWrites, blank_rows}
 

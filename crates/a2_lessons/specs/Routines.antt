@@ -8,7 +8,7 @@ use Rattle.a2_page.specs.Cells.{numbers_from}
 use Rattle.a2_bus.specs.Memory.{Memory, ram_byte}
 use Rattle.a2_core.specs.Registers.{registers_at}
 use Rattle.a2_services.specs.World.{World}
-use Rattle.a2_machine.specs.declared.Cause.TheVariants.{Returned}
+use Rattle.a2_machine.specs.declared.causes.Cause.TheVariants.{Returned}
 use Rattle.a2_machine.specs.Meaning.{Code, IsEnd, statements}
 
 -- an instruction, with its operand's value: an address, a byte, or of a branch the address that it goes to

@@ -11,7 +11,7 @@ use Rattle.a2_core.specs.Instruction.{performed, after_effect, returned, called}
 use Rattle.a2_cpu.specs.Stores.{stores_of}
 use Rattle.a2_services.specs.World.{World}
 use Rattle.a2_services.specs.Services.{service_at, reach, effect, served}
-use Rattle.a2_machine.specs.declared.Cause.TheVariants.{Returned}
+use Rattle.a2_machine.specs.declared.causes.Cause.TheVariants.{Returned}
 use Rattle.a2_machine.specs.Meaning.{Code, stuck, next, stuck_at, next_at, statements}
 use Rattle.a2_machine.proofs.Walks.{walked}
 

@@ -16,7 +16,7 @@ ghost use Rattle.a2_machine.specs.Outcome.{most_cost};
 ghost use Rattle.a2_machine.specs.ProgramGuard.{guard_of_program};
 ghost use Rattle.a2_machine.specs.Start.{start_world, called_at};
 ghost use Rattle.a2_machine.specs.State.{world_of_state, code_of, cause_of, most_steps, steps_left, raised_by, IsStep, IsMachineRun, IsRunTo, after_print};
-ghost use Rattle.a2_machine.specs.declared.Cause.TheVariants.{Limit};
+ghost use Rattle.a2_machine.specs.declared.causes.Cause.TheVariants.{Limit};
 ghost use Rattle.a2_machine.specs.declared.Stop.TheVariants.{Cause as StopCause, Breakpoint};
 
 use crate::step::cause_at;

@@ -6,7 +6,7 @@ ghost use Rattle.a2_core.specs.Live.{live_registers};
 ghost use Rattle.a2_services.specs.World.{world_of};
 ghost use Rattle.a2_machine.specs.Meaning.{stuck};
 ghost use Rattle.a2_machine.specs.ByteRun.{bytes};
-ghost use Rattle.a2_machine.specs.Outcome.{IsOutcome, cost_of, most_cost};
+ghost use Rattle.a2_machine.specs.Outcome.{IsCallAt, IsOutcome, TellsCall, TellsStep, cost_of, most_cost};
 
 use crate::Cause;
 use crate::watch::Watch;
@@ -23,7 +23,7 @@ use std::alloc::Allocator;
 // What a guarded step did: one of so many cycles was made, or none for a cause.
 #[inline(always)]
 fn outcome_of(step: GuardedStep) -> Result<u32, Cause>
-    ensures { result ≡ Rattle.a2_machine.specs.Outcome.outcome_of step }
+    ensures { TellsStep step result }
 {
     match step {
         GuardedStep::Next(cycles) => Ok(cycles),
@@ -38,7 +38,7 @@ fn outcome_of(step: GuardedStep) -> Result<u32, Cause>
 // The same of a call.
 #[inline(always)]
 fn outcome_of_call(answer: Served) -> Result<u32, Cause>
-    ensures { result ≡ Rattle.a2_machine.specs.Outcome.outcome_of_call answer }
+    ensures { TellsCall answer result }
 {
     match answer {
         Served::Next(cycles) => Ok(cycles),
@@ -49,8 +49,10 @@ fn outcome_of_call(answer: Served) -> Result<u32, Cause>
 
 // The service that is to be called at an address above RAM, or the cause that stands before any call.
 #[inline(always)]
+#[tactic(auto, using(crate::proofs::Calls::stuck_above), unfolding(crate::specs::Meaning::stuck_at))]
 fn call_at<C: Allocator>(pc: u16, watch: &Watch<C>) -> Result<Service, Cause>
-    ensures { result ≡ Rattle.a2_machine.specs.Outcome.call_at watch.now pc }
+    requires { ram_end ≤ pc }
+    ensures { IsCallAt watch.now pc result }
 {
     if pc == RETURN_ADDRESS {
         return Err(Cause::Returned);
@@ -65,7 +67,7 @@ fn call_at<C: Allocator>(pc: u16, watch: &Watch<C>) -> Result<Service, Cause>
 
 // One step where PC is above RAM.
 #[inline(always)]
-#[tactic(auto, using(crate::proofs::Costs::called_cost, crate::proofs::Calls::stuck_above))]
+#[tactic(auto, using(crate::proofs::Costs::called_cost))]
 fn make_step_above<A: Allocator, C: Allocator>(
     live: &mut Live,
     space: &mut AddressSpace<A>,
@@ -109,7 +111,7 @@ pub fn make_step<A: Allocator, C: Allocator>(
 }
 
 // Why there is no step, where PC is above RAM.
-#[tactic(auto, using(crate::proofs::Calls::stuck_above))]
+#[tactic(auto, using(crate::proofs::Calls::unstuck))]
 fn cause_above<A: Allocator, C: Allocator>(
     live: &Live,
     space: &AddressSpace<A>,
@@ -125,7 +127,7 @@ fn cause_above<A: Allocator, C: Allocator>(
 }
 
 /// Why there would be no step here; none where it would be made. Nothing changes.
-#[tactic(auto, using(crate::proofs::Calls::off_statement, crate::proofs::Outcomes::instruction_why))]
+#[tactic(auto, using(crate::proofs::Calls::off_statement, crate::proofs::Outcomes::unrefused_here))]
 pub fn cause_at<A: Allocator, C: Allocator>(
     live: &Live,
     space: &AddressSpace<A>,

@@ -6,7 +6,7 @@ use Rattle.a2_bus.specs.View.{memory_of}
 use Rattle.a2_services.specs.World.{World}
 use Rattle.a2_asm.specs.Assembled.{Assembled}
 use Rattle.a2_asm.specs.Programs.{IsSound}
-use Rattle.a2_machine.specs.declared.Cause.{Cause}
+use Rattle.a2_machine.specs.declared.causes.Cause.{Cause}
 use Rattle.a2_machine.specs.ByteRun.{Guard, bytes}
 use Rattle.a2_machine.specs.Meaning.{End, IsEnd}
 use Rattle.a2_machine.specs.State.{Device, MachineState, world_of_state, most_steps, steps_left}

@@ -1,7 +1,7 @@
 -- A machine where a run ends. This project's profile.
 use Rattle.std.specs.Prelude.{◌≡◌, ℕ, Bool, List}
 use Rattle.a2_asm.specs.Assembled.{Assembled}
-use Rattle.a2_machine.specs.declared.Cause.{Cause}
+use Rattle.a2_machine.specs.declared.causes.Cause.{Cause}
 use Rattle.a2_machine.specs.Meaning.{End, IsEnd}
 use Rattle.a2_machine.specs.State.{MachineState, world_of_state}
 use Rattle.a2_run.specs.Meaning.{code_of_run, start_of_run}

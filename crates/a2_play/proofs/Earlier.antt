@@ -10,7 +10,7 @@ use Rattle.a2_core.specs.Instruction.{performed}
 use Rattle.a2_services.specs.declared.rows.Service.{Service}
 use Rattle.a2_services.specs.World.{World}
 use Rattle.a2_services.specs.Services.{service_at, served}
-use Rattle.a2_machine.specs.declared.Cause.{Cause}
+use Rattle.a2_machine.specs.declared.causes.Cause.{Cause}
 use Rattle.a2_machine.specs.Meaning.{Code, Decoded, stuck, next, next_at, found_at_pc}
 use Rattle.a2_machine.specs.State.{Device}
 use Rattle.a2_typed.specs.declared.strokes.Typed.{Typed}

@@ -6,8 +6,8 @@ use Rattle.a2_core.specs.Instruction.{performed}
 use Rattle.a2_services.specs.declared.rows.Service.{Service}
 use Rattle.a2_services.specs.Services.{service_at, served}
 use Rattle.a2_services.specs.World.{World}
-use Rattle.a2_machine.specs.declared.Cause.{Cause}
-use Rattle.a2_machine.specs.declared.Cause.TheVariants.{Limit}
+use Rattle.a2_machine.specs.declared.causes.Cause.{Cause}
+use Rattle.a2_machine.specs.declared.causes.Cause.TheVariants.{Limit}
 use Rattle.a2_machine.specs.Meaning.{Code, Decoded, End, IsEnd, stuck, next, next_at, found_at_pc, world_at}
 use Rattle.a2_machine.specs.State.{Device, world_of_state, code_of, steps_left}
 use Rattle.a2_machine.specs.State as machine

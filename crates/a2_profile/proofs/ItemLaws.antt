@@ -9,7 +9,7 @@ use Rattle.a2_stream.specs.Stream.{Taker, Sends, SendsOrBreaks}
 use Rattle.a2_stream.proofs.Joined.{went_on}
 use Rattle.a2_page.proofs.Sending.{IsLeft}
 use Rattle.a2_asm.specs.declared.program.Statement.{Statement}
-use Rattle.a2_machine.specs.declared.Cause.{Cause}
+use Rattle.a2_machine.specs.declared.causes.Cause.{Cause}
 use Rattle.a2_profile.specs.declared.profile.Count.{Count}
 use Rattle.a2_places.specs.Statements.{instruction_on}
 use Rattle.a2_profile.specs.Table.{is_never_done}

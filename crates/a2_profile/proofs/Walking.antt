@@ -13,7 +13,7 @@ use Rattle.a2_live.specs.declared.observer.Look.{Look}
 use Rattle.a2_services.specs.World.{World}
 use Rattle.a2_asm.specs.Assembled.{Assembled}
 use Rattle.a2_asm.specs.Programs.{IsSound}
-use Rattle.a2_machine.specs.declared.Cause.{Cause}
+use Rattle.a2_machine.specs.declared.causes.Cause.{Cause}
 use Rattle.a2_machine.specs.ByteRun.{bytes}
 use Rattle.a2_machine.specs.Meaning.{Code, IsEnd, world_at}
 use Rattle.a2_machine.specs.Looks.{shown_at, seen_after}

@@ -6,8 +6,8 @@ use Rattle.a2_text.specs.Json.{escaped}
 use Rattle.a2_asm.specs.declared.program.Statement.{Statement}
 use Rattle.a2_asm.specs.Assembled.{Assembled}
 use Rattle.a2_asm.specs.Values.{Names}
-use Rattle.a2_machine.specs.declared.Cause.{Cause}
-use Rattle.a2_machine.specs.Output.{cause_name}
+use Rattle.a2_machine.specs.declared.causes.Cause.{Cause}
+use Rattle.a2_machine.specs.Causes.{cause_name}
 use Rattle.a2_places.specs.Statements.{instruction_on}
 use Rattle.a2_profile.specs.declared.profile.Count.{Count}
 use Rattle.a2_profile.specs.declared.walk.Totals.{Totals}

@@ -13,7 +13,7 @@ use Rattle.a2_core.specs.Registers.{Registers}
 use Rattle.a2_cpu.specs.Stores.{IsNotIn, logged, with_empty_log, stores_of}
 use Rattle.a2_services.specs.World.{World}
 use Rattle.a2_services.specs.Services.{service_at}
-use Rattle.a2_machine.specs.declared.Cause.TheVariants.{CodeWrite}
+use Rattle.a2_machine.specs.declared.causes.Cause.TheVariants.{CodeWrite}
 use Rattle.a2_machine.specs.Meaning.{Decoded, cause_of_refusal, found_at_pc, next, return_address, stuck, world_at}
 use Rattle.a2_services.proofs.Counting.{returned_devices}
 use Rattle.a2_uses.specs.Reads.{pull_address}

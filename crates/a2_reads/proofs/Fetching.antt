@@ -7,8 +7,8 @@ use Rattle.a2_opcode.specs.Table.{row_of, length_of}
 use Rattle.a2_opcode.specs.declared.Row.{Row}
 use Rattle.a2_opcode.specs.Encoding.{Fetched, no_byte, undocumented, instruction, fetched, bytes_from, value_of}
 use Rattle.a2_bus.specs.Memory.{Memory, peek, ram_byte, ram_end}
-use Rattle.a2_machine.specs.declared.Cause.{Cause}
-use Rattle.a2_machine.specs.declared.Cause.TheVariants.{OffStatement}
+use Rattle.a2_machine.specs.declared.causes.Cause.{Cause}
+use Rattle.a2_machine.specs.declared.causes.Cause.TheVariants.{OffStatement}
 use Rattle.a2_machine.specs.Meaning.{Decoded, found_at_pc}
 use Rattle.a2_machine.specs.ByteRun.{bytes, decoded_or_cause}
 use Rattle.a2_reads.specs.Reads.{AgreeOn, Knows}

@@ -15,7 +15,7 @@ use Rattle.a2_core.specs.Instruction.{after_effect, called, called_place, gone_t
 use Rattle.a2_services.specs.World.{World}
 use Rattle.a2_services.specs.declared.rows.Service.{Service}
 use Rattle.a2_services.specs.Services.{fits, service_at}
-use Rattle.a2_machine.specs.declared.Cause.{Cause}
+use Rattle.a2_machine.specs.declared.causes.Cause.{Cause}
 use Rattle.a2_machine.specs.Meaning.{Code, Decoded, found_at_pc, next, stuck, world_at}
 use Rattle.a2_uses.specs.declared.Part.{Part}
 use Rattle.a2_uses.specs.declared.Part.TheVariants.{A as part_a, X as part_x, Y as part_y}

@@ -19,8 +19,8 @@ use Rattle.a2_services.specs.declared.rows.Service.{Service}
 use Rattle.a2_services.specs.Services.{service_at, fits, reach, served}
 use Rattle.a2_services.specs.World.{World}
 use Rattle.a2_machine.specs.ByteRun.{bytes, decoded_or_cause}
-use Rattle.a2_machine.specs.declared.Cause.{Cause}
-use Rattle.a2_machine.specs.declared.Cause.TheVariants.{CodeWrite}
+use Rattle.a2_machine.specs.declared.causes.Cause.{Cause}
+use Rattle.a2_machine.specs.declared.causes.Cause.TheVariants.{CodeWrite}
 use Rattle.a2_machine.specs.Meaning.{Decoded, cause_of_refusal, found_at_pc, next, return_address, stuck, world_at}
 use Rattle.a2_uses.specs.Parts.{mode_needs, needs}
 use Rattle.a2_uses.specs.Reads.{pointer_reads, reads_of}

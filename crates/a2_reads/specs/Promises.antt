@@ -7,7 +7,7 @@ use Rattle.a2_bus.specs.Memory.{Memory, ram_byte, with_ram, ram_end}
 use Rattle.a2_core.specs.Registers.{Registers, registers_at}
 use Rattle.a2_cpu.specs.Stores.{IsNotIn}
 use Rattle.a2_services.specs.World.{World}
-use Rattle.a2_machine.specs.declared.Cause.TheVariants.{Returned}
+use Rattle.a2_machine.specs.declared.causes.Cause.TheVariants.{Returned}
 use Rattle.a2_machine.specs.Meaning.{Code, IsEnd, return_address, world_at}
 use Rattle.a2_uses.specs.declared.Part.{Part}
 use Rattle.a2_uses.specs.declared.Part.TheVariants.{A as part_a, X as part_x, Y as part_y, N as part_n, V as part_v, D as part_d, I as part_i, Z as part_z, C as part_c}

@@ -6,8 +6,8 @@ use Rattle.a2_core.specs.Instruction.{Alike, performed}
 use Rattle.a2_cpu.specs.Stores.{stores_of, IsNotIn}
 use Rattle.a2_services.specs.World.{World}
 use Rattle.a2_services.specs.Services.{service_at}
-use Rattle.a2_machine.specs.declared.Cause.{Cause}
-use Rattle.a2_machine.specs.declared.Cause.TheVariants.{Returned}
+use Rattle.a2_machine.specs.declared.causes.Cause.{Cause}
+use Rattle.a2_machine.specs.declared.causes.Cause.TheVariants.{Returned}
 use Rattle.a2_machine.specs.Meaning.{Code, Decoded, IsEnd, found_at_pc, return_address, stuck, next, world_at}
 use Rattle.a2_uses.specs.Reads.{reads_of}
 use Rattle.a2_reads.specs.Reads.{Knows, with_bytes, AgreeOn}

@@ -10,7 +10,7 @@ use Rattle.a2_core.specs.Effect.{Effect, takes, replaces, stores, jumps, effect_
 use Rattle.a2_core.specs.Place.{Place, place_of}
 use Rattle.a2_services.specs.Services.{service_at}
 use Rattle.a2_services.specs.World.{World}
-use Rattle.a2_machine.specs.declared.Cause.{Cause}
+use Rattle.a2_machine.specs.declared.causes.Cause.{Cause}
 use Rattle.a2_machine.specs.ByteRun.{bytes}
 use Rattle.a2_machine.specs.Meaning.{Decoded, found_at_pc, stuck, world_at}
 use Rattle.a2_uses.specs.Reads.{jump_reads, place_reads, pointer_reads}

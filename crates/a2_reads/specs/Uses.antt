@@ -3,7 +3,7 @@ use Rattle.std.specs.Prelude.{◌≡◌, ◌<◌, ℕ, zero, suc, Bool, List, []
 use Rattle.a2_core.specs.Instruction.{State}
 use Rattle.a2_services.specs.Services.{service_at}
 use Rattle.a2_services.specs.World.{World}
-use Rattle.a2_machine.specs.declared.Cause.{Cause}
+use Rattle.a2_machine.specs.declared.causes.Cause.{Cause}
 use Rattle.a2_machine.specs.Meaning.{Code, Decoded, found_at_pc, world_at}
 use Rattle.a2_reads.specs.Reads.{Knows, AgreeOn}
 use Rattle.a2_uses.specs.declared.Part.{Part}

@@ -13,8 +13,8 @@ use Rattle.a2_cpu.specs.Stores.{stores_of}
 use Rattle.a2_services.specs.declared.rows.Service.{Service}
 use Rattle.a2_services.specs.World.{World}
 use Rattle.a2_services.specs.Services.{service_at, reach, served}
-use Rattle.a2_machine.specs.declared.Cause.{Cause}
-use Rattle.a2_machine.specs.declared.Cause.TheVariants.{Returned, CodeWrite, OffStatement}
+use Rattle.a2_machine.specs.declared.causes.Cause.{Cause}
+use Rattle.a2_machine.specs.declared.causes.Cause.TheVariants.{Returned, CodeWrite, OffStatement}
 use Rattle.a2_machine.specs.Meaning.{Code, Decoded, cause_of_refusal, found_at_pc, instruction_cause, next, next_at, service_cause, statements, stuck, stuck_at, world_at}
 use Rattle.a2_machine.specs.ByteRun.{bytes, decoded_or_cause}
 use Rattle.a2_machine.specs.Guarded.{HoldsCode}

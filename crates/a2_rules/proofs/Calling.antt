@@ -18,7 +18,7 @@ use Rattle.a2_services.proofs.Effects.{served-kept}
 use Rattle.a2_services.proofs.Fitting.{put_fits}
 use Rattle.a2_services.proofs.Lines.{put_devices, ram_devices}
 use Rattle.a2_services.proofs.Returning.{returned_is, window_tells, fits_tells}
-use Rattle.a2_machine.specs.declared.Cause.TheVariants.{CodeWrite, Window}
+use Rattle.a2_machine.specs.declared.causes.Cause.TheVariants.{CodeWrite, Window}
 use Rattle.a2_machine.specs.Meaning.{Code, return_address, service_cause}
 use Rattle.a2_machine.proofs.Walks.{walked}
 use Rattle.a2_lessons.specs.Routines.{word}

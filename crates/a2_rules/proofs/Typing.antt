@@ -16,7 +16,7 @@ use Rattle.a2_services.proofs.Fitting.{put_fits}
 use Rattle.a2_services.proofs.Lines.{put_devices}
 use Rattle.a2_services.proofs.Reaching.{base-kept}
 use Rattle.a2_services.proofs.Returning.{fits_tells}
-use Rattle.a2_machine.specs.declared.Cause.TheVariants.{CodeWrite, Keys, Window}
+use Rattle.a2_machine.specs.declared.causes.Cause.TheVariants.{CodeWrite, Keys, Window}
 use Rattle.a2_machine.specs.Meaning.{Code, service_cause}
 use Rattle.a2_machine.proofs.Walks.{walked}
 use Rattle.a2_lessons.specs.Routines.{word}

@@ -14,8 +14,8 @@ use Rattle.a2_page.proofs.Parts.{mapped-length}
 use Rattle.a2_bus.specs.BusState.{BusState}
 use Rattle.a2_bus.specs.View.{memory_of}
 use Rattle.a2_core.specs.Registers.{Registers}
-use Rattle.a2_machine.specs.declared.Cause.{Cause}
-use Rattle.a2_machine.specs.declared.Cause.TheVariants.{Returned}
+use Rattle.a2_machine.specs.declared.causes.Cause.{Cause}
+use Rattle.a2_machine.specs.declared.causes.Cause.TheVariants.{Returned}
 use Rattle.a2_machine.specs.Output.{line_of_digits, register_line, cause_line}
 use Rattle.a2_stream.specs.Stream.{Taker, Breaks}
 use Rattle.a2_run.specs.Meaning.{picture_of, attributes_of, screen}

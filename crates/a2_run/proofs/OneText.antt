@@ -9,7 +9,7 @@ use Rattle.a2_asm.specs.Programs.{IsProgram, AreAlike}
 use Rattle.a2_asm.specs.Refusals.{IsLayoutRefusal}
 use Rattle.a2_asm.proofs.MadeLaws.{one-layout_refusal, programs-alike}
 use Rattle.a2_asm.proofs.MadeLaws as asm
-use Rattle.a2_machine.specs.declared.Cause.{Cause}
+use Rattle.a2_machine.specs.declared.causes.Cause.{Cause}
 use Rattle.a2_machine.specs.ProgramGuard.{guard_of_program}
 use Rattle.a2_machine.specs.Start.{start_world}
 use Rattle.a2_machine.proofs.Runs.{end-unique}

@@ -174,12 +174,12 @@ pub fn fault_status(fault: &RunFault) -> u8
     }
 }
 
-/// The status of a run's answer: 0 for RETURNED and BRK, 3 for another stop, and else that of the fault.
+/// The status of a run's answer: 0 where the run came to its end by itself, 3 for another stop, and else that of the fault.
 pub fn status(answer: &Result<Cause, RunFault>) -> u8
     ensures { result ≡ status_of answer.now }
 {
     match answer {
-        Ok(Cause::Returned | Cause::Brk) => 0,
+        Ok(cause) if cause.is_own_end() => 0,
         Ok(_) => 3,
         Err(fault) => fault_status(fault),
     }

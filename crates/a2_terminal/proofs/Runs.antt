@@ -1,7 +1,7 @@
 -- How far a run goes.
 use Rattle.std.proofs.Common.{◌≡◌, ℕ, ◌+◌, ◌-◌, ◌≤◌, ap, arith}
 use Rattle.a2_services.specs.World.{World}
-use Rattle.a2_machine.specs.declared.Cause.{Cause}
+use Rattle.a2_machine.specs.declared.causes.Cause.{Cause}
 use Rattle.a2_monitor.specs.Sittings.{Sitting, IsFreeRun}
 
 steps_are : (start : World) (limit : ℕ) (old new : Sitting) (cause : Cause) (h : IsFreeRun start limit old new cause) → new.steps ≡ old.steps + h.end.steps

@@ -1,7 +1,7 @@
 -- What is told of a run, and of a line that calls none.
 use Rattle.std.specs.Prelude.{◌↔◌, if◌then◌else◌, not, Option, Some, None, Result, Ok, Err, OnOk, is_ok}
 use Rattle.std.proofs.Common.{◌≡◌, inr, ℕ, ◌-◌, Bool, true, List, ◌++◌, refl, sym, ap, ◌∙◌, subst}
-use Rattle.a2_machine.specs.declared.Cause.{Cause}
+use Rattle.a2_machine.specs.declared.causes.Cause.{Cause}
 use Rattle.a2_monitor.specs.Commands.{address_called, command_of}
 use Rattle.a2_monitor.specs.Replies.{IsReply}
 use Rattle.a2_monitor.specs.Sittings.{IsFreeRun, sitting_of}

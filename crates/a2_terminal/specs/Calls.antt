@@ -1,8 +1,8 @@
 -- A program that the Monitor calls at a terminal, and the keys that it waits for. This project's profile.
 use Rattle.std.specs.Prelude.{◌≡◌, ◌⊎◌, ◌↔◌, ℕ, ◌+◌, ◌-◌, ◌<◌, ◌≤◌, Bool, true, false, not, List, [], ◌∷◌, ◌++◌, length, codes, Option, Some, None, if◌then◌else◌}
 use Rattle.a2_services.specs.World.{World}
-use Rattle.a2_machine.specs.declared.Cause.{Cause}
-use Rattle.a2_machine.specs.declared.Cause.TheVariants.{Keys}
+use Rattle.a2_machine.specs.declared.causes.Cause.{Cause}
+use Rattle.a2_machine.specs.declared.causes.Cause.TheVariants.{Keys}
 use Rattle.a2_machine.specs.Start.{called_at}
 use Rattle.a2_monitor.specs.Sittings.{Sitting, KeptSession, sitting_of, with_keys, end_lines, steps_of_call, IsFreeRun}
 use Rattle.a2_terminal.specs.declared.press.Press.{Press}

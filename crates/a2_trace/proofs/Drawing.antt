@@ -10,7 +10,7 @@ use Rattle.a2_stream.specs.declared.WriteFault.{WriteFault}
 use Rattle.a2_stream.proofs.Joined.{Sends-then, Breaks-then, Breaks-more}
 use Rattle.a2_services.specs.World.{World}
 use Rattle.a2_asm.specs.Assembled.{Assembled}
-use Rattle.a2_machine.specs.declared.Cause.{Cause}
+use Rattle.a2_machine.specs.declared.causes.Cause.{Cause}
 use Rattle.a2_machine.specs.ByteRun.{bytes}
 use Rattle.a2_machine.specs.Meaning.{Code, IsEnd, stuck, world_at}
 use Rattle.a2_machine.specs.Output.{cause_line}

@@ -14,7 +14,7 @@ use Rattle.a2_places.specs.declared.places.Span.{Span}
 use Rattle.a2_services.specs.declared.rows.Service.{Service}
 use Rattle.a2_services.specs.Services.{service_at}
 use Rattle.a2_services.specs.World.{World, world_of}
-use Rattle.a2_machine.specs.declared.Cause.{Cause}
+use Rattle.a2_machine.specs.declared.causes.Cause.{Cause}
 use Rattle.a2_machine.specs.State.{Device}
 use Rattle.a2_machine.proofs.Outcomes.{stores-world, fetched-world}
 use Rattle.a2_trace.specs.Traced.{MakesStep}

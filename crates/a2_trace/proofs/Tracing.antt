@@ -8,8 +8,8 @@ use Rattle.a2_stream.proofs.Joined.{Sends-then, Breaks-then, Breaks-more}
 use Rattle.a2_stream.specs.declared.WriteFault.{WriteFault}
 use Rattle.a2_core.specs.View.{registers_of}
 use Rattle.a2_services.specs.World.{World}
-use Rattle.a2_machine.specs.declared.Cause.{Cause}
-use Rattle.a2_machine.specs.declared.Cause.TheVariants.{Limit}
+use Rattle.a2_machine.specs.declared.causes.Cause.{Cause}
+use Rattle.a2_machine.specs.declared.causes.Cause.TheVariants.{Limit}
 use Rattle.a2_machine.specs.ByteRun.{bytes}
 use Rattle.a2_machine.specs.Meaning.{Code, End, IsEnd, stuck, next, world_at}
 use Rattle.a2_machine.specs.Output.{register_line, cause_line}

@@ -12,7 +12,7 @@ use Rattle.a2_services.specs.declared.rows.Service.{Service}
 use Rattle.a2_services.specs.Rows.{service_name}
 use Rattle.a2_services.specs.Services.{service_at}
 use Rattle.a2_services.specs.World.{World}
-use Rattle.a2_machine.specs.declared.Cause.{Cause}
+use Rattle.a2_machine.specs.declared.causes.Cause.{Cause}
 use Rattle.a2_machine.specs.Meaning.{End, IsEnd, world_at}
 use Rattle.a2_machine.specs.Output.{cause_line}
 use Rattle.a2_run.specs.Meaning.{IsProgramOf, code_of_run, start_of_run}

@@ -7,7 +7,7 @@ use Rattle.a2_stream.specs.declared.WriteFault.{WriteFault}
 use Rattle.a2_core.specs.Registers.{Registers, byte_of_flags}
 use Rattle.a2_places.specs.declared.places.Span.{Span}
 use Rattle.a2_services.specs.World.{World}
-use Rattle.a2_machine.specs.declared.Cause.{Cause}
+use Rattle.a2_machine.specs.declared.causes.Cause.{Cause}
 use Rattle.a2_machine.specs.Meaning.{Code, End, IsEnd}
 use Rattle.a2_machine.specs.Output.{cause_line}
 use Rattle.a2_machine.specs.State.{Device, world_of_state, cause_of, IsStep}

@@ -58,7 +58,7 @@ pub stepped : (registers : Registers) (bus : BusState) → length bus.bytes ≡ 
 stepped registers bus size opcode there new_registers new_bus cycles before told left_registers left_bus =
     let low : registers.pc < ram_end = omega (arith, slice_get_within bus.bytes registers.pc opcode there, size) in
     let made : IsStepMade None registers bus new_registers new_bus cycles =
-    instruction_step None registers bus size low refl new_registers new_bus (answer.Next cycles) told left_registers left_bus in
+    instruction_step None registers bus size low refl new_registers new_bus cycles told left_registers left_bus in
     made.world before
 
 not_allowed : (changes : Changes) (a : ℕ) → in_stack a ≡ false → may_store changes a ≡ false → is_allowed changes a ≡ false

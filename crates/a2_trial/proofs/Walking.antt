@@ -23,7 +23,7 @@ use Rattle.a2_core.specs.Instruction.{state_of}
 use Rattle.a2_cpu.specs.declared.GuardedStep.TheVariants as answer
 use Rattle.a2_services.specs.Services.{service_at}
 use Rattle.a2_services.specs.World.{World, world_of}
-use Rattle.a2_machine.specs.declared.Cause.{Cause}
+use Rattle.a2_machine.specs.declared.causes.Cause.{Cause}
 use Rattle.a2_machine.specs.Meaning.{Decoded, cause_of_refusal, found_at_pc}
 use Rattle.a2_machine.specs.ByteRun.{decoded_or_cause}
 use Rattle.a2_machine.specs.Outcome.{IsStepMade}
@@ -166,7 +166,7 @@ module _ (instr : Instr) (registers : Registers) (bus : BusState) (size : length
     mode = knows_all (knows_part parts) (mode_needs instr.mode) (both_true (list_all (knows_part parts) (needs instr.mnemonic)) _ used).1
 
     made : IsStepMade None registers bus new_registers new_bus cycles
-    made = instruction_step None registers bus size low refl new_registers new_bus (answer.Next cycles) told left_registers left_bus
+    made = instruction_step None registers bus size low refl new_registers new_bus cycles told left_registers left_bus
 
     -- no service stands in RAM
     away : (before : ℕ) → service_at (world_of registers bus before).registers.pc ≡ None

@@ -9,8 +9,8 @@ use Rattle.a2_bus.specs.Memory.{Memory, grid, ram_byte}
 use Rattle.a2_asm.specs.Assembled.{Assembled}
 use Rattle.a2_asm.specs.Programs.{instr_at, IsSound}
 use Rattle.a2_services.specs.World.{World}
-use Rattle.a2_machine.specs.declared.Cause.{Cause}
-use Rattle.a2_machine.specs.declared.Cause.TheVariants.{Limit}
+use Rattle.a2_machine.specs.declared.causes.Cause.{Cause}
+use Rattle.a2_machine.specs.declared.causes.Cause.TheVariants.{Limit}
 use Rattle.a2_machine.specs.Meaning.{Code, End, stuck, next, statements}
 use Rattle.a2_machine.specs.ByteRun.{Guard, bytes}
 use Rattle.a2_machine.specs.Guarded.{HoldsCode, SayTheSame}

@@ -4,8 +4,8 @@ use Rattle.a2_asm.specs.Assembled.{Assembled}
 use Rattle.a2_bus.specs.Devices.{keys_typed}
 use Rattle.a2_bus.specs.Memory.{Memory}
 use Rattle.a2_services.specs.World.{World}
-use Rattle.a2_machine.specs.declared.Cause.{Cause}
-use Rattle.a2_machine.specs.declared.Cause.TheVariants.{Limit}
+use Rattle.a2_machine.specs.declared.causes.Cause.{Cause}
+use Rattle.a2_machine.specs.declared.causes.Cause.TheVariants.{Limit}
 use Rattle.a2_machine.specs.Meaning.{Code, End, IsEnd, stuck, next}
 use Rattle.a2_machine.specs.State.{Device, MachineState, world_of_state}
 use Rattle.a2_run.specs.Meaning.{code_of_run, start_of_run}

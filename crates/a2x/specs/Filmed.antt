@@ -5,7 +5,7 @@ use Rattle.a2_hex.specs.Images.{held}
 use Rattle.a2_asm.specs.Assembled.{Assembled}
 use Rattle.a2_desk.specs.Desks.{Files, Saves}
 use Rattle.a2_machine.specs.ByteRun.{bytes}
-use Rattle.a2_machine.specs.declared.Cause.{Cause}
+use Rattle.a2_machine.specs.declared.causes.Cause.{Cause}
 use Rattle.a2_machine.specs.State.{Device, world_of_state}
 use Rattle.a2_run.specs.declared.fault.RunFault.{RunFault}
 use Rattle.a2_run.specs.declared.fault.RunFault.TheVariants.{Source}

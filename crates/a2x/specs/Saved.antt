@@ -2,7 +2,7 @@
 use Rattle.std.specs.Prelude.{◌≡◌, ℕ, Bool, List, IfSome, Result, Ok, Err}
 use Rattle.a2_bus.specs.Memory.{Memory}
 use Rattle.a2_desk.specs.Desks.{Files, Saves}
-use Rattle.a2_machine.specs.declared.Cause.{Cause}
+use Rattle.a2_machine.specs.declared.causes.Cause.{Cause}
 use Rattle.a2_run.specs.declared.fault.RunFault.{RunFault}
 use Rattle.a2_run.specs.declared.fault.RunFault.TheVariants.{Source}
 use Rattle.a2_run.specs.Meaning.{IsRefused}

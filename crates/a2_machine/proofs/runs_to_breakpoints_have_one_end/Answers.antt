@@ -1,7 +1,7 @@
 -- A run to a breakpoint has one end.
 use Rattle.std.specs.Prelude.{◌≡◌, ℕ, ◌-◌, ◌<◌, ◌≤◌, Bool, None, refl}
 use Rattle.std.proofs.Common.{sym, ap, ◌∙◌, arith}
-use Rattle.a2_machine.specs.declared.Cause.{Cause}
+use Rattle.a2_machine.specs.declared.causes.Cause.{Cause}
 use Rattle.a2_machine.specs.declared.Stop.{Stop}
 use Rattle.a2_machine.specs.declared.Stop.TheVariants as stop
 use Rattle.a2_machine.specs.Meaning.{End, stuck, world_at}

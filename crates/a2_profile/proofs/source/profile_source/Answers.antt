@@ -2,7 +2,7 @@ use Rattle.std.proofs.Common.{◌≡◌, ◌∙◌, ap, ℕ, List, map}
 use Rattle.std.proofs.lemmas.Result.{err_from_is_err_and}
 use Rattle.a2_stream.proofs.Joined.{Sends-nil}
 use Rattle.a2_text.specs.Lines.{lines}
-use Rattle.a2_machine.specs.declared.Cause.{Cause}
+use Rattle.a2_machine.specs.declared.causes.Cause.{Cause}
 use Rattle.a2_profile.specs.Texts.{profile_text}
 use Rattle.a2_profile.proofs.source.profile_source.Goals as goal
 
