@@ -123,7 +123,7 @@ fn start_marks(marks: &mut [u8], free: bool)
     ensures size { length marks.new ≡ 65536 }
     ensures first { (a : ℕ) → a < 65536 → slice_index marks.new a ≡ first_mark free a }
 {
-    fill_from(marks, 0, if free { BEGINS } else { 0 });
+    marks[..WHOLE_END].fill(if free { BEGINS } else { 0 });
     start_last(marks, free);
 }
 
