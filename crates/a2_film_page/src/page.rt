@@ -118,27 +118,27 @@ const esc=t=>t.replace(/[&<>"]/g,c=>"&#"+c.charCodeAt()+";");
 let T=$("film").textContent;const F={source:[],list:[],names:[],ch:[]},start=new Uint8Array(RAM);
 const utf=t=>{const b=[];for(let i=0;i<t.length;i++)b.push(t[i]=="\\"?X(t.substr((i+=2)-1,2)):t.charCodeAt(i));const u=new Uint8Array(b);try{return new TextDecoder("utf-8",{fatal:true}).decode(u)}catch{return chr(...b)}};
 // the Monitor's services: address, name, and what each does
-const svc={},SAY={};for(const[a,n,w]of [["F800","PLOT","the block of row A and column Y takes its colour"],
-["F819","HLINE","so do the blocks of row A from column Y to the column in $2C, or to Y where that is greater"],
-["F828","VLINE","so do the blocks of column Y from row A to the row in $2D, or to A where that is greater"],
-["F832","CLRSCR","all blocks become black, $30 = 0 and $2D = 47"],
-["F864","SETCOL","$30 = 17 times A's low four bits, the colour of blocks in all rows"],
-["F871","SCRN","A = the colour, 0 to 15, of the block of row A and column Y"],
+const svc={},SAY={};for(const[a,n,w]of [["F800","PLOT","colours the block of row A and column Y"],
+["F819","HLINE","colours the blocks of row A from column Y to the column in $2C, or to Y where that is greater"],
+["F828","VLINE","colours the blocks of column Y from row A to the row in $2D, or to A where that is greater"],
+["F832","CLRSCR","makes all blocks black"],
+["F864","SETCOL","sets the colour of blocks, in all rows"],
+["F871","SCRN","gives in A the colour, 0 to 15, of the block of row A and column Y"],
 ["FC22","VTAB","stores in $28 and $29 the address of the window's left edge in the cursor's row"],
 ["FC42","CLREOP","makes the window blank from the cursor on: the rest of its row and the rows below"],
 ["FC58","HOME","makes the window blank and puts the cursor at its top left"],
 ["FC9C","CLREOL","makes the cursor's row blank from the cursor to the window's right edge"],
-["FCA8","WAIT","A = 0, after (14 + 27a + 5a\u00b2) / 2 cycles, where a is A before the call; after 167,293 where a is 0"],
-["FD0C","RDKEY","PC becomes the word at $38 and $39"],
+["FCA8","WAIT","lets time pass"],
+["FD0C","RDKEY","asks the input hook for a key"],
 ["FD1B","KEYIN","takes the first waiting key; A = that key with bit 7 set"],
 ["FD6A","GETLN","puts the prompt of $33 and takes keys up to a return; the line is left at $0200, and X = its length without the return"],
-["FD8E","CROUT","A = $8D, a return, and PC becomes the word at $36 and $37"],
+["FD8E","CROUT","sends a return through the output hook"],
 ["FDDA","PRBYTE","puts the two hexadecimal digits of A, as capitals with bit 7 set"],
 ["FDE3","PRHEX","puts the hexadecimal digit of A's low four bits, as a capital with bit 7 set"],
-["FDED","COUT","PC becomes the word at $36 and $37"],
+["FDED","COUT","sends the character in A through the output hook"],
 ["FDF0","COUT1","puts the byte in A at the cursor"],
-["FE80","SETINV","$32 = $3F, so that characters are put in inverse"],
-["FE84","SETNORM","$32 = $FF, so that characters are put as they are"]])SAY[svc[X(a)]=n]=esc(w);
+["FE80","SETINV","makes text inverse from here on"],
+["FE84","SETNORM","makes text normal from here on"]])SAY[svc[X(a)]=n]=esc(w);
 const D=c=>c<58?c-48:c<71&&c>64?c-55:-1;
 // m, an address and the bytes of RAM from there on; where they end
 function bytesAt(t,i,f){let a=X(t.substr(i+1,4));for(i+=5;D(t.charCodeAt(i))>=0;i+=2)f(a++,X(t.substr(i,2)));return i}

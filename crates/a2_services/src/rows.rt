@@ -17,12 +17,12 @@ use a2_bus::locations::{COUT1, KEYIN};
 /// so on, the high four in the others.
 #[derive(Clone, Copy, Debug, PartialEq, Eq)]
 pub enum Service {
-    /// COUT, $FDED, a hook: PC becomes the word at $36 and $37.
+    /// COUT, $FDED, a hook: sends the character in A through the output hook. PC becomes the word at $36 and $37.
     Cout,
     /// COUT1, $FDF0: puts the byte in A at the cursor. A byte from $A0 on is first masked by $32. $8D is a return, $8A a
     /// line feed and $88 a backspace; other bytes from $80 to $9F do nothing.
     Cout1,
-    /// CROUT, $FD8E, a hook: A = $8D, a return, and PC becomes the word at $36 and $37.
+    /// CROUT, $FD8E, a hook: sends a return through the output hook. A = $8D, and PC becomes the word at $36 and $37.
     Crout,
     /// HOME, $FC58: makes the window blank and puts the cursor at its top left.
     Home,
@@ -30,9 +30,9 @@ pub enum Service {
     Prbyte,
     /// PRHEX, $FDE3: puts the hexadecimal digit of A's low four bits, as a capital with bit 7 set.
     Prhex,
-    /// SETINV, $FE80: $32 = $3F, so that characters are put in inverse.
+    /// SETINV, $FE80: makes text inverse from here on. $32 = $3F, under which characters are put.
     Setinv,
-    /// SETNORM, $FE84: $32 = $FF, so that characters are put as they are.
+    /// SETNORM, $FE84: makes text normal from here on. $32 = $FF, under which characters are put as they are.
     Setnorm,
     /// VTAB, $FC22: stores in $28 and $29 the address of the window's left edge in the cursor's row.
     Vtab,
@@ -41,7 +41,7 @@ pub enum Service {
     /// CLREOP, $FC42: makes the window blank from the cursor on: the rest of its row and the rows below. Stores in $28 and
     /// $29 as VTAB does.
     Clreop,
-    /// RDKEY, $FD0C, a hook: PC becomes the word at $38 and $39.
+    /// RDKEY, $FD0C, a hook: asks the input hook for a key. PC becomes the word at $38 and $39.
     Rdkey,
     /// KEYIN, $FD1B: takes the first waiting key; A = that key with bit 7 set.
     Keyin,
@@ -52,19 +52,20 @@ pub enum Service {
     /// 256th byte, puts `\`, a return and the prompt, and the line begins anew. The return makes the cursor's row blank
     /// from the cursor to the window's right edge, and is put.
     Getln,
-    /// WAIT, $FCA8: A = 0, after (14 + 27a + 5a²) / 2 cycles, where a is A before the call; after 167,293 where a is 0.
+    /// WAIT, $FCA8: lets time pass. A = 0, after (14 + 27a + 5a²) / 2 cycles, where a is A before the call; after 167,293 where a
+    /// is 0.
     Wait,
-    /// SETCOL, $F864: $30 = 17 times A's low four bits, the colour of blocks in all rows.
+    /// SETCOL, $F864: sets the colour of blocks, in all rows. $30 = 17 times A's low four bits.
     Setcol,
-    /// PLOT, $F800: the block of row A and column Y takes its colour.
+    /// PLOT, $F800: colours the block of row A and column Y.
     Plot,
-    /// HLINE, $F819: so do the blocks of row A from column Y to the column in $2C, or to Y where that is greater.
+    /// HLINE, $F819: colours the blocks of row A from column Y to the column in $2C, or to Y where that is greater.
     Hline,
-    /// VLINE, $F828: so do the blocks of column Y from row A to the row in $2D, or to A where that is greater.
+    /// VLINE, $F828: colours the blocks of column Y from row A to the row in $2D, or to A where that is greater.
     Vline,
-    /// SCRN, $F871: A = the colour, 0 to 15, of the block of row A and column Y.
+    /// SCRN, $F871: gives in A the colour, 0 to 15, of the block of row A and column Y.
     Scrn,
-    /// CLRSCR, $F832: all blocks become black, $30 = 0 and $2D = 47.
+    /// CLRSCR, $F832: makes all blocks black. $30 = 0 and $2D = 47.
     Clrscr,
 }
 
