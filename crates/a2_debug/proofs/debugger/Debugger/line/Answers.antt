@@ -2,6 +2,7 @@ use Rattle.std.proofs.Common.{◌≢◌, [], rules, inr}
 use Rattle.a2_stream.proofs.Joined.{Sends-nil}
 use Rattle.a2_text.specs.Words.{behind_word}
 use Rattle.a2_debug.specs.declared.calls.Answer.TheVariants.{Done}
+use Rattle.a2_debug.specs.declared.calls.Call.{Call}
 use Rattle.a2_debug.specs.declared.commands.Verb.TheVariants.{Back}
 use Rattle.a2_debug.specs.Calls.{CallDoes}
 use Rattle.a2_debug.specs.Answers.{Says, IsVerb}
@@ -12,6 +13,7 @@ pub returns-in-Done-2 : goal.returns-in-Done-2
 returns-in-Done-2 g c =
     let other : c.in_ok-verb.verb ≢ Back = search rules in
     let is : IsVerb c.args.text.now c.in_ok-verb.verb = search rules in
-    let says : Says c.in_ok-verb.verb (behind_word c.args.text.now) c.in_ok-call.call = search rules in
-    let does : CallDoes c.args.self.now c.in_ok-call.call Done c.perform.new.debugger = search rules in
-    ([], inr (inr (c.in_ok-verb.verb, is, record { call = c.in_ok-call.call; answer = Done; says = says; does = does; spelt = undone _ _ other })), Sends-nil _)
+    let made : (call : Call) × Says c.in_ok-verb.verb (behind_word c.args.text.now) call × CallDoes c.args.self.now call Done c.match-verb.self =
+    search rules in
+    let spelt = undone c.in_ok-verb.verb c.match-verb.self other in
+    ([], inr (inr (c.in_ok-verb.verb, is, record { call = made.0; answer = Done; says = made.1; does = made.2; spelt = spelt })), Sends-nil _)
