@@ -16,6 +16,8 @@ SERVICE_ROW = re.compile(
     r"^service_row (\w+) = row_at (?:0x(\w{4})|at\.(\w+)) need\.(\w+) reaches\.(\w+) span\.(\w+) set\.\w+ set\.(\w+) cells\.(\w+)$", re.M
 )
 LOCATION = re.compile(r"^(\w+) = 0x(\w{4})$", re.M)
+# Where each hook stands, and the service that it is to lead to.
+LEADS = {"OutputHook": (0x36, "COUT1"), "InputHook": (0x38, "KEYIN")}
 
 
 class Row(NamedTuple):
@@ -31,7 +33,7 @@ class Row(NamedTuple):
     @property
     def is_hook(self):
         """Whether it jumps where a hook leads, so that another step comes behind it."""
-        return self.takes in ("OutputHook", "InputHook")
+        return self.takes in LEADS
 
 
 def rows():
@@ -76,10 +78,9 @@ class Service:
         # the byte of RAM that it sets, by its address
         self.byte = byte
         left = (*left, f"${byte[0]:02X} = #${byte[1]:02X}") if byte else left
-        registers = set() if self.row.sets == "Empty" else {self.row.sets}
-        # (what the output hook leads to is COUT1)
-        reach = ROWS["COUT1" if self.row.takes == "OutputHook" else name].reach
-        changes = Changes(registers, list(REACHED[reach]))
+        # the row of what its hook leads to, or its own: what it stores and shows, and the rest of what it sets
+        self.does = ROWS[LEADS[self.row.takes][1]] if self.row.is_hook else self.row
+        changes = Changes({self.row.sets, self.does.sets} - {"Empty"}, list(REACHED[self.does.reach]))
         self.promise = Promise(name, 0, self.row.address, clauses(self.wanted), clauses(left), changes, list(keys))
 
     def changed(self, s):
@@ -91,12 +92,11 @@ class Service:
 
     def fits(self, screen):
         """Whether window, cursor and hook let it be called."""
-        word = lambda at: screen.memory[at] + 256 * screen.memory[at + 1]
-        if self.row.takes == "InputHook":
-            return word(0x38) == ADDRESSES["KEYIN"]
-        if self.row.takes == "OutputHook" and word(0x36) != ADDRESSES["COUT1"]:
-            return False
-        return (screen.is_window or not self.wanted) and (screen.has_cursor or LEFT[0] not in self.wanted)
+        if self.row.is_hook:
+            at, _ = LEADS[self.row.takes]
+            if screen.memory[at] + 256 * screen.memory[at + 1] != self.does.address:
+                return False
+        return (screen.is_window or WINDOW[0] not in self.wanted) and (screen.has_cursor or LEFT[0] not in self.wanted)
 
 
 SERVICES = {
@@ -142,7 +142,6 @@ class KeyTaker(Service):
 
     def __init__(self, address, key):
         super().__init__(TAKERS[address], (), {"A": (0x80 + key, "e1")}, f"{key} (omega arith) refl", [key])
-        self.promise.changes.registers = {"A"}
 
 
 class LineTaker(Service):
@@ -290,7 +289,7 @@ def served(it, registers, memory):
 
 def show(it, registers, screen):
     """What a service does with cells of the screen; a hook what it leads to does."""
-    does = "PutsByte" if it.row.takes == "OutputHook" else it.row.on_screen
+    does = it.does.on_screen
     if does == "ReadsLine":
         screen.read(it.promise.keys)
     if does == "ClearsWindow":
