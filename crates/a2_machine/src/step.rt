@@ -107,7 +107,11 @@ pub fn make_step<A: Allocator, C: Allocator>(
     }
     // For the prover alone: a look at RAM tells how long it is.
     let _ = space.peek(live.pc);
-    outcome_of(live_step(live, space, watch))
+    // (of a copy, so that the caller's registers may stand in those of the host)
+    let mut next = *live;
+    let step = live_step(&mut next, space, watch);
+    *live = next;
+    outcome_of(step)
 }
 
 // Why there is no step, where PC is above RAM.

@@ -1,6 +1,7 @@
 pub mod Kept
 pub mod Reaching
 pub mod Screens
+pub mod Serving
 pub mod Painting
 pub mod Fitting
 pub mod Lines

@@ -17,7 +17,7 @@ use crate::editing::{clreol, clreop, setinv, setnorm, vtab};
 use crate::ends::{end_output, return_from};
 use crate::hooks::{cout, crout, rdkey};
 use crate::line::{read_line, take_key};
-use crate::needs::refusal;
+use crate::needs::{block_fits, cursor_fits, refusal, window_fits};
 use crate::put::put;
 use crate::rows::{Takes, row_of};
 use crate::screen::{clear, load, store, window};
@@ -29,6 +29,9 @@ use std::alloc::Allocator;
 
 // How long a hook takes.
 const HOOK_CYCLES: u32 = 5;
+
+// How long all other services take but WAIT.
+const CYCLES: u32 = 6;
 
 /// One call of a service, as [`Service`] says of each: the registers and the address space become what it leaves, and PC is
 /// pulled as RTS does, or for a hook is where it leads. The answer is `Served::Next` with the cycles that it took. Apple II
@@ -50,37 +53,38 @@ pub fn call<A: Allocator>(service: Service, live: &mut Live, space: &mut Address
     ensures size { length space.new.bytes ≡ length space.old.bytes }
     ensures keys { length space.new.devices.keys ≤ length space.old.devices.keys }
 {
+    // What is called for each character and each block is done in place, as its row says of it. (So little stands here that it is
+    // inlined where steps are made, and the registers stay in those of the host.)
+    macro_rules! in_place {
+        ($act:ident $cycles:ident $fits:expr) => {
+            if $fits {
+                $act(live, space);
+                Served::Next($cycles)
+            } else {
+                Served::Window
+            }
+        };
+    }
+    // For the prover alone: a look at RAM tells how long it is.
+    let _ = space.ram();
     match service {
-        // What is called for each character and each block is done in place, by an arm that names it: so nothing is looked
-        // for but what that one service needs.
-        Service::Cout => call_in_place(Service::Cout, live, space),
-        Service::Cout1 => call_in_place(Service::Cout1, live, space),
-        Service::Crout => call_in_place(Service::Crout, live, space),
-        Service::Rdkey => call_in_place(Service::Rdkey, live, space),
-        Service::Plot => call_in_place(Service::Plot, live, space),
-        _ => call_apart(service, live, space),
+        Service::Cout => in_place!(cout HOOK_CYCLES true),
+        Service::Cout1 => in_place!(cout1 CYCLES window_fits(space) && cursor_fits(space)),
+        Service::Crout => in_place!(crout HOOK_CYCLES true),
+        Service::Rdkey => in_place!(rdkey HOOK_CYCLES true),
+        Service::Plot => in_place!(plot CYCLES block_fits(live)),
+        _ => {
+            let mut next = *live;
+            let answer = call_apart(service, &mut next, space);
+            *live = next;
+            answer
+        }
     }
 }
 
-// One call of a service that is looked up.
+// One call of a service that is looked up, or why it is not made.
 #[inline(never)]
 fn call_apart<A: Allocator>(
-    service: Service,
-    live: &mut Live,
-    space: &mut AddressSpace<A>,
-) -> Served
-    ensures called { IsCalled service (live_registers live.old) space.old (live_registers live.new) space.new result }
-    ensures cycles { live.new.cycles ≡ live.old.cycles }
-    ensures unreached { IsUnreached service space.old space.new }
-    ensures size { length space.new.bytes ≡ length space.old.bytes }
-    ensures keys { length space.new.devices.keys ≤ length space.old.devices.keys }
-{
-    call_in_place(service, live, space)
-}
-
-// One call of a service, or why it is not made.
-#[inline(always)]
-fn call_in_place<A: Allocator>(
     service: Service,
     live: &mut Live,
     space: &mut AddressSpace<A>,
@@ -119,7 +123,7 @@ fn cycles_of(takes: Takes, live: &Live) -> u32
 {
     match takes {
         Takes::OutputHook | Takes::InputHook => HOOK_CYCLES,
-        Takes::Six => 6,
+        Takes::Six => CYCLES,
         Takes::Wait => wait_cycles(live.a),
     }
 }

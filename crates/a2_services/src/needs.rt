@@ -66,7 +66,7 @@ fn fits<A: Allocator>(needs: Needs, live: &Live, space: &AddressSpace<A>) -> boo
 
 // A is a row of blocks and Y a column.
 #[inline(always)]
-fn block_fits(live: &Live) -> bool
+pub(crate) fn block_fits(live: &Live) -> bool
     ensures { result ≡ block_fits_of (live_registers live.now) }
 {
     live.a < BLOCK_ROWS && live.y < COLUMNS
@@ -74,7 +74,7 @@ fn block_fits(live: &Live) -> bool
 
 // The window lies on the screen.
 #[inline(always)]
-fn window_fits<A: Allocator>(space: &AddressSpace<A>) -> bool
+pub(crate) fn window_fits<A: Allocator>(space: &AddressSpace<A>) -> bool
     ensures answer { result ≡ window_fits_of (memory_of space.now) }
     ensures size { length space.now.bytes ≡ ram_end }
 {
@@ -87,7 +87,7 @@ fn window_fits<A: Allocator>(space: &AddressSpace<A>) -> bool
 
 // The cursor lies on the screen.
 #[inline(always)]
-fn cursor_fits<A: Allocator>(space: &AddressSpace<A>) -> bool
+pub(crate) fn cursor_fits<A: Allocator>(space: &AddressSpace<A>) -> bool
     ensures { result ≡ cursor_fits_of (memory_of space.now) }
 {
     let left = window(space).left;

@@ -1,6 +1,6 @@
 use Rattle.a2_core.specs.Live.{live_registers}
 use Rattle.a2_services.proofs.Unreached.{unreached_by, fewer_by}
-use Rattle.a2_services.proofs.calls.call_in_place.Goals as goal
+use Rattle.a2_services.proofs.calls.call_apart.Goals as goal
 
 pub returns-in-None-clause-unreached : goal.returns-in-None-clause-unreached
 returns-in-None-clause-unreached g c =
