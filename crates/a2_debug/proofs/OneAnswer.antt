@@ -16,7 +16,7 @@ use Rattle.a2_debug.specs.Stored.{Stored}
 use Rattle.a2_debug.specs.Marks.{marked, unmarked, at_place}
 use Rattle.a2_debug.specs.Calls.{CallDoes, MakesSteps, Sets, Run}
 use Rattle.a2_debug.specs.Lines.{verb_letters, halt_line}
-use Rattle.a2_debug.specs.Answers.{Says, SaysNone, IsAnswerText, IsCallDone, IsVerb, IsDebugAnswer, IsLineRefused}
+use Rattle.a2_debug.specs.Answers.{Says, SaysNone, IsAnswerText, IsCallAnswered, IsCallDone, IsVerb, IsDebugAnswer, IsLineRefused}
 use Rattle.a2_debug.specs.Laws.{LookAlike}
 use Rattle.a2_debug.proofs.Alike.{stepped-alike, gone-alike, line-alike, picture-alike, moves-alike, both-alike}
 use Rattle.a2_debug.proofs.Total.{spells_only, verb-one}
@@ -152,7 +152,7 @@ said-one verb rest old other new next c d a b like says said does did =
 done-one : (verb : Verb) (rest text words : List ℕ) (old other new next : Stored) → LookAlike old other
     → IsCallDone verb rest old text new → IsCallDone verb rest other words next → (text ≡ words) × LookAlike new next
 done-one verb rest text words old other new next like a b =
-    let (same, left) = said-one verb rest old other new next a.call b.call a.answer b.answer like a.says b.says a.does b.does in
+    let (same, left) = said-one verb rest old other new next a.called.0 b.called.0 a.answer b.answer like a.called.1 b.called.1 a.called.2 b.called.2 in
     (text-one verb b.answer new next text words left (rw same at a.spelt) b.spelt, left)
 
 pub one-answer : (line text words : List ℕ) (old other new next : Stored) → LookAlike old other
@@ -164,21 +164,21 @@ one-answer line text words old other new next like (inr (inl a)) (inl b) = absur
 one-answer line text words old other new next like (inr (inl a)) (inr (inl b)) =
     (a.2 ∙ picture-alike old other like ∙ sym b.2, both-alike new next old other a.3 b.3 like)
 one-answer line text words old other new next like (inr (inl a)) (inr (inr (verb, is, b))) =
-    absurd (screen_says line verb _ b.call b.says is a.0)
+    absurd (screen_says line verb _ b.called.0 b.called.1 is a.0)
 one-answer line text words old other new next like (inr (inr (verb, is, a))) (inl b) = absurd (blank_none line verb b.0 is)
 one-answer line text words old other new next like (inr (inr (verb, is, a))) (inr (inl b)) =
-    absurd (screen_says line verb _ a.call a.says is b.0)
+    absurd (screen_says line verb _ a.called.0 a.called.1 is b.0)
 one-answer line text words old other new next like (inr (inr (verb, is, a))) (inr (inr (verb', is', b))) =
     done-one verb' (behind_word line) text words old other new next like (rw (verb-one line verb verb' is is') at a) b
 
 abbrev Refuses : Verb → List ℕ → Stored → DebugFault → Type 0
-Refuses verb rest old why = (SaysNone verb rest × (why ≡ fault.Syntax)) ⊎ ((c : Call) × Says verb rest c × CallDoes old c (Refused why) old)
+Refuses verb rest old why = (SaysNone verb rest × (why ≡ fault.Syntax)) ⊎ IsCallAnswered verb rest old (Refused why) old
 
 done_unrefused : (verb : Verb) (rest text : List ℕ) (old other new : Stored) (why : DebugFault) → LookAlike old other
     → IsCallDone verb rest old text new → Refuses verb rest other why → ⊥
-done_unrefused verb rest text old other new why like a (inl none) = none.0 a.call a.says
+done_unrefused verb rest text old other new why like a (inl none) = none.0 a.called.0 a.called.1
 done_unrefused verb rest text old other new why like a (inr (c, says, does)) =
-    let one = said-one verb rest old other new other a.call c a.answer (Refused why) like a.says says a.does does in rw one.0 at a.spelt
+    let one = said-one verb rest old other new other a.called.0 c a.answer (Refused why) like a.called.1 says a.called.2 does in rw one.0 at a.spelt
 
 pub never-both : (line text : List ℕ) (old other new : Stored) (why : DebugFault) → LookAlike old other
     → IsDebugAnswer line old text new → IsLineRefused line other why → ⊥
@@ -190,7 +190,7 @@ never-both line text old other new why like (inr (inl a)) (inr (inl b)) = b.1 a.
 never-both line text old other new why like (inr (inl a)) (inr (inr (verb, some, is, b))) = some (verb-one line verb Screen is a.0)
 never-both line text old other new why like (inr (inr (verb, is, a))) (inl b) = b.1 verb is
 never-both line text old other new why like (inr (inr (verb, is, a))) (inr (inl b)) =
-    screen_says line verb _ a.call a.says is b.0
+    screen_says line verb _ a.called.0 a.called.1 is b.0
 never-both line text old other new why like (inr (inr (verb, is, a))) (inr (inr (verb', some, is', b))) =
     done_unrefused verb' (behind_word line) text old other new why like (rw (verb-one line verb verb' is is') at a) b.cause
 

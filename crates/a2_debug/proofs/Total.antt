@@ -226,9 +226,9 @@ met line old past = go (first_word line) refl
     done : (verb : Verb) → verb ≢ Screen → IsVerb line verb → (c : Call) → Says verb (behind_word line) c
         → (answer : Answer) (new : Stored) → CallDoes old c answer new → Met line old
     done verb other is c says (Halted halt) new does =
-        inl (session_line new ++ halt_line halt, new, inr (inr (verb, is, record { call = c; answer = Halted halt; says = says; does = does; spelt = refl })))
+        inl (session_line new ++ halt_line halt, new, inr (inr (verb, is, record { answer = Halted halt; called = (c, says, does); spelt = refl })))
     done verb other is c says Done new does =
-        inl (done_text verb new, new, inr (inr (verb, is, record { call = c; answer = Done; says = says; does = does; spelt = refl })))
+        inl (done_text verb new, new, inr (inr (verb, is, record { answer = Done; called = (c, says, does); spelt = refl })))
     done verb other is c says (Refused why) new does =
         inr (why, inr (inr (verb, other, is, record { cause = inr (c, says, rw (refused_same old new c why does) at does) })))
 
@@ -287,7 +287,7 @@ calls_answer (c ∷ calls) old past =
 pub answered_past : (line : List ℕ) (old : Stored) (text : List ℕ) (new : Stored) → IsDebugAnswer line old text new → NoneAbove old.count old.log → NoneAbove new.count new.log
 answered_past line old text new (inl blank) past = rw blank.2 past
 answered_past line old text new (inr (inl screen)) past = rw screen.3 past
-answered_past line old text new (inr (inr obeyed)) past = does_past old new obeyed.2.call obeyed.2.answer obeyed.2.does past
+answered_past line old text new (inr (inr obeyed)) past = does_past old new obeyed.2.called.0 obeyed.2.answer obeyed.2.called.2 past
 
 -- No line is refused for a failed write
 

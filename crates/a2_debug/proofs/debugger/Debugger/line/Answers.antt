@@ -16,4 +16,4 @@ returns-in-Done-2 g c =
     let made : (call : Call) × Says c.in_ok-verb.verb (behind_word c.args.text.now) call × CallDoes c.args.self.now call Done c.match-verb.self =
     search rules in
     let spelt = undone c.in_ok-verb.verb c.match-verb.self other in
-    ([], inr (inr (c.in_ok-verb.verb, is, record { call = made.0; answer = Done; says = made.1; does = made.2; spelt = spelt })), Sends-nil _)
+    ([], inr (inr (c.in_ok-verb.verb, is, record { answer = Done; called = made; spelt = spelt })), Sends-nil _)
