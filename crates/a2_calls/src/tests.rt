@@ -1,7 +1,0 @@
-//! Calls of one library each, with ample memory.
-
-mod bus;
-mod cpu;
-mod hex;
-mod live;
-mod stream;
