@@ -117,14 +117,16 @@ def keep_what_is_checked(made):
 def share_processors(made):
     """Has a proof of `rt ci` take the processors that no other crate is ready for, and no wrong body that is tried beside it: in a chain of
     crates, and at the end. Several that share a proof take up to a third more in all, so each has one while others wait. The last ones, for
-    which no other crate waits, have half of them whatever is tried beside them."""
+    which no other crate waits, have half of them whatever is tried beside them. Where the environment has A2_JOBS, each has so many."""
     whole = made.Crate.ci
     is_there = lambda it: os.path.exists(f"{it.folder}/out/{it.name}" if it.is_program else it.rlib)
 
     def ci(self, flags, tests):
         left = [it for it in made.rtlib.crates_below(os.getcwd()) if not is_there(it)]
         ready = sum(all(map(is_there, it.below())) for it in left)
-        if not tests and flags == ["--jobs", "1"] and ready:
+        if "A2_JOBS" in os.environ:
+            flags = ["--jobs", os.environ["A2_JOBS"]]
+        elif not tests and flags == ["--jobs", "1"] and ready:
             free = made.processors() - checks_below(os.getppid())
             at_least = made.processors() // 2 if ready == len(left) else 1
             flags = ["--jobs", str(max(free // ready, at_least))]
