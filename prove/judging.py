@@ -1,4 +1,4 @@
-"""What is answered of each routine of a source."""
+"""What is answered of each routine of a source, or of the routines of several."""
 
 from pathlib import Path
 
@@ -8,32 +8,38 @@ from .promises import Promise, promises_of, without_run
 from .proofs import Proof, Routine
 from .refusal import Refusal
 from .trying import tried
-from .writing import PROGRAM_MARKS, S, Written, write_crate
+from .writing import PROGRAM_MARKS, S, Source, Written, write_crate
 
 PROVED, NOT_PROVED, REFUSED = "PROVED", "NOT PROVED", "REFUSED"
+STATUS = {PROVED: 0, REFUSED: 1, NOT_PROVED: 6}
 
 
 class Judge:
-    """Judges the routines of a source text."""
+    """Judges the routines of a source text, which has a name among those that are judged together."""
 
-    def __init__(self, text):
+    def __init__(self, text, name="source"):
         lines = lines_of(text)
         assembler = Assembler(lines)
-        self.text, self.program = text, assembler.program()
-        self.lines = [without_run(line) for line in lines]
+        self.program = assembler.program()
+        self.source = Source(name, text, [without_run(line) for line in lines], self.program)
         self.found = promises_of(lines, assembler.lines, self.program)
-        self.answers = {}
+        self.chosen, self.answers, self.tops, self.needed = [], {}, [], {}
         self.routines = {it.address: Routine(it) for _, it in self.found if isinstance(it, Promise)}
         self.written = {}
 
-    def judge(self, names, room_of):
-        """Answers of the routines of these names, or of all, each with why."""
-        chosen = [(label, it) for label, it in self.found if not names or label in names]
-        promises = [it for _, it in chosen if isinstance(it, Promise)]
+    def prepare(self, names):
+        """Judges the routines of these names, or all, as far as that can be done without the kit, and writes proofs of the rest."""
+        self.chosen = [(label, it) for label, it in self.found if not names or label in names]
+        promises = [it for _, it in self.chosen if isinstance(it, Promise)]
         self.look(promises)
         self.try_states(promises)
-        self.prove([it for it in promises if it.name not in self.answers], room_of)
-        return [(label, REFUSED, str(it)) if isinstance(it, Refusal) else (label, *self.answers[label]) for label, it in chosen]
+        self.write_proofs([it for it in promises if it.name not in self.answers])
+
+    def report(self):
+        """A line of each routine that is judged, and the status of all."""
+        judged = [(label, REFUSED, str(it)) if isinstance(it, Refusal) else (label, *self.answers[label]) for label, it in self.chosen]
+        lines = [f"{label or 'a promise'}: {answer}" + (f": {why}" if why else "") for label, answer, why in judged]
+        return lines, max(STATUS[answer] for _, answer, _ in judged)
 
     def look(self, promises):
         """Refuses what the rules do not speak of; a routine that is called too."""
@@ -65,22 +71,20 @@ class Judge:
 
     # Proofs
 
-    def prove(self, promises, room_of):
+    def write_proofs(self, promises):
         for promise in promises:
             try:
                 self.write(promise.address, S)
             except Refusal as refused:
                 self.answers[promise.name] = (NOT_PROVED, str(refused) if refused.line else refused.says)
-        tops = [self.written[it.address, S] for it in promises if it.name not in self.answers]
-        if not tops:
-            return
-        needed = {}
-        for top in tops:
-            self.take(top, needed)
-        folder = room_of()
-        write_crate(folder, self.text, self.lines, self.program, needed)
-        answers = kit.Answers(kit.check(folder), folder)
-        for top in tops:
+        self.tops = [self.written[it.address, S] for it in promises if it.name not in self.answers]
+        for top in self.tops:
+            self.take(top, self.needed)
+
+    def hear(self, said, folder):
+        """Answers by what the kit said of the crate in a folder."""
+        answers = kit.Answers(said, folder, self.source.name)
+        for top in self.tops:
             self.answers[top.routine.name] = self.answer(top, answers)
 
     def take(self, written, needed):
@@ -107,7 +111,8 @@ class Judge:
             if not missing and used <= routine.stack[s]:
                 break
             routine.stack[s] |= used
-        self.written[address, s] = Written(routine, s, text, list(proof.marks), proof.ways, routine.changed(s), set(proof.calls))
+        known = (text, list(proof.marks), proof.ways, routine.changed(s), set(proof.calls))
+        self.written[address, s] = Written(self.source, routine, s, *known)
 
     def answer(self, top, answers):
         needed = {}
@@ -118,6 +123,17 @@ class Judge:
         reasons += answers.unmet(top)
         reasons += [reason for it in needed.values() for reason in answers.reasons(it)]
         return NOT_PROVED, "; ".join(reasons[:2]) or f"what the kit said stands in {answers.keep(answers.folder / 'said')}"
+
+
+def prove(judges, room_of):
+    """Has the kit check what these have written, all in one crate: each check begins with reading what the rules stand on."""
+    asking = [it for it in judges if it.tops]
+    if asking:
+        folder = room_of()
+        write_crate(folder, [(it.source, it.needed) for it in asking])
+        said = kit.check(folder)
+        for it in asking:
+            it.hear(said, folder)
 
 
 def text_of(path):

@@ -10,11 +10,11 @@ from pathlib import Path
 from .terms import in_words
 from .writing import BELOW, CRATE, function_of
 
-PROVED = re.compile(r"^fn \w+::(\w+): proved", re.MULTILINE)
+PROVED = re.compile(r"^fn \w+::(\w+)::(\w+): proved", re.MULTILINE)
 # A proof of which a part is refused is not looked at.
 BEHIND_OTHERS = re.compile(r"\d+ declarations? that depends? on")
 ERROR = re.compile(
-    r"^\./(?:proofs|specs)/([\w/]+)\.antt:(\d+):\d+: error: (.*?)(?=^\./|^fn |^logic|^crate |^statements|^library|\Z)",
+    r"^\./proofs/(\w+)/([\w/]+)\.antt:(\d+):\d+: error: (.*?)(?=^\./|^fn |^logic|^crate |^statements|^library|\Z)",
     re.MULTILINE | re.DOTALL,
 )
 VALUE = re.compile(r"\(?(old )?(\$[0-9A-F]{2,4}|[AXYNVZC])\)? = \d+")
@@ -120,20 +120,28 @@ def make_room(top, room):
     return room / "crates" / CRATE
 
 
+def room_of(top, tell):
+    """The folder of the crate that the kit checks, over the rules as they are proved."""
+    room = top / "out/prove"
+    build_rules(top, room, tell)
+    return make_room(top, room)
+
+
 def check(folder):
     """What the kit says of a crate."""
     return run([RT, "check"], folder)[1]
 
 
 class Answers:
-    """What the kit said, by routines."""
+    """What the kit said of a source, by routines."""
 
-    def __init__(self, said, folder):
-        self.said, self.folder = said, folder
-        self.proved = set(PROVED.findall(said))
+    def __init__(self, said, folder, source):
+        self.said, self.folder, self.proofs = said, folder, folder / "proofs" / source
+        self.proved = {function for name, function in PROVED.findall(said) if name == source}
         self.errors = {}
-        for module, line, says in ERROR.findall(said):
-            self.errors.setdefault(module, []).append((int(line), says.strip()))
+        for name, module, line, says in ERROR.findall(said):
+            if name == source:
+                self.errors.setdefault(module, []).append((int(line), says.strip()))
 
     def is_proved(self, written, needed):
         """Whether the kit says that a routine is proved, and finds nothing wrong in what its proof stands on."""
@@ -147,7 +155,7 @@ class Answers:
 
     def mark_at(self, module, line):
         """The number of the mark that the line of an error stands before."""
-        lines = (self.folder / f"proofs/{module}.antt").read_text(encoding="utf-8").split("\n")
+        lines = (self.proofs / f"{module}.antt").read_text(encoding="utf-8").split("\n")
         for text in lines[line - 1 : line + 60]:
             found = re.search(r"-- @(\d+)", text)
             if found:

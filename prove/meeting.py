@@ -2,23 +2,23 @@
 
 from .terms import flag, list_of
 
-USES = """use Rattle.std.specs.Prelude.{◌≡◌, true, false, List, [], ◌∷◌, refl}
-use Rattle.a2_rules.proofs.Entered.{State, is_met}
-use Rattle.promised.proofs.Program.{laid}
-use Rattle.promised.proofs.%s.{terms}
+USES = """use Rattle.std.specs.Prelude.{{◌≡◌, true, false, List, [], ◌∷◌, refl}}
+use Rattle.a2_rules.proofs.Entered.{{State, is_met}}
+use {0}.Program.{{laid}}
+use {0}.{1}.{{terms}}
 """
 
 
 class Met:
-    """The module of a promise: its state, and that this is as required."""
+    """The module of a promise, among the proofs of its source: its state, and that this is as required."""
 
-    def __init__(self, promise, told):
+    def __init__(self, promise, told, proofs):
         self.module = f"Met_{promise.name}"
         found = promise.found
         flags = "; ".join(f"{it.lower()} = {flag(found.flags[it])}" for it in "NVDIZC")
         registers = "; ".join(f"{it.lower()} = {found.registers[it]}" for it in "AXYS")
         cells = list_of(f"({a}, {byte})" for a, byte in found.bytes)
-        self.text = f"-- Written by a2-prove: a state that is as {promise.name} requires.\n" + USES % told.module
+        self.text = f"-- Written by a2-prove: a state that is as {promise.name} requires.\n" + USES.format(proofs, told.module)
         self.text += f"\nabbrev pub state : State\nstate = record {{\n  registers = record {{ {registers}; pc = {promise.address}; "
         self.text += f"flags = record {{ {flags} }} }};\n  bytes = {cells};\n}}\n"
         self.text += "\npub met : is_met terms laid state ≡ true\nmet = refl -- @0\n"

@@ -20,7 +20,7 @@ use Rattle.a2_promise.specs.Told as told
 use Rattle.a2_promise.specs.Written.{meant, said, spelled}
 use Rattle.a2_promise.specs.Written as written
 use Rattle.a2_rules.proofs.Told.{not_nothing, spells_keys}
-use Rattle.promised.proofs.Program.{lines, names}
+use %s.Program.{lines, names}
 """
 FACTS = ("requires", "ensures")
 NOTHING = "(_, refl, refl)"
@@ -51,14 +51,14 @@ def between_quotes(text):
 
 
 class Told:
-    """The module of a promise: its text, and what its marked lines check."""
+    """The module of a promise, among the proofs of its source: its text, and what its marked lines check."""
 
-    def __init__(self, promise):
+    def __init__(self, promise, proofs):
         self.module = f"Told_{promise.name}"
         self.marks = []
         facts = iter(promise.wanted), iter(promise.promised)
         self.clauses = dict(zip(FACTS, facts))
-        self.text = f"-- Written by a2-prove: what the lines before {promise.name} say.\n" + USES
+        self.text = f"-- Written by a2-prove: what the lines before {promise.name} say.\n" + USES % proofs
         for k, line in enumerate(promise.lines, 1):
             self.text += f"\n-- line {line.number}\n" + self.line(k, line)
         self.text += self.end(promise)

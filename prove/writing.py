@@ -1,4 +1,4 @@
-"""The crate in which the kit checks proofs, as files: the text, statements about it, and their proofs."""
+"""The crate in which the kit checks proofs, as files: texts, statements about them, and their proofs."""
 
 import re
 import shutil
@@ -36,7 +36,7 @@ use Rattle.a2_lessons.proofs.Reading.{reading}
 use Rattle.a2_rules.specs.Promised.{lines_of_routines}
 use Rattle.a2_rules.proofs.Entered.{Laid, are_bytes, laid_of}
 use Rattle.a2_rules.proofs.Kept.{code_of, names_of}
-use Rattle.promised.specs.Statements.{text}
+use %s.{text}
 """
 
 PROOF_USES = """use Rattle.std.specs.Prelude.{◌≡◌, ◌≢◌, ◌<◌, ◌≤◌, ◌⊎◌, ℕ, ◌+◌, ◌*◌, ◌/◌, ◌%◌, ◌-◌, ◌&&◌, ◌||◌, ◌==◌, nat_le, nat_lt, min, max, ℤ, pos, ◌+ℤ◌, Bool, true, false, List, [], ◌∷◌, refl}
@@ -64,16 +64,15 @@ use Rattle.a2_rules.proofs.Typing.{getln_serves, keyin_serves, rdkey_serves}
 use Rattle.a2_opcode.specs.Table.{fixed, paged}
 use Rattle.a2_opcode.specs.declared.Mnemonic.TheVariants.{Adc, And, Asl, Cmp, Dec, Eor, Inc, Lda, Ldx, Ldy, Lsr, Ora, Rol, Ror, Sbc, Sta, Stx, Sty}
 use Rattle.a2_opcode.specs.declared.Mode.TheVariants.{ZeroPageX, ZeroPageY, AbsoluteX, AbsoluteY, IndexedIndirect, IndirectIndexed}
-use Rattle.promised.proofs.Program.{code}
 """
 
-END_USES = """use Rattle.std.specs.Prelude.{codes}
-use Rattle.a2_rules.specs.Promised.{IsProved}
-use Rattle.a2_rules.proofs.Kept.{proved, told_of}
-use Rattle.promised.specs.Statements.{text}
-use Rattle.promised.proofs.Program.{listing, lines, names, laid, read, stated, cut, named, lays, small}
-use Rattle.promised.proofs.%s.{terms, tells}
-use Rattle.promised.proofs.%s.{state, met}
+END_USES = """use Rattle.std.specs.Prelude.{{codes}}
+use Rattle.a2_rules.specs.Promised.{{IsProved}}
+use Rattle.a2_rules.proofs.Kept.{{proved, told_of}}
+use {0.specs}.{{text}}
+use {0.proofs}.Program.{{listing, lines, names, laid, read, stated, cut, named, lays, small}}
+use {0.proofs}.{1}.{{terms, tells}}
+use {0.proofs}.{2}.{{state, met}}
 """
 
 # What the marked lines of Program.antt check.
@@ -84,9 +83,29 @@ PROGRAM_MARKS = (
 
 
 @dataclass
+class Source:
+    """A source, as the crate has it: the text in specs/NAME.antt, what is said of it in the module src/NAME.rt, and the proofs in
+    proofs/NAME/."""
+
+    name: str
+    text: str
+    lines: list
+    program: object
+
+    @property
+    def specs(self):
+        return f"Rattle.{CRATE}.specs.{self.name}"
+
+    @property
+    def proofs(self):
+        return f"Rattle.{CRATE}.proofs.{self.name}"
+
+
+@dataclass
 class Written:
     """A proof of a routine for an S: its text, what its marked lines prove, and on which proofs it stands."""
 
+    source: Source
     routine: object
     s: int
     text: str
@@ -97,11 +116,11 @@ class Written:
 
     @cached_property
     def told(self):
-        return Told(self.routine.promise)
+        return Told(self.routine.promise, self.source.proofs)
 
     @cached_property
     def met(self):
-        return Met(self.routine.promise, self.told)
+        return Met(self.routine.promise, self.told, self.source.proofs)
 
     @property
     def name(self):
@@ -120,10 +139,10 @@ def literal(text):
     return list_of(text.encode("latin-1"))
 
 
-def statements_file(source):
+def text_file(source):
     text = "-- Written by a2-prove: a source text.\n" + STATEMENT_USES
     text += "\nabbrev pub text : List ℕ\ntext = concat (\n"
-    return text + "".join(f"    {literal(line)} ∷\n" for line in LINE.findall(source)) + "    [])\n"
+    return text + "".join(f"    {literal(line)} ∷\n" for line in LINE.findall(source.text)) + "    [])\n"
 
 
 def statement(it):
@@ -147,13 +166,15 @@ def laid(it):
     return f"({it.address}, {list_of(it.bytes) if any(it.bytes) else f'replicate {it.length} 0'})"
 
 
-def program_file(program, lines):
+def program_file(source):
+    program = source.program
     of = [it for it in program.statements if it.is_instruction]
-    uses = PROGRAM_USES % (", ".join(sorted({it.mnemonic.capitalize() for it in of})), ", ".join(sorted({it.mode for it in of})))
+    names = [", ".join(sorted(it)) for it in ({it.mnemonic.capitalize() for it in of}, {it.mode for it in of})]
+    uses = PROGRAM_USES % (*names, source.specs)
     text = "-- Written by a2-prove: the statements, lines and names of the text, which are computed of it.\n" + uses
     text += rows("listing", "List Statement", (statement(it) for it in program.statements))
     text += "\nabbrev pub code : Code\ncode = code_of listing\n"
-    text += rows("lines", "List (List ℕ)", (codes(line) for line in lines))
+    text += rows("lines", "List (List ℕ)", (codes(line) for line in source.lines))
     text += rows("names", "Names", (f"({codes(name)}, {value})" for name, value in program.names.items()))
     text += computed(0, "read", f"entry_of text ≡ Some {program.entry()}", "reading")
     text += computed(1, "stated", "statements_of text ≡ listing", "reading")
@@ -251,12 +272,13 @@ def ending(written):
 
 
 def proof_file(written, all_written):
-    text = "-- Written by a2-prove.\n" + PROOF_USES
+    proofs = written.source.proofs
+    text = f"-- Written by a2-prove.\n{PROOF_USES}use {proofs}.Program.{{code}}\n"
     if written.s == S:
-        text += END_USES % (written.told.module, written.met.module)
+        text += END_USES.format(written.source, written.told.module, written.met.module)
     for address, s in sorted(written.calls):
         other = all_written[address, s]
-        text += f"use Rattle.promised.proofs.{other.module}.{{{other.name}_meets}}\n"
+        text += f"use {proofs}.{other.module}.{{{other.name}_meets}}\n"
     name = written.name
     meets = f"{name}_meets : Meets code {written.routine.promise.address} {written.s} {name}_Before {name}_After"
     text += contract(written) + f"\npub {meets}\nunfolding computing\n{name}_meets w bytes before =\n{indented(written.text)}"
@@ -268,9 +290,9 @@ def function_of(written):
     return f"keeps_{written.routine.promise.address:04x}"
 
 
-def library_file(tops):
-    text = "//! Written by a2-prove.\n#![tactic(auto)]\n\nghost use Rattle.std.specs.Prelude.{codes};\n"
-    text += "ghost use Rattle.promised.specs.Statements.{text};\nghost use Rattle.a2_rules.specs.Promised.{IsProved};\n"
+def module_file(source, tops):
+    text = "//! Written by a2-prove.\n\nghost use Rattle.std.specs.Prelude.{codes};\n"
+    text += f"ghost use {source.specs}.{{text}};\nghost use Rattle.a2_rules.specs.Promised.{{IsProved}};\n"
     for it in tops:
         name = it.routine.name
         text += f"\n/// {name} keeps its promise.\npub fn {function_of(it)}()\n    ensures {{ IsProved text {codes(name)} }}\n{{}}\n"
@@ -278,34 +300,46 @@ def library_file(tops):
 
 
 def answer_file(written):
-    function = function_of(written)
+    proofs = written.source.proofs
     return (
-        f"use Rattle.promised.proofs.{written.module} as theorem\nuse Rattle.promised.proofs.{function}.Goals as goal\n\n"
+        f"use {proofs}.{written.module} as theorem\nuse {proofs}.{function_of(written)}.Goals as goal\n\n"
         f"pub returns : goal.returns\nreturns c = theorem.{written.routine.name}_is_proved\n"
     )
 
 
-def write_crate(folder, source, lines, program, all_written):
-    """Writes the crate's files; what another run left there goes, but for what the kit keeps."""
+def declared(modules, end=""):
+    return "".join(f"pub mod {it}{end}\n" for it in modules)
+
+
+def files_of(source, written):
+    """The files of a source, with these proofs, by their names."""
+    tops = [it for it in written.values() if it.s == S]
+    parts = [part for it in tops for part in (it.told, it.met)]
+    below = f"proofs/{source.name}"
+    files = {
+        f"specs/{source.name}.antt": text_file(source),
+        f"src/{source.name}.rt": module_file(source, tops),
+        f"{below}.antt": declared(["Program", *(it.module for it in parts), *(it.module for it in written.values())]),
+        f"{below}/Program.antt": program_file(source),
+    }
+    files.update({f"{below}/{it.module}.antt": proof_file(it, written) for it in written.values()})
+    files.update({f"{below}/{it.module}.antt": it.text for it in parts})
+    files.update({f"{below}/{function_of(it)}/Answers.antt": answer_file(it) for it in tops})
+    return files
+
+
+def write_crate(folder, sources):
+    """Writes the crate's files, of sources with their proofs; what another run left there goes, but for what the kit keeps."""
     for part in ("specs", "proofs", "src"):
         shutil.rmtree(folder / part, ignore_errors=True)
-        (folder / part).mkdir(parents=True)
-    tops = [it for it in all_written.values() if it.s == S]
-    modules = ["Program"] + [part.module for it in tops for part in (it.told, it.met)] + [it.module for it in all_written.values()]
+    names = [source.name for source, _ in sources]
     files = {
-        "specs/Lib.antt": "pub mod Statements\n",
-        "specs/Statements.antt": statements_file(source),
-        "proofs/Lib.antt": "".join(f"pub mod {it}\n" for it in modules),
-        "proofs/Program.antt": program_file(program, lines),
-        "src/lib.rt": library_file(tops),
+        "specs/Lib.antt": declared(names),
+        "src/lib.rt": "//! Written by a2-prove.\n#![tactic(auto)]\n\n" + declared(names, ";"),
     }
-    for it in all_written.values():
-        files[f"proofs/{it.module}.antt"] = proof_file(it, all_written)
-    for it in tops:
-        for part in (it.told, it.met):
-            files[f"proofs/{part.module}.antt"] = part.text
-        files[f"proofs/{function_of(it)}/Answers.antt"] = answer_file(it)
+    for source, written in sources:
+        files.update(files_of(source, written))
     for name, text in files.items():
         path = folder / name
-        path.parent.mkdir(exist_ok=True)
+        path.parent.mkdir(parents=True, exist_ok=True)
         path.write_text(text, encoding="utf-8")
