@@ -1,5 +1,5 @@
 -- The end of a machine's run is that of the run that a case asks for.
-use Rattle.std.specs.Prelude.{◌≡◌, ℕ, ◌-◌, ◌^◌, ◌<◌, List, ◌++◌, Bool, false, Option, unwrap_or, []}
+use Rattle.std.specs.Prelude.{◌≡◌, ℕ, ◌-◌, ◌^◌, ◌<◌, List, false, Option, unwrap_or, []}
 use Rattle.std.proofs.Common.{subst, arith}
 use Rattle.a2_stream.specs.Stream.{Taker}
 use Rattle.a2_services.specs.World.{World}
@@ -8,7 +8,7 @@ use Rattle.a2_asm.specs.Programs.{IsSound}
 use Rattle.a2_machine.specs.declared.causes.Cause.{Cause}
 use Rattle.a2_machine.specs.Meaning.{End, IsEnd}
 use Rattle.a2_machine.specs.ByteRun.{Guard, bytes}
-use Rattle.a2_machine.specs.State.{Device, IsMachineRun, world_of_state, code_of, most_steps, steps_left}
+use Rattle.a2_machine.specs.State.{Device, IsMachineRun, world_of_state, steps_left}
 use Rattle.a2_run.specs.Meaning.{code_of_run, start_of_run}
 use Rattle.a2_run.specs.Started.{IsStarted, guard_of_run}
 use Rattle.a2_run.proofs.Runs.{meant}

@@ -1,5 +1,5 @@
 -- Pieces joined.
-use Rattle.std.specs.Prelude.{◌≡◌, ℕ, List, [], ◌++◌}
+use Rattle.std.specs.Prelude.{◌≡◌, ℕ, List, ◌++◌}
 use Rattle.std.proofs.Common.{append_assoc}
 
 pub joined-five : (a b c d e stores loads call source : List ℕ) (head : List ℕ) → a ≡ head → b ≡ a ++ stores → c ≡ b ++ loads → d ≡ c ++ call → e ≡ d ++ source

@@ -1,12 +1,12 @@
 -- Rows one behind another.
-use Rattle.std.specs.Prelude.{◌≡◌, ℕ, zero, suc, ◌+◌, ◌<◌, ◌≤◌, true, false, List, [], ◌∷◌, drop, length, map, refl}
+use Rattle.std.specs.Prelude.{◌≡◌, ℕ, zero, suc, ◌+◌, ◌<◌, ◌≤◌, true, List, [], ◌∷◌, drop, length, map, refl}
 use Rattle.std.specs.Borrow.{Bor}
 use Rattle.std.proofs.Common.{arith, ◌∙◌, ap, sym, get_or}
 use Rattle.std.proofs.Math.Nat.{suc-add}
 use Rattle.std.proofs.Math.Seq.{drop-nil}
 use Rattle.std.proofs.lemmas.List.{drop_more}
 use Rattle.a2_class.specs.declared.line.Asked.{Asked}
-use Rattle.a2_class.specs.Rows.{behind_row, begins_with_row, first_row, row_count, row_fits, rows_fit}
+use Rattle.a2_class.specs.Rows.{behind_row, first_row, row_count, row_fits, rows_fit}
 
 pub behind-drop : (lines : List Asked) (used : ℕ) → behind_row (drop used lines) ≡ drop (used + row_count (drop used lines)) lines
 behind-drop [] zero = refl

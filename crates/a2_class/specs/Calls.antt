@@ -1,6 +1,6 @@
 -- What a case runs: the source; or, where the case calls a routine, the source behind lines that call it. This project's profile.
 use Rattle.std.specs.Prelude.{ℕ, ◌==◌, Bool, true, false, List, [], ◌∷◌, ◌++◌, codes, Option, Some, None, if◌then◌else◌}
-use Rattle.std.specs.List.{flat_map, concat}
+use Rattle.std.specs.List.{concat}
 use Rattle.a2_text.specs.Words.{words}
 use Rattle.a2_class.specs.Settings.{name_in, digits_in}
 use Rattle.a2_class.specs.declared.line.Asked.{Asked}

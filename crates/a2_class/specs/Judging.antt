@@ -1,5 +1,5 @@
 -- What is found of a case of a source. This project's profile.
-use Rattle.std.specs.Prelude.{◌≡◌, ◌⊎◌, ℕ, ◌<◌, ◌≤◌, Bool, false, List, [], ◌∷◌, length, map, Option, Some, None, slice_get}
+use Rattle.std.specs.Prelude.{◌≡◌, ◌⊎◌, ℕ, ◌<◌, false, List, [], ◌∷◌, length, Option, Some, slice_get}
 use Rattle.std.specs.Option.{option_map}
 use Rattle.a2_bus.specs.KeyText.{SpellsKeys}
 use Rattle.a2_syntax.specs.declared.fault.Fault.{Fault}

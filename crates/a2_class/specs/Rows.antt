@@ -1,5 +1,5 @@
 -- Whether the rows of a screen are those that lines of a WANT ask for. This project's profile.
-use Rattle.std.specs.Prelude.{ℕ, Bool, true, false, not, if◌then◌else◌, ◌==◌, ◌&&◌, ◌||◌, List, [], ◌∷◌, Option, Some, None, nat_eq, slice_get}
+use Rattle.std.specs.Prelude.{ℕ, Bool, true, false, not, if◌then◌else◌, ◌==◌, ◌&&◌, ◌||◌, List, [], ◌∷◌, Some, None, nat_eq, slice_get}
 use Rattle.std.specs.List.{list_all, list_any, starts_with}
 use Rattle.a2_text.specs.Bytes.{is_blank}
 use Rattle.a2_class.specs.declared.line.Asked.{Asked}

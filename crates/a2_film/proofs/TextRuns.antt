@@ -11,7 +11,7 @@ use Rattle.a2_bus.specs.Devices.{Devices}
 use Rattle.a2_bus.proofs.Viewing.{devices_seen}
 use Rattle.a2_machine.specs.ByteRun.{Guard, bytes}
 use Rattle.a2_machine.specs.Meaning.{Code, End, IsEnd, stuck, world_at}
-use Rattle.a2_machine.specs.State.{MachineState, Device, world_of_state, code_of, most_steps, steps_left}
+use Rattle.a2_machine.specs.State.{Device, world_of_state, code_of, steps_left}
 use Rattle.a2_machine.specs.State as machine
 use Rattle.a2_machine.proofs.RunFrom.{run_from}
 use Rattle.a2_machine.proofs.Runs.{run-is_end, end-unique}

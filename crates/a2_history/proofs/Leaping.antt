@@ -9,7 +9,7 @@ use Rattle.a2_machine.specs.declared.causes.Cause.{Cause}
 use Rattle.a2_machine.specs.ByteRun.{bytes}
 use Rattle.a2_machine.specs.Looks.{shown_between, shown_at, seen_after}
 use Rattle.a2_machine.specs.Meaning.{Code, stuck, next, world_at}
-use Rattle.a2_machine.specs.State.{MachineState, Device, world_of_state, code_of}
+use Rattle.a2_machine.specs.State.{Device, world_of_state, code_of}
 use Rattle.a2_history.specs.declared.Halt.{Halt}
 use Rattle.a2_history.specs.declared.Halt.TheVariants.{Seen, Stopped}
 use Rattle.a2_history.specs.declared.Typed.{Typed}

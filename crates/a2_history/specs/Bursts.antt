@@ -1,10 +1,10 @@
 -- Steps that are made at once. No public clause cites this file.
-use Rattle.std.specs.Prelude.{◌≡◌, ℕ, ◌+◌, ◌-◌, ◌<◌, ◌≤◌, Bool, false, List, None}
+use Rattle.std.specs.Prelude.{◌≡◌, ℕ, ◌+◌, ◌-◌, ◌<◌, ◌≤◌, List, None}
 use Rattle.a2_services.specs.World.{World}
 use Rattle.a2_machine.specs.Meaning.{stuck, world_at}
-use Rattle.a2_machine.specs.State.{Device, world_of_state, code_of, PassesNone}
+use Rattle.a2_machine.specs.State.{Device, world_of_state, code_of}
 use Rattle.a2_history.specs.declared.Typed.{Typed}
-use Rattle.a2_history.specs.Courses.{Course, with_logged, world_on}
+use Rattle.a2_history.specs.Courses.{with_logged}
 
 -- some steps were made, at most so many
 pub record IsBurst (most : ℕ) (old new : Device) : Type 0 where

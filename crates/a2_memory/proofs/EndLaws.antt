@@ -9,7 +9,7 @@ use Rattle.a2_asm.specs.Programs.{IsSound}
 use Rattle.a2_machine.specs.declared.causes.Cause.{Cause}
 use Rattle.a2_machine.specs.ByteRun.{Guard, bytes}
 use Rattle.a2_machine.specs.Meaning.{End, IsEnd}
-use Rattle.a2_machine.specs.State.{Device, MachineState, world_of_state, most_steps, steps_left}
+use Rattle.a2_machine.specs.State.{Device, MachineState, world_of_state, steps_left}
 use Rattle.a2_machine.specs.State as machine
 use Rattle.a2_run.specs.Meaning.{IsProgramOf, start_of_run}
 use Rattle.a2_run.specs.Started.{IsStarted, guard_of_run}

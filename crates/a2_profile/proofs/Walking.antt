@@ -29,7 +29,7 @@ use Rattle.a2_profile.specs.Run.{is_at}
 use Rattle.a2_profile.specs.Totals.{itself, nothing, totals_at, own_steps_in, own_cycles_in}
 use Rattle.a2_profile.specs.Routines.{begin_of, around, innermost, is_in, is_own, is_entry, cost, totals_of, IsRoutineProfile}
 use Rattle.a2_profile.specs.Seeing.{is_small}
-use Rattle.a2_profile.specs.Walks.{Walk, IsWalk, IsLow, most_steps, base, frame_at, inner, depth_of, seen_at, counted, noted, opened, left_below, has_room, with_made, lost, shown_to, SeesAlike}
+use Rattle.a2_profile.specs.Walks.{Walk, IsWalk, IsLow, most_steps, base, inner, depth_of, seen_at, counted, noted, opened, left_below, has_room, with_made, lost, shown_to, SeesAlike}
 use Rattle.a2_profile.specs.Walks as walks
 use Rattle.a2_profile.specs.Walked.{IsWalked}
 use Rattle.a2_profile.proofs.Going.{step-later, ended_by, run-ends, EndAlike, same-world}

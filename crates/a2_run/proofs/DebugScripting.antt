@@ -6,7 +6,6 @@ use Rattle.a2_stream.specs.Stream.{Taker, Breaks, SendsOrBreaks}
 use Rattle.a2_stream.specs.declared.WriteFault.{WriteFault}
 use Rattle.a2_stream.proofs.Joined.{Sends-nil}
 use Rattle.a2_syntax.specs.declared.fault.Fault.{Fault}
-use Rattle.a2_syntax.specs.declared.fault.Fault.TheVariants.{TooLarge}
 use Rattle.a2_syntax.specs.declared.fault.Fault.TheVariants as refusal
 use Rattle.a2_text.specs.Lines.{lines}
 use Rattle.a2_syntax.specs.Limits.{size_refusal}

@@ -1,5 +1,5 @@
 -- A machine's run from a program's start ends where the program's run does.
-use Rattle.std.proofs.Common.{◌≡◌, ℕ, Bool, List, Option, refl, sym, subst}
+use Rattle.std.proofs.Common.{ℕ, Bool, List, Option, refl, subst}
 use Rattle.a2_services.specs.World.{World}
 use Rattle.a2_asm.specs.Assembled.{Assembled}
 use Rattle.a2_asm.specs.Programs.{IsSound}

@@ -1,5 +1,5 @@
 -- The run of a program's bytes at which keys are typed is that of its statements.
-use Rattle.std.proofs.Common.{◌≡◌, ◌⊎◌, inl, inr, ℕ, zero, suc, ◌<◌, ◌≤◌, Bool, true, false, List, [], length, refl, sym, ap, ap₂, ◌∙◌, subst, arith, Option, Some, None}
+use Rattle.std.proofs.Common.{◌≡◌, ◌⊎◌, inl, inr, ℕ, zero, suc, ◌<◌, Bool, true, false, List, length, refl, sym, ap, ◌∙◌, subst, arith, Option, Some, None}
 use Rattle.a2_opcode.specs.declared.Instr.{Instr}
 use Rattle.a2_page.specs.declared.Page.{Page}
 use Rattle.a2_page.specs.declared.Page.TheVariants.{One, Two}
@@ -9,7 +9,6 @@ use Rattle.a2_bus.specs.Memory.{Memory, grid, ram_byte}
 use Rattle.a2_asm.specs.Assembled.{Assembled}
 use Rattle.a2_asm.specs.Programs.{instr_at, IsSound}
 use Rattle.a2_services.specs.World.{World}
-use Rattle.a2_machine.specs.declared.causes.Cause.{Cause}
 use Rattle.a2_machine.specs.declared.causes.Cause.TheVariants.{Limit}
 use Rattle.a2_machine.specs.Meaning.{Code, End, stuck, next, statements}
 use Rattle.a2_machine.specs.ByteRun.{Guard, bytes}

@@ -6,9 +6,9 @@ use Rattle.a2_machine.specs.declared.causes.Cause.{Cause}
 use Rattle.a2_machine.specs.declared.causes.Cause.TheVariants.{Limit}
 use Rattle.a2_machine.specs.Meaning.{Code, stuck, world_at}
 use Rattle.a2_machine.specs.ByteRun.{bytes}
-use Rattle.a2_machine.specs.State.{Device, MachineState, world_of_state, code_of, steps_left, IsMachineRun}
+use Rattle.a2_machine.specs.State.{Device, world_of_state, code_of, steps_left, IsMachineRun}
 use Rattle.a2_typed.specs.declared.strokes.Typed.{Typed}
-use Rattle.a2_typed.specs.Typed.{keys_at, typed, with_keys, world_before_keys, world_with_keys, IsTypedEnd, IsTypedStop, IsOverfull}
+use Rattle.a2_typed.specs.Typed.{keys_at, typed, with_keys, world_before_keys, world_with_keys, IsTypedStop, IsOverfull}
 use Rattle.a2_typed.proofs.Worlds.{waiting, waiting-typed, world-start, world-typed, before-more, with-more}
 
 -- a machine stands behind so many steps, with the keys that are typed there

@@ -1,5 +1,5 @@
 -- Keys that are typed one after another.
-use Rattle.std.proofs.Common.{◌≡◌, ℕ, ◌+◌, ◌<◌, ◌≤◌, List, [], ◌∷◌, ◌++◌, length, take, get_or, refl, sym, ap, ◌∙◌, arith, append_assoc, length-append}
+use Rattle.std.proofs.Common.{◌≡◌, ℕ, ◌+◌, ◌<◌, ◌≤◌, List, [], ◌∷◌, ◌++◌, length, take, get_or, sym, ap, ◌∙◌, arith, append_assoc, length-append}
 use Rattle.a2_machine.specs.State.{Device}
 use Rattle.a2_typed.specs.declared.strokes.Typed.{Typed}
 use Rattle.a2_typed.specs.Typed.{keys_at, with_keys}

@@ -1,4 +1,4 @@
-use Rattle.std.proofs.Common.{ℕ, drop, List, subst}
+use Rattle.std.proofs.Common.{drop, List, subst}
 use Rattle.a2_class.specs.declared.line.Asked.{Asked}
 use Rattle.a2_class.specs.Asks.{MeetsFirst, end_at}
 use Rattle.a2_class.proofs.Below.{below-next}

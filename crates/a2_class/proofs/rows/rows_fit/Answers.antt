@@ -1,4 +1,4 @@
-use Rattle.std.proofs.Common.{◌≡◌, ◌∙◌, sym, ap, List, true}
+use Rattle.std.proofs.Common.{◌∙◌, sym, ap, true}
 use Rattle.a2_class.specs.Rows.{first_row, row_count}
 use Rattle.a2_class.proofs.RowLaws.{rows-step, within-row}
 use Rattle.a2_class.proofs.rows.rows_fit.Goals as goal

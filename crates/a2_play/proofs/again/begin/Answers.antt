@@ -1,4 +1,4 @@
-use Rattle.std.proofs.Common.{◌≡◌, ◌∙◌, ap, ap₂, []}
+use Rattle.std.proofs.Common.{◌∙◌, ap, ap₂, []}
 use Rattle.a2_hex.specs.Images.{held}
 use Rattle.a2_machine.specs.Start.{start_world}
 use Rattle.a2_machine.specs.State.{Device, world_of_state}

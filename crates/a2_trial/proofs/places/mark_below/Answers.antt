@@ -1,4 +1,4 @@
-use Rattle.std.specs.Prelude.{◌≡◌, ◌+◌, ◌++◌}
+use Rattle.std.specs.Prelude.{◌≡◌, ◌+◌}
 use Rattle.std.proofs.Common.{sym, ap, subst, ◌∙◌}
 use Rattle.a2_bus.specs.View.{memory_of}
 use Rattle.a2_services.specs.Put.{cursor_row}

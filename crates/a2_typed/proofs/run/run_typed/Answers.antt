@@ -1,6 +1,6 @@
 use Rattle.std.proofs.Common.{arith}
 use Rattle.a2_machine.specs.State.{code_of, world_of_state}
-use Rattle.a2_typed.proofs.Running.{running_start, running_on, overfull_start, overfull_on, stopped, stopped_last}
+use Rattle.a2_typed.proofs.Running.{running_start, running_on, overfull_start, overfull_on, stopped}
 use Rattle.a2_typed.proofs.run.run_typed.Goals as goal
 
 pub returns-then-not-type_due-clause-full : goal.returns-then-not-type_due-clause-full

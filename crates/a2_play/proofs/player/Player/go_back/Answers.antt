@@ -1,4 +1,4 @@
-use Rattle.std.proofs.Common.{◌≡◌, ◌∙◌, ◌-◌, ℕ, List, ltb, rules, subst, sym, ap}
+use Rattle.std.proofs.Common.{◌∙◌, ◌-◌, ℕ, List, ltb, rules, subst, sym, ap}
 use Rattle.std.proofs.lemmas.Fn.{filter_same}
 use Rattle.a2_typed.specs.declared.strokes.Typed.{Typed}
 use Rattle.a2_play.specs.Backs.{IsBack}
