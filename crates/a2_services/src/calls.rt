@@ -73,6 +73,7 @@ pub fn call<A: Allocator>(service: Service, live: &mut Live, space: &mut Address
         Service::Crout => in_place!(crout HOOK_CYCLES true),
         Service::Rdkey => in_place!(rdkey HOOK_CYCLES true),
         Service::Plot => in_place!(plot CYCLES block_fits(live)),
+        // (a copy, for what is lent to a call stands in memory)
         _ => {
             let mut next = *live;
             let answer = call_apart(service, &mut next, space);
