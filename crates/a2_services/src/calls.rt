@@ -53,8 +53,8 @@ pub fn call<A: Allocator>(service: Service, live: &mut Live, space: &mut Address
     ensures size { length space.new.bytes ≡ length space.old.bytes }
     ensures keys { length space.new.devices.keys ≤ length space.old.devices.keys }
 {
-    // What is called for each character and each block is done in place, as its row says of it. (So little stands here that it is
-    // inlined where steps are made, and the registers stay in those of the host.)
+    // What is called for each character, block and screen is done in place, as its row says of it. (So little stands here that it
+    // is inlined where steps are made, and the registers stay in those of the host.)
     macro_rules! in_place {
         ($act:ident $cycles:ident $fits:expr) => {
             if $fits {
@@ -73,6 +73,7 @@ pub fn call<A: Allocator>(service: Service, live: &mut Live, space: &mut Address
         Service::Crout => in_place!(crout HOOK_CYCLES true),
         Service::Rdkey => in_place!(rdkey HOOK_CYCLES true),
         Service::Plot => in_place!(plot CYCLES block_fits(live)),
+        Service::Home => in_place!(home CYCLES window_fits(space)),
         // (a copy, for what is lent to a call stands in memory)
         _ => {
             let mut next = *live;
@@ -84,6 +85,7 @@ pub fn call<A: Allocator>(service: Service, live: &mut Live, space: &mut Address
 }
 
 // One call of a service that is looked up, or why it is not made.
+#[cold]
 #[inline(never)]
 fn call_apart<A: Allocator>(
     service: Service,

@@ -1,7 +1,7 @@
 use Rattle.std.specs.Prelude.{refl}
 use Rattle.std.proofs.Common.{sym, ◌∙◌}
 use Rattle.a2_core.specs.Live.{live_registers}
-use Rattle.a2_services.specs.declared.rows.Service.TheVariants.{Cout, Cout1, Crout, Rdkey, Plot}
+use Rattle.a2_services.specs.declared.rows.Service.TheVariants.{Cout, Cout1, Crout, Rdkey, Plot, Home}
 use Rattle.a2_services.proofs.Serving.{call_made}
 use Rattle.a2_services.proofs.Unreached.{unreached_by, fewer_by}
 use Rattle.a2_services.proofs.calls.call.Goals as goal
@@ -45,4 +45,18 @@ returns-then-block_fits g c =
       unreached = unreached_by Plot (live_registers c.args.live.now) bus (live_registers c.plot.new.live) new 6 c.ram.ensures.size c.plot.ensures.size (made.served 0);
       size = c.plot.ensures.size ∙ sym c.ram.ensures.size;
       keys = fewer_by Plot (live_registers c.args.live.now) bus (live_registers c.plot.new.live) new 6 (made.served 0);
+    })
+
+pub returns-then-window_fits-2 : goal.returns-then-window_fits-2
+returns-then-window_fits-2 g c =
+    let bus = c.args.space.now in
+    let new = c.home.new.space in
+    let fits = sym c.window_fits-in-Home.ensures.answer ∙ c.if-window_fits-2.true in
+    let made = call_made Home c.args.live.now c.home.new.live bus new 6 fits refl refl c.home.ensures in
+    rw c.in-Home.is (record {
+      called = made;
+      cycles = c.home.ensures.cycles;
+      unreached = unreached_by Home (live_registers c.args.live.now) bus (live_registers c.home.new.live) new 6 c.ram.ensures.size c.home.ensures.size (made.served 0);
+      size = c.home.ensures.size ∙ sym c.ram.ensures.size;
+      keys = fewer_by Home (live_registers c.args.live.now) bus (live_registers c.home.new.live) new 6 (made.served 0);
     })
