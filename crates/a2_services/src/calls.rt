@@ -172,6 +172,7 @@ fn cout1<A: Allocator>(live: &mut Live, space: &mut AddressSpace<A>)
     end_output(live, space);
 }
 
+#[inline(always)]
 #[tactic(auto, unfolding(crate::specs::Services::effect))]
 fn home<A: Allocator>(live: &mut Live, space: &mut AddressSpace<A>)
     requires { IsWindow (window_of (memory_of space.old)) }
