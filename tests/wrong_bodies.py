@@ -3,12 +3,13 @@
 An edit has the form of rt's must-fail edits. A check names each function that is not proved, and above it the goals of its own
 that failed: a caller's goals rest on the contracts of what it calls alone, so they say nothing of a callee that is not proved. So
 the faults of a crate are tried in rounds: each stands in a copy of its function beside it, with a copy of its proof, and is refused
-where its copy has a failed goal. A round checks these alone: each function of the crate, which `rt ci` proves beside that, has a
-hole for its proof there, which stands for its contract, and no code; so nothing is said of a function that no fault edits, and callers of an
-edited one rest on what it promises. A trait's methods, which no copy can stand beside, and circles of calls are edited in their place, and have a
-round for each further fault; what a check says nothing of, as of a caller of such a one, is tried in further ones. An edit of a constant,
-or of what no function has, names by a line `refused: PATH` the function that is not proved with it; nothing stands beside one of a
-definition that may rest on it. What is not refused so is tried alone, as rt does, and is refused where that check is.
+where its copy has a failed goal. A round checks these alone: each function of the crate, which `rt ci` proves beside that, has no code
+there, and where an edited one calls it a hole for its proof, which stands for its contract; so nothing is said of a function that no
+fault edits, and callers of an edited one rest on what it promises. A trait's methods, which no copy can stand beside, and circles of
+calls are edited in their place, and have a round for each further fault; what a check says nothing of, as of a caller of such a one, is
+tried in further ones. An edit of a constant, or of what no function has, names by a line `refused: PATH` the function that is not proved
+with it; nothing stands beside one of a definition that may rest on it. What is not refused so is tried alone, as rt does, and is refused
+where that check is.
 """
 import contextlib
 import functools
@@ -87,8 +88,11 @@ class Toolchain:
             for it in faults:
                 if it.number:
                     copy_proof(crate, it.functions[0].path, it.paths()[0], Path(room, "proofs"))
+            called = words_called(crate, faults)
             for it in left:
-                leave_open(crate, it.circle or it.path, Path(room, "proofs"))
+                give_up_proof(it.circle or it.path, Path(room, "proofs"))
+                if it.circle or it.in_trait or it.name in called:
+                    leave_open(crate, it.circle or it.path, Path(room, "proofs"))
             for path in [it.circle or path for fault in faults for it, path in zip(fault.functions, fault.paths())]:
                 ask_for_no_proof(Path(room, "proofs", *path))
             more = [word for it in paths for word in ("--only", "::".join(it))]
@@ -122,13 +126,28 @@ def calls_itself(function):
     return any(it[-1] not in (".", ":") for it in before)
 
 
+def words_called(crate, faults):
+    """The words by which the functions that these faults edit, and the crate's macros, may name what they call: of their bodies, as they
+    were and as they are edited."""
+    texts = [new.decode() for fault in faults for _, _, _, new in fault.changes]
+    for file in Path(crate.folder, "src").rglob("*.rt"):
+        texts += re.findall(r"(?ms)^macro_rules! .*?^\}", file.read_text())
+    bodies = [word for fault in faults for it in fault.functions for word in it.body]
+    return {*bodies, *re.findall(r"\w+", "\n".join(texts))}
+
+
+def give_up_proof(path, proofs):
+    """Takes away the proof of a function, or of a circle of calls: what no edited function calls needs none, and to read it, or a hole
+    in its place, takes a check some third of what it begins with."""
+    for name in ("Answers", "Invariants", "Proof"):
+        proofs.joinpath(*path, f"{name}.antt").unlink(missing_ok=True)
+
+
 def leave_open(crate, path, proofs):
     """Puts a hole in the place of the proof of a function, or of a circle of calls. It is a hole for anything, since a check prints the
     goal of each hole, and to write out a statement takes up to a second."""
     folder = proofs.joinpath(*path)
     folder.mkdir(parents=True, exist_ok=True)
-    for name in ("Answers", "Invariants"):
-        (folder / f"{name}.antt").unlink(missing_ok=True)
     proof, name = ".".join(["Rattle", crate.name, "proofs", *path]), f"{path[-1]}_spec"
     stated = proof if path[-1].startswith("+") else f"{proof}.Statement"
     anything = "anything {ℓ} : {A : Type ℓ} → A\nanything = ?\n"
