@@ -129,7 +129,10 @@ def share_processors(made):
         elif not tests and flags == ["--jobs", "1"] and ready:
             free = made.processors() - checks_below(os.getppid())
             at_least = made.processors() // 2 if ready == len(left) else 1
-            flags = ["--jobs", str(max(free // ready, at_least))]
+            jobs = max(free // ready, at_least)
+            flags = ["--jobs", str(jobs)]
+            if jobs > 1:
+                print(f"rt: {self.name} is proved by {jobs} processors, since {free} are free for {ready} crates", flush=True)
         return whole(self, flags, tests)
 
     made.Crate.ci = ci
