@@ -172,6 +172,7 @@ fn cout1<A: Allocator>(live: &mut Live, space: &mut AddressSpace<A>)
     end_output(live, space);
 }
 
+// (Where it is not inlined the registers are lent to it, and so stand in memory in every burst.)
 #[inline(always)]
 #[tactic(auto, unfolding(crate::specs::Services::effect))]
 fn home<A: Allocator>(live: &mut Live, space: &mut AddressSpace<A>)
