@@ -254,55 +254,102 @@ fn with_bound(names: Bounds, name: u8, number: u16) -> Bounds
     names
 }
 
+// In what an expression is looked at: the state where a routine was entered and one that its run came to, behind these visits of
+// labels, and the numbers that names stand for.
+#[derive(Clone, Copy)]
+struct Scene<'s, A: Allocator> {
+    entry: &'s Sight<'s, A>,
+    exit: &'s Sight<'s, A>,
+    visits: &'s [Visit<A>],
+    names: Bounds,
+}
+
 // Whether an expression holds at each number below one.
 #[cycle(value)]
-fn each_below<A: Allocator>(
-    name: u8,
-    count: u16,
-    body: &Expr,
-    entry: &Sight<A>,
-    exit: &Sight<A>,
-    visits: &[Visit<A>],
-    names: Bounds,
-) -> Option<i64>
-    ensures { result ≡ values.each_below count
-        (λ k. values.value_in body.now (moment_of entry.now) (moment_of exit.now) (values.visited visits.now) (slice_set names name (pos k))) }
+fn each_below<A: Allocator>(name: u8, count: u16, body: &Expr, scene: &Scene<'_, A>) -> Option<i64>
+    ensures { result ≡ values.each_below count (λ k. values.value_in body.now (moment_of scene.now.entry.now)
+        (moment_of scene.now.exit.now) (values.visited scene.now.visits.now) (slice_set scene.now.names name (pos k))) }
 {
     let mut holds = Some(1);
     for number in 0..count {
-        let here = value_in(body, entry, exit, visits, with_bound(names, name, number));
-        holds = chosen(holds, here, Some(0));
+        let here = Scene {
+            names: with_bound(scene.names, name, number),
+            ..*scene
+        };
+        holds = chosen(holds, value_at(body, &here), Some(0));
     }
     holds
 }
 
 // The sum of an expression at each number below one.
 #[cycle(value)]
-fn sum_below<A: Allocator>(
-    name: u8,
-    count: u16,
-    body: &Expr,
-    entry: &Sight<A>,
-    exit: &Sight<A>,
-    visits: &[Visit<A>],
-    names: Bounds,
-) -> Option<i64>
-    ensures { result ≡ values.sum_below count
-        (λ k. values.value_in body.now (moment_of entry.now) (moment_of exit.now) (values.visited visits.now) (slice_set names name (pos k))) }
+fn sum_below<A: Allocator>(name: u8, count: u16, body: &Expr, scene: &Scene<'_, A>) -> Option<i64>
+    ensures { result ≡ values.sum_below count (λ k. values.value_in body.now (moment_of scene.now.entry.now)
+        (moment_of scene.now.exit.now) (values.visited scene.now.visits.now) (slice_set scene.now.names name (pos k))) }
 {
     let mut sum = Some(0);
     for number in 0..count {
-        let here = value_in(body, entry, exit, visits, with_bound(names, name, number));
-        sum = operated_on(Operation::Plus, sum, here);
+        let here = Scene {
+            names: with_bound(scene.names, name, number),
+            ..*scene
+        };
+        sum = operated_on(Operation::Plus, sum, value_at(body, &here));
     }
     sum
+}
+
+// What an expression is in a scene.
+#[cycle(value)]
+fn value_at<A: Allocator>(expr: &Expr, scene: &Scene<'_, A>) -> Option<i64>
+    ensures { result ≡ values.value_in expr.now (moment_of scene.now.entry.now) (moment_of scene.now.exit.now)
+        (values.visited scene.now.visits.now) scene.now.names }
+{
+    match expr {
+        Expr::Number(number) => Some(*number),
+        Expr::Held(atom) => Some(held(*atom, scene.exit)),
+        Expr::Bound(name) => scene.names.get(usize::from(*name)).copied(),
+        Expr::Old(within) => {
+            let old = Scene {
+                exit: scene.entry,
+                ..*scene
+            };
+            value_at(within, &old)
+        }
+        Expr::At(address, within) => {
+            let there = visited(scene.visits, *address)?;
+            let at = Scene {
+                exit: &there,
+                ..*scene
+            };
+            value_at(within, &at)
+        }
+        Expr::Of(function, of) => made(*function, scene.exit.space, value_at(of, scene)?),
+        Expr::Pair(operation, left, right) => {
+            operated_on(*operation, value_at(left, scene), value_at(right, scene))
+        }
+        Expr::Choice(by, yes, no) => {
+            let one = if is_zero(value_at(by, scene)?) {
+                no
+            } else {
+                yes
+            };
+            value_at(one, scene)
+        }
+        Expr::Each(name, count, body) => {
+            let count = count_of(value_at(count, scene))?;
+            each_below(*name, count, body, scene)
+        }
+        Expr::Sum(name, count, body) => {
+            let count = count_of(value_at(count, scene))?;
+            sum_below(*name, count, body, scene)
+        }
+    }
 }
 
 /// What an expression is, of the state where a routine was entered and one that its run came to, behind these visits of labels, where
 /// these are the numbers that names stand for. None where a part of it that counts is none: a quotient by what is not above 0, bits of
 /// what is not from 0 to 65,535, a byte that is not in RAM, a number of 2^63 or more, or what was at a label where the run has not been.
 /// This project's profile.
-#[cycle(value)]
 pub fn value_in<A: Allocator>(
     expr: &Expr,
     entry: &Sight<A>,
@@ -312,41 +359,13 @@ pub fn value_in<A: Allocator>(
 ) -> Option<i64>
     ensures { result ≡ values.value_in expr.now (moment_of entry.now) (moment_of exit.now) (values.visited visits.now) names }
 {
-    match expr {
-        Expr::Number(number) => Some(*number),
-        Expr::Held(atom) => Some(held(*atom, exit)),
-        Expr::Bound(name) => names.get(usize::from(*name)).copied(),
-        Expr::Old(within) => value_in(within, entry, entry, visits, names),
-        Expr::At(address, within) => {
-            let here = visited(visits, *address)?;
-            value_in(within, entry, &here, visits, names)
-        }
-        Expr::Of(function, of) => made(
-            *function,
-            exit.space,
-            value_in(of, entry, exit, visits, names)?,
-        ),
-        Expr::Pair(operation, left, right) => operated_on(
-            *operation,
-            value_in(left, entry, exit, visits, names),
-            value_in(right, entry, exit, visits, names),
-        ),
-        Expr::Choice(by, yes, no) => {
-            if is_zero(value_in(by, entry, exit, visits, names)?) {
-                value_in(no, entry, exit, visits, names)
-            } else {
-                value_in(yes, entry, exit, visits, names)
-            }
-        }
-        Expr::Each(name, count, body) => {
-            let count = count_of(value_in(count, entry, exit, visits, names))?;
-            each_below(*name, count, body, entry, exit, visits, names)
-        }
-        Expr::Sum(name, count, body) => {
-            let count = count_of(value_in(count, entry, exit, visits, names))?;
-            sum_below(*name, count, body, entry, exit, visits, names)
-        }
-    }
+    let scene = Scene {
+        entry,
+        exit,
+        visits,
+        names,
+    };
+    value_at(expr, &scene)
 }
 
 /// The same, where a run has come to no label.
