@@ -116,8 +116,8 @@ def keep_what_is_checked(made):
 
 def share_processors(made):
     """Has a proof of `rt ci` take the processors that no other crate is ready for, and no wrong body that is tried beside it: in a chain of
-    crates, and at the end. Several that share a proof take up to a third more in all, so each has one while others wait. The last ones, for
-    which no other crate waits, have half of them whatever is tried beside them. Where the environment has A2_JOBS, each has so many."""
+    crates, and at the end. Several that share a proof take up to a third more in all, so each has one while anything else is to be done.
+    Where the environment has A2_JOBS, each has so many."""
     whole = made.Crate.ci
     is_there = lambda it: os.path.exists(f"{it.folder}/out/{it.name}" if it.is_program else it.rlib)
 
@@ -128,8 +128,7 @@ def share_processors(made):
             flags = ["--jobs", os.environ["A2_JOBS"]]
         elif not tests and flags == ["--jobs", "1"] and ready:
             free = made.processors() - checks_below(os.getppid())
-            at_least = made.processors() // 2 if ready == len(left) else 1
-            jobs = max(free // ready, at_least)
+            jobs = max(free // ready, 1)
             flags = ["--jobs", str(jobs)]
             if jobs > 1:
                 print(f"rt: {self.name} is proved by {jobs} processors, since {free} are free for {ready} crates", flush=True)
