@@ -6,6 +6,34 @@ use a2_opcode::Mnemonic;
 use a2_syntax::{Body, Expr, Line, Name, Operand, Signed, Source, Term};
 use std::alloc::Allocator;
 
+// What can be compared with another of its type.
+trait Same {
+    // Whether it is the same as another.
+    fn is_same(&self, other: &Self) -> bool
+        ensures { IsTrue result ↔ self.now ≡ other.now };
+}
+
+// Whether two lists have the same elements.
+fn are_same<T: Same>(a: &[T], b: &[T]) -> bool
+    ensures { IsTrue result ↔ a.now ≡ b.now }
+{
+    let mut left = a;
+    let mut right = b;
+    loop {
+        match (left.split_first(), right.split_first()) {
+            (Some((first, others)), Some((one, more))) => {
+                if !first.is_same(one) {
+                    return false;
+                }
+                left = others;
+                right = more;
+            }
+            (None, None) => return true,
+            _ => return false,
+        }
+    }
+}
+
 fn same_term<A: Allocator>(a: &Term<A>, b: &Term<A>) -> bool
     ensures { IsTrue result ↔ a.now ≡ b.now }
 {
@@ -17,55 +45,15 @@ fn same_term<A: Allocator>(a: &Term<A>, b: &Term<A>) -> bool
     }
 }
 
-fn same_signed<A: Allocator>(a: &Signed<A>, b: &Signed<A>) -> bool
-    ensures { IsTrue result ↔ a.now ≡ b.now }
-{
-    a.minus == b.minus && same_term(&a.term, &b.term)
-}
-
-fn same_terms<A: Allocator>(a: &[Signed<A>], b: &[Signed<A>]) -> bool
-    ensures { IsTrue result ↔ a.now ≡ b.now }
-{
-    let mut left = a;
-    let mut right = b;
-    loop {
-        match (left.split_first(), right.split_first()) {
-            (Some((first, others)), Some((one, more))) => {
-                if !same_signed(first, one) {
-                    return false;
-                }
-                left = others;
-                right = more;
-            }
-            (None, None) => return true,
-            _ => return false,
-        }
+impl<A: Allocator> Same for Signed<A> {
+    fn is_same(&self, other: &Self) -> bool {
+        self.minus == other.minus && same_term(&self.term, &other.term)
     }
 }
 
-fn same_expr<A: Allocator>(a: &Expr<A>, b: &Expr<A>) -> bool
-    ensures { IsTrue result ↔ a.now ≡ b.now }
-{
-    a.part == b.part && same_terms(a.terms.get(), b.terms.get())
-}
-
-fn same_exprs<A: Allocator>(a: &[Expr<A>], b: &[Expr<A>]) -> bool
-    ensures { IsTrue result ↔ a.now ≡ b.now }
-{
-    let mut left = a;
-    let mut right = b;
-    loop {
-        match (left.split_first(), right.split_first()) {
-            (Some((first, others)), Some((one, more))) => {
-                if !same_expr(first, one) {
-                    return false;
-                }
-                left = others;
-                right = more;
-            }
-            (None, None) => return true,
-            _ => return false,
-        }
+impl<A: Allocator> Same for Expr<A> {
+    fn is_same(&self, other: &Self) -> bool {
+        self.part == other.part && are_same(self.terms.get(), other.terms.get())
     }
 }
 
@@ -75,13 +63,13 @@ fn same_operand<A: Allocator>(a: &Operand<A>, b: &Operand<A>) -> bool
     match (a, b) {
         (Operand::Nothing, Operand::Nothing) => true,
         (Operand::Accumulator, Operand::Accumulator) => true,
-        (Operand::Immediate(e), Operand::Immediate(f)) => same_expr(e, f),
-        (Operand::Plain(e), Operand::Plain(f)) => same_expr(e, f),
-        (Operand::WithX(e), Operand::WithX(f)) => same_expr(e, f),
-        (Operand::WithY(e), Operand::WithY(f)) => same_expr(e, f),
-        (Operand::InParenthesesX(e), Operand::InParenthesesX(f)) => same_expr(e, f),
-        (Operand::ParenthesesY(e), Operand::ParenthesesY(f)) => same_expr(e, f),
-        (Operand::InParentheses(e), Operand::InParentheses(f)) => same_expr(e, f),
+        (Operand::Immediate(e), Operand::Immediate(f)) => e.is_same(f),
+        (Operand::Plain(e), Operand::Plain(f)) => e.is_same(f),
+        (Operand::WithX(e), Operand::WithX(f)) => e.is_same(f),
+        (Operand::WithY(e), Operand::WithY(f)) => e.is_same(f),
+        (Operand::InParenthesesX(e), Operand::InParenthesesX(f)) => e.is_same(f),
+        (Operand::ParenthesesY(e), Operand::ParenthesesY(f)) => e.is_same(f),
+        (Operand::InParentheses(e), Operand::InParentheses(f)) => e.is_same(f),
         _ => false,
     }
 }
@@ -105,12 +93,12 @@ fn same_body<A: Allocator>(a: &Body<A>, b: &Body<A>) -> bool
     match (a, b) {
         (Body::Empty, Body::Empty) => true,
         (Body::Instr(m, o), Body::Instr(n, p)) => same_instr(*m, o, *n, p),
-        (Body::Org(e), Body::Org(f)) => same_expr(e, f),
-        (Body::Equ(e), Body::Equ(f)) => same_expr(e, f),
-        (Body::Dfb(es), Body::Dfb(fs)) => same_exprs(es.get(), fs.get()),
-        (Body::Dw(es), Body::Dw(fs)) => same_exprs(es.get(), fs.get()),
+        (Body::Org(e), Body::Org(f)) => e.is_same(f),
+        (Body::Equ(e), Body::Equ(f)) => e.is_same(f),
+        (Body::Dfb(es), Body::Dfb(fs)) => are_same(es.get(), fs.get()),
+        (Body::Dw(es), Body::Dw(fs)) => are_same(es.get(), fs.get()),
         (Body::Asc(m), Body::Asc(n)) => m.get() == n.get(),
-        (Body::Ds(e), Body::Ds(f)) => same_expr(e, f),
+        (Body::Ds(e), Body::Ds(f)) => e.is_same(f),
         _ => false,
     }
 }
@@ -125,29 +113,9 @@ fn same_label<A: Allocator>(a: &Option<Name<A>>, b: &Option<Name<A>>) -> bool
     }
 }
 
-fn same_line<A: Allocator>(a: &Line<A>, b: &Line<A>) -> bool
-    ensures { IsTrue result ↔ a.now ≡ b.now }
-{
-    same_label(&a.label, &b.label) && same_body(&a.body, &b.body)
-}
-
-fn same_lines<A: Allocator>(a: &[Line<A>], b: &[Line<A>]) -> bool
-    ensures { IsTrue result ↔ a.now ≡ b.now }
-{
-    let mut left = a;
-    let mut right = b;
-    loop {
-        match (left.split_first(), right.split_first()) {
-            (Some((first, others)), Some((one, more))) => {
-                if !same_line(first, one) {
-                    return false;
-                }
-                left = others;
-                right = more;
-            }
-            (None, None) => return true,
-            _ => return false,
-        }
+impl<A: Allocator> Same for Line<A> {
+    fn is_same(&self, other: &Self) -> bool {
+        same_label(&self.label, &other.label) && same_body(&self.body, &other.body)
     }
 }
 
@@ -155,5 +123,5 @@ fn same_lines<A: Allocator>(a: &[Line<A>], b: &[Line<A>]) -> bool
 pub(crate) fn same_source<A: Allocator>(a: &Source<A>, b: &Source<A>) -> bool
     ensures { IsTrue result ↔ a.now ≡ b.now }
 {
-    same_lines(a.lines(), b.lines())
+    are_same(a.lines(), b.lines())
 }

@@ -5,6 +5,6 @@ use Rattle.a2_fmt.proofs.same.same_source.Goals as goal
 
 pub returns : goal.returns
 returns g c = (
-  λ is. sym c.lines.ensures.is ∙ ap bare (c.same_lines.ensures.0 is) ∙ c.lines-2.ensures.is,
-  λ same. c.same_lines.ensures.1 (same-lines _ _ (c.lines.ensures.is ∙ same ∙ sym c.lines-2.ensures.is)),
+  λ is. sym c.lines.ensures.is ∙ ap bare (c.are_same.ensures.0 is) ∙ c.lines-2.ensures.is,
+  λ same. c.are_same.ensures.1 (same-lines _ _ (c.lines.ensures.is ∙ same ∙ sym c.lines-2.ensures.is)),
 )

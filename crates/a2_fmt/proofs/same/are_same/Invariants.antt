@@ -1,5 +1,5 @@
 use Rattle.std.proofs.Common.{◌≡◌, ◌↔◌, length}
-use Rattle.a2_fmt.proofs.same.same_lines.Given as goal
+use Rattle.a2_fmt.proofs.same.are_same.Given as goal
 
 -- what is left is the same where all is
 abbrev pub invariant-loop-first : goal.invariant-loop-first

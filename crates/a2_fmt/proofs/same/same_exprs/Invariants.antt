@@ -1,9 +1,0 @@
-use Rattle.std.proofs.Common.{◌≡◌, ◌↔◌, length}
-use Rattle.a2_fmt.proofs.same.same_exprs.Given as goal
-
--- what is left is the same where all is
-abbrev pub invariant-loop-first : goal.invariant-loop-first
-invariant-loop-first g l = l.a ≡ l.b ↔ l.left ≡ l.right
-
-abbrev pub decreases-loop-first : goal.decreases-loop-first
-decreases-loop-first g l = length l.left
