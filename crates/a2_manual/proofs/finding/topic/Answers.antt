@@ -1,5 +1,6 @@
-use Rattle.std.proofs.Common.{inl, inr}
-use Rattle.a2_manual.proofs.Among.{any_split}
+use Rattle.std.proofs.Common.{[], inl, inr}
+use Rattle.a2_manual.specs.Topics.{topics}
+use Rattle.a2_manual.proofs.Among.{any_split, any_none, first_piece}
 use Rattle.a2_manual.proofs.finding.topic.Goals as goal
 
 pub loop-text-preserved : goal.loop-text-preserved
@@ -12,3 +13,15 @@ loop-text-preserved c =
       ],
       λ text said. c.loop-text.invariant.1 text (rw more (inr (none, said))),
     )
+
+pub returns-in-Some : goal.returns-in-Some
+returns-in-Some c =
+    let some = first_piece c.cut_at.result.1 _ _ (λ rest. topics rest.now) c.cut_at.ensures.pieces in
+    c.loop-text.invariant.1 _ (rw some.1 (inl (rw c.in-Some.is at c.said_by.ensures)))
+
+pub returns-in_default-behind : goal.returns-in_default-behind
+returns-in_default-behind c = λ known.
+    elim (any_split _ [] (rw (rw c.in_default-behind.is at c.cut_at.ensures.pieces) at (c.loop-text.invariant.0 known))) [
+      | inl here ↦ (rw c.in_default.is at c.said_by.ensures) here
+      | inr behind ↦ any_none behind
+    ]
