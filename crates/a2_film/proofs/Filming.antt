@@ -20,7 +20,7 @@ use Rattle.a2_machine.proofs.Runs.{run-is_end}
 use Rattle.a2_film.specs.Changes.{change_of}
 use Rattle.a2_film.specs.Rows.{row_text}
 use Rattle.a2_film.specs.Runs.{rows, run_lines, AreRunLines}
-use Rattle.a2_film_page.specs.Page as page
+use Rattle.a2_film.specs.Page as page
 use Rattle.a2_film.specs.Filmed.{row_between, FilmsStep, Films, FilmsRest}
 
 none-some : {X : Type 0} (x : X) → None ≡ Some x → ⊥

@@ -11,3 +11,4 @@ pub mod ChapterLaws
 pub mod Windows
 pub mod TextRuns
 pub mod Tagless
+pub mod ReadBack

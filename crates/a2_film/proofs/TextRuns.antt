@@ -24,7 +24,7 @@ use Rattle.a2_run.specs.Meaning.{IsProgramOf, code_of_run, start_of_run}
 use Rattle.a2_run.specs.Started.{IsStarted, guard_of_run}
 use Rattle.a2_run.proofs.Runs.{meant, sound-of}
 use Rattle.a2_film.specs.Changes.{Frame, change_of, applied, frame_at}
-use Rattle.a2_film_page.specs.Page as page
+use Rattle.a2_film.specs.Page as page
 use Rattle.a2_film.specs.declared.chapters.Chapter.{Chapter}
 use Rattle.a2_film.specs.declared.film.Window.{Window}
 use Rattle.a2_film.specs.Rows.{row_text, opening, chapter_line, program_lines, start_lines}

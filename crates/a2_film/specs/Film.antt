@@ -7,7 +7,7 @@ use Rattle.a2_services.specs.World.{World}
 use Rattle.a2_machine.specs.declared.causes.Cause.{Cause}
 use Rattle.a2_machine.specs.Meaning.{Code, End, IsEnd}
 use Rattle.a2_run.specs.Meaning.{IsProgramOf, code_of_run, start_of_run}
-use Rattle.a2_film_page.specs.Page as page
+use Rattle.a2_film.specs.Page as page
 use Rattle.a2_film.specs.declared.chapters.Chapter.{Chapter}
 use Rattle.a2_film.specs.declared.film.Window.{Window}
 use Rattle.a2_film.specs.Rows.{opening, chapter_line, program_lines, start_lines}

@@ -14,7 +14,7 @@ use Rattle.a2_services.specs.Services.{reach}
 use Rattle.a2_machine.specs.declared.causes.Cause.{Cause}
 use Rattle.a2_machine.specs.Meaning.{Code}
 use Rattle.a2_machine.specs.State.{Device, world_of_state, cause_of, IsStep}
-use Rattle.a2_film_page.specs.Page as page
+use Rattle.a2_film.specs.Page as page
 use Rattle.a2_film.specs.declared.rows.Moment.{Moment}
 use Rattle.a2_film.specs.Changes.{Store, changed, switch_digit, change_of}
 use Rattle.a2_film.specs.Runs.{AreRunLines}

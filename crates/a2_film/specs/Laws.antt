@@ -1,13 +1,16 @@
 -- Laws of films.
-use Rattle.std.specs.Prelude.{◌≡◌, ◌≢◌, ℕ, ◌+◌, ◌<◌, ◌≤◌, Bool, List, ◌++◌, All}
+use Rattle.std.specs.Prelude.{◌≡◌, ◌≢◌, ℕ, ◌+◌, ◌^◌, ◌<◌, ◌≤◌, Bool, List, ◌++◌, IfSome, All}
+use Rattle.std.specs.List.{flat_map}
 use Rattle.a2_bus.specs.Memory.{ram_byte, ram_end}
 use Rattle.a2_asm.specs.Assembled.{Assembled}
 use Rattle.a2_services.specs.World.{World}
 use Rattle.a2_machine.specs.Meaning.{Code, End, IsEnd, world_at}
 use Rattle.a2_run.specs.Meaning.{IsProgramOf, code_of_run, start_of_run}
 use Rattle.a2_film.specs.declared.chapters.Chapter.{Chapter}
-use Rattle.a2_film.specs.Changes.{Frame, frame_at}
+use Rattle.a2_film.specs.Changes.{Store, Change, Frame, frame_at}
 use Rattle.a2_film.specs.Film.{film_head}
+use Rattle.a2_film.specs.Rows.{row_text}
+use Rattle.a2_film.specs.Reader.{rows_of}
 use Rattle.a2_film.specs.Runs.{run_lines}
 
 -- a frame shows a world: the same registers, cycles and devices, and the same byte at each address of RAM
@@ -38,3 +41,20 @@ DataHaveNoTag =
     (text title : List ℕ) (chapters : List Chapter) (free : Bool) (program : Assembled) (code : Code) (steps : ℕ) (start : World)
     (end : End)
     → HasNoTag (film_head title chapters text free program steps start ++ run_lines code start end)
+
+-- the numbers of a change fit their fields
+pub record Fits (change : Change) : Type 0 where
+  pub pc : change.pc < 0x10000
+  pub cycles : change.cycles < 10 ^ 64
+  pub a : IfSome change.a (λ n. n < 0x100)
+  pub x : IfSome change.x (λ n. n < 0x100)
+  pub y : IfSome change.y (λ n. n < 0x100)
+  pub s : IfSome change.s (λ n. n < 0x100)
+  pub p : IfSome change.p (λ n. n < 0x100)
+  pub switches : IfSome change.switches (λ n. n < 16)
+  pub keys : change.keys < 10 ^ 64
+  pub stores : All (λ (store : Store). (store.0 < 0x10000) × (store.1 < 0x100)) change.stores
+
+-- the rows of changes that fit are read back as these changes
+abbrev pub RowsReadBack : Type 0
+RowsReadBack = (changes : List Change) → All (λ change. Fits change) changes → rows_of (flat_map row_text changes) ≡ changes

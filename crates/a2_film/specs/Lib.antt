@@ -1,7 +1,9 @@
 pub mod Changes
 pub mod Rows
+pub mod Reader
 pub mod Runs
 pub mod Chapters
+pub mod Page
 pub mod Film
 pub mod Laws
 pub mod Filmed

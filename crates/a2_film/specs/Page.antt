@@ -1,6 +1,6 @@
 -- The page of a film: the bytes that stand before its data, and those that stand behind them. This project's own.
 use Rattle.std.specs.Prelude.{ℕ, List}
-use Rattle.a2_film_page.specs.declared.page.TheConstants.{HEAD, TAIL}
+use Rattle.a2_film.specs.declared.viewer.TheConstants.{HEAD, TAIL}
 
 unfoldable pub head : List ℕ
 head = HEAD.now

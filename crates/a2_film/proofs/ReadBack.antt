@@ -17,9 +17,9 @@ use Rattle.a2_text.specs.Bytes.{is_among}
 use Rattle.a2_film.specs.Rows.{fields_of_parts, byte_text, switches_text, keys_text, store_text, stores_text, no_address}
 use Rattle.a2_film.specs.Rows.{row_text}
 use Rattle.a2_film.specs.Changes.{Store, Change}
-use Rattle.a2_film_read.specs.Reader.{first, hex_number, digit_count, decimal_number, field, keys_field, stores_field, read_row}
-use Rattle.a2_film_read.specs.Reader.{read_rows}
-use Rattle.a2_film_read.specs.Laws.{Fits, RowsReadBack}
+use Rattle.a2_film.specs.Reader.{first, hex_number, digit_count, decimal_number, field, keys_field, stores_field, read_row}
+use Rattle.a2_film.specs.Reader.{read_rows}
+use Rattle.a2_film.specs.Laws.{Fits, RowsReadBack}
 
 -- Digits
 

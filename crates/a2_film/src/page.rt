@@ -1,15 +1,10 @@
-//! The page that shows a film, a run as it goes forwards and backwards: HTML with its style and script. Of these nothing is
-//! proved but that they go out as they stand in `data/viewer.html`.
-//!
-//! How it is called is shown in CALLING.md.
-#![tactic(auto)]
+//! The page that shows a film: HTML with its style and script. Of these nothing is proved but that they go out as they stand in
+//! `data/viewer.html`.
 
 ghost use Rattle.std.specs.Prelude.{◌≡◌};
-ghost use Rattle.a2_film_page.specs.Page as page_text;
+ghost use Rattle.a2_film.specs.Page as page_text;
 
-mod page;
-
-use page::{HEAD, TAIL};
+use crate::viewer::{HEAD, TAIL};
 
 /// What stands before the data of a film: the page up to and with the tag of the script that holds them.
 #[tactic(auto, unfolding(crate::specs::Page::head))]
