@@ -1,5 +1,5 @@
 -- What is read where something is counted, laid or closed.
-use Rattle.std.specs.Prelude.{◌≡◌, ◌<◌, ◌≤◌, ℕ, ℤ, suc, ◌+◌, pos, min, nat_le, false, ◌&&◌, IsTrue, List, [], ◌∷◌, ◌++◌, length, codes, Option, Some, None, Result, Ok, Err, IfOk, IfNone, refl}
+use Rattle.std.specs.Prelude.{◌≡◌, ◌<◌, ◌≤◌, ℕ, suc, ◌+◌, pos, min, nat_le, false, ◌&&◌, IsTrue, List, [], ◌∷◌, ◌++◌, length, codes, Option, Some, None, Result, Ok, Err, IfOk, IfNone, refl}
 use Rattle.std.proofs.Common.{ap, sym, subst, ◌∙◌, arith, append_assoc, length-append}
 use Rattle.std.proofs.lemmas.Bool.{leb-true, le-leb, lt-ltb}
 use Rattle.std.proofs.lemmas.Bool.Decides.{Decides-eqb}
@@ -7,6 +7,7 @@ use Rattle.a2_promise.specs.declared.expr.Function.TheVariants as function
 use Rattle.a2_promise.specs.declared.expr.Operation.TheVariants as operation
 use Rattle.a2_promise.specs.declared.words.Infix.{Infix}
 use Rattle.a2_promise.specs.declared.words.Kind.TheVariants as kinds
+use Rattle.a2_promise.specs.declared.parts.Part.{Part}
 use Rattle.a2_promise.specs.declared.parts.Part.TheVariants as part
 use Rattle.a2_promise.specs.declared.parsing.Piece.{Piece}
 use Rattle.a2_promise.specs.declared.parsing.Place.{Place}
@@ -20,9 +21,9 @@ use Rattle.a2_promise.specs.Tokens.{Token, word, sign, quoted}
 use Rattle.a2_promise.specs.Written.{Written, joined, spelled, said, meant, infix_token, are_laid}
 use Rattle.a2_promise.specs.Written.{byte_in, word_of, word_in, text, text_in, least, greatest, for_all, sum_of}
 use Rattle.a2_promise.specs.Grammar.{Scope, fits, inside, infix_rank, is_number, is_fact, is_free, is_name_among, is_text, openings, number_among, address_of, may_be_number, may_be_fact, may_count, rank, tightest}
-use Rattle.a2_promise.specs.Reading.{State, Takes, Puts, Steps, Reads, ReadsKind, ReadsSuch, ReadsOne, ReadsPiece, ReadsAddress, ReadsToken, ReadsTwo, ReadsCounted, ReadsPlace, Binds, Unbinds, PutsOf, IsPlaced, IsEither, Stops, first, made, byte_parts, token_of}
+use Rattle.a2_promise.specs.Reading.{State, Takes, Puts, Steps, Reads, ReadsKind, ReadsSuch, ReadsOne, ReadsPiece, ReadsAddress, ReadsThen, ReadsToken, ReadsTwo, ReadsCounted, ReadsPlace, Binds, Unbinds, PutsOf, IsPlaced, IsEither, Stops, first, made, parts_of_address, token_of}
 use Rattle.a2_promise.proofs.Formers.{just, free_other, free_name}
-use Rattle.a2_promise.proofs.Goings.{also, took, put, last, ◌>>◌, as_made, stops_both, fits_at, one_read, closed_read}
+use Rattle.a2_promise.proofs.Goings.{also, took, put, went, last, ◌>>◌, as_made, stops_both, fits_at, one_read, closed_read}
 use Rattle.a2_promise.proofs.Joinings.{one_of_read, made_kept, slice_put}
 use Rattle.std.proofs.lemmas.List.{append-nil}
 use Rattle.a2_promise.proofs.Marks.{same_rank}
@@ -63,12 +64,10 @@ pub word_in_read : {z a m n b : State} → Takes (word (codes "word")) z a → T
 unfolding spelled meant fits made
 word_in_read w t r p = closed_read (word_in r.e) (took w >> took t >> last r.steps p) (t.scope ∙ w.scope) r.fit refl refl refl refl
 
-pub word_of_read : {token : Token} {address : ℕ} {number : ℤ} {z a m b : State} → Takes (word (codes "word")) z a → Takes token a m
-    → address_of a.scope.names token ≡ Some address → number ≡ pos address → Puts (part.Number number ∷ part.Of function.Word ∷ []) m b
+pub word_of_read : {z a b : State} → Takes (word (codes "word")) z a → ReadsToken address_of (parts_of_address function.Word) a b
     → ReadsKind kinds.Number z b
 unfolding spelled meant fits made
-word_of_read {token} {address} w t h e p =
-    closed_read (word_of token address) (took w >> took t >> put (rw e at p)) w.scope (just h) refl refl refl refl
+word_of_read w r = closed_read (word_of r.token r.n) (took w >> went r.goes) w.scope (just r.value) refl refl refl refl
 
 -- What is counted
 
@@ -201,9 +200,14 @@ pub kind_ok : {E : Type 0} (r : Result Kind E) {k : Kind} {P : Type 0} {a b : St
 kind_ok (Ok made) h f = rw h.0 (f h.1)
 kind_ok (Err e) h f = tt
 
-pub none_by : {X : Type 0} (found : Option X) → ((x : X) → found ≡ Some x → ⊥) → found ≡ None
-none_by None h = refl
-none_by (Some x) h = absurd (h x refl)
+-- a number that is made of what was read
+pub then_put : (reads : State → State → Type 0) {it : Part} {a m b : State} → reads a m → Puts (it ∷ []) m b → ReadsThen reads it a b
+then_put reads {m = m} read p = record { middle = m; read = read; puts = p }
+
+pub number_then : {E : Type 0} (r : Result Kind E) {P Q : Type 0} → (P → Q) → IfOk r (λ kind. (kind ≡ kinds.Number) × P)
+    → IfOk r (λ kind. (kind ≡ kinds.Number) × Q)
+number_then (Ok kind) f h = (h.0, f h.1)
+number_then (Err e) f h = tt
 
 pub limit_of : (r n : ℕ) (join : Infix) → n ≡ infix_rank join → infix_rank join < tightest → r ≡ min (n + 1) 255 → min r tightest ≡ suc (infix_rank join)
 limit_of r n join h below e = omega (arith, h, below, e)
@@ -212,7 +216,7 @@ pub of_none : {X : Type 0} (found : Option X) {P : Type 0} → ((x : X) → foun
 of_none None h p = p
 of_none (Some x) h p = absurd (h x refl)
 
-pub byte_free : (class : Class) (bytes : List ℕ) {a b : State} (r : ReadsToken address_of byte_parts a b) → token_of class bytes ≡ first a.left
+pub byte_free : (class : Class) (bytes : List ℕ) {a b : State} (r : ReadsToken address_of (parts_of_address function.Byte) a b) → token_of class bytes ≡ first a.left
     → (class ≡ classes.Word → is_name_among openings bytes ≡ false) → (class ≡ classes.Word → number_among a.scope.around bytes ≡ None)
     → IsTrue (is_free a.scope.around r.token)
 byte_free class bytes {a} r f o n =

@@ -16,7 +16,7 @@ use Rattle.a2_promise.specs.Tokens as token
 use Rattle.a2_promise.specs.Written.{spelled, meant, atom_name}
 use Rattle.a2_promise.specs.Written.{decimal, literal, byte, atom, counted, group, minus, magnitude, signed, before, there, negated}
 use Rattle.a2_promise.specs.Grammar.{fits, atom_kind, is_number, is_fact, is_just, is_digits, is_free, is_name_among, openings, number_among, number_of, address_of, tightest}
-use Rattle.a2_promise.specs.Reading.{State, Takes, Puts, ReadsKind, ReadsOne, ReadsPiece, ReadsToken, first, made, negating, byte_parts, number_parts}
+use Rattle.a2_promise.specs.Reading.{State, Takes, Puts, ReadsKind, ReadsOne, ReadsPiece, ReadsToken, first, made, negating, number_parts, parts_of_address}
 use Rattle.a2_promise.proofs.Goings.{also, went, took, put, last, ◌>>◌, stops_both, fits_at, one_read, closed_read, one_by_rank}
 
 -- a number is its value
@@ -37,7 +37,7 @@ pub decimal_read : {digits : List ℕ} {a b : State} → first a.left ≡ Some (
 unfolding spelled meant fits made
 decimal_read f r = closed_read (decimal r.token r.n) (went r.goes) refl (also (digits_by r.goes.left f) (just r.value)) refl refl refl refl
 
-pub byte_read : {a b : State} (r : ReadsToken address_of byte_parts a b) → IsTrue (is_free a.scope.around r.token) → ReadsKind kinds.Number a b
+pub byte_read : {a b : State} (r : ReadsToken address_of (parts_of_address function.Byte) a b) → IsTrue (is_free a.scope.around r.token) → ReadsKind kinds.Number a b
 unfolding spelled meant fits made
 byte_read r f = closed_read (byte r.token r.n) (went r.goes) refl (also f (just r.value)) refl refl refl refl
 

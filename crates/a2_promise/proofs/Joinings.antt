@@ -20,7 +20,7 @@ use Rattle.a2_promise.specs.Phrases.{Phrase}
 use Rattle.a2_promise.specs.Tokens.{word}
 use Rattle.a2_promise.specs.Written.{Written, Meant, joined, bit, provided, one_of, spelled, said, meant, infix_token, comparison, compared, both}
 use Rattle.a2_promise.specs.Grammar.{fits, joins, kind, infix_kind, infix_rank, is_comparison, is_number, is_fact, may_be_number, may_be_fact, tightest, takes_else}
-use Rattle.a2_promise.specs.Reading.{State, Takes, Puts, Reads, ReadsKind, ReadsOne, ReadsJoined, ReadsLast, IsPiece, IsLast, IsMade, Stops, first, made, comparing, joining, parts_before, parts_behind}
+use Rattle.a2_promise.specs.Reading.{State, Takes, Puts, Reads, ReadsKind, ReadsOne, ReadsJoined, EndsCompared, IsPiece, IsLast, IsMade, Stops, first, made, comparing, joining, parts_before, parts_behind}
 use Rattle.a2_promise.proofs.Goings.{also, took, put, last, ◌>>◌, as_made, stops_both, fits_at, reads_it, one_read, one_by_rank}
 use Rattle.a2_promise.proofs.Making.{none_made, made_both}
 use Rattle.a2_promise.proofs.Ranks.{takes_rank}
@@ -168,7 +168,12 @@ slice_put before put all begun ended h i j =
     ap (λ all. slice_range all begun ended) h ∙ ap (λ n. take (ended - begun) (drop n (before ++ put))) i
     ∙ ap (take (ended - begun)) (drop_at before put (length before) refl) ∙ take_all (ended - begun) put (omega (arith, i, j, k, l))
 
-pub last_read : {n o : State} (span : Span) → span.begun ≡ length n.parts → span.ended ≡ length o.parts → ReadsOne 6 is_number n o → ReadsLast span n o
+-- the last number of a comparison, whose parts are these
+record ReadsLast (span : Span) (before after : State) : Type 0 where
+  pub one : ReadsOne 6 is_number before after
+  pub is_made : IsMade span (said one.e) after.parts
+
+last_read : {n o : State} (span : Span) → span.begun ≡ length n.parts → span.ended ≡ length o.parts → ReadsOne 6 is_number n o → ReadsLast span n o
 last_read {n} {o} span i j r =
     let same = slice_put n.parts r.reads.steps.parts o.parts span.begun span.ended r.reads.steps.puts i j in
     record { one = r; is_made = (omega (arith, j), λ phrases. ap (λ parts. made parts phrases) same ∙ r.reads.steps.makes phrases) }
@@ -182,44 +187,62 @@ or_right true p q = q
 or_right false p q = also p q
 
 -- a comparison of what stands at its left, whose last parts put before the right number are of this phrase
-compared_read : {relation : Relation} {piece : Piece} {e : Written} {span : Span} {a b : State} (parts behind : List Part) {f : Written}
+compared_so : {relation : Relation} {piece : Piece} {e : Written} {span : Span} {a b : State} (parts behind : List Part) {f : Written}
     → Reads (joined (Compare relation) e f) a b → IsMade span (said f) parts → b.parts ≡ parts ++ behind → piece.kind ≡ kinds.Fact
     → piece.last ≡ Some span → ReadsJoined (Compare relation) e piece a b
 unfolding meant
-compared_read {span = span} {b = b} parts behind {f} r m all k some = record {
+compared_so {span = span} {b = b} parts behind {f} r m all k some = record {
   f = f;
   reads = r;
   piece_is = record { kind = sym k; last = rw some (refl, (said f, refl, made_kept span (said f) parts behind b.parts all m)) };
 }
 
-pub comparison_read : (relation : Relation) {left piece : Piece} {e : Written} {span : Span} {a m n o b : State} → Reads e a m → IsPiece left e m
+comparison_read : (relation : Relation) {left piece : Piece} {e : Written} {span : Span} {a m n o b : State} → Reads e a m → IsPiece left e m
     → left.last ≡ None → IsTrue (may_be_number left.kind) → Takes (infix_token (Compare relation)) m n → ReadsLast span n o
     → Puts (comparing relation) o b → piece.kind ≡ kinds.Fact → piece.last ≡ Some span → ReadsJoined (Compare relation) e piece a b
 unfolding meant
 comparison_read relation {e = e} {m = m} {o = o} r l none t u s p k some =
     let f = s.one.e in
     let plain : IsLast m.parts None e = rw none at l.last in
-    compared_read o.parts (comparing relation)
+    compared_so o.parts (comparing relation)
     (joined_read (Compare relation) r u nothing_put (with_left s.one (or_right (is_comparison e) (rw l.kind t) s.one.is)) p (omega arith)
     (λ phrases. ap (λ stack. made (comparing relation) (said f ∷ stack)) (none_made (said e ∷ phrases)) ∙ compares relation (said e) (said f) phrases
     ∙ ap (λ phrase. phrase ∷ phrases) (compared_by relation (meant e) (said f) None plain)))
     s.is_made p.parts k some
 
-pub chain_read : (relation : Relation) {left piece : Piece} {e : Written} {chained span : Span} {a m n o q s b : State} → Reads e a m → IsPiece left e m
+chain_read : (relation : Relation) {left piece : Piece} {e : Written} {chained span : Span} {a m n o q b : State} → Reads e a m → IsPiece left e m
     → left.last ≡ Some chained → Takes (infix_token (Compare relation)) m n
     → (chained.ended ≤ length n.parts → Puts (slice_range n.parts chained.begun chained.ended) n o) → ReadsLast span o q
-    → Puts (comparing relation) q s → Puts joining s b → piece.kind ≡ kinds.Fact → piece.last ≡ Some span → ReadsJoined (Compare relation) e piece a b
+    → Puts (comparing relation ++ joining) q b → piece.kind ≡ kinds.Fact → piece.last ≡ Some span → ReadsJoined (Compare relation) e piece a b
 unfolding meant
-chain_read relation {e = e} {chained} {m = m} {n} {q = q} r l some u h t p j k some' =
+chain_read relation {e = e} {chained} {m = m} {n} {q = q} r l some u h t behind k some' =
     let f = t.one.e in
     let was : IsLast m.parts (Some chained) e = rw some at l.last in
     let one = was.1.0 in
     let again = made_kept chained one m.parts [] n.parts (u.parts ∙ sym (append-nil m.parts)) was.1.2 in
-    let behind = puts_both p j in
-    compared_read q.parts (comparing relation ++ joining)
+    compared_so q.parts (comparing relation ++ joining)
     (joined_read (Compare relation) r u (h again.0) (with_left t.one (or_left (is_number e) was.0 t.one.is)) behind (omega arith)
     (λ phrases. ap (λ stack. made (comparing relation ++ joining) (said f ∷ stack)) (again.1 (said e ∷ phrases))
     ∙ made_both (comparing relation) joining (said f ∷ one ∷ said e ∷ phrases)
     ∙ ap (made joining) (compares relation one (said f) (said e ∷ phrases)) ∙ joins_both (said e) (compared relation one (said f)) phrases
     ∙ ap (λ phrase. phrase ∷ phrases) (compared_by relation (meant e) (said f) (Some one) was.1.1)))
     t.is_made behind.parts k some'
+
+-- and by what stands at its left, a number or a comparison
+pub compared_read : (relation : Relation) {left piece : Piece} {e : Written} {begun : ℕ} {a m n o q b : State} → Reads e a m → IsPiece left e m
+    → Takes (infix_token (Compare relation)) m n → (left.last ≡ None → IsTrue (may_be_number left.kind) × (o ≡ n))
+    → ((last : Span) → left.last ≡ Some last → last.ended ≤ length n.parts → Puts (slice_range n.parts last.begun last.ended) n o)
+    → begun ≡ length o.parts → ReadsOne 6 is_number o q → EndsCompared left.last relation begun piece q b
+    → ReadsJoined (Compare relation) e piece a b
+compared_read relation {left} {piece} {e} {begun} {a} {m} {n} {o} {q} {b} r l t first more i s ends = by left.last refl
+  where
+    span : Span
+    span = record { begun = begun; ended = length q.parts }
+
+    by : (was : Option Span) → left.last ≡ was → ReadsJoined (Compare relation) e piece a b
+    by None none =
+        let it = first none in
+        let puts : Puts (comparing relation ++ []) q b = rw none at ends.puts in
+        comparison_read relation r l none it.0 (rw (← it.1) at t) (last_read span i refl s) (rw append-nil at puts) ends.kind ends.last_is
+    by (Some last) some =
+        chain_read relation r l some t (more last some) (last_read span i refl s) (rw some at ends.puts) ends.kind ends.last_is

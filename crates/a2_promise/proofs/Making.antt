@@ -1,6 +1,5 @@
 -- What parts make, one after another.
-use Rattle.std.specs.Prelude.{◌≡◌, ◌<◌, ℕ, ◌+◌, List, [], ◌∷◌, ◌++◌, length, take, map, reverse, ◌≤◌, Option, Some, None, IfSome, refl}
-use Rattle.std.specs.Option.{option_to_list}
+use Rattle.std.specs.Prelude.{◌≡◌, ◌<◌, ℕ, ◌+◌, List, [], ◌∷◌, ◌++◌, length, take, map, reverse, ◌≤◌, refl}
 use Rattle.std.proofs.Common.{ap, sym, ◌∙◌, get_or}
 use Rattle.std.proofs.lemmas.List.{map-append, reverse-append, take_more, take_all}
 use Rattle.a2_promise.specs.declared.expr.Expr.{Expr}
@@ -30,8 +29,7 @@ pub stack_top : (exprs : List Expr) (e : Expr) → stack_of (exprs ++ e ∷ []) 
 stack_top exprs e = ap (λ phrases. reverse phrases) (map-append phrase_of exprs (e ∷ [])) ∙ reverse-append (map phrase_of exprs) (phrase_of e ∷ [])
 
 -- the topmost expression of what parts made
-pub popped : (parts : List Part) (n : ℕ) (exprs rest : List Expr) (top : Option Expr) → made (take n parts) [] ≡ stack_of exprs → length parts ≤ n
-    → exprs ≡ rest ++ option_to_list top → IfSome top (λ expr. (more : List Phrase) × (made parts [] ≡ phrase_of expr ∷ more))
-popped parts n exprs rest None m l e = tt
-popped parts n exprs rest (Some top) m l e =
+pub popped : (parts : List Part) (n : ℕ) (exprs rest : List Expr) (top : Expr) → made (take n parts) [] ≡ stack_of exprs → length parts ≤ n
+    → exprs ≡ rest ++ top ∷ [] → (more : List Phrase) × (made parts [] ≡ phrase_of top ∷ more)
+popped parts n exprs rest top m l e =
     (stack_of rest, ap (λ parts. made parts []) (sym (take_all n parts l)) ∙ m ∙ ap stack_of e ∙ stack_top rest top)

@@ -33,7 +33,7 @@ use Rattle.a2_promise.specs.declared.words.Making.{Making}
 use Rattle.a2_promise.specs.declared.words.Making.TheVariants as making
 use Rattle.a2_promise.specs.declared.words.Relation.{Relation}
 use Rattle.a2_promise.specs.declared.words.Relation.TheVariants as relation
-use Rattle.a2_promise.specs.declared.expr.Function.TheVariants as function
+use Rattle.a2_promise.specs.declared.expr.Function.{Function}
 use Rattle.a2_promise.specs.declared.expr.Operation.TheVariants as operation
 use Rattle.a2_promise.specs.declared.words.Opening.{Opening}
 use Rattle.a2_promise.specs.declared.words.Opening.TheVariants as opening
@@ -284,10 +284,11 @@ pub record ReadsToken (value_of : Names → Token → Option ℕ) (parts_of : �
   pub value : value_of before.scope.names token ≡ Some n
   pub goes : Goes (token ∷ []) (parts_of n) before after
 
--- or the last number of a comparison, whose parts are these
-pub record ReadsLast (span : Span) (before after : State) : Type 0 where
-  pub one : ReadsOne 6 is_number before after
-  pub is_made : IsMade span (said one.e) after.parts
+-- or something of which this is read, and this part put behind it
+pub record ReadsThen (reads : State → State → Type 0) (it : Part) (before after : State) : Type 0 where
+  pub middle : State
+  pub read : reads before middle
+  pub puts : Puts (it ∷ []) middle after
 
 -- or what is counted: a name, <, a number and a :
 pub record ReadsCounted (k : ℕ) (before after : State) : Type 0 where
@@ -331,11 +332,22 @@ parts_behind joint.Or = part.Choice ∷ []
 parts_behind joint.And = joining
 parts_behind _ = part.Pair operation.Equal ∷ []
 
-abbrev pub byte_parts : ℕ → List Part
-byte_parts a = part.Number (pos a) ∷ part.Of function.Byte ∷ []
+abbrev pub parts_of_address : Function → ℕ → List Part
+parts_of_address f a = part.Number (pos a) ∷ part.Of f ∷ []
 
 abbrev pub number_parts : ℕ → List Part
 number_parts n = part.Number (pos n) ∷ []
+
+-- behind a comparison that goes on from one before, what makes both of it
+abbrev pub parts_chaining : Option Span → List Part
+parts_chaining None = []
+parts_chaining (Some last) = joining
+
+-- a comparison ends whose last number has the parts from here on
+pub record EndsCompared (last : Option Span) (relation : Relation) (begun : ℕ) (piece : Piece) (before after : State) : Type 0 where
+  pub kind : piece.kind ≡ kinds.Fact
+  pub last_is : piece.last ≡ Some (record { begun = begun; ended = length before.parts })
+  pub puts : Puts (comparing relation ++ parts_chaining last) before after
 
 -- a place that was read says this of each byte behind it, and what of it stands on top for the first one
 abbrev pub IsPlaced : Place → (ℕ → Phrase) → List Phrase → List Part → Type 0

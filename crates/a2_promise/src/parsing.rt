@@ -1,25 +1,26 @@
 //! How an expression is written.
 
-ghost use Rattle.std.specs.Prelude.{◌≡◌, ◌+◌, ◌<◌, IsTrue, List, [], ◌∷◌, ◌++◌, Some, codes, None, ℕ, min, pos, IfOk, OnOk};
+ghost use Rattle.std.specs.Prelude.{◌≡◌, ◌+◌, ◌<◌, ◌≤◌, IsTrue, List, [], ◌∷◌, ◌++◌, Some, codes, length, None, ℕ, min, pos, IfOk, OnOk};
+ghost use Rattle.std.specs.List.{slice_range};
 ghost use Rattle.a2_promise.specs.declared.parts.Part.TheVariants as part;
-ghost use Rattle.a2_promise.specs.declared.words.Infix.TheVariants as infixes;
 ghost use Rattle.a2_promise.specs.declared.words.Kind.TheVariants as kinds;
 ghost use Rattle.a2_promise.specs.Grammar.{address_of, infix_rank, is_fact, is_number, is_text, may_be_fact, may_be_number};
 ghost use Rattle.a2_promise.specs.Grammar.{number_of, tightest};
 ghost use Rattle.a2_promise.specs.Phrases.{Phrase, number, of, pair};
 ghost use Rattle.a2_promise.specs.declared.expr.Function.TheVariants as function;
 ghost use Rattle.a2_promise.specs.declared.expr.Operation.TheVariants as operation;
-ghost use Rattle.a2_promise.specs.Reading.{IsEither, IsMade, IsPiece, IsPlaced, IsTop, Puts, PutsOf, pushed, Reads, ReadsAddress};
-ghost use Rattle.a2_promise.specs.Reading.{ReadsCounted, ReadsJoined, ReadsKind, ReadsLast, ReadsOne, ReadsPiece, ReadsPlace};
-ghost use Rattle.a2_promise.specs.Reading.{ReadsToken, ReadsTwo, State, Takes, byte_parts, comparing as parts_comparing, first, made};
-ghost use Rattle.a2_promise.specs.Reading.{making_token, number_parts, opening_token, parts_before, parts_behind, state_of};
+ghost use Rattle.a2_promise.specs.Reading.{EndsCompared, IsEither, IsMade, IsPiece, IsPlaced, IsTop, Puts, PutsOf, pushed, Reads};
+ghost use Rattle.a2_promise.specs.Reading.{ReadsAddress, ReadsCounted, ReadsJoined, ReadsKind, ReadsOne, ReadsPiece, ReadsPlace};
+ghost use Rattle.a2_promise.specs.Reading.{ReadsThen, ReadsToken, ReadsTwo, State, Takes, comparing as parts_comparing, first, made};
+ghost use Rattle.a2_promise.specs.Reading.{making_token, number_parts, opening_token, parts_before, parts_behind, parts_chaining};
+ghost use Rattle.a2_promise.specs.Reading.{parts_of_address, state_of};
 ghost use Rattle.a2_promise.specs.Tokens.{Token, sign, tokens, word};
 ghost use Rattle.a2_promise.specs.Written.{Written, are_laid as laid_of, infix_token};
 
 use crate::expr::{Function, Operation};
-use crate::fault::ReadFault;
+use crate::fault::{ReadFault, Why};
 use crate::parts::Part;
-use crate::reader::{Reader, Span, TEXT_WANTED};
+use crate::reader::{Reader, Span};
 use crate::reading::Class;
 use crate::words::{
     BEHIND_AND, BEHIND_COMPARISON, Infix, Kind, LOOSEST, Making, Opening, Relation, infix_of,
@@ -66,10 +67,7 @@ impl Piece {
         ensures { OnOk result (IsTrue (may_be_number self.kind)) }
     {
         match self.kind {
-            Kind::Fact => Err(ReadFault::Says(
-                "a number is wanted here, and this says that something holds",
-                self.bytes_left,
-            )),
+            Kind::Fact => Err(ReadFault::Says(Why::FactForNumber, self.bytes_left)),
             _ => Ok(()),
         }
     }
@@ -79,25 +77,30 @@ impl Piece {
         ensures { OnOk result (IsTrue (may_be_fact self.kind)) }
     {
         match self.kind {
-            Kind::Number => Err(ReadFault::Says(
-                "something that holds or not is wanted here, as A = 3, and this is a number",
-                self.bytes_left,
-            )),
+            Kind::Number => Err(ReadFault::Says(Why::NumberForFact, self.bytes_left)),
             _ => Ok(()),
         }
     }
 }
 
-// What no line says within so many others.
-const TOO_DEEP: &str = "this is too deep within other things: take it apart";
-
-// One level less.
-fn deeper(reader: &Reader, depth: u8) -> Result<u8, ReadFault>
-    ensures { IfOk result (λ less. less < depth) }
+// So many levels less, if there are as many.
+fn deeper(reader: &Reader, depth: u8, levels: u8) -> Result<u8, ReadFault>
+    ensures { IfOk result (λ less. less + levels ≡ depth) }
 {
-    match depth.checked_sub(1) {
+    match depth.checked_sub(levels) {
         Some(less) => Ok(less),
-        None => reader.refuse(TOO_DEEP),
+        None => reader.refuse(Why::TooDeep),
+    }
+}
+
+// How many levels deeper stands what is opened so.
+fn levels_of(opening: Opening) -> u8
+    ensures { 0 < result }
+{
+    match opening {
+        Opening::Text | Opening::Make(Making::Least | Making::Greatest | Making::Word) => 3,
+        Opening::If | Opening::Each | Opening::Sum | Opening::Make(_) => 2,
+        _ => 1,
     }
 }
 
@@ -138,13 +141,16 @@ fn joining(join: Infix) -> (&'static [Part], &'static [Part])
     }
 }
 
-// The byte at an address that stands next.
-fn byte_here(reader: &mut Reader) -> Result<Kind, ReadFault>
-    ensures { IfOk result (λ kind. (kind ≡ kinds.Number) × ReadsToken address_of byte_parts (state_of reader.old) (state_of reader.new)) }
+// What a function makes of an address that stands next.
+fn of_address(reader: &mut Reader, function: Function) -> Result<Kind, ReadFault>
+    ensures { IfOk result (λ kind. (kind ≡ kinds.Number)
+        × ReadsToken address_of (parts_of_address function) (state_of reader.old) (state_of reader.new)) }
 {
     let address = reader.address()?;
-    reader.puts(&[Part::Number(i64::from(address)), Part::Of(Function::Byte)])?;
-    Ok(Kind::Number)
+    reader.ends(
+        &[Part::Number(i64::from(address)), Part::Of(function)],
+        Kind::Number,
+    )
 }
 
 // A number that stands next.
@@ -155,12 +161,50 @@ fn number_here(reader: &mut Reader) -> Result<Kind, ReadFault>
     reader.makes(Part::Number(i64::from(number)), Kind::Number)
 }
 
+// What stands before the second number of a comparison: nothing, where the first is one; and behind a comparison its last number
+// once more.
+fn before_compared(reader: &mut Reader, left: Piece) -> Result<(), ReadFault>
+    ensures first { left.last ≡ None → OnOk result (IsTrue (may_be_number left.kind) × (state_of reader.new ≡ state_of reader.old)) }
+    ensures more { (last : Span) → left.last ≡ Some last → last.ended ≤ length reader.old.parts.items
+        → OnOk result (Puts (slice_range reader.old.parts.items last.begun last.ended) (state_of reader.old) (state_of reader.new)) }
+{
+    match left.last {
+        Some(last) => reader.again(last),
+        None => left.number(),
+    }
+}
+
+// What stands behind a comparison: nothing, and behind one more what makes both of one that hold.
+fn chaining(last: Option<Span>) -> &'static [Part]
+    ensures { result.now ≡ parts_chaining last }
+{
+    match last {
+        Some(_) => &BOTH,
+        None => &[],
+    }
+}
+
+// What stands behind the second number of a comparison, whose parts begin here; the comparison.
+fn behind_compared(
+    reader: &mut Reader,
+    left: Piece,
+    relation: Relation,
+    begun: usize,
+) -> Result<Piece, ReadFault>
+    ensures { IfOk result (λ piece. EndsCompared left.last relation begun piece (state_of reader.old) (state_of reader.new)) }
+{
+    let ended = reader.count();
+    reader.puts(comparing(relation))?;
+    reader.puts(chaining(left.last))?;
+    Ok(Piece::compared(left.bytes_left, Span { begun, ended }))
+}
+
 /// An expression in which nothing binds looser than this rank, as far as it goes. Of what stands in it nothing is deeper than this.
 #[cycle(expression)]
 pub(crate) fn expression(reader: &mut Reader, rank: u8, depth: u8) -> Result<Piece, ReadFault>
     ensures { IfOk result (λ piece. ReadsPiece (min rank tightest) piece (state_of reader.old) (state_of reader.new)) }
 {
-    let less = deeper(reader, depth)?;
+    let less = deeper(reader, depth, 1)?;
     let mut left = beginning(reader, less)?;
     while let Some(join) = infix_of(reader.next()) {
         if rank_of(join) < rank {
@@ -205,11 +249,16 @@ fn joined(reader: &mut Reader, left: Piece, join: Infix, depth: u8) -> Result<Pi
         → first (tokens reader.old.rest.now) ≡ Some (infix_token join) → infix_rank join < tightest
         → IfOk result (λ piece. ReadsJoined join e piece before (state_of reader.new)) }
 {
-    let less = deeper(reader, depth)?;
+    let less = depth.saturating_sub(1);
     reader.take();
     let rank = rank_of(join).saturating_add(1);
     match join {
-        Infix::Compare(relation) => comparison(reader, left, relation, less),
+        Infix::Compare(relation) => {
+            before_compared(reader, left)?;
+            let begun = reader.count();
+            number_in(reader, BEHIND_COMPARISON, depth.saturating_sub(3))?;
+            behind_compared(reader, left, relation, begun)
+        }
         Infix::Apply(operation) => {
             left.number()?;
             number_in(reader, rank, less)?;
@@ -227,44 +276,6 @@ fn joined(reader: &mut Reader, left: Piece, join: Infix, depth: u8) -> Result<Pi
     }
 }
 
-// The last number of a comparison; its parts.
-#[cycle(expression)]
-fn last_number(reader: &mut Reader, depth: u8) -> Result<Span, ReadFault>
-    ensures { IfOk result (λ span. ReadsLast span (state_of reader.old) (state_of reader.new)) }
-{
-    let less = depth.saturating_sub(1);
-    let begun = reader.count();
-    number_in(reader, BEHIND_COMPARISON, less)?;
-    let ended = reader.count();
-    Ok(Span { begun, ended })
-}
-
-// A comparison, of a number or of what a comparison before ended with.
-#[cycle(expression)]
-fn comparison(
-    reader: &mut Reader,
-    left: Piece,
-    relation: Relation,
-    depth: u8,
-) -> Result<Piece, ReadFault>
-    ensures { (before middle : State) (e : Written) → Reads e before middle → IsPiece left e middle
-        → Takes (infix_token (infixes.Compare relation)) middle (state_of reader.old)
-        → IfOk result (λ piece. ReadsJoined (infixes.Compare relation) e piece before (state_of reader.new)) }
-{
-    let less = deeper(reader, depth)?;
-    let Some(chained) = left.last else {
-        left.number()?;
-        let last = last_number(reader, less)?;
-        reader.puts(comparing(relation))?;
-        return Ok(Piece::compared(left.bytes_left, last));
-    };
-    reader.again(chained)?;
-    let last = last_number(reader, less)?;
-    reader.puts(comparing(relation))?;
-    reader.puts(&BOTH)?;
-    Ok(Piece::compared(left.bytes_left, last))
-}
-
 // What an expression begins with.
 #[cycle(expression)]
 fn beginning(reader: &mut Reader, depth: u8) -> Result<Piece, ReadFault>
@@ -280,7 +291,7 @@ fn beginning(reader: &mut Reader, depth: u8) -> Result<Piece, ReadFault>
 fn operand(reader: &mut Reader, depth: u8) -> Result<Kind, ReadFault>
     ensures { IfOk result (λ kind. ReadsKind kind (state_of reader.old) (state_of reader.new)) }
 {
-    let less = deeper(reader, depth)?;
+    let less = deeper(reader, depth, 1)?;
     let bytes_left = reader.bytes_left();
     let token = reader.next();
     if let Some(opening) = opening_of(token) {
@@ -293,7 +304,7 @@ fn operand(reader: &mut Reader, depth: u8) -> Result<Kind, ReadFault>
     }
     match token.class {
         Class::Decimal => number_here(reader),
-        _ => byte_here(reader),
+        _ => of_address(reader, Function::Byte),
     }
 }
 
@@ -308,12 +319,12 @@ fn opened(
     ensures { (before : State) → Takes (opening_token opening) before (state_of reader.old)
         → IfOk result (λ kind. ReadsKind kind before (state_of reader.new)) }
 {
-    let less = deeper(reader, depth)?;
+    let less = deeper(reader, depth, levels_of(opening))?;
     match opening {
         Opening::Held(atom) => reader.makes(Part::Held(atom), kind_of(atom)),
         Opening::Group => {
             let within = expression(reader, LOOSEST, less)?;
-            reader.expect(b")", "a ) is wanted here")?;
+            reader.expect(b")", Why::GroupNotClosed)?;
             Ok(within.kind)
         }
         Opening::Old => {
@@ -330,8 +341,7 @@ fn opened(
         Opening::Text => text_at(reader, less),
         Opening::Not => {
             fact_in(reader, BEHIND_AND, less)?;
-            reader.puts(&NEGATED)?;
-            Ok(Kind::Fact)
+            reader.ends(&NEGATED, Kind::Fact)
         }
         Opening::If => conditional(reader, less),
         Opening::Each => for_all(reader, less),
@@ -344,55 +354,48 @@ fn make(reader: &mut Reader, making: Making, depth: u8) -> Result<Kind, ReadFaul
     ensures { (before : State) → Takes (making_token making) before (state_of reader.old)
         → IfOk result (λ kind. ReadsKind kind before (state_of reader.new)) }
 {
-    let less = deeper(reader, depth)?;
     match making {
-        Making::Least => {
-            two_numbers(reader, less)?;
-            reader.makes(Part::Pair(Operation::Min), Kind::Number)
-        }
-        Making::Greatest => {
-            two_numbers(reader, less)?;
-            reader.makes(Part::Pair(Operation::Max), Kind::Number)
-        }
-        Making::Abs => {
-            next_number(reader, less)?;
-            reader.makes(Part::Of(Function::Abs), Kind::Number)
-        }
+        Making::Least => of_two(reader, Operation::Min, depth),
+        Making::Greatest => of_two(reader, Operation::Max, depth),
+        Making::Abs => of_next(reader, Function::Abs, depth),
+        Making::Signed => of_next(reader, Function::Signed, depth),
         Making::Bit => {
-            next_number(reader, less)?;
-            reader.expect(b"of", "of is wanted here, as in bit 3 of A")?;
-            next_number(reader, less)?;
+            next_number(reader, depth)?;
+            reader.expect(b"of", Why::BitWithoutOf)?;
+            next_number(reader, depth)?;
             reader.makes(Part::Pair(Operation::Bit), Kind::Number)
         }
-        Making::Signed => {
-            next_number(reader, less)?;
-            reader.makes(Part::Of(Function::Signed), Kind::Number)
-        }
-        Making::Word => word_at(reader, less),
-        Making::Byte => {
-            bracketed(reader, less)?;
-            reader.makes(Part::Of(Function::Byte), Kind::Number)
-        }
+        Making::Word => word_at(reader, depth),
+        Making::Byte => of_bracketed(reader, Function::Byte, depth),
         Making::Literal => number_here(reader),
         Making::Minus => {
             reader.puts(&[Part::Number(0)])?;
-            next_number(reader, less)?;
+            next_number(reader, depth)?;
             reader.makes(Part::Pair(Operation::Minus), Kind::Number)
         }
     }
 }
 
-// Two numbers in parentheses, with a comma between them.
+// What a function makes of the number that stands next, alone or in parentheses.
 #[cycle(expression)]
-fn two_numbers(reader: &mut Reader, depth: u8) -> Result<(), ReadFault>
-    ensures { OnOk result (ReadsTwo (state_of reader.old) (state_of reader.new)) }
+fn of_next(reader: &mut Reader, function: Function, depth: u8) -> Result<Kind, ReadFault>
+    ensures { IfOk result (λ kind. (kind ≡ kinds.Number) × ReadsThen (ReadsOne tightest is_number) (part.Of function) (state_of reader.old) (state_of reader.new)) }
 {
-    let less = deeper(reader, depth)?;
-    reader.expect(b"(", "a ( is wanted here, as in min(A, X)")?;
-    number_in(reader, LOOSEST, less)?;
-    reader.expect(b",", "a comma is wanted here, as in min(A, X)")?;
-    number_in(reader, LOOSEST, less)?;
-    reader.expect(b")", "a ) is wanted here, as in min(A, X)")
+    next_number(reader, depth)?;
+    reader.makes(Part::Of(function), Kind::Number)
+}
+
+// What an operation makes of two numbers in parentheses, with a comma between them.
+#[cycle(expression)]
+fn of_two(reader: &mut Reader, operation: Operation, depth: u8) -> Result<Kind, ReadFault>
+    ensures { IfOk result (λ kind. (kind ≡ kinds.Number) × ReadsThen ReadsTwo (part.Pair operation) (state_of reader.old) (state_of reader.new)) }
+{
+    reader.expect(b"(", Why::PairNotOpened)?;
+    number_in(reader, LOOSEST, depth)?;
+    reader.expect(b",", Why::PairWithoutComma)?;
+    number_in(reader, LOOSEST, depth)?;
+    reader.expect(b")", Why::PairNotClosed)?;
+    reader.makes(Part::Pair(operation), Kind::Number)
 }
 
 // The address behind a [, up to its ].
@@ -402,7 +405,16 @@ fn bracketed(reader: &mut Reader, depth: u8) -> Result<(), ReadFault>
 {
     let less = depth.saturating_sub(1);
     number_in(reader, LOOSEST, less)?;
-    reader.expect(b"]", "a ] is wanted here, as in [#$2000 + X]")
+    reader.expect(b"]", Why::AddressNotClosed)
+}
+
+// What a function makes of the address behind a [, up to its ].
+#[cycle(expression)]
+fn of_bracketed(reader: &mut Reader, function: Function, depth: u8) -> Result<Kind, ReadFault>
+    ensures { IfOk result (λ kind. (kind ≡ kinds.Number) × ReadsThen ReadsAddress (part.Of function) (state_of reader.old) (state_of reader.new)) }
+{
+    bracketed(reader, depth)?;
+    reader.makes(Part::Of(function), Kind::Number)
 }
 
 // The two bytes at the address behind `word`.
@@ -411,14 +423,11 @@ fn word_at(reader: &mut Reader, depth: u8) -> Result<Kind, ReadFault>
     ensures { (before : State) → Takes (word (codes "word")) before (state_of reader.old)
         → IfOk result (λ kind. ReadsKind kind before (state_of reader.new)) }
 {
-    let less = deeper(reader, depth)?;
     if reader.took(b"[") {
-        bracketed(reader, less)?;
-        return reader.makes(Part::Of(Function::Word), Kind::Number);
+        of_bracketed(reader, Function::Word, depth)
+    } else {
+        of_address(reader, Function::Word)
     }
-    let address = reader.address()?;
-    reader.puts(&[Part::Number(i64::from(address)), Part::Of(Function::Word)])?;
-    Ok(Kind::Number)
 }
 
 // Where a text stands in memory: from an address on, or from one that was made.
@@ -433,10 +442,9 @@ enum Place {
 fn place_next(reader: &mut Reader, depth: u8) -> Result<Place, ReadFault>
     ensures { IfOk result (λ place. ReadsPlace place (state_of reader.old) (state_of reader.new)) }
 {
-    let less = deeper(reader, depth)?;
     let begun = reader.count();
     if reader.took(b"[") {
-        bracketed(reader, less)?;
+        bracketed(reader, depth)?;
         let ended = reader.count();
         return Ok(Place::Made(Span { begun, ended }));
     }
@@ -488,7 +496,7 @@ fn are_laid(reader: &mut Reader, place: Place, text: &[u8], top: u8) -> Result<(
 {
     for (further, character) in text.iter().enumerate() {
         let Ok(further) = u16::try_from(further) else {
-            return reader.refuse(TEXT_WANTED);
+            return reader.refuse(Why::NoText);
         };
         is_laid(reader, place, further, character.wrapping_add(top))?;
         if further > 0 {
@@ -504,9 +512,8 @@ fn text_at(reader: &mut Reader, depth: u8) -> Result<Kind, ReadFault>
     ensures { (before : State) → Takes (word (codes "text")) before (state_of reader.old)
         → IfOk result (λ kind. ReadsKind kind before (state_of reader.new)) }
 {
-    let less = depth.saturating_sub(1);
-    let place = place_next(reader, less)?;
-    reader.expect(b"=", TEXT_WANTED)?;
+    let place = place_next(reader, depth)?;
+    reader.expect(b"=", Why::NoText)?;
     let (text, top) = reader.laid_text()?;
     are_laid(reader, place, text, top)?;
     Ok(Kind::Fact)
@@ -532,40 +539,32 @@ fn conditional(reader: &mut Reader, depth: u8) -> Result<Kind, ReadFault>
     ensures { (before : State) → Takes (word (codes "if")) before (state_of reader.old)
         → IfOk result (λ kind. ReadsKind kind before (state_of reader.new)) }
 {
-    let less = depth.saturating_sub(1);
-    fact_in(reader, LOOSEST, less)?;
-    reader.expect(
-        b"then",
-        "then is wanted here, as in if C then A = 1 else A = 0",
-    )?;
-    let one = expression(reader, LOOSEST, less)?;
+    fact_in(reader, LOOSEST, depth)?;
+    reader.expect(b"then", Why::IfWithoutThen)?;
+    let one = expression(reader, LOOSEST, depth)?;
     if !reader.took(b"else") {
         one.fact()?;
-        reader.puts(&[Part::Number(1), Part::Choice])?;
-        return Ok(Kind::Fact);
+        return reader.ends(&[Part::Number(1), Part::Choice], Kind::Fact);
     }
-    let other = expression(reader, LOOSEST, less)?;
+    let other = expression(reader, LOOSEST, depth)?;
     reader.puts(&[Part::Choice])?;
     either(one, other)
 }
-
-// How what is counted is written.
-const COUNTED: &str = "here stands what is counted, as in for all i < 8: [#$2000 + i] = 0";
 
 // What is counted behind `for all` or `sum`: a name, <, a number and a :. The number of the name, which is counted from here on.
 #[cycle(expression)]
 fn counted(reader: &mut Reader, depth: u8) -> Result<u8, ReadFault>
     ensures { IfOk result (λ name. ReadsCounted name (state_of reader.old) (state_of reader.new)) }
 {
-    let less = deeper(reader, depth)?;
+    let less = deeper(reader, depth, 1)?;
     let name = reader.next();
     if !may_name(name) {
-        return reader.refuse(COUNTED);
+        return reader.refuse(Why::NothingCounted);
     }
     reader.take();
-    reader.expect(b"<", COUNTED)?;
+    reader.expect(b"<", Why::NothingCounted)?;
     number_in(reader, BEHIND_COMPARISON, less)?;
-    reader.expect(b":", COUNTED)?;
+    reader.expect(b":", Why::NothingCounted)?;
     reader.bind(name.text)
 }
 
@@ -575,13 +574,9 @@ fn for_all(reader: &mut Reader, depth: u8) -> Result<Kind, ReadFault>
     ensures { (before : State) → Takes (word (codes "for")) before (state_of reader.old)
         → IfOk result (λ kind. ReadsKind kind before (state_of reader.new)) }
 {
-    let less = deeper(reader, depth)?;
-    reader.expect(
-        b"all",
-        "all is wanted here, as in for all i < 8: [#$2000 + i] = 0",
-    )?;
-    let name = counted(reader, less)?;
-    fact_in(reader, LOOSEST, less)?;
+    reader.expect(b"all", Why::ForWithoutAll)?;
+    let name = counted(reader, depth)?;
+    fact_in(reader, LOOSEST, depth)?;
     reader.unbind(name);
     reader.makes(Part::Each(name), Kind::Fact)
 }
@@ -592,9 +587,8 @@ fn sum_of(reader: &mut Reader, depth: u8) -> Result<Kind, ReadFault>
     ensures { (before : State) → Takes (word (codes "sum")) before (state_of reader.old)
         → IfOk result (λ kind. ReadsKind kind before (state_of reader.new)) }
 {
-    let less = depth.saturating_sub(1);
-    let name = counted(reader, less)?;
-    number_in(reader, BEHIND_COMPARISON, less)?;
+    let name = counted(reader, depth)?;
+    number_in(reader, BEHIND_COMPARISON, depth)?;
     reader.unbind(name);
     reader.makes(Part::Sum(name), Kind::Number)
 }

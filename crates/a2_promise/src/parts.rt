@@ -1,11 +1,11 @@
 //! An expression as a list of its parts, each behind those that it is made of.
 
-ghost use Rattle.std.specs.Prelude.{◌≡◌, true, IsTrue, List, [], ◌∷◌, IfOk, IfSome, MatchOption};
+ghost use Rattle.std.specs.Prelude.{◌≡◌, List, [], ◌∷◌, IfOk, OnOk};
 ghost use Rattle.a2_promise.specs.Phrases.{Phrase, phrase_of};
 ghost use Rattle.a2_promise.specs.Reading.{made as made_of, made_by, stack_of};
 
 use crate::expr::{Atom, Expr, Function, Operation};
-use std::alloc::{AllocError, Global};
+use std::alloc::Global;
 
 /// A part of an expression.
 #[derive(Clone, Copy)]
@@ -24,65 +24,71 @@ pub(crate) enum Part {
     Sum(u8),
 }
 
+/// Why parts make no expression.
+#[derive(Clone, Copy)]
+pub(crate) enum Unmade {
+    TooFew,
+    Memory,
+}
+
 // Puts an expression on top of others.
-fn push(made: &mut Vec<Expr>, expr: Expr) -> Result<bool, AllocError>
-    ensures { IfOk result (λ done. (done ≡ true) × (stack_of made.new.items ≡ phrase_of expr ∷ stack_of made.old.items)) }
+fn push(made: &mut Vec<Expr>, expr: Expr) -> Result<(), Unmade>
+    ensures { OnOk result (stack_of made.new.items ≡ phrase_of expr ∷ stack_of made.old.items) }
 {
-    made.push(expr)?;
-    Ok(true)
+    match made.push(expr) {
+        Ok(()) => Ok(()),
+        Err(_) => Err(Unmade::Memory),
+    }
 }
 
 // Takes the topmost expression, in memory of its own.
-fn pop(alloc: Global, made: &mut Vec<Expr>) -> Result<Option<Box<Expr>>, AllocError>
-    ensures { IfOk result (λ top. IfSome top (λ box. stack_of made.old.items ≡ phrase_of box.value ∷ stack_of made.new.items)) }
+fn pop(alloc: Global, made: &mut Vec<Expr>) -> Result<Box<Expr>, Unmade>
+    ensures { IfOk result (λ box. stack_of made.old.items ≡ phrase_of box.value ∷ stack_of made.new.items) }
 {
-    match made.pop() {
-        Some(expr) => Ok(Some(Box::new(alloc, expr)?)),
-        None => Ok(None),
+    let Some(expr) = made.pop() else {
+        return Err(Unmade::TooFew);
+    };
+    match Box::new(alloc, expr) {
+        Ok(top) => Ok(top),
+        Err(_) => Err(Unmade::Memory),
     }
 }
 
 // Makes what a part makes of the topmost.
-fn push_of_one(alloc: Global, made: &mut Vec<Expr>, it: Part) -> Result<bool, AllocError>
-    ensures { IfOk result (λ done. IsTrue done → stack_of made.new.items ≡ made_by it (stack_of made.old.items)) }
+fn push_of_one(alloc: Global, made: &mut Vec<Expr>, it: Part) -> Result<(), Unmade>
+    ensures { OnOk result (stack_of made.new.items ≡ made_by it (stack_of made.old.items)) }
 {
-    let Some(expr) = pop(alloc, made)? else {
-        return Ok(false);
-    };
+    let expr = pop(alloc, made)?;
     match it {
         Part::Old => push(made, Expr::Old(expr)),
         Part::At(address) => push(made, Expr::At(address, expr)),
         Part::Of(function) => push(made, Expr::Of(function, expr)),
-        _ => Ok(false),
+        _ => Err(Unmade::TooFew),
     }
 }
 
 // Makes what a part makes of the two topmost, or of three.
-fn push_of_more(alloc: Global, made: &mut Vec<Expr>, it: Part) -> Result<bool, AllocError>
-    ensures { IfOk result (λ done. IsTrue done → stack_of made.new.items ≡ made_by it (stack_of made.old.items)) }
+fn push_of_more(alloc: Global, made: &mut Vec<Expr>, it: Part) -> Result<(), Unmade>
+    ensures { OnOk result (stack_of made.new.items ≡ made_by it (stack_of made.old.items)) }
 {
-    let Some(second) = pop(alloc, made)? else {
-        return Ok(false);
-    };
-    let Some(first) = pop(alloc, made)? else {
-        return Ok(false);
-    };
+    let second = pop(alloc, made)?;
+    let first = pop(alloc, made)?;
     match it {
         Part::Pair(operation) => push(made, Expr::Pair(operation, first, second)),
         Part::Turned(operation) => push(made, Expr::Pair(operation, second, first)),
         Part::Each(name) => push(made, Expr::Each(name, first, second)),
         Part::Sum(name) => push(made, Expr::Sum(name, first, second)),
-        Part::Choice => match pop(alloc, made)? {
-            Some(by) => push(made, Expr::Choice(by, first, second)),
-            None => Ok(false),
-        },
-        _ => Ok(false),
+        Part::Choice => {
+            let by = pop(alloc, made)?;
+            push(made, Expr::Choice(by, first, second))
+        }
+        _ => Err(Unmade::TooFew),
     }
 }
 
-// Makes what a part makes of those on top; false where they are too few.
-fn push_part(alloc: Global, made: &mut Vec<Expr>, it: Part) -> Result<bool, AllocError>
-    ensures { IfOk result (λ done. IsTrue done → stack_of made.new.items ≡ made_by it (stack_of made.old.items)) }
+// Makes what a part makes of those on top.
+fn push_part(alloc: Global, made: &mut Vec<Expr>, it: Part) -> Result<(), Unmade>
+    ensures { OnOk result (stack_of made.new.items ≡ made_by it (stack_of made.old.items)) }
 {
     match it {
         Part::Number(number) => push(made, Expr::Number(number)),
@@ -93,15 +99,16 @@ fn push_part(alloc: Global, made: &mut Vec<Expr>, it: Part) -> Result<bool, Allo
     }
 }
 
-/// The expression of these parts, none where they are not those of one.
-pub(crate) fn expr_of(alloc: Global, parts: &[Part]) -> Result<Option<Expr>, AllocError>
-    ensures { IfOk result (λ found. IfSome found (λ expr. (more : List Phrase) × (made_of parts.now [] ≡ phrase_of expr ∷ more))) }
+/// The expression of these parts.
+pub(crate) fn expr_of(alloc: Global, parts: &[Part]) -> Result<Expr, Unmade>
+    ensures { IfOk result (λ expr. (more : List Phrase) × (made_of parts.now [] ≡ phrase_of expr ∷ more)) }
 {
     let mut made = Vec::new(alloc);
     for part in parts {
-        if !push_part(alloc, &mut made, *part)? {
-            return Ok(None);
-        }
+        push_part(alloc, &mut made, *part)?;
     }
-    Ok(made.pop())
+    match made.pop() {
+        Some(expr) => Ok(expr),
+        None => Err(Unmade::TooFew),
+    }
 }

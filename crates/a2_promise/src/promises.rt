@@ -9,9 +9,9 @@ ghost use Rattle.a2_promise.specs.Tokens.{tokens, word};
 ghost use Rattle.a2_promise.specs.Said.{Says};
 
 use crate::expr::{Atom, Expr};
-use crate::fault::{ReadFault, Refusal};
+use crate::fault::{ReadFault, Refusal, Why};
 use crate::parsing::expression;
-use crate::reader::{NO_LABEL, Named, Reader};
+use crate::reader::{Named, Reader};
 use crate::reading::{Class, Token, token_in};
 use crate::texts::{Texts, push_text};
 use crate::words::{LOOSEST, Row, held_by, meaning};
@@ -198,9 +198,7 @@ fn ended(reader: &Reader) -> Result<(), ReadFault>
 {
     match reader.next().class {
         Class::End => Ok(()),
-        _ => reader.refuse(
-            "this can't stand here: and, or, iff, a comparison or the line's end may",
-        ),
+        _ => reader.refuse(Why::MoreBehind),
     }
 }
 
@@ -222,11 +220,7 @@ fn let_change(reader: &Reader, changes: &mut Changes, atom: Atom) -> Result<(), 
         Atom::A => changes.a = true,
         Atom::X => changes.x = true,
         Atom::Y => changes.y = true,
-        Atom::S => {
-            return reader.refuse(
-                "S is as it should be where a routine returns: it is not among what changes",
-            );
-        }
+        Atom::S => return reader.refuse(Why::StackChanges),
         _ => (),
     }
     Ok(())
@@ -253,7 +247,7 @@ fn take_change(reader: &mut Reader, changes: &mut Changes) -> Result<(), ReadFau
     let first = reader.address()?;
     let last = last_address(reader, first)?;
     if last < first {
-        return reader.refuse("the last address is below the first");
+        return reader.refuse(Why::RangeDownwards);
     }
     push_range(changes, Range { first, last })?;
     Ok(())
@@ -312,9 +306,6 @@ fn verb_of(token: Token) -> Option<Verb>
     meaning(&VERBS, token)
 }
 
-const NO_VERB: &str =
-    "a line of a promise begins with requires, ensures, changes, prints, takes, invariant, decreases or note";
-
 impl<'a> Block<'a> {
     // Takes up a line of this number.
     fn take(&mut self, reader: &mut Reader<'a, '_>, line: usize) -> Result<(), ReadFault>
@@ -323,7 +314,7 @@ impl<'a> Block<'a> {
     {
         let (token, rest) = token_in(reader.rest);
         let Some(verb) = verb_of(token) else {
-            return reader.refuse(NO_VERB);
+            return reader.refuse(Why::NoVerb);
         };
         reader.rest = rest;
         reader.is_within = is_within(verb);
@@ -445,7 +436,7 @@ fn note_labels(
         let refusal = Refusal {
             line,
             column: column_of(whole, label.bytes_left),
-            says: NO_LABEL,
+            says: Why::NoLabel.text(),
         };
         labels.push(Label {
             address: label.address,
@@ -471,12 +462,12 @@ fn take_line<'a>(
     match block.take(&mut reader, line) {
         Ok(()) => note_labels(&mut block.labels, reader.labels.as_slice(), whole, line),
         Err(ReadFault::Memory) => Err(AllocError),
-        Err(ReadFault::Says(says, bytes_left)) => {
+        Err(ReadFault::Says(why, bytes_left)) => {
             if block.refused.is_none() {
                 block.refused = Some(Refusal {
                     line,
                     column: column_of(whole, bytes_left),
-                    says,
+                    says: why.text(),
                 });
             }
             Ok(())

@@ -13,8 +13,8 @@ ghost use Rattle.a2_promise.specs.Reading.{around_of, beginning_of, first, made,
 ghost use Rattle.a2_promise.specs.Tokens.{Token as ReadToken, quoted, tokens, word};
 
 use crate::expr::Expr;
-use crate::fault::ReadFault;
-use crate::parts::{Part, expr_of};
+use crate::fault::{ReadFault, Why};
+use crate::parts::{Part, Unmade, expr_of};
 use crate::reading::{Class, Token, address_of, decimal_of, token_in};
 use crate::words::Kind;
 use a2_asm::Program;
@@ -23,10 +23,6 @@ use std::alloc::{AllocError, Global};
 
 // The most names that are counted within one another.
 const MOST_NAMES: usize = 4;
-
-/// How a text that stands in memory is written.
-pub(crate) const TEXT_WANTED: &str =
-    "a text in quotes is wanted here, as in text $0400 = \"HI\", which ASC \"HI\" lays";
 
 /// A label that is named behind `at`: its address, and how many bytes are left of the line from it on.
 #[derive(Clone, Copy)]
@@ -111,10 +107,10 @@ impl<'a, 'p> Reader<'a, 'p> {
     }
 
     /// Refuses what stands next.
-    pub fn refuse<T>(&self, says: &'static str) -> Result<T, ReadFault>
+    pub fn refuse<T>(&self, why: Why) -> Result<T, ReadFault>
         ensures { OnOk result ⊥ }
     {
-        Err(ReadFault::Says(says, self.bytes_left()))
+        Err(ReadFault::Says(why, self.bytes_left()))
     }
 
     /// Takes this word or sign, if it stands next.
@@ -131,13 +127,13 @@ impl<'a, 'p> Reader<'a, 'p> {
     }
 
     /// Takes this word or sign.
-    pub fn expect(&mut self, text: &[u8], says: &'static str) -> Result<(), ReadFault>
+    pub fn expect(&mut self, text: &[u8], why: Why) -> Result<(), ReadFault>
         ensures { OnOk result (Takes (spelling text.now) (state_of self.old) (state_of self.new)) }
     {
         if self.took(text) {
             Ok(())
         } else {
-            self.refuse(says)
+            self.refuse(why)
         }
     }
 
@@ -162,9 +158,7 @@ impl<'a, 'p> Reader<'a, 'p> {
                 self.take();
                 Ok(number)
             }
-            None => self.refuse(
-                "a number, $ and up to four digits, or a name of the source is wanted here",
-            ),
+            None => self.refuse(Why::NoNumber),
         }
     }
 
@@ -200,9 +194,7 @@ impl<'a, 'p> Reader<'a, 'p> {
                 self.take();
                 Ok(address)
             }
-            None => self.refuse(
-                "this is no name of the source, no register (A X Y S), no flag (C Z N V D I) and no address",
-            ),
+            None => self.refuse(Why::NoAddress),
         }
     }
 
@@ -223,10 +215,7 @@ impl<'a, 'p> Reader<'a, 'p> {
             × IsTrue self.old.is_within × (name_value self.old.program.now.names name ≡ Some address)) }
     {
         if !self.is_within {
-            return Err(ReadFault::Says(
-                "at stands only in lines invariant, decreases and note",
-                bytes_left,
-            ));
+            return Err(ReadFault::Says(Why::AtOutside, bytes_left));
         }
         match self.label_at(self.next()) {
             Some(address) => {
@@ -238,7 +227,7 @@ impl<'a, 'p> Reader<'a, 'p> {
                 self.take();
                 Ok(address)
             }
-            None => self.refuse(NO_LABEL),
+            None => self.refuse(Why::NoLabel),
         }
     }
 
@@ -257,7 +246,7 @@ impl<'a, 'p> Reader<'a, 'p> {
                 self.take();
                 Ok((token.text, 0x80))
             }
-            _ => self.refuse(TEXT_WANTED),
+            _ => self.refuse(Why::NoText),
         }
     }
 
@@ -267,7 +256,7 @@ impl<'a, 'p> Reader<'a, 'p> {
     {
         let number = self.named;
         if number >= MOST_NAMES {
-            return self.refuse("at most four names are counted within one another");
+            return self.refuse(Why::TooManyNames);
         }
         self.names[number] = name;
         self.named = number + 1;
@@ -334,20 +323,25 @@ impl<'a, 'p> Reader<'a, 'p> {
         Ok(kind)
     }
 
+    /// Puts the last parts of an expression of this kind.
+    pub fn ends(&mut self, last: &[Part], kind: Kind) -> Result<Kind, ReadFault>
+        ensures { IfOk result (λ made. (made ≡ kind) × Puts last.now (state_of self.old) (state_of self.new)) }
+    {
+        self.parts.extend_from_slice(last)?;
+        Ok(kind)
+    }
+
     /// The expression that was read.
     pub fn expr(&self) -> Result<Expr, ReadFault>
         ensures { IfOk result (λ expr. (more : List Phrase) × (made self.now.parts.items [] ≡ phrase_of expr ∷ more)) }
     {
-        match expr_of(self.alloc, self.parts.as_slice())? {
-            Some(expr) => Ok(expr),
-            None => self.refuse("this says nothing"),
+        match expr_of(self.alloc, self.parts.as_slice()) {
+            Ok(expr) => Ok(expr),
+            Err(Unmade::TooFew) => self.refuse(Why::NothingSaid),
+            Err(Unmade::Memory) => Err(ReadFault::Memory),
         }
     }
 }
-
-/// Which labels `at` may name.
-pub(crate) const NO_LABEL: &str =
-    "behind at stands a label within the routine that has lines invariant, decreases or note itself";
 
 // The place of a name among others, the last where it is there several times.
 fn innermost(names: &[&[u8]], name: &[u8]) -> Option<usize>

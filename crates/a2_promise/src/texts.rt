@@ -5,7 +5,7 @@ ghost use Rattle.a2_text.specs.Words.{behind_blanks as behind_blanks_of};
 ghost use Rattle.a2_bus.specs.KeyText.{SpellsKeys};
 ghost use Rattle.a2_promise.specs.Reading.{AddsText};
 
-use crate::fault::ReadFault;
+use crate::fault::{ReadFault, Why};
 use crate::reader::Reader;
 use a2_bus::Keys;
 use a2_text::behind_blanks;
@@ -37,10 +37,6 @@ impl<'a> Drop for Texts<'a> {
 
 // The most characters of all texts of one kind, which are as many as keys can wait.
 const MOST_CHARACTERS: usize = 4096;
-
-// How a text is written that is printed or typed.
-const SPELLED: &str =
-    "a text in quotes is wanted here and nothing behind it, as in prints \"YES\\r\": \\r is a return, and \\\\ a \\";
 
 // The characters that a text between quotes spells, as keys are spelt.
 fn spelled(written: &[u8]) -> Option<Keys>
@@ -74,10 +70,10 @@ pub(crate) fn push_text<'a>(
 {
     let written = behind_blanks(reader.rest);
     let Some(keys) = spelled(written) else {
-        return reader.refuse(SPELLED);
+        return reader.refuse(Why::NoSpelling);
     };
     if count_of(texts.as_slice()).saturating_add(keys.bytes().len()) > MOST_CHARACTERS {
-        return reader.refuse("these are more than 4,096 characters");
+        return reader.refuse(Why::TooManyCharacters);
     }
     let mut characters = Vec::new(reader.alloc);
     characters.extend_from_slice(keys.bytes())?;

@@ -1,18 +1,17 @@
-use Rattle.std.proofs.Common.{◌≡◌, min, Some, sym, ap, subst, ◌∙◌, arith, rules}
+use Rattle.std.proofs.Common.{◌≡◌, min, Some, sym, ap, subst, ◌∙◌, arith}
 use Rattle.a2_promise.specs.Tokens.{Token, tokens}
 use Rattle.a2_promise.specs.Written.{joined}
-use Rattle.a2_promise.specs.Grammar.{address_of, tightest}
-use Rattle.a2_promise.specs.Reading.{State, Stops, ReadsPiece, Takes, state_of, token_of}
+use Rattle.a2_promise.specs.Grammar.{address_of, is_number, tightest}
+use Rattle.a2_promise.specs.Reading.{State, ReadsAddress, ReadsOne, ReadsTwo, Takes, state_of, token_of}
 use Rattle.a2_promise.proofs.Formers.{literal_read, decimal_read, byte_read, counted_read, atom_read, group_read, before_read, there_read}
 use Rattle.a2_promise.proofs.Formers.{magnitude_read, signed_read, negated_read, minus_read}
 use Rattle.a2_promise.proofs.Goings.{kind_piece}
-use Rattle.a2_promise.proofs.Joinings.{bit_read, provided_read, apply_read, logic_read, logic_kind, comparison_read, chain_read, last_read, nothing_put}
+use Rattle.a2_promise.proofs.Joinings.{bit_read, provided_read, apply_read, logic_read, logic_kind, compared_read, nothing_put}
 use Rattle.a2_promise.proofs.Countings.{two_read, least_read, greatest_read, address_read, byte_in_read, word_in_read, word_of_read, counted_head}
 use Rattle.a2_promise.proofs.Countings.{for_all_read, sum_read, place_made, text_read, number_one, fact_one, either_read, stops_under}
-use Rattle.a2_promise.proofs.Countings.{shorter_joined, rank_min, rank_joined, if_ok, kind_ok, none_by, limit_of, of_none, byte_free}
+use Rattle.a2_promise.proofs.Countings.{shorter_joined, rank_min, rank_joined, if_ok, kind_ok, limit_of, number_then, of_none, then_put, byte_free}
 use Rattle.a2_promise.proofs.Laying.{on_ok}
 use Rattle.a2_promise.proofs.parsing.+expression.Goals as goal
-use Rattle.a2_promise.proofs.parsing.+expression.Goals.{expression-in-Some+then-rank_of-rank, expression-in_default}
 
 pub number_in-returns : goal.number_in-returns
 number_in-returns t c = on_ok c.number.result c.number.ensures (number_one c.in_ok-expression.ensures)
@@ -26,13 +25,16 @@ next_number-returns t c = on_ok c.number.result c.number.ensures (number_one c.i
 pub bracketed-returns : goal.bracketed-returns
 bracketed-returns t c = on_ok c.expect.result c.expect.ensures (address_read c.in_ok-number_in.ensures)
 
-pub last_number-returns : goal.last_number-returns
-last_number-returns t c = last_read _ c.count-begun.ensures c.count-ended.ensures c.in_ok-number_in.ensures
+pub of_two-returns : goal.of_two-returns
+of_two-returns t c =
+    let two = two_read c.in_ok-expect.ensures c.in_ok-number_in.ensures c.in_ok-expect-2.ensures c.in_ok-number_in-2.ensures c.in_ok-expect-3.ensures in
+    number_then c.makes.result (then_put ReadsTwo two) c.makes.ensures
 
-pub two_numbers-returns : goal.two_numbers-returns
-two_numbers-returns t c =
-    on_ok c.expect-3.result
-    c.expect-3.ensures (two_read c.in_ok-expect.ensures c.in_ok-number_in.ensures c.in_ok-expect-2.ensures c.in_ok-number_in-2.ensures)
+pub of_next-returns : goal.of_next-returns
+of_next-returns t c = number_then c.makes.result (then_put (ReadsOne tightest is_number) c.in_ok-next_number.ensures) c.makes.ensures
+
+pub of_bracketed-returns : goal.of_bracketed-returns
+of_bracketed-returns t c = number_then c.makes.result (then_put ReadsAddress c.in_ok-bracketed.ensures) c.makes.ensures
 
 pub for_all-returns : goal.for_all-returns
 for_all-returns t c = λ before h.
@@ -66,41 +68,32 @@ text_at-returns t c = λ before h.
     text_read c.in_ok-place.place h c.in_ok-place.ensures c.in_ok-expect.ensures it.1 it.2
     (λ phrase top p. c.in_ok-are_laid.ensures phrase top it.0 p it.2 it.3)
 
-pub word_at-returns : goal.word_at-returns
-word_at-returns t c = λ before h.
+pub word_at-returns-else-took : goal.word_at-returns-else-took
+word_at-returns-else-took t c = λ before h.
     let same = c.took.ensures.same c.if-took.false in
-    let it = c.in_ok-address.ensures in
-    word_of_read (rw (← same) at h) it.1 it.2 (search rules) c.in_ok-puts.ensures
+    kind_ok c.of_address.result c.of_address.ensures (word_of_read (rw (← same) at h))
 
 pub word_at-returns-then-took : goal.word_at-returns-then-took
 word_at-returns-then-took t c = λ before h.
-    kind_ok c.makes.result c.makes.ensures (word_in_read h (c.took.ensures.took c.if-took.true) c.in_ok-bracketed.ensures)
+    kind_ok c.of_bracketed.result c.of_bracketed.ensures (λ it. word_in_read h (c.took.ensures.took c.if-took.true) it.read it.puts)
 
 pub conditional-returns : goal.conditional-returns
 conditional-returns t c = λ before h.
     if_ok c.either.result (λ k. either_read h c.in_ok-fact_in.ensures c.in_ok-expect.ensures c.in_ok-one.ensures
-    (c.took.ensures.took c.if-not-took.false) c.in_ok-other.ensures c.in_ok-puts-2.ensures) c.either.ensures
+    (c.took.ensures.took c.if-not-took.false) c.in_ok-other.ensures c.in_ok-puts.ensures) c.either.ensures
 
 pub conditional-returns-then-not-took : goal.conditional-returns-then-not-took
 conditional-returns-then-not-took t c = λ before h.
     let no = c.if-not-took.true in
-    provided_read h c.in_ok-fact_in.ensures c.in_ok-expect.ensures (fact_one c.in_ok-one.ensures c.in_ok-fact.ensures) (c.took.ensures.none no)
-    (rw (c.took.ensures.same no) at c.in_ok-puts.ensures)
+    let it = rw (c.took.ensures.same no) at c.ends.ensures in
+    kind_ok c.ends.result it (provided_read h c.in_ok-fact_in.ensures c.in_ok-expect.ensures (fact_one c.in_ok-one.ensures c.in_ok-fact.ensures) (c.took.ensures.none no))
 
-pub comparison-returns : goal.comparison-returns
-comparison-returns t c = λ before middle e r l u.
-    chain_read c.args.relation r l c.in-Some.is u c.in_ok-again.ensures c.in_ok-last-2.ensures (rw c.comparing-2.ensures at c.in_ok-puts-2.ensures)
-    c.in_ok-puts-3.ensures c.compared-2.ensures.kind c.compared-2.ensures.last
-
-pub comparison-returns-in_default : goal.comparison-returns-in_default
-comparison-returns-in_default t c = λ before middle e r l u.
-    comparison_read c.args.relation r l (none_by c.args.left.last c.in_default.not-Some) c.in_ok-number.ensures u c.in_ok-last.ensures
-    (rw c.comparing.ensures at c.in_ok-puts.ensures) c.compared.ensures.kind c.compared.ensures.last
-
-pub joined-returns-in-Compare : goal.joined-returns-in-Compare
-joined-returns-in-Compare t c = λ before e r l f below.
+pub joined-returns-in_ok-number_in-in-Compare : goal.joined-returns-in_ok-number_in-in-Compare
+joined-returns-in_ok-number_in-in-Compare t c = λ before e r l f below.
     let is = c.in-Compare.is in
-    rw is (c.comparison.ensures before _ e r l (rw is at (c.take.ensures _ f)))
+    let left = c.in_ok-before_compared-in-Compare.ensures in
+    rw is (if_ok c.behind_compared.result (λ piece. compared_read c.in-Compare.relation r l (rw is at (c.take.ensures _ f)) left.first left.more
+    c.count-begun.ensures c.in_ok-number_in-in-Compare.ensures) c.behind_compared.ensures)
 
 pub joined-returns-in_ok-puts-in-Apply : goal.joined-returns-in_ok-puts-in-Apply
 joined-returns-in_ok-puts-in-Apply t c = λ before e r l f below.
@@ -135,21 +128,31 @@ expression-loop-join-preserved t c =
     let one = c.in_ok-left-2.ensures _ it.0 it.1 it.2 (sym c.next.ensures.first ∙ found.0) found.1 in
     (joined join it.0 one.f, one.reads, one.piece_is, rank_joined c.args.rank c.rank_of.result join c.rank_of.ensures c.if-rank_of-rank.false)
 
-pub expression-returns : goal.expression-returns
-expression-returns t c =
+pub expression-returns-in_default : goal.expression-returns-in_default
+expression-returns-in_default t c =
     let it = c.loop-join.invariant in
-    let limit = min c.args.rank tightest in
-    let left = tokens c.loop-join.reader.rest.now in
-    let done : Stops limit left → ReadsPiece limit c.loop-join.left (state_of c.args.reader.now) (state_of c.loop-join.reader) =
-    λ stops. record { e = it.0; reads = it.1; rank = it.3; is = it.2; stops = stops } in
-    let none = c.infix_of.ensures.none in
-    elim c.match-infix_of.branch [
-      | expression-in-Some+then-rank_of-rank w ↦ done (stops_under limit w.in-Some.join left (sym c.next.ensures.first ∙ w.in-Some.ensures.found.0)
-          (let below = w.in-Some.ensures.found.1 in let r = w.rank_of.ensures in let l = w.if-rank_of-rank.true in omega (arith, below, r, l))
-          w.in-Some.ensures.found.1)
-      | expression-in_default w ↦ done (λ join f below.
-          absurd (of_none c.infix_of.result w.in_default.not-Some none join (c.next.ensures.first ∙ f) below))
-    ]
+    record {
+      e = it.0;
+      reads = it.1;
+      rank = it.3;
+      is = it.2;
+      stops = λ join f below.
+          absurd (of_none c.infix_of.result c.in_default.not-Some c.infix_of.ensures.none join (c.next.ensures.first ∙ f) below);
+    }
+
+pub expression-returns-then-rank_of-rank : goal.expression-returns-then-rank_of-rank
+expression-returns-then-rank_of-rank t c =
+    let it = c.loop-join.invariant in
+    let found = c.in-Some.ensures.found in
+    record {
+      e = it.0;
+      reads = it.1;
+      rank = it.3;
+      is = it.2;
+      stops =
+          stops_under (min c.args.rank tightest) c.in-Some.join (tokens c.loop-join.reader.rest.now) (sym c.next.ensures.first ∙ found.0)
+          (let below = found.1 in let r = c.rank_of.ensures in let l = c.if-rank_of-rank.true in omega (arith, below, r, l)) found.1;
+    }
 
 pub beginning-returns : goal.beginning-returns
 beginning-returns t c = kind_piece c.in_ok-kind.ensures c.at.ensures.kind c.at.ensures.last
@@ -171,20 +174,20 @@ operand-returns-in-Decimal t c =
 pub operand-returns-in_default-class : goal.operand-returns-in_default-class
 operand-returns-in_default-class t c =
     let token = c.next-token.result in
-    kind_ok c.byte_here.result c.byte_here.ensures (λ read. byte_read read (byte_free token.class token.text.now read c.next-token.ensures.first
+    kind_ok c.of_address.result c.of_address.ensures (λ read. byte_read read (byte_free token.class token.text.now read c.next-token.ensures.first
     (of_none c.opening_of.result c.in_default.not-Some c.opening_of.ensures.none) (of_none c.bound.result c.in_default-bound.not-Some c.bound.ensures.none)))
 
-pub make-returns-in_ok-two_numbers-in-Least : goal.make-returns-in_ok-two_numbers-in-Least
-make-returns-in_ok-two_numbers-in-Least t c = λ before h.
-    kind_ok c.makes.result c.makes.ensures (least_read (rw c.in-Least.is at h) c.in_ok-two_numbers-in-Least.ensures)
+pub make-returns-in-Least : goal.make-returns-in-Least
+make-returns-in-Least t c = λ before h.
+    kind_ok c.of_two.result c.of_two.ensures (λ it. least_read (rw c.in-Least.is at h) it.read it.puts)
 
-pub make-returns-in_ok-two_numbers-in-Greatest : goal.make-returns-in_ok-two_numbers-in-Greatest
-make-returns-in_ok-two_numbers-in-Greatest t c = λ before h.
-    kind_ok c.makes-in-Greatest.result c.makes-in-Greatest.ensures (greatest_read (rw c.in-Greatest.is at h) c.in_ok-two_numbers-in-Greatest.ensures)
+pub make-returns-in-Greatest : goal.make-returns-in-Greatest
+make-returns-in-Greatest t c = λ before h.
+    kind_ok c.of_two-in-Greatest.result c.of_two-in-Greatest.ensures (λ it. greatest_read (rw c.in-Greatest.is at h) it.read it.puts)
 
 pub make-returns-in_ok-next_number-in-Bit-2 : goal.make-returns-in_ok-next_number-in-Bit-2
 make-returns-in_ok-next_number-in-Bit-2 t c = λ before h.
-    kind_ok c.makes-in-Bit.result c.makes-in-Bit.ensures (bit_read (rw c.in-Bit.is at h) c.in_ok-next_number-in-Bit.ensures
+    kind_ok c.makes.result c.makes.ensures (bit_read (rw c.in-Bit.is at h) c.in_ok-next_number-in-Bit.ensures
     c.in_ok-expect-in-Bit.ensures c.in_ok-next_number-in-Bit-2.ensures)
 
 pub make-returns-in-Word : goal.make-returns-in-Word
@@ -198,17 +201,17 @@ make-returns-in_ok-next_number-in-Minus t c = λ before h.
     kind_ok c.makes-in-Minus.result c.makes-in-Minus.ensures (minus_read (rw c.in-Minus.is at h) c.in_ok-puts-in-Minus.ensures
     c.in_ok-next_number-in-Minus.ensures)
 
-pub make-returns-in_ok-next_number-in-Abs : goal.make-returns-in_ok-next_number-in-Abs
-make-returns-in_ok-next_number-in-Abs t c = λ before h.
-    kind_ok c.makes-in-Abs.result c.makes-in-Abs.ensures (magnitude_read (rw c.in-Abs.is at h) c.in_ok-next_number-in-Abs.ensures)
+pub make-returns-in-Abs : goal.make-returns-in-Abs
+make-returns-in-Abs t c = λ before h.
+    kind_ok c.of_next.result c.of_next.ensures (λ it. magnitude_read (rw c.in-Abs.is at h) it.read it.puts)
 
-pub make-returns-in_ok-next_number-in-Signed : goal.make-returns-in_ok-next_number-in-Signed
-make-returns-in_ok-next_number-in-Signed t c = λ before h.
-    kind_ok c.makes-in-Signed.result c.makes-in-Signed.ensures (signed_read (rw c.in-Signed.is at h) c.in_ok-next_number-in-Signed.ensures)
+pub make-returns-in-Signed : goal.make-returns-in-Signed
+make-returns-in-Signed t c = λ before h.
+    kind_ok c.of_next-in-Signed.result c.of_next-in-Signed.ensures (λ it. signed_read (rw c.in-Signed.is at h) it.read it.puts)
 
-pub make-returns-in_ok-bracketed-in-Byte : goal.make-returns-in_ok-bracketed-in-Byte
-make-returns-in_ok-bracketed-in-Byte t c = λ before h.
-    kind_ok c.makes-in-Byte.result c.makes-in-Byte.ensures (byte_in_read (rw c.in-Byte.is at h) c.in_ok-bracketed-in-Byte.ensures)
+pub make-returns-in-Byte : goal.make-returns-in-Byte
+make-returns-in-Byte t c = λ before h.
+    kind_ok c.of_bracketed.result c.of_bracketed.ensures (λ it. byte_in_read (rw c.in-Byte.is at h) it.read it.puts)
 
 pub opened-returns-in-Held : goal.opened-returns-in-Held
 opened-returns-in-Held t c = λ before h.
@@ -230,9 +233,9 @@ opened-returns-in_ok-kind-in-At t c = λ before h.
 pub opened-returns-in-Text : goal.opened-returns-in-Text
 opened-returns-in-Text t c = λ before h. c.text_at.ensures before (rw c.in-Text.is at h)
 
-pub opened-returns-in_ok-puts-in-Not : goal.opened-returns-in_ok-puts-in-Not
-opened-returns-in_ok-puts-in-Not t c = λ before h.
-    negated_read (rw c.in-Not.is at h) c.in_ok-fact_in-in-Not.ensures c.in_ok-puts-in-Not.ensures
+pub opened-returns-in_ok-fact_in-in-Not : goal.opened-returns-in_ok-fact_in-in-Not
+opened-returns-in_ok-fact_in-in-Not t c = λ before h.
+    kind_ok c.ends.result c.ends.ensures (negated_read (rw c.in-Not.is at h) c.in_ok-fact_in-in-Not.ensures)
 
 pub opened-returns-in-If : goal.opened-returns-in-If
 opened-returns-in-If t c = λ before h. c.conditional.ensures before (rw c.in-If.is at h)

@@ -5,66 +5,66 @@ use Rattle.a2_promise.specs.Grammar.{rank, tightest}
 use Rattle.a2_promise.specs.Reading.{Reads, IsPiece, state_of}
 use Rattle.a2_promise.proofs.parsing.+expression.Given as goal
 
--- (one that looks at no depth of its own gets by 1 or 2 what it calls)
+-- (one that looks at no depth of its own gets by more than what it calls)
 abbrev pub decreases-expression : goal.decreases-expression
-decreases-expression l = 3 * l.depth
+decreases-expression l = 6 * l.depth
 
 abbrev pub decreases-number_in : goal.decreases-number_in
-decreases-number_in l = 3 * l.depth + 1
+decreases-number_in l = 6 * l.depth + 1
 
 abbrev pub decreases-fact_in : goal.decreases-fact_in
-decreases-fact_in l = 3 * l.depth + 1
+decreases-fact_in l = 6 * l.depth + 1
 
 abbrev pub decreases-next_number : goal.decreases-next_number
-decreases-next_number l = 3 * l.depth + 2
+decreases-next_number l = 6 * l.depth + 2
 
 abbrev pub decreases-joined : goal.decreases-joined
-decreases-joined l = 3 * l.depth
-
-abbrev pub decreases-last_number : goal.decreases-last_number
-decreases-last_number l = 3 * l.depth + 2
-
-abbrev pub decreases-comparison : goal.decreases-comparison
-decreases-comparison l = 3 * l.depth
+decreases-joined l = 6 * l.depth + 2
 
 abbrev pub decreases-beginning : goal.decreases-beginning
-decreases-beginning l = 3 * l.depth + 1
+decreases-beginning l = 6 * l.depth + 1
 
 abbrev pub decreases-operand : goal.decreases-operand
-decreases-operand l = 3 * l.depth
+decreases-operand l = 6 * l.depth
 
 abbrev pub decreases-opened : goal.decreases-opened
-decreases-opened l = 3 * l.depth
+decreases-opened l = 6 * l.depth
 
 abbrev pub decreases-make : goal.decreases-make
-decreases-make l = 3 * l.depth
+decreases-make l = 6 * l.depth + 5
 
-abbrev pub decreases-two_numbers : goal.decreases-two_numbers
-decreases-two_numbers l = 3 * l.depth
+abbrev pub decreases-of_next : goal.decreases-of_next
+decreases-of_next l = 6 * l.depth + 3
+
+abbrev pub decreases-of_two : goal.decreases-of_two
+decreases-of_two l = 6 * l.depth + 2
 
 abbrev pub decreases-bracketed : goal.decreases-bracketed
-decreases-bracketed l = 3 * l.depth + 2
+decreases-bracketed l = 6 * l.depth + 2
+
+abbrev pub decreases-of_bracketed : goal.decreases-of_bracketed
+decreases-of_bracketed l = 6 * l.depth + 3
 
 abbrev pub decreases-word_at : goal.decreases-word_at
-decreases-word_at l = 3 * l.depth
+decreases-word_at l = 6 * l.depth + 4
 
 abbrev pub decreases-place_next : goal.decreases-place_next
-decreases-place_next l = 3 * l.depth
+decreases-place_next l = 6 * l.depth + 3
 
 abbrev pub decreases-text_at : goal.decreases-text_at
-decreases-text_at l = 3 * l.depth + 1
+decreases-text_at l = 6 * l.depth + 4
 
 abbrev pub decreases-conditional : goal.decreases-conditional
-decreases-conditional l = 3 * l.depth + 2
+decreases-conditional l = 6 * l.depth + 2
 
 abbrev pub decreases-counted : goal.decreases-counted
-decreases-counted l = 3 * l.depth
+decreases-counted l = 6 * l.depth
 
 abbrev pub decreases-for_all : goal.decreases-for_all
-decreases-for_all l = 3 * l.depth
+decreases-for_all l = 6 * l.depth + 2
 
 abbrev pub decreases-sum_of : goal.decreases-sum_of
-decreases-sum_of l = 3 * l.depth + 2
+decreases-sum_of l = 6 * l.depth + 2
 
 abbrev pub invariant-expression-loop-join : goal.invariant-expression-loop-join
 invariant-expression-loop-join l =

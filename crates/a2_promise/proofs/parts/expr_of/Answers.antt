@@ -11,9 +11,9 @@ pub loop-part-preserved : goal.loop-part-preserved
 loop-part-preserved c =
     made_more c.args.parts.now c.loop-part.part-index (Number (pos 0)) [] (omega arith)
     ∙ ap (λ phrases. made_by (get_or c.args.parts.now c.loop-part.part-index (Number (pos 0))) phrases) c.loop-part.invariant
-    ∙ sym (c.in_ok-push_part.ensures c.if-not-branch.false)
+    ∙ sym c.in_ok-push_part.ensures
 
-pub returns : goal.returns
-returns c =
-    popped c.args.parts.now c.loop-part.part-index c.loop-part.made.items c.pop.new.self.items c.pop.result c.loop-part.invariant
-    c.loop-part-test.false c.pop.ensures.items
+pub returns-in-Some : goal.returns-in-Some
+returns-in-Some c =
+    popped c.args.parts.now c.loop-part.part-index c.loop-part.made.items c.pop.new.self.items c.in-Some.expr c.loop-part.invariant
+    c.loop-part-test.false c.in-Some.ensures.items
