@@ -1,5 +1,5 @@
 ; A game: a block falls, and the bar is to be under it. The arrows move the bar; three blocks that are not caught end it.
-; ./a2x play examples/catch.s
+; ./a2lab play examples/catch.s
 HOME EQU $FC58
 WAIT EQU $FCA8
 COUT EQU $FDED

@@ -1,5 +1,5 @@
 ; A drawing in blocks: I, J, K and M move the pen up, left, right and down, 0 to 9 and A to F are its colours, RETURN ends.
-; ./a2x play examples/draw.s
+; ./a2lab play examples/draw.s
 HOME EQU $FC58
 COUT EQU $FDED
 RDKEY EQU $FD0C

@@ -1,6 +1,6 @@
 ; A text editor of one line, by GETLN. A line that is typed becomes the text; +MORE is put behind it, - takes its last character
 ; away, /AB makes each A a B, and RETURN alone ends.
-; ./a2x play examples/edit.s
+; ./a2lab play examples/edit.s
 HOME EQU $FC58
 COUT EQU $FDED
 CROUT EQU $FD8E

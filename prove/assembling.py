@@ -139,13 +139,13 @@ class Assembler:
         while True:
             found = TERM.match(rest)
             if not found:
-                raise Refusal(line.number, f"{text} is no expression: ./a2x check tells more")
+                raise Refusal(line.number, f"{text} is no expression: ./a2lab check tells more")
             total += sign * self.term(line, found[1], here)
             rest = rest[found.end() :]
             if not rest:
                 break
             if rest[0] not in "+-":
-                raise Refusal(line.number, f"{text} is no expression: ./a2x check tells more")
+                raise Refusal(line.number, f"{text} is no expression: ./a2lab check tells more")
             sign = 1 if rest[0] == "+" else -1
             rest = rest[1:]
         return total if not part else total % 256 if part == "<" else total // 256 % 256
@@ -162,7 +162,7 @@ class Assembler:
         if text[0] in "'\"":
             return ord(text[1]) | (128 if text[0] == '"' else 0)
         if text not in self.names:
-            raise Refusal(line.number, f"{text} is no name of the source: ./a2x check tells more")
+            raise Refusal(line.number, f"{text} is no name of the source: ./a2lab check tells more")
         return self.names[text]
 
     def is_small(self, line, text, here):
@@ -221,7 +221,7 @@ class Assembler:
             elif op in ("DFB", "DW", "ASC", "DS"):
                 placed.append((line, Statement(line.number, here, self.data_length(line, here))))
             elif op not in ("", "ORG"):
-                raise Refusal(line.number, f"{op} is no operation: ./a2x check tells more")
+                raise Refusal(line.number, f"{op} is no operation: ./a2lab check tells more")
             if op not in ("", "ORG"):
                 here += placed[-1][1].length
         return placed
@@ -246,5 +246,5 @@ class Assembler:
             else:
                 it.bytes = self.data(line, it)
             if it.address + it.length > RAM_END:
-                raise Refusal(line.number, "a byte lies at or above $C000: ./a2x check tells more")
+                raise Refusal(line.number, "a byte lies at or above $C000: ./a2lab check tells more")
         return Program([it for _, it in placed], self.names, self.places)

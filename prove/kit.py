@@ -48,7 +48,7 @@ def needs(top):
                 take(below)
         found[name] = lines[name]
 
-    take("a2_rules")
+    take("a2_promise_rules")
     return found
 
 
@@ -71,14 +71,14 @@ def run(words, folder):
 def build_rules(top, room, tell):
     """Proves the rules and what they stand on, where that is to be done. Other calls wait for the room until this one ends."""
     if shutil.which("rt") is None:
-        raise NoKit("the Rattle kit, which proves, is missing: no rt is on the path. ./a2x promise tries promises without it")
+        raise NoKit("the Rattle kit, which proves, is missing: no rt is on the path. ./a2lab promise tries promises without it")
     room.mkdir(parents=True, exist_ok=True)
     keep_others_out(room / "lock")
     mark = room / "built"
     if is_built(top, needs(top), mark):
         return
     tell("the rules and what they stand on are proved first, which takes minutes, or an hour where nothing is built yet")
-    status, said = run([RT, "lib"], top / "crates/a2_rules")
+    status, said = run([RT, "lib"], top / "crates/a2_promise_rules")
     if status:
         (room / "rules.log").write_text(said, encoding="utf-8")
         raise NoKit("the rules are not proved: what the kit said stands in out/prove/rules.log")

@@ -3,7 +3,7 @@
 from .terms import flag, list_of
 
 USES = """use Rattle.std.specs.Prelude.{{◌≡◌, true, false, List, [], ◌∷◌, refl}}
-use Rattle.a2_rules.proofs.Entered.{{State, is_met}}
+use Rattle.a2_promise_rules.proofs.Entered.{{State, is_met}}
 use {0}.Program.{{laid}}
 use {0}.{1}.{{terms}}
 """

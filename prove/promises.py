@@ -11,7 +11,7 @@ OUTSIDE = "this stands in no routine: lines with requires, ensures, changes or t
 KINDS = ("requires", "ensures", "changes", "takes", "invariant", "decreases", "note")
 # What is tried, and not proved.
 TRIED = ("prints",)
-# What lines begin with that speak of the run as a whole: they are of `./a2x promise`.
+# What lines begin with that speak of the run as a whole: they are of `./a2lab promise`.
 OF_RUN = set("case keys limit call screen mem reg stop stops cycles bytes must".split())
 VERBS = "a line of a promise begins with requires, ensures, changes, prints, takes, invariant, decreases or note"
 
@@ -157,7 +157,7 @@ def take_line(block, number, rest, offset, names):
 def take_verb(block, reader):
     verb = reader.next().text
     if verb in TRIED:
-        reader.refuse(f"{verb} can't be proved: a2x promise tries it")
+        reader.refuse(f"{verb} can't be proved: a2lab promise tries it")
     if verb not in KINDS:
         reader.refuse(VERBS)
     reader.take()

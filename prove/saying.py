@@ -1,5 +1,5 @@
 """What an expression says of two worlds, as the prover reads it: the very terms that `view` and `claim` of
-crates/a2_rules/proofs/Saying.antt compute, and of which expressions they speak."""
+crates/a2_promise_rules/proofs/Saying.antt compute, and of which expressions they speak."""
 
 import copy
 

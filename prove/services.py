@@ -1,4 +1,4 @@
-"""The Monitor's services that a routine may call: what they want and leave, as crates/a2_rules/proofs/Calling.antt and Typing.antt
+"""The Monitor's services that a routine may call: what they want and leave, as crates/a2_promise_rules/proofs/Calling.antt and Typing.antt
 have it, and what they do in a trial."""
 
 import re
@@ -123,7 +123,7 @@ OTHERS = {address: name for name, address in ADDRESSES.items() if address not in
 
 def why_unproved(address):
     """Why what calls a service can't be proved; None where no service is, or one that may be called."""
-    return f"a call of {OTHERS[address]} can't be proved yet: a2x promise tries it" if address in OTHERS else None
+    return f"a call of {OTHERS[address]} can't be proved yet: a2lab promise tries it" if address in OTHERS else None
 
 
 def services_of(program):
@@ -179,9 +179,9 @@ def line_of(keys, line):
     found = keys[: keys.index(RETURN_KEY)]
     edits = next((EDITING[key] for key in found if key in EDITING), None)
     if edits:
-        raise Unproved(line, f"{edits} among the keys of a line, {spelt(found)}, edits it, which can't be proved yet: a2x promise tries it")
+        raise Unproved(line, f"{edits} among the keys of a line, {spelt(found)}, edits it, which can't be proved yet: a2lab promise tries it")
     if len(found) > MOST_OF_LINE:
-        raise Unproved(line, f"GETLN gives up a line of more than {MOST_OF_LINE} keys, which can't be proved yet: a2x promise tries it")
+        raise Unproved(line, f"GETLN gives up a line of more than {MOST_OF_LINE} keys, which can't be proved yet: a2lab promise tries it")
     return found
 
 

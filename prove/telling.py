@@ -19,7 +19,7 @@ use Rattle.a2_promise.specs.Told.{Line, Terms, IsLine, IsTold}
 use Rattle.a2_promise.specs.Told as told
 use Rattle.a2_promise.specs.Written.{meant, said, spelled}
 use Rattle.a2_promise.specs.Written as written
-use Rattle.a2_rules.proofs.Told.{not_nothing, spells_keys}
+use Rattle.a2_promise_rules.proofs.Told.{not_nothing, spells_keys}
 use %s.Program.{lines, names}
 """
 FACTS = ("requires", "ensures")

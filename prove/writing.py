@@ -13,8 +13,8 @@ from .terms import codes, list_of
 CRATE = "promised"
 # The crates that it stands on.
 BELOW = (
-    "a2_rules a2_lessons a2_trial a2_reads a2_uses a2_promise a2_run a2_monitor a2_debug a2_text a2_stream a2_opcode "
-    "a2_syntax a2_hex a2_asm a2_page a2_bus a2_core a2_cpu a2_live a2_services a2_machine"
+    "a2_promise_rules a2_theorems a2_promise_try a2_reads a2_uses a2_promise a2_run a2_monitor a2_debug_script a2_text a2_stream a2_opcode "
+    "a2_syntax a2_hex a2_asm a2_page a2_bus a2_effect a2_cpu a2_burst a2_services a2_machine"
 )
 S = 0xFD
 LINE = re.compile(r"[^\n]*\n|[^\n]+")
@@ -30,45 +30,45 @@ use Rattle.a2_opcode.specs.declared.Mode.TheVariants.{%s}
 use Rattle.a2_asm.specs.Values.{Names}
 use Rattle.a2_asm.specs.declared.program.Statement.{Statement}
 use Rattle.a2_machine.specs.Meaning.{Code}
-use Rattle.a2_lessons.specs.Routines.{op}
-use Rattle.a2_lessons.proofs.Texts.{entry_of, statements_of}
-use Rattle.a2_lessons.proofs.Reading.{reading}
-use Rattle.a2_rules.specs.Promised.{lines_of_routines}
-use Rattle.a2_rules.proofs.Entered.{Laid, are_bytes, laid_of}
-use Rattle.a2_rules.proofs.Kept.{code_of, names_of}
+use Rattle.a2_theorems.specs.Routines.{op}
+use Rattle.a2_theorems.proofs.Texts.{entry_of, statements_of}
+use Rattle.a2_theorems.proofs.Reading.{reading}
+use Rattle.a2_promise_rules.specs.Promised.{lines_of_routines}
+use Rattle.a2_promise_rules.proofs.Entered.{Laid, are_bytes, laid_of}
+use Rattle.a2_promise_rules.proofs.Kept.{code_of, names_of}
 use %s.{text}
 """
 
 PROOF_USES = """use Rattle.std.specs.Prelude.{◌≡◌, ◌≢◌, ◌<◌, ◌≤◌, ◌⊎◌, ℕ, ◌+◌, ◌*◌, ◌/◌, ◌%◌, ◌-◌, ◌&&◌, ◌||◌, ◌==◌, nat_le, nat_lt, min, max, ℤ, pos, ◌+ℤ◌, Bool, true, false, List, [], ◌∷◌, refl}
 use Rattle.std.proofs.Common.{sym, ap, ap₂, ◌∙◌, arith, inl, inr, true≢false}
 use Rattle.std.proofs.lemmas.Bool.Decides.{nat_tests}
-use Rattle.a2_core.specs.Arithmetic.{by_digits, differ, overflows, signed}
-use Rattle.a2_core.specs.Registers.{one_if}
+use Rattle.a2_effect.specs.Arithmetic.{by_digits, differ, overflows, signed}
+use Rattle.a2_effect.specs.Registers.{one_if}
 use Rattle.a2_bus.specs.Memory.{Memory, ram_byte}
 use Rattle.a2_services.specs.World.{World}
 use Rattle.a2_machine.proofs.Computing.{computing}
-use Rattle.a2_lessons.specs.Routines.{entered, word}
-use Rattle.a2_lessons.proofs.Branching.{N, V, Z, C, with_flag}
-use Rattle.a2_lessons.proofs.Keeping.{after_stores}
-use Rattle.a2_lessons.proofs.Carrying.{fits_word}
-use Rattle.a2_rules.proofs.Bits.{bit_small, digits_small}
-use Rattle.a2_rules.proofs.Overflow.{overflow_bit}
-use Rattle.a2_rules.proofs.Leaving.{Leaves, Waits, leaves, leaves_all, leaves_as, leaves_stores, still}
-use Rattle.a2_rules.proofs.Meeting.{Whole, IsWhole, enter, stepped, home, Meets}
-use Rattle.a2_rules.proofs.Proving.{onto, fork, loops, call, whole_after, whole, le_bit, odd_bit, eq_bit, le_yes, le_no, eq_yes, eq_no, each_byte, product_down, product_up, product_zero, product_ge, mul_swap, yes_le, no_le, yes_eq, no_eq, flag_yes, flag_no, weaken, none_below, one_more_below}
-use Rattle.a2_rules.proofs.Ranges.{is_in, in_ranges, not_among, leaves_behind, kept_beside, kept_or_in}
-use Rattle.a2_rules.proofs.Reaching.{take, put, change, taking, putting, changing}
-use Rattle.a2_rules.proofs.Afresh.{afresh, put_here, put_other, put_read, put_whole, put_leaves, stores_whole, stores_read, then_stores, stores_leave, stores_other, same_byte, same_place, at_index, if_lt, if_le, if_eq, if_ne, one_of_two}
-use Rattle.a2_rules.proofs.Calling.{call_as, call_service, home_serves, prbyte_serves, prhex_serves, cout1_serves, cout_serves, crout_serves, vtab_serves, clreol_serves, setinv_serves, setnorm_serves, wait_serves}
-use Rattle.a2_rules.proofs.Typing.{getln_serves, keyin_serves, rdkey_serves}
+use Rattle.a2_theorems.specs.Routines.{entered, word}
+use Rattle.a2_theorems.proofs.Branching.{N, V, Z, C, with_flag}
+use Rattle.a2_theorems.proofs.Keeping.{after_stores}
+use Rattle.a2_theorems.proofs.Carrying.{fits_word}
+use Rattle.a2_promise_rules.proofs.Bits.{bit_small, digits_small}
+use Rattle.a2_promise_rules.proofs.Overflow.{overflow_bit}
+use Rattle.a2_promise_rules.proofs.Leaving.{Leaves, Waits, leaves, leaves_all, leaves_as, leaves_stores, still}
+use Rattle.a2_promise_rules.proofs.Meeting.{Whole, IsWhole, enter, stepped, home, Meets}
+use Rattle.a2_promise_rules.proofs.Proving.{onto, fork, loops, call, whole_after, whole, le_bit, odd_bit, eq_bit, le_yes, le_no, eq_yes, eq_no, each_byte, product_down, product_up, product_zero, product_ge, mul_swap, yes_le, no_le, yes_eq, no_eq, flag_yes, flag_no, weaken, none_below, one_more_below}
+use Rattle.a2_promise_rules.proofs.Ranges.{is_in, in_ranges, not_among, leaves_behind, kept_beside, kept_or_in}
+use Rattle.a2_promise_rules.proofs.Reaching.{take, put, change, taking, putting, changing}
+use Rattle.a2_promise_rules.proofs.Afresh.{afresh, put_here, put_other, put_read, put_whole, put_leaves, stores_whole, stores_read, then_stores, stores_leave, stores_other, same_byte, same_place, at_index, if_lt, if_le, if_eq, if_ne, one_of_two}
+use Rattle.a2_promise_rules.proofs.Calling.{call_as, call_service, home_serves, prbyte_serves, prhex_serves, cout1_serves, cout_serves, crout_serves, vtab_serves, clreol_serves, setinv_serves, setnorm_serves, wait_serves}
+use Rattle.a2_promise_rules.proofs.Typing.{getln_serves, keyin_serves, rdkey_serves}
 use Rattle.a2_opcode.specs.Table.{fixed, paged}
 use Rattle.a2_opcode.specs.declared.Mnemonic.TheVariants.{Adc, And, Asl, Cmp, Dec, Eor, Inc, Lda, Ldx, Ldy, Lsr, Ora, Rol, Ror, Sbc, Sta, Stx, Sty}
 use Rattle.a2_opcode.specs.declared.Mode.TheVariants.{ZeroPageX, ZeroPageY, AbsoluteX, AbsoluteY, IndexedIndirect, IndirectIndexed}
 """
 
 END_USES = """use Rattle.std.specs.Prelude.{{codes}}
-use Rattle.a2_rules.specs.Promised.{{IsProved}}
-use Rattle.a2_rules.proofs.Kept.{{proved, told_of}}
+use Rattle.a2_promise_rules.specs.Promised.{{IsProved}}
+use Rattle.a2_promise_rules.proofs.Kept.{{proved, told_of}}
 use {0.specs}.{{text}}
 use {0.proofs}.Program.{{listing, lines, names, laid, read, stated, cut, named, lays, small}}
 use {0.proofs}.{1}.{{terms, tells}}
@@ -292,7 +292,7 @@ def function_of(written):
 
 def module_file(source, tops):
     text = "//! Written by a2-prove.\n\nghost use Rattle.std.specs.Prelude.{codes};\n"
-    text += f"ghost use {source.specs}.{{text}};\nghost use Rattle.a2_rules.specs.Promised.{{IsProved}};\n"
+    text += f"ghost use {source.specs}.{{text}};\nghost use Rattle.a2_promise_rules.specs.Promised.{{IsProved}};\n"
     for it in tops:
         name = it.routine.name
         text += f"\n/// {name} keeps its promise.\npub fn {function_of(it)}()\n    ensures {{ IsProved text {codes(name)} }}\n{{}}\n"

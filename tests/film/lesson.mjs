@@ -1,4 +1,4 @@
-// A window of a run, and the chapters of a lesson: node lesson.mjs A2X SOURCE ROOM. The film of a window shows at each step that is
+// A window of a run, and the chapters of a lesson: node lesson.mjs A2LAB SOURCE ROOM. The film of a window shows at each step that is
 // looked at what the film of the whole run shows there; its chapters are gone through by keys, buttons and list; and nothing is
 // wider than a phone. The last line is 'N passed, M failed'.
 import {spawnSync} from 'node:child_process';
@@ -6,14 +6,14 @@ import {mkdirSync, writeFileSync} from 'node:fs';
 import {join} from 'node:path';
 import {browser} from './chromium.mjs';
 
-const [a2x, source, room] = process.argv.slice(2), [FROM, STEPS, LAST] = [1200, 900, 3000];
+const [a2lab, source, room] = process.argv.slice(2), [FROM, STEPS, LAST] = [1200, 900, 3000];
 let passed = 0, failed = 0;
 const told = (what, is, wanted) => {
   if (String(is) === String(wanted)) passed++; else { failed++; console.log(`FAILED: ${what}: ${is}, and not ${wanted}`); }
 };
 mkdirSync(room, {recursive: true});
 // (the status is that of the run's end)
-const film = (name, ...words) => { const file = join(room, name); spawnSync(a2x, ['film', '-o', file, ...words, source], {stdio: 'inherit'}); return 'file://' + file; };
+const film = (name, ...words) => { const file = join(room, name); spawnSync(a2lab, ['film', '-o', file, ...words, source], {stdio: 'inherit'}); return 'file://' + file; };
 const script = join(room, 'lesson');
 writeFileSync(script, `${FROM + 400} Later on.\n${FROM} <b>Here</b> it begins & \\ goes on.\nline 24 A line.\n\n${LAST} Behind the end.\n${FROM + 400} And at once.\nline 1 A line that is never done.\n`);
 const whole = film('whole.html', '--limit', String(LAST)), part = film('part.html', '--from', String(FROM), '--steps', String(STEPS), '--script', script);

@@ -1,4 +1,4 @@
-// Makes the picture of the manual anew: node picture.mjs A2X OUT.png. It shows the film of examples/lores.s in Chromium, in a
+// Makes the picture of the manual anew: node picture.mjs A2LAB OUT.png. It shows the film of examples/lores.s in Chromium, in a
 // palette of 48 colours, which keeps it small.
 import {execFileSync} from 'node:child_process';
 import {mkdtempSync, rmSync, writeFileSync} from 'node:fs';
@@ -8,10 +8,10 @@ import {fileURLToPath} from 'node:url';
 import {crc32, deflateSync} from 'node:zlib';
 import {browser} from './chromium.mjs';
 
-const [a2x, out] = process.argv.slice(2), [width, height, colours] = [1280, 900, 48];
+const [a2lab, out] = process.argv.slice(2), [width, height, colours] = [1280, 900, 48];
 const room = mkdtempSync(join(tmpdir(), 'film-picture-')), file = join(room, 'film.html'), shot = join(room, 'film.png');
 const top = join(dirname(fileURLToPath(import.meta.url)), '..', '..');
-try { writeFileSync(file, execFileSync(a2x, ['film', '--limit', '3000', 'examples/lores.s'], {cwd: top})); } catch (error) { writeFileSync(file, error.stdout); }
+try { writeFileSync(file, execFileSync(a2lab, ['film', '--limit', '3000', 'examples/lores.s'], {cwd: top})); } catch (error) { writeFileSync(file, error.stdout); }
 const chromium = await browser(), page = await chromium.open('file://' + file + '#step=2200&bp=19', {width, height});
 await page.value('document.head.append(Object.assign(document.createElement("style"),{textContent:"::-webkit-scrollbar{display:none}"}))');
 await page.value('onresize()');

@@ -1,7 +1,7 @@
-// What the pages of films show in a browser, against what other words say of the same runs: node shown.mjs A2 A2X ROOM
+// What the pages of films show in a browser, against what other words say of the same runs: node shown.mjs A2 A2LAB ROOM
 // [NAME..]. The runs are those of the file `runs` and all examples; with names, these alone. At some steps of each, in no
 // order, it compares: registers, flags, steps and cycles, and the screen as it is drawn, cell by cell or block by block, with
-// `A2 run --attr --limit STEP`; all of RAM with what the instructions of `A2X trace` store; RAM at the end with what the
+// `A2 run --attr --limit STEP`; all of RAM with what the instructions of `A2LAB trace` store; RAM at the end with what the
 // Monitor shows where it goes through the same run. It takes no error, no line in the console and no request. The last line is
 // 'N passed, M failed': one for each step, and one for each page.
 import {execFileSync} from 'node:child_process';
@@ -17,7 +17,7 @@ const COLOURS = ['0,0,0', '221,0,51', '0,0,153', '221,34,221', '0,119,34', '85,8
   '136,85,0', '255,102,0', '170,170,170', '255,153,136', '17,221,0', '255,255,0', '68,255,153', '255,255,255'];
 const STEPS = 9, LIMIT = 1500, END = 49152;
 const here = dirname(fileURLToPath(import.meta.url));
-const [a2, a2x, room, ...chosen] = process.argv.slice(2);
+const [a2, a2lab, room, ...chosen] = process.argv.slice(2);
 
 const said = (program, ...words) => {
   try { return execFileSync(program, words, {encoding: 'latin1', stdio: ['ignore', 'pipe', 'pipe'], maxBuffer: 1 << 28}); } catch (error) { return error.stdout; }
@@ -144,8 +144,8 @@ async function compare(chromium, {name, text, words}) {
   const source = join(room, name + '.s'), file = join(room, name + '.html');
   writeFileSync(source, text, 'latin1');
   const limited = words.includes('--limit') ? words : [...words, '--limit', String(LIMIT)];
-  writeFileSync(file, said(a2x, 'film', ...limited, source), 'latin1');
-  const film = readFileSync(file, 'latin1'), trace = said(a2x, 'trace', ...limited, source).split('\n'), cause = trace.at(-2);
+  writeFileSync(file, said(a2lab, 'film', ...limited, source), 'latin1');
+  const film = readFileSync(file, 'latin1'), trace = said(a2lab, 'trace', ...limited, source).split('\n'), cause = trace.at(-2);
   const last = trace.length - 2, steps = [0, last, Math.min(1, last)];
   for (let i = 1; i < STEPS - 2; i++) steps.push(Math.floor(last * ((i * 5) % (STEPS - 2)) / (STEPS - 2)));
   const ram = rams(film, trace, steps), page = await chromium.open('file://' + file), more = [];

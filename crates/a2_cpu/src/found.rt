@@ -2,17 +2,17 @@
 
 ghost use Rattle.std.specs.Prelude.{◌≡◌, ◌+◌, ◌*◌, ◌%◌, ◌<◌, ◌≤◌, ◌&&◌, IfOk, slice_get, option_map, Some};
 ghost use Rattle.a2_bus.specs.BusState.{BusState};
-ghost use Rattle.a2_core.specs.Place.{place_of, base_address, crosses_page};
-ghost use Rattle.a2_core.specs.Registers.{one_if};
-ghost use Rattle.a2_core.specs.Live.{live_registers};
-ghost use Rattle.a2_core.specs.Operands.{operand_with};
+ghost use Rattle.a2_effect.specs.Place.{place_of, base_address, crosses_page};
+ghost use Rattle.a2_effect.specs.Registers.{one_if};
+ghost use Rattle.a2_effect.specs.Live.{live_registers};
+ghost use Rattle.a2_effect.specs.Operands.{operand_with};
 ghost use Rattle.a2_cpu.specs.Code.{operand_byte_at, word_at, place_for, operand_for, operand_of, operand_at, found_for, found_of};
 ghost use Rattle.a2_opcode.specs.Encoding.{fetched};
 
 use crate::GuardedStep;
 use a2_bus::Bus;
-use a2_core::Live;
-use a2_core::modes::{
+use a2_effect::Live;
+use a2_effect::modes::{
     Absolute, AbsoluteX, AbsoluteY, AtAddress, Bytes, IndexedIndirect, IndirectIndexed, Site,
     ZeroPage, ZeroPageX, ZeroPageY, is_elsewhere,
 };

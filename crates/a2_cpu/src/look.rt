@@ -4,14 +4,14 @@ ghost use Rattle.std.specs.Prelude.{◌≡◌, ℕ, Some, None, slice_get};
 ghost use Rattle.std.specs.List.{list_any};
 ghost use Rattle.a2_cpu.specs.GuardedBusStep.{guarded_bus_step};
 ghost use Rattle.a2_cpu.specs.View.{before_step, guarded_answer_of, why_not};
-ghost use Rattle.a2_core.specs.Live.{live_registers, before_live_step};
+ghost use Rattle.a2_effect.specs.Live.{live_registers, before_live_step};
 ghost use Rattle.a2_cpu.specs.Code.{place_for, acting_stores, refused_at};
 
 use crate::found::{Place, find};
 use crate::stores::{Targets, targets_of};
 use crate::{GuardedStep, Protection, Regs};
 use a2_bus::Bus;
-use a2_core::Live;
+use a2_effect::Live;
 use a2_opcode::Mnemonic;
 
 // Whether one of a mnemonic's stores is at a protected address.

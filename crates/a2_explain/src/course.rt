@@ -4,7 +4,7 @@ use a2_asm::Program;
 use a2_bus::Keys;
 use a2_machine::{Cause, Machine};
 use a2_run::RunFault;
-use a2_typed::{Strokes, TypedFault, ended_typed};
+use a2_timed_keys::{Strokes, TypedFault, ended_typed};
 use std::alloc::Allocator;
 
 /// How a run is made.

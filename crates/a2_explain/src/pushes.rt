@@ -1,7 +1,7 @@
 //! Which instruction pushed what lies on the stack.
 
 use a2_machine::Machine;
-use a2_typed::Strokes;
+use a2_timed_keys::Strokes;
 use std::alloc::{AllocError, Allocator};
 
 /// The address of the instruction or service that last pushed each byte of the stack page, where it was seen.

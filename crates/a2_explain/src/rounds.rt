@@ -72,22 +72,22 @@ fn put_round<A: Allocator, W: Output>(
     places: &[u16],
     writer: &mut W,
 ) -> Result<(), WriteFault> {
-    put(b"a2x: the last ", writer)?;
+    put(b"a2lab: the last ", writer)?;
     put_number(u64::from(WATCHED), writer)?;
     put(b" steps went round in these lines alone:\n", writer)?;
     let mut waits = false;
     for statement in scene.program.statements() {
         if is_among(statement, places) {
             waits = waits || looks_for_key(statement);
-            put(b"a2x:   ", writer)?;
+            put(b"a2lab:   ", writer)?;
             put_place(scene, statement.addr, writer)?;
             put(b"\n", writer)?;
         }
     }
     let mend: &[u8] = if waits {
-        b"a2x: they look for a key at $C000: give keys by --keys K, or later ones by --keys-at N:K\n"
+        b"a2lab: they look for a key at $C000: give keys by --keys K, or later ones by --keys-at N:K\n"
     } else {
-        b"a2x: nothing there led out: a branch is to find another flag, or --limit to be greater\n"
+        b"a2lab: nothing there led out: a branch is to find another flag, or --limit to be greater\n"
     };
     put(mend, writer)
 }

@@ -18,14 +18,14 @@ use std::alloc::Allocator;
 
 // What is to be done where a run came to the Monitor, and to no service.
 const NO_SERVICE: &[u8] =
-    b"a2x: the Monitor's addresses hold the services alone, as COUT: write what is wanted in place of others\n";
+    b"a2lab: the Monitor's addresses hold the services alone, as COUT: write what is wanted in place of others\n";
 
 // And about a store into code, by an instruction and by a service.
 const CODE_STORES: &[u8] =
-    b"a2x: store into a DFB or DS of its own; a program that changes itself runs with --free\n";
+    b"a2lab: store into a DFB or DS of its own; a program that changes itself runs with --free\n";
 
 const SERVICE_STORES: &[u8] =
-    b"a2x: that service stores at $24 to $29 and on the screen, $0400 to $07FF, GETLN at $0200 too: keep code away\n";
+    b"a2lab: that service stores at $24 to $29 and on the screen, $0400 to $07FF, GETLN at $0200 too: keep code away\n";
 
 // Whether the instruction at an address takes its next address from the stack.
 fn returns<A: Allocator>(program: &Program<A>, address: u16) -> bool {
@@ -40,9 +40,9 @@ fn pulled_mend<A: Allocator>(pushes: &Pushes<A>, s: u8) -> &'static [u8] {
     let is_pushed = pushes.at(s.wrapping_add(1)).is_some()
         || pushes.at(s.wrapping_add(2)).is_some();
     if is_pushed {
-        b"a2x: pull what was pushed, by PLA or PLP, before RTS\n"
+        b"a2lab: pull what was pushed, by PLA or PLP, before RTS\n"
     } else {
-        b"a2x: leave S as it is at the start, or end by JMP $FF69: the last return's address lies at $01FE\n"
+        b"a2lab: leave S as it is at the start, or end by JMP $FF69: the last return's address lies at $01FE\n"
     }
 }
 
@@ -54,7 +54,7 @@ fn put_pulled<A: Allocator, W: Output>(
     writer: &mut W,
 ) -> Result<(), WriteFault> {
     for offset in [s.wrapping_add(1), s.wrapping_add(2)] {
-        put(b"a2x: that RTS pulled the byte at ", writer)?;
+        put(b"a2lab: that RTS pulled the byte at ", writer)?;
         put_address(0x100 + u16::from(offset), writer)?;
         put(b", which ", writer)?;
         match pushes.at(offset) {
@@ -94,7 +94,7 @@ fn put_last<A: Allocator, W: Output>(
     pc: u16,
     writer: &mut W,
 ) -> Result<(), WriteFault> {
-    put(b"a2x: step ", writer)?;
+    put(b"a2lab: step ", writer)?;
     put_number(u64::from(before) + 1, writer)?;
     put(b" was ", writer)?;
     put_place(scene, pc, writer)?;
@@ -128,7 +128,7 @@ fn put_behind<A: Allocator, W: Output>(
     }
     match statement_at(statements, stop.pc) {
         Some(_) => {
-            put(b"a2x: behind it stands ", writer)?;
+            put(b"a2lab: behind it stands ", writer)?;
             put_place(scene, stop.pc, writer)?;
             put(
                 b", which is data: end by RTS before it, or go round it by JMP\n",
@@ -136,7 +136,7 @@ fn put_behind<A: Allocator, W: Output>(
             )
         }
         None => put(
-            b"a2x: behind it stands nothing: end by RTS, or go on by JMP\n",
+            b"a2lab: behind it stands nothing: end by RTS, or go on by JMP\n",
             writer,
         ),
     }
@@ -149,7 +149,7 @@ fn put_stop<A: Allocator, W: Output>(
     cause: Cause,
     writer: &mut W,
 ) -> Result<(), WriteFault> {
-    put(b"a2x: stopped at ", writer)?;
+    put(b"a2lab: stopped at ", writer)?;
     put_place(scene, pc, writer)?;
     put(b": ", writer)?;
     put(cause.sentence(), writer)?;
@@ -240,7 +240,7 @@ fn explain<A: Allocator + Copy, W: Output>(
     put_way(alloc, scene, course, stop, writer)
 }
 
-/// Writes why the run of a source stops, in lines that begin with `a2x: `: the cause, what stands at PC, the last step of the
+/// Writes why the run of a source stops, in lines that begin with `a2lab: `: the cause, what stands at PC, the last step of the
 /// source; of an `RTS` that led astray what pushed the bytes that it pulled, of a window off the screen which lines stored it, as
 /// far as the last 100,000 steps tell; what stands behind an instruction that ran on; and of the limit the lines in which the
 /// last 4,096 steps went round. Nothing is written of a run that ends by RETURNED or BRK. The run is that of the source as
@@ -262,7 +262,7 @@ pub fn explain_stop<A: Allocator + Copy, W: Output>(
 }
 
 /// Writes where a run of this source, which is that of `program`, stopped with PC at `pc`, and what the cause means there, in
-/// one line that begins with `a2x: `. Refused where a write fails, and for want of memory. This project's profile.
+/// one line that begins with `a2lab: `. Refused where a write fails, and for want of memory. This project's profile.
 pub fn tell_stop<A: Allocator + Copy, W: Output>(
     alloc: A,
     source: &[u8],

@@ -111,7 +111,7 @@ fn put_change<A: Allocator, W: Output>(
     location: &Location,
     writer: &mut W,
 ) -> Result<(), WriteFault> {
-    put(b"a2x: ", writer)?;
+    put(b"a2lab: ", writer)?;
     put_place(scene, pc, writer)?;
     put(b" stored $", writer)?;
     put(&hex_pair(byte), writer)?;
@@ -164,7 +164,7 @@ pub(crate) fn tell_window<A: Allocator + Copy, W: Output>(
     }
     if is_told {
         put(
-            b"a2x: bytes of a program's own are safe below $20\n",
+            b"a2lab: bytes of a program's own are safe below $20\n",
             writer,
         )?;
     }

@@ -9,7 +9,7 @@ use Rattle.a2_opcode.specs.declared.Row.{Row}
 use Rattle.a2_bus.proofs.Relating.{IsSimulation}
 use Rattle.a2_bus.specs.Devices.{Devices, key_taken, switched, after_access}
 use Rattle.a2_bus.specs.Memory.{Memory, ram_byte, ram_end, with_ram, memory_access}
-use Rattle.a2_core.specs.Instruction.{performed}
+use Rattle.a2_effect.specs.Instruction.{performed}
 use Rattle.a2_cpu.proofs.Simulation.{performed-alike}
 use Rattle.a2_services.specs.declared.rows.Service.{Service}
 use Rattle.a2_services.specs.declared.rows.Service.TheVariants.{Cout, Cout1, Crout, Home, Prbyte, Prhex, Setinv, Setnorm, Vtab, Clreol}

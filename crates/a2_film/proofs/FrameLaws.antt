@@ -12,8 +12,8 @@ use Rattle.a2_bus.specs.Devices.{Devices}
 use Rattle.a2_bus.specs.Memory.{ram_byte, ram_end, peek, memory_access}
 use Rattle.a2_bus.proofs.Frame.{changed_by_writes}
 use Rattle.a2_cpu.specs.BusStep.{Refusal, refusal_of}
-use Rattle.a2_core.specs.Instruction.{performed}
-use Rattle.a2_core.specs.Registers.{Registers, StatusFlags, byte_of_flags, flags_of_byte}
+use Rattle.a2_effect.specs.Instruction.{performed}
+use Rattle.a2_effect.specs.Registers.{Registers, StatusFlags, byte_of_flags, flags_of_byte}
 use Rattle.a2_cpu.specs.Stores.{stores_of, IsNotIn}
 use Rattle.a2_cpu.specs.StepStores.{none_if, stores_at}
 use Rattle.a2_cpu.proofs.StoresLemmas.{performed-stores}

@@ -8,10 +8,10 @@ use Rattle.a2_bus.specs.Memory.{ram_byte, ram_end, peek, memory_access}
 use Rattle.a2_bus.specs.View.{memory_of}
 use Rattle.a2_page.proofs.Parts.{range-at}
 use Rattle.a2_cpu.specs.BusStep.{refusal_of}
-use Rattle.a2_core.specs.Instruction.{performed, state_of}
-use Rattle.a2_core.specs.Registers.{Registers}
+use Rattle.a2_effect.specs.Instruction.{performed, state_of}
+use Rattle.a2_effect.specs.Registers.{Registers}
 use Rattle.a2_cpu.specs.StepStores.{none_if, stores_at, step_stores}
-use Rattle.a2_core.specs.View.{registers_of}
+use Rattle.a2_effect.specs.View.{registers_of}
 use Rattle.a2_cpu.specs.View.{before_step}
 use Rattle.a2_services.specs.declared.rows.Service.{Service}
 use Rattle.a2_services.specs.Services.{service_at, reach, served}

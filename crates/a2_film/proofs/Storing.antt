@@ -8,12 +8,12 @@ use Rattle.a2_bus.specs.Memory.{peek, ram_end}
 use Rattle.a2_bus.specs.View.{memory_of}
 use Rattle.a2_cpu.specs.BusStep.{Refusal, refusal_of}
 use Rattle.a2_cpu.specs.Code.{effect_stores}
-use Rattle.a2_core.specs.Effect.{effect_of}
-use Rattle.a2_core.specs.Instruction.{State}
-use Rattle.a2_core.specs.Place.{Place}
+use Rattle.a2_effect.specs.Effect.{effect_of}
+use Rattle.a2_effect.specs.Instruction.{State}
+use Rattle.a2_effect.specs.Place.{Place}
 use Rattle.a2_cpu.specs.StepStores.{none_if, stores_at, step_stores}
 use Rattle.a2_cpu.specs.View.{before_step}
-use Rattle.a2_core.specs.declared.Regs.{Regs}
+use Rattle.a2_effect.specs.declared.Regs.{Regs}
 use Rattle.a2_cpu.proofs.EffectStores.{stores_of-is}
 use Rattle.a2_machine.proofs.Outcomes.{fetched-world}
 

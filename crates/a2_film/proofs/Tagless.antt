@@ -13,7 +13,7 @@ use Rattle.a2_hex.specs.Images.{held}
 use Rattle.a2_asm.specs.declared.program.Statement.{Statement}
 use Rattle.a2_asm.specs.Assembled.{Assembled}
 use Rattle.a2_bus.specs.Memory.{ram_byte, ram_end}
-use Rattle.a2_core.specs.Registers.{byte_of_flags}
+use Rattle.a2_effect.specs.Registers.{byte_of_flags}
 use Rattle.a2_services.specs.World.{World}
 use Rattle.a2_machine.specs.declared.causes.Cause.{Cause}
 use Rattle.a2_machine.specs.declared.causes.Cause.TheVariants.{Returned}

@@ -5,7 +5,7 @@ use Rattle.a2_page.specs.declared.Switches.{Switches}
 use Rattle.a2_bus.specs.Devices.{Devices, key_taken}
 use Rattle.a2_opcode.specs.Encoding.{fetched}
 use Rattle.a2_bus.specs.Memory.{ram_byte, ram_end, peek, memory_access}
-use Rattle.a2_core.specs.Registers.{Registers, byte_of_flags, flags_of_byte, is_one_at, one_if}
+use Rattle.a2_effect.specs.Registers.{Registers, byte_of_flags, flags_of_byte, is_one_at, one_if}
 use Rattle.a2_cpu.specs.StepStores.{stores_at}
 use Rattle.a2_services.specs.Services.{service_at}
 use Rattle.a2_services.specs.World.{World}

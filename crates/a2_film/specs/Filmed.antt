@@ -6,8 +6,8 @@ use Rattle.a2_stream.specs.Stream.{Taker, Sends, Breaks}
 use Rattle.a2_stream.specs.declared.WriteFault.{WriteFault}
 use Rattle.a2_text.specs.Digits.{hex_word}
 use Rattle.a2_page.specs.declared.Switches.{Switches}
-use Rattle.a2_core.specs.Registers.{Registers, byte_of_flags}
-use Rattle.a2_core.specs.View.{registers_of}
+use Rattle.a2_effect.specs.Registers.{Registers, byte_of_flags}
+use Rattle.a2_effect.specs.View.{registers_of}
 use Rattle.a2_services.specs.World.{World}
 use Rattle.a2_services.specs.declared.rows.Service.{Service}
 use Rattle.a2_services.specs.Services.{reach}

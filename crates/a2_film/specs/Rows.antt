@@ -5,7 +5,7 @@ use Rattle.std.specs.List.{concat, flat_map}
 use Rattle.std.specs.Fmt.{decimal}
 use Rattle.a2_text.specs.Digits.{hex_digit, hex_pair, hex_word}
 use Rattle.a2_bus.specs.Memory.{ram_byte, ram_end}
-use Rattle.a2_core.specs.Registers.{byte_of_flags}
+use Rattle.a2_effect.specs.Registers.{byte_of_flags}
 use Rattle.a2_hex.specs.Images.{held}
 use Rattle.a2_asm.specs.declared.program.Statement.{Statement}
 use Rattle.a2_asm.specs.Assembled.{Assembled}

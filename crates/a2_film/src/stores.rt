@@ -3,8 +3,8 @@
 ghost use Rattle.std.specs.Prelude.{◌≡◌, ℕ, [], false};
 ghost use Rattle.a2_bus.specs.BusState.{board_access};
 ghost use Rattle.a2_cpu.specs.Code.{effect_stores};
-ghost use Rattle.a2_core.specs.Effect.{effect_of};
-ghost use Rattle.a2_core.specs.Place.{Place};
+ghost use Rattle.a2_effect.specs.Effect.{effect_of};
+ghost use Rattle.a2_effect.specs.Place.{Place};
 ghost use Rattle.a2_cpu.specs.StepStores.{step_stores};
 ghost use Rattle.a2_cpu.specs.View.{before_step};
 
@@ -15,7 +15,7 @@ use arrayvec::ArrayVec;
 use std::alloc::Allocator;
 
 // Whether instructions of this mnemonic store.
-#[tactic(auto, unfolding(a2_core::specs::Effect::effect_of))]
+#[tactic(auto, unfolding(a2_effect::specs::Effect::effect_of))]
 fn is_storing(mnemonic: Mnemonic) -> bool
     ensures { result ≡ false → (place : Place) (s : ℕ) → effect_stores (effect_of mnemonic) place s ≡ [] }
 {

@@ -3,7 +3,7 @@ use Rattle.std.specs.Prelude.{IfNone, IfSome, ◌==◌, ◌||◌, nat_le, length
 use Rattle.std.proofs.Common.{◌≡◌, ◌⊎◌, inl, inr, ℕ, zero, suc, ◌+◌, ◌-◌, ◌<◌, ◌≤◌, Bool, true, false, true≢false, List, [], ◌∷◌, drop, Option, Some, None, refl, sym, ap, ap₂, ◌∙◌, arith}
 use Rattle.std.proofs.lemmas.Bool.{ne_eqb, cond-false}
 use Rattle.a2_bus.specs.Memory.{ram_byte}
-use Rattle.a2_live.specs.Shown.{Shown}
+use Rattle.a2_burst.specs.Shown.{Shown}
 use Rattle.a2_services.specs.World.{World}
 use Rattle.a2_machine.specs.declared.causes.Cause.{Cause}
 use Rattle.a2_machine.specs.ByteRun.{bytes}

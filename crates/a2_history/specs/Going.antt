@@ -2,7 +2,7 @@
 use Rattle.std.specs.Prelude.{◌≡◌, ◌⊎◌, ℕ, ◌+◌, ◌<◌, ◌≤◌, Bool, true, false, nat_le, List, [], ◌∷◌, ◌++◌, filter, All, Option, Some, None}
 use Rattle.a2_services.specs.World.{World}
 use Rattle.a2_machine.specs.declared.causes.Cause.TheVariants.{Limit}
-use Rattle.a2_live.specs.Shown.{Shown}
+use Rattle.a2_burst.specs.Shown.{Shown}
 use Rattle.a2_machine.specs.Meaning.{stuck}
 use Rattle.a2_machine.specs.Looks.{shown_between}
 use Rattle.a2_machine.specs.State.{MachineState, Device, world_of_state, code_of}

@@ -12,8 +12,8 @@ ghost use Rattle.a2_history.specs.Typing.{IsTyped, IsTypedBy};
 ghost use Rattle.a2_history.specs.declared.fault.TypingFault.TheVariants.{Full};
 
 use crate::{Sight, Typed, TypingFault};
+use a2_burst::{NoObserver, Observer};
 use a2_bus::Keys;
-use a2_live::{NoObserver, Observer};
 use a2_machine::{Cause, Machine};
 use a2_spread::STRIDE;
 use std::alloc::{AllocError, Allocator, Global};

@@ -1,10 +1,10 @@
 //! What is looked out for in the steps of a burst.
 
 ghost use Rattle.std.specs.Prelude.{◌≡◌, ◌||◌, Bool, false, slice_get};
-ghost use Rattle.a2_live.specs.Shown.{Shown};
+ghost use Rattle.a2_burst.specs.Shown.{Shown};
 
 use crate::Nothing;
-use a2_live::{Look, Observer};
+use a2_burst::{Look, Observer};
 
 /// What is looked out for in the steps of a burst, which is not ended for it: where no step alarms, nothing new is seen behind
 /// one.

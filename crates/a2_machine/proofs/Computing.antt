@@ -6,8 +6,8 @@ use Rattle.a2_opcode.specs.Table.{table, row}
 use Rattle.a2_page.specs.Cells.{cell_at}
 use Rattle.a2_bus.specs.Memory.{ram_byte, with_ram, memory_access}
 use Rattle.a2_cpu.specs.BusStep.{refusal_of}
-use Rattle.a2_core.specs.Effect.{effect_of}
-use Rattle.a2_core.specs.Instruction.{performed, after_effect, returned, called}
+use Rattle.a2_effect.specs.Effect.{effect_of}
+use Rattle.a2_effect.specs.Instruction.{performed, after_effect, returned, called}
 use Rattle.a2_cpu.specs.Stores.{stores_of}
 use Rattle.a2_services.specs.World.{World}
 use Rattle.a2_services.specs.Services.{service_at, reach, effect, served}

@@ -8,7 +8,7 @@ ghost use Rattle.a2_bus.specs.BoardState.{IsMarked};
 ghost use Rattle.a2_bus.specs.Devices.{keys_typed};
 ghost use Rattle.a2_bus.specs.Memory.{ram_end, with_ram, peek as peek_of};
 ghost use Rattle.a2_bus.specs.View.{memory_of};
-ghost use Rattle.a2_core.specs.View.{spare_bits_of, registers_of};
+ghost use Rattle.a2_effect.specs.View.{spare_bits_of, registers_of};
 ghost use Rattle.a2_hex.specs.Images.{held};
 ghost use Rattle.a2_machine.specs.Looks.{shown_at, seen_after};
 ghost use Rattle.a2_machine.specs.Meaning.{stuck};
@@ -24,12 +24,12 @@ use crate::steps::{StepsMade, make_one_step, make_steps, make_steps_alone};
 use crate::watch::{NOTES, Watch};
 use crate::{Cause, Stop};
 use a2_asm::Program;
+use a2_burst::{NoObserver, Observer};
 use a2_bus::locations::{LAST_RETURN, RETURN_ADDRESS};
 use a2_bus::{AddressSpace, Board, Bus, Keys, KeysFull};
-use a2_core::Live;
 use a2_cpu::{Breakpoints, NoBreakpoints, Regs, Status};
+use a2_effect::Live;
 use a2_hex::Image;
-use a2_live::{NoObserver, Observer};
 use a2_page::View;
 use a2_stream::{Output, WriteFault};
 use std::alloc::{AllocError, Allocator, Global};
@@ -86,7 +86,7 @@ impl<A: Allocator> Drop for Machine<A> {
 
 impl<A: Allocator> Model for Machine<A> {
     ghost use Rattle.std.specs.Prelude.{◌≡◌, ◌≤◌, ◌<◌, ◌*◌, ◌^◌};
-    ghost use Rattle.a2_core.specs.View.{spare_bits_of};
+    ghost use Rattle.a2_effect.specs.View.{spare_bits_of};
     ghost use Rattle.a2_machine.specs.State.{Device, most_steps};
     ghost use Rattle.a2_machine.specs.Outcome.{most_cost};
 

@@ -2,7 +2,7 @@
 
 ghost use Rattle.std.specs.Prelude.{◌≡◌, ℕ, ◌<◌, ◌≤◌};
 ghost use Rattle.a2_bus.specs.Memory.{ram_end};
-ghost use Rattle.a2_core.specs.Live.{live_registers};
+ghost use Rattle.a2_effect.specs.Live.{live_registers};
 ghost use Rattle.a2_services.specs.World.{world_of};
 ghost use Rattle.a2_machine.specs.Meaning.{stuck};
 ghost use Rattle.a2_machine.specs.ByteRun.{bytes};
@@ -12,9 +12,9 @@ use crate::Cause;
 use crate::watch::Watch;
 use a2_bus::locations::RETURN_ADDRESS;
 use a2_bus::{AddressSpace, Bus};
-use a2_core::Live;
 use a2_cpu::run::live_step;
 use a2_cpu::{GuardedStep, live_refusal};
+use a2_effect::Live;
 use a2_hex::RAM_END;
 use a2_services::live::{call, refusal};
 use a2_services::{Served, Service, service_at};

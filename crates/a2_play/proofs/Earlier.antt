@@ -6,16 +6,16 @@ use Rattle.std.proofs.lemmas.Bool.Decides.{nat_tests}
 use Rattle.std.proofs.lemmas.List.Elements.{All-filter}
 use Rattle.a2_asm.specs.Assembled.{Assembled}
 use Rattle.a2_bus.specs.Memory.{memory_access}
-use Rattle.a2_core.specs.Instruction.{performed}
+use Rattle.a2_effect.specs.Instruction.{performed}
 use Rattle.a2_services.specs.declared.rows.Service.{Service}
 use Rattle.a2_services.specs.World.{World}
 use Rattle.a2_services.specs.Services.{service_at, served}
 use Rattle.a2_machine.specs.declared.causes.Cause.{Cause}
 use Rattle.a2_machine.specs.Meaning.{Code, Decoded, stuck, next, next_at, found_at_pc}
 use Rattle.a2_machine.specs.State.{Device}
-use Rattle.a2_typed.specs.declared.strokes.Typed.{Typed}
-use Rattle.a2_typed.specs.Typed.{typed, keys_at, world_before_keys, world_with_keys as run_with_keys}
-use Rattle.a2_typed.proofs.Worlds.{waiting, typed-nil, world-typed as with-typed}
+use Rattle.a2_timed_keys.specs.declared.strokes.Typed.{Typed}
+use Rattle.a2_timed_keys.specs.Typed.{typed, keys_at, world_before_keys, world_with_keys as run_with_keys}
+use Rattle.a2_timed_keys.proofs.Worlds.{waiting, typed-nil, world-typed as with-typed}
 use Rattle.a2_play.specs.Played.{IsPlayed, NoneAbove, Fits, code_of_play, start, world_with_keys}
 use Rattle.a2_play.specs.Backs.{typed_before}
 use Rattle.a2_play.specs.Agains.{IsAgain, world_before}

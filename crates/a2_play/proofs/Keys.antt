@@ -1,8 +1,8 @@
 -- The keys that were typed behind so many steps.
 use Rattle.std.proofs.Common.{◌≡◌, ℕ, ◌<◌, ◌≤◌, List, [], ◌∷◌, ◌++◌, refl, ◌∙◌, arith}
 use Rattle.std.proofs.lemmas.Bool.{ne_eqb, cond-false}
-use Rattle.a2_typed.specs.declared.strokes.Typed.{Typed}
-use Rattle.a2_typed.specs.Typed.{keys_at}
+use Rattle.a2_timed_keys.specs.declared.strokes.Typed.{Typed}
+use Rattle.a2_timed_keys.specs.Typed.{keys_at}
 use Rattle.a2_play.specs.Played.{NoneAbove}
 
 pub keys_at-past : (log : List Typed) (n i : ℕ) → NoneAbove n log → n < i → keys_at log i ≡ []

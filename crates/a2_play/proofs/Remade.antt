@@ -9,11 +9,11 @@ use Rattle.a2_machine.specs.declared.causes.Cause.TheVariants.{Limit}
 use Rattle.a2_machine.specs.Meaning.{stuck, world_at}
 use Rattle.a2_machine.specs.ProgramGuard.{guard_of_program}
 use Rattle.a2_machine.specs.State.{Device, MachineState, world_of_state, code_of, steps_left, IsMachineRun}
-use Rattle.a2_typed.specs.declared.strokes.Typed.{Typed}
-use Rattle.a2_typed.specs.Typed.{keys_at, typed, with_keys, world_before_keys}
-use Rattle.a2_typed.proofs.Keys.{keys_at-more, keys_at-front, keys_at-here, keys_at-not}
-use Rattle.a2_typed.proofs.Running.{keys_hold}
-use Rattle.a2_typed.proofs.Worlds.{waiting, waiting-typed, world-typed, before-more}
+use Rattle.a2_timed_keys.specs.declared.strokes.Typed.{Typed}
+use Rattle.a2_timed_keys.specs.Typed.{keys_at, typed, with_keys, world_before_keys}
+use Rattle.a2_timed_keys.proofs.Keys.{keys_at-more, keys_at-front, keys_at-here, keys_at-not}
+use Rattle.a2_timed_keys.proofs.Running.{keys_hold}
+use Rattle.a2_timed_keys.proofs.Worlds.{waiting, waiting-typed, world-typed, before-more}
 use Rattle.a2_play.specs.Played.{IsPlayed, machine_after, code_of_play, start, world_with_keys}
 use Rattle.a2_play.specs.Backs.{IsBack, typed_before}
 use Rattle.a2_play.specs.Agains.{HasRoom, IsAgain, IsSlower, IsSought, world_before}

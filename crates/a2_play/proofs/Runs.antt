@@ -11,9 +11,9 @@ use Rattle.a2_machine.specs.ProgramGuard.{guard_of_program}
 use Rattle.a2_machine.specs.declared.Stop.{Stop}
 use Rattle.a2_machine.specs.declared.Stop.TheVariants as stop
 use Rattle.a2_machine.specs.State.{Device, MachineState, world_of_state, code_of, steps_left, AreSteps, IsMachineRun, IsRunTo, EndsBy}
-use Rattle.a2_typed.specs.declared.strokes.Typed.{Typed}
-use Rattle.a2_typed.specs.Typed.{keys_at, typed}
-use Rattle.a2_typed.proofs.Worlds.{waiting, waiting-typed}
+use Rattle.a2_timed_keys.specs.declared.strokes.Typed.{Typed}
+use Rattle.a2_timed_keys.specs.Typed.{keys_at, typed}
+use Rattle.a2_timed_keys.proofs.Worlds.{waiting, waiting-typed}
 use Rattle.a2_play.specs.Played.{IsPlayed, IsStuckBy, Fits, code_of_play, start, with_key, world_with_keys}
 use Rattle.a2_play.proofs.Keys.{NoneAbove-push, NoneAbove-weaker, keys_at-past}
 use Rattle.a2_play.proofs.Worlds.{world-more, world-typed, world-earlier, world-start-at, push-before}

@@ -3,10 +3,10 @@ use Rattle.std.proofs.Common.{◌≡◌, ℕ, zero, suc, ◌+◌, ◌<◌, ◌�
 use Rattle.std.proofs.lemmas.List.{append-nil}
 use Rattle.a2_asm.specs.Assembled.{Assembled}
 use Rattle.a2_machine.specs.Meaning.{next, world_at}
-use Rattle.a2_typed.specs.declared.strokes.Typed.{Typed}
-use Rattle.a2_typed.specs.Typed.{typed, keys_at, world_before_keys}
-use Rattle.a2_typed.proofs.Keys.{keys_at-append, keys_at-not, keys_at-here}
-use Rattle.a2_typed.proofs.Worlds.{typed-typed, typed-nil, world-typed as with-typed, with-more, world-start as with-start}
+use Rattle.a2_timed_keys.specs.declared.strokes.Typed.{Typed}
+use Rattle.a2_timed_keys.specs.Typed.{typed, keys_at, world_before_keys}
+use Rattle.a2_timed_keys.proofs.Keys.{keys_at-append, keys_at-not, keys_at-here}
+use Rattle.a2_timed_keys.proofs.Worlds.{typed-typed, typed-nil, world-typed as with-typed, with-more, world-start as with-start}
 use Rattle.a2_play.specs.Played.{code_of_play, start, world_with_keys, NoneAbove}
 use Rattle.a2_play.proofs.Keys.{keys_at-past}
 

@@ -4,7 +4,7 @@ use Rattle.std.proofs.Common.{◌≡◌, ℕ, ◌+◌, ◌<◌, List, [], ◌++�
 use Rattle.std.proofs.lemmas.List.{append_assoc, append-nil, drop_more, drop_all}
 use Rattle.a2_stream.specs.Stream.{Taker, SendsOrBreaks}
 use Rattle.a2_page.proofs.Sending.{IsLeft, left_more, left_none, left_broken}
-use Rattle.a2_typed.specs.declared.strokes.Typed.{Typed}
+use Rattle.a2_timed_keys.specs.declared.strokes.Typed.{Typed}
 use Rattle.a2_play.specs.Records.{key_line, end_line, key_lines, record_text}
 
 -- the next key's line, and the rest

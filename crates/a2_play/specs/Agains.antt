@@ -5,8 +5,8 @@ use Rattle.a2_services.specs.World.{World}
 use Rattle.a2_machine.specs.Meaning.{stuck}
 use Rattle.a2_machine.specs.ProgramGuard.{guard_of_program}
 use Rattle.a2_machine.specs.State.{Device, MachineState, world_of_state, most_steps}
-use Rattle.a2_typed.specs.declared.strokes.Typed.{Typed}
-use Rattle.a2_typed.specs.Typed.{world_before_keys}
+use Rattle.a2_timed_keys.specs.declared.strokes.Typed.{Typed}
+use Rattle.a2_timed_keys.specs.Typed.{world_before_keys}
 use Rattle.a2_play.specs.Played.{code_of_play, start, world_with_keys, Fits}
 
 -- these keys have room at a machine, or there are none

@@ -1,7 +1,7 @@
 -- Going back in a play. This project's profile.
 use Rattle.std.specs.Prelude.{◌≡◌, ℕ, ◌-◌, ◌<◌, ◌≤◌, nat_lt, List, filter}
 use Rattle.a2_asm.specs.Assembled.{Assembled}
-use Rattle.a2_typed.specs.declared.strokes.Typed.{Typed}
+use Rattle.a2_timed_keys.specs.declared.strokes.Typed.{Typed}
 use Rattle.a2_play.specs.Played.{Play, world_with_keys}
 
 -- the keys that were typed before a position, which is so many steps

@@ -10,8 +10,8 @@ use Rattle.a2_machine.specs.ByteRun.{bytes}
 use Rattle.a2_machine.specs.ProgramGuard.{guard_of_program}
 use Rattle.a2_machine.specs.Start.{start_world}
 use Rattle.a2_machine.specs.State.{Device, MachineState, world_of_state, code_of, most_steps}
-use Rattle.a2_typed.specs.declared.strokes.Typed.{Typed}
-use Rattle.a2_typed.specs.Typed.{keys_at, with_keys, world_with_keys as run_with_keys}
+use Rattle.a2_timed_keys.specs.declared.strokes.Typed.{Typed}
+use Rattle.a2_timed_keys.specs.Typed.{keys_at, with_keys, world_with_keys as run_with_keys}
 
 -- a machine, and the keys that were typed at it
 pub record Play : Type 0 where

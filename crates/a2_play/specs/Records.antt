@@ -2,7 +2,7 @@
 use Rattle.std.specs.Prelude.{ℕ, List, [], ◌∷◌, ◌++◌, codes}
 use Rattle.std.specs.Fmt.{decimal}
 use Rattle.a2_text.specs.Digits.{hex_pair}
-use Rattle.a2_typed.specs.declared.strokes.Typed.{Typed}
+use Rattle.a2_timed_keys.specs.declared.strokes.Typed.{Typed}
 
 -- a key: the steps that were made when it was typed, and its code, 00 to 7F
 abbrev pub key_line : Typed → List ℕ

@@ -4,7 +4,7 @@ ghost use Rattle.std.specs.Prelude.{◌≡◌, ◌↔◌, true, ℕ, ◌<◌, �
 ghost use Rattle.a2_asm.specs.Assembled.{Assembled};
 ghost use Rattle.a2_machine.specs.ProgramGuard.{guard_of_program};
 ghost use Rattle.a2_machine.specs.State.{world_of_state};
-ghost use Rattle.a2_typed.specs.Typed.{keys_at, with_keys};
+ghost use Rattle.a2_timed_keys.specs.Typed.{keys_at, with_keys};
 ghost use Rattle.a2_play.specs.Played.{machine_after, start, world_with_keys};
 ghost use Rattle.a2_play.specs.Agains.{IsAgain, HasRoom, IsSlower, IsSought};
 
@@ -12,7 +12,7 @@ use crate::player::MOST_STEPS;
 use a2_asm::Program;
 use a2_bus::Keys;
 use a2_machine::Machine;
-use a2_typed::Typed;
+use a2_timed_keys::Typed;
 use std::alloc::Allocator;
 
 /// Types a key where there is room: whether there was.

@@ -196,7 +196,7 @@ pub fn put_panel<W: Output>(
     room: Room,
     writer: &mut W,
 ) -> Result<(), WriteFault> {
-    put_row(1, b"a2x play", writer)?;
+    put_row(1, b"a2lab play", writer)?;
     put_row(STATE_ROW, state_text(face.state), writer)?;
     put_pace(face, writer)?;
     for (row, order) in (ORDER_ROW..SAVE_ROW).zip(ORDERS) {

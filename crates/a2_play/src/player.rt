@@ -9,7 +9,7 @@ use crate::again::{begin, bring, seek, type_at};
 use a2_asm::Program;
 use a2_cpu::Breakpoints;
 use a2_machine::{Cause, Machine, Stop};
-use a2_typed::Typed;
+use a2_timed_keys::Typed;
 use std::alloc::{AllocError, Allocator, Global};
 use std::marker::Model;
 

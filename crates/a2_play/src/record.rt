@@ -6,7 +6,7 @@ ghost use Rattle.a2_play.specs.Records.{key_line, end_line, record_text};
 
 use a2_stream::{Output, WriteFault, put, put_all};
 use a2_text::{cut, decimal, first_word, hex_pair, number_in};
-use a2_typed::Typed;
+use a2_timed_keys::Typed;
 use std::alloc::{AllocError, Allocator, Global};
 
 /// What was typed in a session, and how many steps it made.

@@ -2,7 +2,7 @@
 
 use a2_stream::{Output, WriteFault, put, put_all};
 use a2_text::decimal;
-use a2_typed::Typed;
+use a2_timed_keys::Typed;
 
 // How the option spells a key, if it can.
 fn put_key<W: Output>(key: u8, writer: &mut W) -> Result<bool, WriteFault> {

@@ -26,7 +26,7 @@ name_line name = map shown_byte name ++ codes "\n"
 -- what stands first: of which kind the costs are, all of them, and the files: 2 stands for what lies in none, 1 for the source
 unfoldable pub heading : ℕ → ℕ → List ℕ
 heading steps cycles = concat (
-    codes "# callgrind format\nversion: 1\ncreator: a2x\ncmd: a2x profile\npositions: line\nevents: Steps Cycles\nsummary: "
+    codes "# callgrind format\nversion: 1\ncreator: a2lab\ncmd: a2lab profile\npositions: line\nevents: Steps Cycles\nsummary: "
     ∷ decimal steps ∷ codes " " ∷ decimal cycles ∷ codes "\nfl=(2) ???\nfl=(1) " ∷ [])
 
 -- the cost of a line

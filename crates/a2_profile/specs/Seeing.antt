@@ -1,7 +1,7 @@
 -- What an observer counts of the steps that it sees. No public clause cites this file.
 use Rattle.std.specs.Prelude.{ℕ, ◌+◌, ◌%◌, ◌^◌, ◌==◌, ◌&&◌, not, nat_lt, Bool, List, [], slice_set, if◌then◌else◌}
-use Rattle.a2_live.specs.declared.observer.Look.{Look}
-use Rattle.a2_live.specs.Shown.{Shown}
+use Rattle.a2_burst.specs.declared.observer.Look.{Look}
+use Rattle.a2_burst.specs.Shown.{Shown}
 use Rattle.a2_profile.specs.declared.profile.Count.{Count}
 use Rattle.a2_profile.specs.Counts.{count_at}
 

@@ -44,7 +44,7 @@ fn put_heading<W: Output>(steps: u64, cycles: u64, writer: &mut W) -> Result<(),
     let cycles = decimal(cycles);
     put_all(
         &[
-            b"# callgrind format\nversion: 1\ncreator: a2x\ncmd: a2x profile\npositions: line\nevents: Steps Cycles\nsummary: ",
+            b"# callgrind format\nversion: 1\ncreator: a2lab\ncmd: a2lab profile\npositions: line\nevents: Steps Cycles\nsummary: ",
             steps.as_slice(),
             b" ",
             cycles.as_slice(),

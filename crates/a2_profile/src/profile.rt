@@ -4,7 +4,7 @@ ghost use Rattle.std.specs.Prelude.{◌≡◌, ◌+◌, ◌^◌, ◌<◌, ◌≤
 ghost use Rattle.a2_profile.specs.Counts.{NoneTakenMore, AreSummed, count_at, steps_in, cycles_in, none, joined};
 ghost use Rattle.a2_profile.specs.Seeing.{shown_to};
 
-use a2_live::{Look, Observer};
+use a2_burst::{Look, Observer};
 use std::alloc::{AllocError, Allocator, Global};
 use std::marker::Model;
 

@@ -7,7 +7,7 @@ ghost use Rattle.a2_profile.specs.Totals.{itself, nothing, totals_at, own_steps_
 ghost use Rattle.a2_profile.specs.Walks as walks;
 ghost use Rattle.a2_profile.specs.Walks.{SeesAlike, IsLow};
 
-use a2_live::{Look, Observer};
+use a2_burst::{Look, Observer};
 use arrayvec::ArrayVec;
 use std::alloc::{AllocError, Allocator, Global};
 use std::marker::Model;

@@ -2,8 +2,8 @@
 -- true or false is 1 or 0. This project's profile.
 use Rattle.std.specs.Prelude.{ℕ, zero, suc, ◌+◌, ◌*◌, ◌/◌, ◌%◌, ◌^◌, ℤ, pos, negsuc, ◌+ℤ◌, ◌-ℤ◌, ◌*ℤ◌, neg_ℤ, int_lt, int_le, nat_lt, bit_and, bit_or, bit_xor, Bool, ◌==◌, ◌&&◌, List, [], ◌∷◌, Option, Some, None, if◌then◌else◌, slice_get, slice_set}
 use Rattle.std.specs.Int.{int_div_euclid, int_rem_euclid}
-use Rattle.a2_core.specs.Registers.{Registers}
-use Rattle.a2_core.specs.View.{registers_of}
+use Rattle.a2_effect.specs.Registers.{Registers}
+use Rattle.a2_effect.specs.View.{registers_of}
 use Rattle.a2_promise.specs.declared.expr.Atom.{Atom}
 use Rattle.a2_promise.specs.declared.expr.Atom.TheVariants as atom
 use Rattle.a2_promise.specs.declared.expr.Function.{Function}

@@ -7,9 +7,9 @@ use Rattle.a2_bus.specs.BusState.{BusState, board_access}
 use Rattle.a2_bus.specs.Memory.{memory_access, ram_end}
 use Rattle.a2_bus.specs.View.{memory_of}
 use Rattle.a2_bus.proofs.Holding.{each_board_acts_as_its_memory}
-use Rattle.a2_core.specs.Effect.{effect_of}
-use Rattle.a2_core.specs.Place.{address, place_of, zero_page_word}
-use Rattle.a2_core.specs.Registers.{Registers}
+use Rattle.a2_effect.specs.Effect.{effect_of}
+use Rattle.a2_effect.specs.Place.{address, place_of, zero_page_word}
+use Rattle.a2_effect.specs.Registers.{Registers}
 use Rattle.a2_uses.specs.Reads.{effect_reads, pointer_reads, reads_of}
 use Rattle.a2_reads.specs.Boards.{BoardsReadAsTheirMemory}
 

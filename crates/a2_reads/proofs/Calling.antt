@@ -6,10 +6,10 @@ use Rattle.a2_text.specs.Bytes.{is_among}
 use Rattle.a2_opcode.specs.declared.Mnemonic.TheVariants.{Rts}
 use Rattle.a2_bus.specs.Memory.{memory_access, ram_byte}
 use Rattle.a2_cpu.specs.BusStep.{refusal_of}
-use Rattle.a2_core.specs.Effect.{effect_of}
-use Rattle.a2_core.specs.Place.{place_of}
-use Rattle.a2_core.specs.Instruction.{after_effect, next_address, performed, returned, with_pc}
-use Rattle.a2_core.specs.Registers.{Registers}
+use Rattle.a2_effect.specs.Effect.{effect_of}
+use Rattle.a2_effect.specs.Place.{place_of}
+use Rattle.a2_effect.specs.Instruction.{after_effect, next_address, performed, returned, with_pc}
+use Rattle.a2_effect.specs.Registers.{Registers}
 use Rattle.a2_cpu.specs.Stores.{IsNotIn, logged, with_empty_log, stores_of}
 use Rattle.a2_services.specs.World.{World}
 use Rattle.a2_services.specs.Services.{service_at}

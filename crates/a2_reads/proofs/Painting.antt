@@ -9,7 +9,7 @@ use Rattle.a2_page.proofs.Finding.{and-left, and-right}
 use Rattle.a2_bus.specs.Locations as at
 use Rattle.a2_bus.specs.Memory.{Memory, ram_byte, with_ram, ram_end}
 use Rattle.a2_bus.proofs.Viewing.{cell_seen, cell_written}
-use Rattle.a2_core.specs.Registers.{Registers}
+use Rattle.a2_effect.specs.Registers.{Registers}
 use Rattle.a2_services.specs.declared.rows.Service.TheVariants.{Setcol, Plot, Hline, Vline, Scrn}
 use Rattle.a2_services.specs.Blocks.{half_of, colour_of, painted, painted_across, painted_down, span_of}
 use Rattle.a2_services.specs.Services.{fits, block_fits, effect, with_a}

@@ -8,10 +8,10 @@ use Rattle.a2_opcode.specs.declared.Mode.TheVariants.{Accumulator}
 use Rattle.a2_opcode.specs.declared.Mnemonic.{Mnemonic}
 use Rattle.a2_opcode.specs.declared.Mnemonic.TheVariants.{Adc, And, Dex, Dey, Eor, Inx, Iny, Lda, Ldx, Ldy, Ora, Pla, Sbc, Tax, Tay, Tsx, Txa, Tya}
 use Rattle.a2_bus.specs.Memory.{memory_access}
-use Rattle.a2_core.specs.Registers.{Registers, StatusFlags}
-use Rattle.a2_core.specs.Place.{Place, accumulator, address, pointer, place_of}
-use Rattle.a2_core.specs.Effect.{Effect, Replacement, sets, takes, replaces, stores, pushes, pulls, branches, jumps, calls, returns, returns_from_interrupt, breaks, effect_of}
-use Rattle.a2_core.specs.Instruction.{after_effect, called, called_place, gone_to, jumped, jumped_through, next_address, operand_byte, performed, pulled, replaced_registers, returned, returned_from_interrupt, with_pc}
+use Rattle.a2_effect.specs.Registers.{Registers, StatusFlags}
+use Rattle.a2_effect.specs.Place.{Place, accumulator, address, pointer, place_of}
+use Rattle.a2_effect.specs.Effect.{Effect, Replacement, sets, takes, replaces, stores, pushes, pulls, branches, jumps, calls, returns, returns_from_interrupt, breaks, effect_of}
+use Rattle.a2_effect.specs.Instruction.{after_effect, called, called_place, gone_to, jumped, jumped_through, next_address, operand_byte, performed, pulled, replaced_registers, returned, returned_from_interrupt, with_pc}
 use Rattle.a2_services.specs.World.{World}
 use Rattle.a2_services.specs.declared.rows.Service.{Service}
 use Rattle.a2_services.specs.Services.{fits, service_at}

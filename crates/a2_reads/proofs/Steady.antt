@@ -3,9 +3,9 @@ use Rattle.std.specs.Prelude.{◌≡◌, ℕ, ◌+◌, ◌-◌, ◌%◌, ◌&&�
 use Rattle.std.proofs.Common.{ap, ap₂}
 use Rattle.a2_opcode.specs.declared.Mnemonic.{Mnemonic}
 use Rattle.a2_opcode.specs.declared.Mnemonic.TheVariants.{Adc, And, Asl, Bcc, Bcs, Beq, Bit, Bmi, Bne, Bpl, Brk, Bvc, Bvs, Clc, Cld, Cli, Clv, Cmp, Cpx, Cpy, Dec, Dex, Dey, Eor, Inc, Inx, Iny, Jmp, Jsr, Lda, Ldx, Ldy, Lsr, Nop, Ora, Pha, Php, Pla, Plp, Rol, Ror, Rti, Rts, Sbc, Sec, Sed, Sei, Sta, Stx, Sty, Tax, Tay, Tsx, Txa, Txs, Tya}
-use Rattle.a2_core.specs.Registers.{Registers, StatusFlags, one_if, byte_of_flags, flags_of_byte}
-use Rattle.a2_core.specs.Arithmetic.{Shifted, added, with_nz, compared, doubled, halved, by_digits, differ}
-use Rattle.a2_core.specs.Effect.{Effect, sets, takes, replaces, stores, pushes, pulls, branches, jumps, calls, returns, returns_from_interrupt, breaks, effect_of, to_a, to_x, to_y, with_flags, decreased, increased, shifted, with_result}
+use Rattle.a2_effect.specs.Registers.{Registers, StatusFlags, one_if, byte_of_flags, flags_of_byte}
+use Rattle.a2_effect.specs.Arithmetic.{Shifted, added, with_nz, compared, doubled, halved, by_digits, differ}
+use Rattle.a2_effect.specs.Effect.{Effect, sets, takes, replaces, stores, pushes, pulls, branches, jumps, calls, returns, returns_from_interrupt, breaks, effect_of, to_a, to_x, to_y, with_flags, decreased, increased, shifted, with_result}
 use Rattle.a2_reads.specs.Reads.{Knows}
 use Rattle.a2_uses.specs.declared.Part.{Part}
 use Rattle.a2_uses.specs.declared.Part.TheVariants.{A as part_a, X as part_x, Y as part_y, N as part_n, V as part_v, D as part_d, I as part_i, Z as part_z, C as part_c}

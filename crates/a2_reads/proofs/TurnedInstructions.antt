@@ -9,10 +9,10 @@ use Rattle.a2_opcode.specs.declared.Mode.{Mode}
 use Rattle.a2_opcode.specs.declared.Mode.TheVariants.{IndexedIndirect, IndirectIndexed}
 use Rattle.a2_bus.specs.Devices.{device_byte, after_access}
 use Rattle.a2_bus.specs.Memory.{Memory, memory_access, ram_end}
-use Rattle.a2_core.specs.Registers.{Registers, StatusFlags, flags_of_byte, one_if}
-use Rattle.a2_core.specs.Place.{Place, accumulator, address, pointer, place_of, base_address, zero_page_word, crosses_page}
-use Rattle.a2_core.specs.Effect.{Effect, Replacement, sets, takes, replaces, stores, pushes, pulls, branches, jumps, calls, returns, returns_from_interrupt, breaks, effect_of}
-use Rattle.a2_core.specs.Instruction.{with_pc, with_s, with_registers, after_read, after_write, stack_address, pushed, raised_s, pulled, after_pull, pulled_word, returned, returned_from_interrupt, called, jumped_through, operand_byte, memory_read, memory_put, replaced_registers, taken, replaced, stored, jumped, gone_pc, gone_to, called_place, after_effect, branch_cycles, next_address, performed}
+use Rattle.a2_effect.specs.Registers.{Registers, StatusFlags, flags_of_byte, one_if}
+use Rattle.a2_effect.specs.Place.{Place, accumulator, address, pointer, place_of, base_address, zero_page_word, crosses_page}
+use Rattle.a2_effect.specs.Effect.{Effect, Replacement, sets, takes, replaces, stores, pushes, pulls, branches, jumps, calls, returns, returns_from_interrupt, breaks, effect_of}
+use Rattle.a2_effect.specs.Instruction.{with_pc, with_s, with_registers, after_read, after_write, stack_address, pushed, raised_s, pulled, after_pull, pulled_word, returned, returned_from_interrupt, called, jumped_through, operand_byte, memory_read, memory_put, replaced_registers, taken, replaced, stored, jumped, gone_pc, gone_to, called_place, after_effect, branch_cycles, next_address, performed}
 use Rattle.a2_services.specs.World.{World}
 use Rattle.a2_machine.specs.Meaning.{Decoded}
 use Rattle.a2_uses.specs.Reads.{jump_reads, place_reads, pointer_reads, pull_address}

@@ -11,9 +11,9 @@ use Rattle.a2_opcode.specs.declared.Mode.TheVariants.{Implied, Accumulator, Abso
 use Rattle.a2_opcode.specs.declared.Row.{Row}
 use Rattle.a2_bus.specs.Memory.{Memory, memory_access, peek, ram_end}
 use Rattle.a2_cpu.specs.BusStep.{refusal_of}
-use Rattle.a2_core.specs.Effect.{effect_of}
-use Rattle.a2_core.specs.Place.{place_of}
-use Rattle.a2_core.specs.Registers.{Registers}
+use Rattle.a2_effect.specs.Effect.{effect_of}
+use Rattle.a2_effect.specs.Place.{place_of}
+use Rattle.a2_effect.specs.Registers.{Registers}
 use Rattle.a2_cpu.specs.Stores.{stores_of}
 use Rattle.a2_services.specs.declared.rows.Service.{Service}
 use Rattle.a2_services.specs.Services.{service_at, fits, reach, served}

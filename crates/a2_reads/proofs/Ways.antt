@@ -2,8 +2,8 @@
 use Rattle.std.specs.Prelude.{◌≡◌, ◌<◌, ℕ, ◌+◌, ◌*◌, ◌%◌, Bool, IsTrue, [], ◌∷◌}
 use Rattle.std.proofs.Common.{sym, ap, ap₂, ◌∙◌, subst, arith}
 use Rattle.a2_bus.specs.Memory.{memory_access, ram_byte, ram_end}
-use Rattle.a2_core.specs.Instruction.{returned}
-use Rattle.a2_core.specs.Registers.{Registers}
+use Rattle.a2_effect.specs.Instruction.{returned}
+use Rattle.a2_effect.specs.Registers.{Registers}
 use Rattle.a2_services.specs.World.{World}
 use Rattle.a2_services.proofs.Returning.{returned_is}
 use Rattle.a2_uses.specs.Reads.{pull_address}

@@ -2,8 +2,8 @@
 use Rattle.std.specs.Prelude.{◌≡◌, ℕ, zero, suc, Bool, true, IsTrue, List, [], ◌∷◌, refl}
 use Rattle.std.specs.List.{list_any}
 use Rattle.std.proofs.Common.{ap}
-use Rattle.a2_core.specs.Instruction.{Alike}
-use Rattle.a2_core.specs.Registers.{Registers}
+use Rattle.a2_effect.specs.Instruction.{Alike}
+use Rattle.a2_effect.specs.Registers.{Registers}
 use Rattle.a2_services.specs.World.{World}
 use Rattle.a2_machine.specs.Meaning.{Code, world_at}
 use Rattle.a2_reads.specs.Reads.{AgreeOn, Knows}

@@ -4,7 +4,7 @@ use Rattle.a2_opcode.specs.declared.Row.{Row}
 use Rattle.a2_bus.specs.BusState.{BusState, board_access}
 use Rattle.a2_bus.specs.Memory.{Memory, memory_access, ram_end}
 use Rattle.a2_bus.specs.View.{memory_of}
-use Rattle.a2_core.specs.Instruction.{State}
+use Rattle.a2_effect.specs.Instruction.{State}
 use Rattle.a2_uses.specs.Reads.{reads_of}
 
 -- the same processor over the memory that a board holds

@@ -2,7 +2,7 @@
 use Rattle.std.specs.Prelude.{◌≡◌, ◌<◌, ◌≤◌, ℕ, suc, ◌+◌, ◌*◌, ◌%◌, Bool, IsTrue, None, Ok}
 use Rattle.a2_opcode.specs.declared.Mnemonic.TheVariants.{Rts}
 use Rattle.a2_bus.specs.Memory.{Memory, ram_byte}
-use Rattle.a2_core.specs.Registers.{Registers}
+use Rattle.a2_effect.specs.Registers.{Registers}
 use Rattle.a2_cpu.specs.Stores.{IsNotIn}
 use Rattle.a2_services.specs.World.{World}
 use Rattle.a2_services.specs.Services.{service_at}

@@ -5,7 +5,7 @@ use Rattle.a2_opcode.specs.declared.Mnemonic.TheVariants.{Asl, Rts, Sta}
 use Rattle.a2_opcode.specs.declared.Mode.TheVariants.{Accumulator, Implied, ZeroPage}
 use Rattle.a2_page.specs.Grid.{IsGrid}
 use Rattle.a2_bus.specs.Memory.{Memory, ram_byte}
-use Rattle.a2_core.specs.Registers.{registers_at}
+use Rattle.a2_effect.specs.Registers.{registers_at}
 use Rattle.a2_machine.specs.Meaning.{statements}
 use Rattle.a2_uses.specs.declared.Part.TheVariants.{A as part_a}
 use Rattle.a2_reads.specs.Parts.{is_part}

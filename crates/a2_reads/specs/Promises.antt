@@ -4,7 +4,7 @@ use Rattle.std.specs.Prelude.{◌≡◌, ◌≤◌, ◌<◌, ℕ, Bool, ◌||◌
 use Rattle.a2_text.specs.Bytes.{is_among}
 use Rattle.a2_page.specs.Grid.{IsGrid}
 use Rattle.a2_bus.specs.Memory.{Memory, ram_byte, with_ram, ram_end}
-use Rattle.a2_core.specs.Registers.{Registers, registers_at}
+use Rattle.a2_effect.specs.Registers.{Registers, registers_at}
 use Rattle.a2_cpu.specs.Stores.{IsNotIn}
 use Rattle.a2_services.specs.World.{World}
 use Rattle.a2_machine.specs.declared.causes.Cause.TheVariants.{Returned}

@@ -2,7 +2,7 @@
 use Rattle.std.specs.Prelude.{◌≡◌, ◌<◌, ◌≤◌, ℕ, zero, suc, Bool, true, List, [], ◌++◌, Some, None, Result, Ok, Err, MatchOption}
 use Rattle.a2_opcode.specs.declared.Row.{Row}
 use Rattle.a2_bus.specs.Memory.{Memory, memory_access, ram_byte}
-use Rattle.a2_core.specs.Instruction.{Alike, performed}
+use Rattle.a2_effect.specs.Instruction.{Alike, performed}
 use Rattle.a2_cpu.specs.Stores.{stores_of, IsNotIn}
 use Rattle.a2_services.specs.World.{World}
 use Rattle.a2_services.specs.Services.{service_at}

@@ -7,7 +7,7 @@ use Rattle.a2_page.specs.Cells.{address_of, numbers_from}
 use Rattle.a2_page.specs.Grid.{Window, blank}
 use Rattle.a2_bus.specs.Locations as at
 use Rattle.a2_bus.specs.Memory.{Memory, ram_byte}
-use Rattle.a2_core.specs.Registers.{Registers}
+use Rattle.a2_effect.specs.Registers.{Registers}
 use Rattle.a2_services.specs.Blocks.{span_of}
 use Rattle.a2_services.specs.Bytes.{carriage_return, line_feed, backspace}
 use Rattle.a2_services.specs.declared.rows.Service.{Service}

@@ -6,8 +6,8 @@ use Rattle.a2_text.specs.Bytes.{is_between}
 use Rattle.a2_opcode.specs.declared.Mnemonic.{Mnemonic}
 use Rattle.a2_opcode.specs.declared.Mnemonic.TheVariants.{Tsx, Txs}
 use Rattle.a2_bus.specs.Memory.{Memory, memory_access}
-use Rattle.a2_core.specs.Effect.{Effect, takes, replaces, stores, jumps, effect_of}
-use Rattle.a2_core.specs.Place.{Place, place_of}
+use Rattle.a2_effect.specs.Effect.{Effect, takes, replaces, stores, jumps, effect_of}
+use Rattle.a2_effect.specs.Place.{Place, place_of}
 use Rattle.a2_services.specs.Services.{service_at}
 use Rattle.a2_services.specs.World.{World}
 use Rattle.a2_machine.specs.declared.causes.Cause.{Cause}

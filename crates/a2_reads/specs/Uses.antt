@@ -1,6 +1,6 @@
 -- A run depends on nothing but the bytes that it reads and the registers and flags that it looks at. This project's own.
 use Rattle.std.specs.Prelude.{◌≡◌, ◌<◌, ℕ, zero, suc, Bool, List, [], ◌++◌, Some, None, Result, Ok, Err}
-use Rattle.a2_core.specs.Instruction.{State}
+use Rattle.a2_effect.specs.Instruction.{State}
 use Rattle.a2_services.specs.Services.{service_at}
 use Rattle.a2_services.specs.World.{World}
 use Rattle.a2_machine.specs.declared.causes.Cause.{Cause}

@@ -10,12 +10,12 @@ use Rattle.a2_syntax.specs.declared.fault.Fault.TheVariants as refusal
 use Rattle.a2_text.specs.Lines.{lines}
 use Rattle.a2_syntax.specs.Limits.{size_refusal}
 use Rattle.a2_asm.specs.Assembled.{Assembled}
-use Rattle.a2_debug.specs.declared.fault.DebugFault.{DebugFault}
-use Rattle.a2_debug.specs.declared.fault.DebugFault.TheVariants as debug
-use Rattle.a2_debug.specs.Stored.{Stored, NoneAbove, begun}
-use Rattle.a2_debug.specs.Answers.{DebugLineAnswers}
-use Rattle.a2_debug.specs.Texts.{debug_fault_text}
-use Rattle.a2_debug.proofs.Total.{Met, met, answered_past, never_by_write}
+use Rattle.a2_debug_script.specs.declared.fault.DebugFault.{DebugFault}
+use Rattle.a2_debug_script.specs.declared.fault.DebugFault.TheVariants as debug
+use Rattle.a2_debug_script.specs.Stored.{Stored, NoneAbove, begun}
+use Rattle.a2_debug_script.specs.Answers.{DebugLineAnswers}
+use Rattle.a2_debug_script.specs.Texts.{debug_fault_text}
+use Rattle.a2_debug_script.proofs.Total.{Met, met, answered_past, never_by_write}
 use Rattle.a2_run.specs.declared.fault.RunFault.{RunFault}
 use Rattle.a2_run.specs.declared.fault.RunFault.TheVariants.{Source, Script, Write}
 use Rattle.a2_run.specs.Answers.{read_of, Answers}

@@ -13,7 +13,7 @@ use Rattle.a2_page.specs.Picture as page
 use Rattle.a2_page.proofs.Parts.{mapped-length}
 use Rattle.a2_bus.specs.BusState.{BusState}
 use Rattle.a2_bus.specs.View.{memory_of}
-use Rattle.a2_core.specs.Registers.{Registers}
+use Rattle.a2_effect.specs.Registers.{Registers}
 use Rattle.a2_machine.specs.declared.causes.Cause.{Cause}
 use Rattle.a2_machine.specs.declared.causes.Cause.TheVariants.{Returned}
 use Rattle.a2_machine.specs.Output.{line_of_digits, register_line, cause_line}

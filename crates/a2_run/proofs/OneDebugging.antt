@@ -8,11 +8,11 @@ use Rattle.a2_syntax.specs.declared.fault.Fault.{Fault}
 use Rattle.a2_syntax.specs.Limits.{size_refusal}
 use Rattle.a2_asm.specs.Assembled.{Assembled}
 use Rattle.a2_asm.specs.Programs.{AreAlike}
-use Rattle.a2_debug.specs.Stored.{Stored, begun}
-use Rattle.a2_debug.specs.Texts.{debug_fault_text}
-use Rattle.a2_debug.specs.Laws.{LookAlike}
-use Rattle.a2_debug.proofs.Alike.{alike-back, both-alike}
-use Rattle.a2_debug.proofs.OneAnswer.{one-answer, one-refusal, never-both}
+use Rattle.a2_debug_script.specs.Stored.{Stored, begun}
+use Rattle.a2_debug_script.specs.Texts.{debug_fault_text}
+use Rattle.a2_debug_script.specs.Laws.{LookAlike}
+use Rattle.a2_debug_script.proofs.Alike.{alike-back, both-alike}
+use Rattle.a2_debug_script.proofs.OneAnswer.{one-answer, one-refusal, never-both}
 use Rattle.a2_run.specs.declared.fault.RunFault.TheVariants.{Source, Script}
 use Rattle.a2_run.specs.Meaning.{IsProgramOf}
 use Rattle.a2_run.specs.DebugScripts.{Meets}

@@ -4,10 +4,10 @@ use Rattle.a2_text.specs.Lines.{lines}
 use Rattle.a2_stream.specs.Stream.{Giver, count_after}
 use Rattle.a2_syntax.specs.Limits.{size_refusal}
 use Rattle.a2_asm.specs.Assembled.{Assembled}
-use Rattle.a2_debug.specs.declared.fault.DebugFault.{DebugFault}
-use Rattle.a2_debug.specs.Stored.{Stored, begun}
-use Rattle.a2_debug.specs.Answers.{IsDebugAnswer, IsLineRefused}
-use Rattle.a2_debug.specs.Texts.{debug_fault_text}
+use Rattle.a2_debug_script.specs.declared.fault.DebugFault.{DebugFault}
+use Rattle.a2_debug_script.specs.Stored.{Stored, begun}
+use Rattle.a2_debug_script.specs.Answers.{IsDebugAnswer, IsLineRefused}
+use Rattle.a2_debug_script.specs.Texts.{debug_fault_text}
 use Rattle.a2_run.specs.declared.fault.RunFault.{RunFault}
 use Rattle.a2_run.specs.declared.fault.RunFault.TheVariants.{Source, Script}
 use Rattle.a2_run.specs.Meaning.{IsProgramOf, IsRefused}

@@ -1,7 +1,7 @@
 //! A source and a script of debugger lines in, the script's answers out.
 
 ghost use Rattle.std.specs.Prelude.{◌≡◌, false, IfOk};
-ghost use Rattle.a2_debug.specs.Stored.{begun};
+ghost use Rattle.a2_debug_script.specs.Stored.{begun};
 ghost use Rattle.a2_run.specs.Answers.{Answers, is_read_fault};
 ghost use Rattle.a2_run.specs.DebugScripts.{IsDebugRefusal, IsDebugText};
 
@@ -10,14 +10,14 @@ use crate::answering::{Answering, answer_all};
 use crate::scripts::refusal;
 use crate::sources::program_of;
 use a2_asm::Program;
-use a2_debug::{DebugFault, Debugger};
+use a2_debug_script::{DebugFault, Debugger};
 use a2_machine::Machine;
 use a2_stream::{Output, WriteFault, put_all};
 use a2_syntax::lines;
 use std::alloc::{AllocError, Allocator};
 
 impl<A: Allocator> Answering for Debugger<A> {
-    ghost use Rattle.a2_debug.specs.Stored.{Stored, NoneAbove};
+    ghost use Rattle.a2_debug_script.specs.Stored.{Stored, NoneAbove};
     ghost use Rattle.a2_run.specs.DebugScripts.{Meets};
 
     ghost State = { Stored };

@@ -3,7 +3,7 @@ use Rattle.std.specs.Prelude.{◌≡◌, ℕ, ◌+◌, ◌≤◌, ◌==◌, Bool
 use Rattle.std.proofs.Common.{ap, ◌∙◌, arith}
 use Rattle.a2_bus.specs.Devices.{Devices, key_taken}
 use Rattle.a2_bus.specs.Memory.{Memory, with_ram, memory_access}
-use Rattle.a2_core.specs.Instruction.{returned}
+use Rattle.a2_effect.specs.Instruction.{returned}
 use Rattle.a2_services.specs.World.{World}
 use Rattle.a2_services.specs.Put.{after_put, with_base_address}
 use Rattle.a2_services.specs.Services.{Reading, byte_of_key, after_byte, line_read, with_key_taken, cleared_to_end, back, output, with_memory}

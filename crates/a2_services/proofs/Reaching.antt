@@ -5,7 +5,7 @@ use Rattle.std.proofs.lemmas.Bool.Decides.{nat_tests}
 use Rattle.a2_page.specs.Grid.{Grid}
 use Rattle.a2_bus.specs.Memory.{Memory, ram_byte, with_ram, memory_access}
 use Rattle.a2_bus.proofs.Frame.{ram_byte-with_ram, ram_byte-page1, changed_by_writes}
-use Rattle.a2_core.specs.Instruction.{returned, after_pull}
+use Rattle.a2_effect.specs.Instruction.{returned, after_pull}
 use Rattle.a2_services.specs.World.{World}
 use Rattle.a2_services.specs.Put.{with_cursor_column, with_cursor_row, prompt_character, inverse_mask, masked_by, with_page1, after_line_feed, after_return, after_backspace, after_character, after_put, after_put_unmasked, with_base_address}
 use Rattle.a2_services.specs.Services.{output_reach, cleared_to_end, Reading, byte_of_key, after_byte, after_cancel, after_prompt, line_read, with_key_taken, back, output}

@@ -5,7 +5,7 @@ use Rattle.std.proofs.lemmas.Bool.Decides.{nat_tests}
 use Rattle.a2_page.specs.Window.{IsWindow}
 use Rattle.a2_page.proofs.Finding.{and-left, and-right}
 use Rattle.a2_bus.specs.Memory.{Memory, ram_byte, ram_end, memory_access}
-use Rattle.a2_core.specs.Instruction.{with_pc, with_s, returned}
+use Rattle.a2_effect.specs.Instruction.{with_pc, with_s, returned}
 use Rattle.a2_services.specs.World.{World}
 use Rattle.a2_services.specs.Put.{window_of}
 use Rattle.a2_services.specs.Services.{window_fits, cursor_fits}

@@ -3,8 +3,8 @@ use Rattle.std.specs.Prelude.{◌≡◌, ℕ, ◌+◌, true, false}
 use Rattle.std.proofs.Common.{sym, ap, ◌∙◌}
 use Rattle.a2_bus.specs.BusState.{BusState}
 use Rattle.a2_bus.specs.View.{memory_of}
-use Rattle.a2_core.specs.Live.{live_registers}
-use Rattle.a2_core.specs.declared.live.Live.{Live}
+use Rattle.a2_effect.specs.Live.{live_registers}
+use Rattle.a2_effect.specs.declared.live.Live.{Live}
 use Rattle.a2_services.specs.declared.rows.Service.{Service}
 use Rattle.a2_services.specs.Rows.{service_row}
 use Rattle.a2_services.specs.World.{World, world_of}

@@ -3,9 +3,9 @@ use Rattle.std.specs.Prelude.{◌≡◌, ℕ, ◌+◌, ◌<◌, Bool, true, fals
 use Rattle.a2_bus.specs.BusState.{BusState}
 use Rattle.a2_bus.specs.Memory.{Memory, ram_end}
 use Rattle.a2_bus.specs.View.{memory_of}
-use Rattle.a2_core.specs.declared.live.Live.{Live}
-use Rattle.a2_core.specs.Live.{live_registers}
-use Rattle.a2_core.specs.Registers.{Registers}
+use Rattle.a2_effect.specs.declared.live.Live.{Live}
+use Rattle.a2_effect.specs.Live.{live_registers}
+use Rattle.a2_effect.specs.Registers.{Registers}
 use Rattle.a2_services.specs.declared.rows.Service.{Service}
 use Rattle.a2_services.specs.declared.Served.{Served}
 use Rattle.a2_services.specs.declared.Served.TheVariants as answer

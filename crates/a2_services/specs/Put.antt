@@ -7,7 +7,7 @@ use Rattle.a2_page.specs.Cells.{row_start}
 use Rattle.a2_page.specs.Grid.{Grid, Window, blank, scrolled, with_byte}
 use Rattle.a2_bus.specs.Locations as at
 use Rattle.a2_bus.specs.Memory.{Memory, ram_byte, with_ram}
-use Rattle.a2_core.specs.Arithmetic.{by_digits}
+use Rattle.a2_effect.specs.Arithmetic.{by_digits}
 use Rattle.a2_services.specs.Bytes.{carriage_return, line_feed, backspace}
 
 -- the window that its four locations say

@@ -9,8 +9,8 @@ use Rattle.a2_page.specs.Text.{blocks_of}
 use Rattle.a2_bus.specs.Devices.{key_taken}
 use Rattle.a2_bus.specs.Locations as at
 use Rattle.a2_bus.specs.Memory.{Memory, ram_byte, with_ram, memory_access}
-use Rattle.a2_core.specs.Instruction.{returned, with_pc}
-use Rattle.a2_core.specs.Registers.{Registers}
+use Rattle.a2_effect.specs.Instruction.{returned, with_pc}
+use Rattle.a2_effect.specs.Registers.{Registers}
 use Rattle.a2_services.specs.declared.rows.Service.{Service}
 use Rattle.a2_services.specs.declared.rows.Service.TheVariants.{Cout, Cout1, Crout, Home, Prbyte, Prhex, Setinv, Setnorm, Vtab, Clreol, Clreop, Rdkey, Keyin, Getln, Wait, Setcol, Plot, Hline, Vline, Scrn, Clrscr}
 use Rattle.a2_services.specs.declared.rows.Needs.{Needs}

@@ -3,8 +3,8 @@ use Rattle.std.specs.Prelude.{ℕ}
 use Rattle.a2_bus.specs.BusState.{BusState}
 use Rattle.a2_bus.specs.Memory.{Memory}
 use Rattle.a2_bus.specs.View.{memory_of}
-use Rattle.a2_core.specs.Instruction.{State}
-use Rattle.a2_core.specs.Registers.{Registers}
+use Rattle.a2_effect.specs.Instruction.{State}
+use Rattle.a2_effect.specs.Registers.{Registers}
 
 -- registers, memory and cycles
 abbrev pub World : Type 0

@@ -3,7 +3,7 @@
 
 ghost use Rattle.std.specs.Prelude.{◌≡◌, ◌<◌, true};
 ghost use Rattle.a2_bus.specs.View.{memory_of};
-ghost use Rattle.a2_core.specs.Live.{live_registers};
+ghost use Rattle.a2_effect.specs.Live.{live_registers};
 ghost use Rattle.a2_services.specs.declared.rows.Service.TheVariants.{Setcol, Plot, Hline, Vline, Scrn, Clrscr};
 ghost use Rattle.a2_services.specs.Blocks.{half_of as half_by, painted};
 ghost use Rattle.a2_services.specs.Called.{IsDone};
@@ -14,7 +14,7 @@ use crate::locations::{BLOCK_ROWS, COLUMNS};
 use crate::screen::{cell, fill_part, load, store};
 use a2_bus::AddressSpace;
 use a2_bus::locations::{COLOR, H2, V2};
-use a2_core::Live;
+use a2_effect::Live;
 use a2_page::{Half, Page, address, block, set_block};
 use std::alloc::Allocator;
 

@@ -4,7 +4,7 @@ ghost use Rattle.std.specs.Prelude.{◌≡◌, ◌<◌, ◌≤◌, ◌+◌, true
 ghost use Rattle.a2_page.specs.Window.{IsWindow};
 ghost use Rattle.a2_bus.specs.Memory.{ram_end};
 ghost use Rattle.a2_bus.specs.View.{memory_of};
-ghost use Rattle.a2_core.specs.Live.{live_registers};
+ghost use Rattle.a2_effect.specs.Live.{live_registers};
 ghost use Rattle.a2_services.specs.declared.rows.Service.TheVariants.{Cout1, Home, Prbyte, Prhex, Keyin, Wait, Getln};
 ghost use Rattle.a2_services.specs.Put.{window_of};
 ghost use Rattle.a2_services.specs.Services.{fits as fits_of, lacks_keys as lacks_keys_of, cycles_of as cycles_by, wait_cycles as wait_cycles_of};
@@ -24,7 +24,7 @@ use crate::screen::{clear, load, store, window};
 use crate::{Served, Service};
 use a2_bus::AddressSpace;
 use a2_bus::locations::{CH, CV, PROMPT};
-use a2_core::Live;
+use a2_effect::Live;
 use std::alloc::Allocator;
 
 // How long a hook takes.

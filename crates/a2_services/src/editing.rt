@@ -13,7 +13,7 @@ use crate::line::clear_to_end;
 use crate::screen::{Edges, clear, load, store, window};
 use a2_bus::AddressSpace;
 use a2_bus::locations::{CV, INVFLG};
-use a2_core::Live;
+use a2_effect::Live;
 use std::alloc::Allocator;
 
 /// The mask that makes characters inverse.

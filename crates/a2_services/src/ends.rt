@@ -3,8 +3,8 @@
 ghost use Rattle.std.specs.Prelude.{◌≡◌, ℕ, length};
 ghost use Rattle.a2_bus.specs.Memory.{memory_access, ram_end};
 ghost use Rattle.a2_bus.specs.View.{memory_of};
-ghost use Rattle.a2_core.specs.Instruction.{returned};
-ghost use Rattle.a2_core.specs.Live.{live_registers};
+ghost use Rattle.a2_effect.specs.Instruction.{returned};
+ghost use Rattle.a2_effect.specs.Live.{live_registers};
 ghost use Rattle.a2_services.specs.World.{world_of};
 ghost use Rattle.a2_services.specs.Put.{with_base_address};
 ghost use Rattle.a2_services.specs.Services.{with_memory};
@@ -12,8 +12,8 @@ ghost use Rattle.a2_services.specs.Fits.{LineFits};
 
 use crate::put::set_base;
 use a2_bus::AddressSpace;
-use a2_core::Live;
-use a2_core::families::return_from_call;
+use a2_effect::Live;
+use a2_effect::families::return_from_call;
 use std::alloc::Allocator;
 
 /// The end of an output service.

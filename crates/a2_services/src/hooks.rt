@@ -3,7 +3,7 @@
 
 ghost use Rattle.std.specs.Prelude.{◌≡◌, ◌+◌, ◌<◌, ℕ, length};
 ghost use Rattle.a2_bus.specs.Memory.{ram_end};
-ghost use Rattle.a2_core.specs.Live.{live_registers};
+ghost use Rattle.a2_effect.specs.Live.{live_registers};
 ghost use Rattle.a2_services.specs.declared.rows.Service.TheVariants.{Cout, Crout, Rdkey};
 ghost use Rattle.a2_services.specs.World.{world_of};
 ghost use Rattle.a2_services.specs.Called.{IsDone};
@@ -13,7 +13,7 @@ use crate::bytes::RETURN;
 use crate::screen::load;
 use a2_bus::AddressSpace;
 use a2_bus::locations::{CSW, KSW};
-use a2_core::Live;
+use a2_effect::Live;
 use std::alloc::Allocator;
 
 #[inline(always)]

@@ -3,7 +3,7 @@
 ghost use Rattle.std.specs.Prelude.{◌≡◌, length, not};
 ghost use Rattle.a2_bus.specs.View.{memory_of};
 ghost use Rattle.a2_bus.specs.Memory.{ram_end};
-ghost use Rattle.a2_core.specs.Live.{live_registers};
+ghost use Rattle.a2_effect.specs.Live.{live_registers};
 ghost use Rattle.a2_services.specs.Called.{service_refusal};
 ghost use Rattle.a2_services.specs.Services.{lies_right, is_without, block_fits as block_fits_of, window_fits as window_fits_of, cursor_fits as cursor_fits_of, has_return as has_return_of};
 
@@ -15,7 +15,7 @@ use crate::screen::{load, window};
 use crate::{Served, Service};
 use a2_bus::locations::{CH, CV, H2, V2};
 use a2_bus::{AddressSpace, Bus};
-use a2_core::Live;
+use a2_effect::Live;
 use std::alloc::Allocator;
 
 /// Why a call of a service would not be made: what it would answer in place of the cycles. `None` where it would be made.

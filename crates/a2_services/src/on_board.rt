@@ -1,13 +1,13 @@
 //! A call of a service over registers and board.
 
 ghost use Rattle.std.specs.Prelude.{◌≡◌, length};
-ghost use Rattle.a2_core.specs.View.{spare_bits_of, registers_of};
+ghost use Rattle.a2_effect.specs.View.{spare_bits_of, registers_of};
 ghost use Rattle.a2_services.specs.Called.{IsCalled, IsUnreached, OnServed, OnUnserved};
 
 use crate::{Served, Service, live};
 use a2_bus::Board;
-use a2_core::Live;
 use a2_cpu::Regs;
+use a2_effect::Live;
 use std::alloc::Allocator;
 
 /// One call of a service, as [`live::call`] makes it: registers and board become what it leaves. A call that is made leaves bits 5

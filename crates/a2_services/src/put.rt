@@ -90,7 +90,7 @@ pub(crate) fn put_unmasked<A: Allocator>(space: &mut AddressSpace<A>, byte: u8)
 
 /// A byte as COUT1 puts it: under the mask, bit by bit, if it is a blank ($A0) or more; else as it is. Both are from 0 to 255, and the
 /// mask is the byte at $32. Apple II Reference Manual (1979), chapter 2, on standard output; the exact effects are this project's profile.
-#[tactic(auto, using(a2_core::proofs::Digits::and_is))]
+#[tactic(auto, using(a2_effect::proofs::Digits::and_is))]
 pub fn masked(byte: u8, mask: u8) -> u8
     ensures { result ≡ masked_by byte mask }
 {

@@ -7,9 +7,9 @@ use Rattle.a2_bus.specs.BusState.{BusState, board_access}
 use Rattle.a2_bus.specs.Memory.{Memory, ram_end, peek, memory_access}
 use Rattle.a2_bus.specs.View.{memory_of}
 use Rattle.a2_cpu.specs.BusStep.{refusal_of}
-use Rattle.a2_core.specs.Registers.{Registers}
+use Rattle.a2_effect.specs.Registers.{Registers}
 use Rattle.a2_cpu.specs.StepStores.{none_if, stores_at}
-use Rattle.a2_core.specs.Instruction.{state_of}
+use Rattle.a2_effect.specs.Instruction.{state_of}
 use Rattle.a2_places.specs.declared.places.Span.{Span}
 use Rattle.a2_services.specs.declared.rows.Service.{Service}
 use Rattle.a2_services.specs.Services.{service_at}

@@ -3,7 +3,7 @@
 ghost use Rattle.std.specs.Prelude.{◌≡◌, ◌+◌, ◌<◌, ◌≤◌, ◌∷◌, ◌++◌, [], length};
 ghost use Rattle.std.specs.Fmt.{decimal as decimal_of};
 ghost use Rattle.a2_text.specs.Digits as digits;
-ghost use Rattle.a2_core.specs.View.{registers_of};
+ghost use Rattle.a2_effect.specs.View.{registers_of};
 ghost use Rattle.a2_trace.specs.Traced as spelt;
 
 use a2_cpu::Regs;

@@ -3,7 +3,7 @@
 ghost use Rattle.std.specs.Prelude.{◌≡◌, ◌++◌, ◌&&◌, [], true, false, IfOk, if◌then◌else◌};
 ghost use Rattle.a2_stream.specs.Stream.{SendsOrBreaks};
 ghost use Rattle.a2_bus.specs.View.{memory_of};
-ghost use Rattle.a2_core.specs.View.{registers_of};
+ghost use Rattle.a2_effect.specs.View.{registers_of};
 ghost use Rattle.a2_machine.specs.Output.{register_line, cause_line};
 ghost use Rattle.a2_machine.specs.State.{code_of, world_of_state};
 ghost use Rattle.a2_run.specs.Answers.{Answers, OfSource, is_read_fault};

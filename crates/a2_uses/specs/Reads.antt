@@ -4,10 +4,10 @@ use Rattle.a2_opcode.specs.declared.Mode.{Mode}
 use Rattle.a2_opcode.specs.declared.Mode.TheVariants.{IndexedIndirect, IndirectIndexed}
 use Rattle.a2_opcode.specs.declared.Row.{Row}
 use Rattle.a2_bus.specs.Access.{Access}
-use Rattle.a2_core.specs.Registers.{Registers}
-use Rattle.a2_core.specs.Place.{Place, address, pointer, place_of}
-use Rattle.a2_core.specs.Effect.{Effect, takes, replaces, pulls, jumps, returns, returns_from_interrupt, effect_of}
-use Rattle.a2_core.specs.Instruction.{State}
+use Rattle.a2_effect.specs.Registers.{Registers}
+use Rattle.a2_effect.specs.Place.{Place, address, pointer, place_of}
+use Rattle.a2_effect.specs.Effect.{Effect, takes, replaces, pulls, jumps, returns, returns_from_interrupt, effect_of}
+use Rattle.a2_effect.specs.Instruction.{State}
 
 -- the addresses in page 0 that hold the operand's address
 abbrev pub pointer_reads : Mode → ℕ → Registers → List ℕ

@@ -1,10 +1,10 @@
 //! The bytes that an instruction reads.
 
 ghost use Rattle.std.specs.Prelude.{◌≡◌, ◌<◌};
-ghost use Rattle.a2_core.specs.Operands.{IsPointer};
-ghost use Rattle.a2_core.specs.Place.{place_of, zero_page_word};
-ghost use Rattle.a2_core.specs.Effect.{effect_of};
-ghost use Rattle.a2_core.specs.View.{registers_of};
+ghost use Rattle.a2_effect.specs.Operands.{IsPointer};
+ghost use Rattle.a2_effect.specs.Place.{place_of, zero_page_word};
+ghost use Rattle.a2_effect.specs.Effect.{effect_of};
+ghost use Rattle.a2_effect.specs.View.{registers_of};
 ghost use Rattle.a2_uses.specs.Reads.{effect_reads, jump_reads, place_reads, pointer_reads, pull_address as pulled_at};
 ghost use Rattle.a2_uses.specs.Few.{addresses_for};
 
@@ -115,7 +115,7 @@ pub fn pull_address(s: u8, count: u8) -> u16
 }
 
 // The addresses that a mnemonic reads, by its operand.
-#[tactic(auto, unfolding(a2_core::specs::Effect::effect_of))]
+#[tactic(auto, unfolding(a2_effect::specs::Effect::effect_of))]
 fn effect_at<B: Bus>(instr: Instr, regs: &Regs, bus: &B) -> Few
     requires { IsPointer instr.mode instr.value }
     ensures { addresses_for result ≡ effect_reads (effect_of instr.mnemonic)

@@ -4,9 +4,9 @@ use Rattle.a2_text.specs.Digits.{hex_digit, hex_pair, hex_word}
 use Rattle.a2_page.specs.declared.Switches.{Switches}
 use Rattle.a2_bus.specs.Devices.{Devices}
 use Rattle.a2_bus.proofs.Viewing.{devices_seen}
-use Rattle.a2_core.specs.declared.Regs.{Regs}
-use Rattle.a2_core.specs.Registers.{byte_of_flags}
-use Rattle.a2_core.specs.View.{flags_of}
+use Rattle.a2_effect.specs.declared.Regs.{Regs}
+use Rattle.a2_effect.specs.Registers.{byte_of_flags}
+use Rattle.a2_effect.specs.View.{flags_of}
 use Rattle.a2_film.specs.Changes.{switch_digit}
 use Rattle.a2_film.specs.Rows.{line_of_registers}
 use Rattle.a2_film.proofs.head.put_registers.Goals as goal

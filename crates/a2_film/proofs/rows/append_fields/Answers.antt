@@ -1,7 +1,7 @@
 use Rattle.std.proofs.Common.{ℕ, ◌-◌, ◌++◌, ap, ap₂, ◌∙◌}
 use Rattle.std.specs.Fmt.{decimal}
 use Rattle.a2_text.specs.Digits.{hex_word}
-use Rattle.a2_core.specs.Registers.{byte_of_flags}
+use Rattle.a2_effect.specs.Registers.{byte_of_flags}
 use Rattle.a2_film.specs.Changes.{changed, switch_digit}
 use Rattle.a2_film.specs.Filmed.{seen_by}
 use Rattle.a2_film.specs.Rows.{byte_text, switches_text, keys_text}

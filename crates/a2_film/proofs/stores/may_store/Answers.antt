@@ -1,5 +1,5 @@
 use Rattle.std.proofs.Common.{ap, sym}
-use Rattle.a2_core.specs.declared.Regs.{Regs}
+use Rattle.a2_effect.specs.declared.Regs.{Regs}
 use Rattle.a2_film.proofs.Storing.{no_byte-stores, no_row-stores, row-stores}
 use Rattle.a2_film.proofs.stores.may_store.Goals as goal
 

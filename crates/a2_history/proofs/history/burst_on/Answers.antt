@@ -1,5 +1,5 @@
 use Rattle.std.proofs.Common.{◌≡◌, ◌+◌, ◌-◌, ◌<◌, ℕ, Bool, false, arith, sym, ap, ◌∙◌}
-use Rattle.a2_live.specs.Shown.{Shown}
+use Rattle.a2_burst.specs.Shown.{Shown}
 use Rattle.a2_machine.specs.State.{Device}
 use Rattle.a2_history.specs.Going.{shown_on}
 use Rattle.a2_history.proofs.Leaping.{none-watched, unseen, gone-further, gone-unseen, gone-on}

@@ -1,5 +1,5 @@
 use Rattle.std.proofs.Common.{subst, sym, ◌∙◌}
-use Rattle.a2_core.specs.Live.{live_registers}
+use Rattle.a2_effect.specs.Live.{live_registers}
 use Rattle.a2_machine.specs.Outcome.{IsCallAt}
 use Rattle.a2_machine.proofs.Calls.{refused_turn}
 use Rattle.a2_machine.proofs.step.cause_above.Goals as goal

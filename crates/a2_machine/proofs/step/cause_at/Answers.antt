@@ -1,5 +1,5 @@
 use Rattle.std.proofs.Common.{sym, ◌∙◌}
-use Rattle.a2_core.specs.Live.{live_registers}
+use Rattle.a2_effect.specs.Live.{live_registers}
 use Rattle.a2_machine.proofs.Outcomes.{refused_here}
 use Rattle.a2_machine.proofs.step.cause_at.Goals as goal
 

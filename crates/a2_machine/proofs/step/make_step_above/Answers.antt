@@ -1,5 +1,5 @@
 use Rattle.std.proofs.Common.{subst}
-use Rattle.a2_core.specs.Live.{live_registers}
+use Rattle.a2_effect.specs.Live.{live_registers}
 use Rattle.a2_machine.specs.Outcome.{IsCallAt}
 use Rattle.a2_machine.proofs.Calls.{call_turn}
 use Rattle.a2_machine.proofs.step.make_step_above.Goals as goal

@@ -1,5 +1,5 @@
 use Rattle.std.proofs.Common.{arith}
-use Rattle.a2_typed.proofs.Keys.{none_more}
+use Rattle.a2_timed_keys.proofs.Keys.{none_more}
 use Rattle.a2_play.proofs.again.next_due.Goals as goal
 
 pub loop-stroke-preserved : goal.loop-stroke-preserved

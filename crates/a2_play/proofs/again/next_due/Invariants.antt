@@ -1,5 +1,5 @@
 use Rattle.std.proofs.Common.{◌≡◌, ℕ, ◌<◌, ◌≤◌, [], take}
-use Rattle.a2_typed.specs.Typed.{keys_at}
+use Rattle.a2_timed_keys.specs.Typed.{keys_at}
 use Rattle.a2_play.proofs.again.next_due.Given as goal
 
 -- no key so far was typed between

@@ -1,5 +1,5 @@
 use Rattle.std.proofs.Common.{◌≡◌, arith, subst}
-use Rattle.a2_typed.specs.Typed.{keys_at, with_keys}
+use Rattle.a2_timed_keys.specs.Typed.{keys_at, with_keys}
 use Rattle.a2_play.specs.Agains.{HasRoom}
 use Rattle.a2_play.proofs.Remade.{again_on, again_room}
 use Rattle.a2_play.proofs.again.run_on.Goals as goal

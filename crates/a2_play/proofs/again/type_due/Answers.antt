@@ -1,5 +1,5 @@
 use Rattle.std.proofs.Common.{arith}
-use Rattle.a2_typed.proofs.Typing.{typed_more}
+use Rattle.a2_timed_keys.proofs.Typing.{typed_more}
 use Rattle.a2_play.proofs.Remade.{room_more}
 use Rattle.a2_play.proofs.again.type_due.Goals as goal
 

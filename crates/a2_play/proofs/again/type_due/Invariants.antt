@@ -1,7 +1,7 @@
 use Rattle.std.proofs.Common.{◌≡◌, ◌<◌, take}
 use Rattle.std.specs.List.{All}
-use Rattle.a2_typed.specs.declared.strokes.Typed.{Typed}
-use Rattle.a2_typed.specs.Typed.{keys_at, with_keys}
+use Rattle.a2_timed_keys.specs.declared.strokes.Typed.{Typed}
+use Rattle.a2_timed_keys.specs.Typed.{keys_at, with_keys}
 use Rattle.a2_play.specs.Agains.{HasRoom}
 use Rattle.a2_play.proofs.again.type_due.Given as goal
 

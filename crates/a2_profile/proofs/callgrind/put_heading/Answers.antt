@@ -13,7 +13,7 @@ pub returns : goal.returns
 unfolding heading
 returns g c =
     subst (SendsOrBreaks (g.W.Output.taker c.args.writer.now) (g.W.Output.taker c.put_all.new.writer) c.put_all.result)
-    (same-pieces (codes "# callgrind format\nversion: 1\ncreator: a2x\ncmd: a2x profile\npositions: line\nevents: Steps Cycles\nsummary: ")
+    (same-pieces (codes "# callgrind format\nversion: 1\ncreator: a2lab\ncmd: a2lab profile\npositions: line\nevents: Steps Cycles\nsummary: ")
     c.as_slice.result.now (codes " ") c.as_slice-2.result.now (codes "\nfl=(2) ???\nfl=(1) ") _ _ (c.as_slice.ensures.value ∙ c.decimal-steps.ensures)
     (c.as_slice-2.ensures.value ∙ c.decimal-cycles.ensures))
     c.put_all.ensures

@@ -1,5 +1,5 @@
 use Rattle.std.proofs.Common.{arith}
-use Rattle.a2_core.specs.View.{registers_of}
+use Rattle.a2_effect.specs.View.{registers_of}
 use Rattle.a2_run.proofs.Lengths.{output-few, never-broke}
 use Rattle.a2_run.proofs.sources.show.Goals as goal
 

@@ -2,8 +2,8 @@ use Rattle.std.specs.Prelude.{◌≡◌, ℕ, ◌≤◌, length, refl}
 use Rattle.std.proofs.Common.{sym, ◌∙◌}
 use Rattle.a2_bus.specs.BusState.{BusState}
 use Rattle.a2_bus.specs.Memory.{ram_end}
-use Rattle.a2_core.specs.Live.{live_registers}
-use Rattle.a2_core.specs.declared.live.Live.{Live}
+use Rattle.a2_effect.specs.Live.{live_registers}
+use Rattle.a2_effect.specs.declared.live.Live.{Live}
 use Rattle.a2_services.specs.declared.rows.Service.{Service}
 use Rattle.a2_services.specs.declared.rows.Service.TheVariants.{Cout, Cout1, Crout, Rdkey, Plot, Home}
 use Rattle.a2_services.specs.Called.{IsCallMade, IsDone, IsUnreached}

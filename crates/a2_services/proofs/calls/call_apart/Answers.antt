@@ -1,4 +1,4 @@
-use Rattle.a2_core.specs.Live.{live_registers}
+use Rattle.a2_effect.specs.Live.{live_registers}
 use Rattle.a2_services.proofs.Unreached.{unreached_by, fewer_by}
 use Rattle.a2_services.proofs.calls.call_apart.Goals as goal
 

@@ -1,6 +1,6 @@
 use Rattle.std.proofs.Common.{arith}
 use Rattle.std.proofs.lemmas.Grind.{common_steps}
-use Rattle.a2_core.specs.Live.{live_registers}
+use Rattle.a2_effect.specs.Live.{live_registers}
 use Rattle.a2_services.specs.World.{world_of}
 use Rattle.a2_services.proofs.Lines.{effect_key, some_key, key_there}
 use Rattle.a2_services.proofs.calls.keyin.Goals as goal

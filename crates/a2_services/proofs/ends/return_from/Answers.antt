@@ -4,8 +4,8 @@ use Rattle.a2_bus.specs.BusState.{BusState, board_access}
 use Rattle.a2_bus.specs.Memory.{memory_access}
 use Rattle.a2_bus.specs.View.{memory_of}
 use Rattle.a2_bus.proofs.Holding.{Holds, holding}
-use Rattle.a2_core.specs.Instruction.{returned}
-use Rattle.a2_core.specs.Live.{before_live_step}
+use Rattle.a2_effect.specs.Instruction.{returned}
+use Rattle.a2_effect.specs.Live.{before_live_step}
 use Rattle.a2_cpu.proofs.Simulation.{returned-alike}
 use Rattle.a2_services.proofs.ends.return_from.Goals as goal
 

@@ -1,5 +1,5 @@
 use Rattle.std.proofs.Common.{◌≡◌, ◌+◌, ℕ, sym, ap, ◌∙◌, subst, arith, refl}
-use Rattle.a2_core.specs.declared.Regs.{Regs}
+use Rattle.a2_effect.specs.declared.Regs.{Regs}
 use Rattle.a2_machine.specs.State.{code_of, world_of_state}
 use Rattle.a2_stream.proofs.Joined.{Sends-nil, Breaks-then}
 use Rattle.a2_stream.specs.Stream.{Breaks}

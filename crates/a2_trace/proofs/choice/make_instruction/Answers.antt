@@ -1,10 +1,10 @@
 use Rattle.std.proofs.Common.{◌∙◌, sym, ap, ap₂, ℕ, List}
 use Rattle.std.specs.List.{list_any}
 use Rattle.a2_bus.specs.BusState.{BusState, board_access}
-use Rattle.a2_core.specs.declared.Regs.{Regs}
+use Rattle.a2_effect.specs.declared.Regs.{Regs}
 use Rattle.a2_cpu.specs.StepStores.{step_stores}
 use Rattle.a2_cpu.specs.View.{before_step}
-use Rattle.a2_core.specs.View.{registers_of}
+use Rattle.a2_effect.specs.View.{registers_of}
 use Rattle.a2_machine.specs.State.{world_of_state}
 use Rattle.a2_trace.specs.Choices.{is_in}
 use Rattle.a2_trace.proofs.Storing.{stores-by_instruction, stores-there}

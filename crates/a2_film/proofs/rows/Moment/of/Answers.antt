@@ -2,7 +2,7 @@ use Rattle.std.proofs.Common.{length, sym, ap, ◌∙◌}
 use Rattle.a2_bus.specs.BusState.{BusState}
 use Rattle.a2_bus.specs.Devices.{Devices}
 use Rattle.a2_bus.proofs.Viewing.{devices_seen}
-use Rattle.a2_core.specs.View.{registers_of}
+use Rattle.a2_effect.specs.View.{registers_of}
 use Rattle.a2_film.proofs.rows.Moment.of.Goals as goal
 
 pub returns : goal.returns

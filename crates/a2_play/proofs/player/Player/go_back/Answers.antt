@@ -1,6 +1,6 @@
 use Rattle.std.proofs.Common.{◌∙◌, ◌-◌, ℕ, List, ltb, rules, subst, sym, ap}
 use Rattle.std.proofs.lemmas.Fn.{filter_same}
-use Rattle.a2_typed.specs.declared.strokes.Typed.{Typed}
+use Rattle.a2_timed_keys.specs.declared.strokes.Typed.{Typed}
 use Rattle.a2_play.specs.Backs.{IsBack}
 use Rattle.a2_play.specs.Played.{Play, IsPlayed}
 use Rattle.a2_play.proofs.Remade.{Seeks, Brings, IsBegun, is_back, back_played}

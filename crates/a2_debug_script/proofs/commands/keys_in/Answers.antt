@@ -1,0 +1,11 @@
+use Rattle.std.proofs.Common.{ℕ, List, drop, subst, ap}
+use Rattle.a2_bus.specs.KeyText.{SpellsKeys}
+use Rattle.a2_debug_script.specs.declared.commands.Verb.TheVariants.{TypeKeys}
+use Rattle.a2_debug_script.proofs.Saying.{lacking}
+use Rattle.a2_debug_script.proofs.Spelling.{spelled-text}
+use Rattle.a2_debug_script.proofs.commands.keys_in.Goals as goal
+
+pub returns-in_default-clause-none : goal.returns-in_default-clause-none
+returns-in_default-clause-none c = lacking TypeKeys c.args.rest.now (λ some keys spells.
+    absurd (c.in_default.ensures.cases.0 (spelled-text c.in_ok-text.text.now keys
+    (subst (λ (t : List ℕ). SpellsKeys t keys) (ap (λ (xs : List ℕ). drop 1 xs) c.in_ok-text.ensures.cases.0) spells))))

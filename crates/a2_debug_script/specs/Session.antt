@@ -1,0 +1,79 @@
+-- What a debugging session is: the worlds that were reached, of which the last one is looked at, under a guarded program.
+use Rattle.std.specs.Prelude.{ℕ, zero, suc, ◌+◌, ◌-◌, ◌*◌, ◌/◌, List, [], ◌∷◌, length, if◌then◌else◌, Some, None, max}
+use Rattle.a2_text.specs.Bytes.{is_among}
+use Rattle.a2_asm.specs.Assembled.{Assembled}
+use Rattle.a2_machine.specs.declared.causes.Cause.TheVariants.{Limit}
+use Rattle.a2_services.specs.World.{World}
+use Rattle.a2_machine.specs.Meaning.{stuck, next}
+use Rattle.a2_debug_script.specs.Worlds.{guarded_code, start, typed}
+use Rattle.a2_debug_script.specs.declared.Halt.{Halt}
+use Rattle.a2_debug_script.specs.declared.Halt.TheVariants.{Stopped, Break}
+
+pub record Session : Type 0 where
+  pub last : World
+  -- the worlds before the last one, the latest first
+  pub earlier : List World
+  pub breaks : List ℕ
+  -- no count below this one can be gone back to
+  pub oldest : ℕ
+
+-- the oldest count that can be gone back to, once this count is reached
+abbrev pub raised : ℕ → ℕ → ℕ
+raised oldest count = max oldest (1024 * (count / 1024 - 7))
+
+-- the session as it begins
+abbrev pub fresh : Assembled → Session
+fresh program = record { last = start program; earlier = []; breaks = []; oldest = 0 }
+
+-- one world more
+unfoldable pub appended : Assembled → Session → Session
+appended program session = record session {
+  last = next (guarded_code program) session.last;
+  earlier = session.last ∷ session.earlier;
+  oldest = raised session.oldest (length session.earlier + 1);
+}
+
+-- why steps end at a world, at the latest
+abbrev pub halt_at : Assembled → World → Halt
+halt_at program world = elim (stuck (guarded_code program) world) [ Some cause ↦ Stopped cause | None ↦ Stopped Limit ]
+
+-- what a call that makes steps leaves and answers
+pub record Halted : Type 0 where
+  pub session : Session
+  pub halt : Halt
+
+-- next worlds are appended until the last is stuck, or is at a mark, or so many were appended
+unfoldable pub advanced : Assembled → List ℕ → ℕ → Session → Halted
+advanced program marks zero session = record { session = session; halt = halt_at program session.last }
+advanced program marks (suc n) session =
+    elim (stuck (guarded_code program) session.last) [
+      | Some cause ↦ record { session = session; halt = Stopped cause }
+      | None ↦
+          if is_among marks (appended program session).last.registers.pc
+          then record { session = appended program session; halt = Break }
+          else advanced program marks n (appended program session)
+    ]
+
+-- steps that ignore breakpoints, and steps that end at one
+abbrev pub stepped : Assembled → ℕ → Session → Halted
+stepped program n session = advanced program [] n session
+
+abbrev pub gone : Assembled → ℕ → Session → Halted
+gone program n session = advanced program session.breaks n session
+
+-- keys typed at the last world
+unfoldable pub with_keys : List ℕ → Session → Session
+with_keys keys session = record session { last = typed keys session.last }
+
+-- so many of the last worlds dropped
+unfoldable pub backed : ℕ → Session → Session
+backed zero session = session
+backed (suc n) session =
+    elim session.earlier [
+      | [] ↦ session
+      | world ∷ worlds ↦ backed n (record session { last = world; earlier = worlds })
+    ]
+
+-- other breakpoints
+abbrev pub with_breaks : List ℕ → Session → Session
+with_breaks breaks session = record session { breaks = breaks }

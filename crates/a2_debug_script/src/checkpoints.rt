@@ -1,0 +1,165 @@
+//! At most eight checkpoints, the oldest first, and machines out of use.
+
+ghost use Rattle.std.specs.Prelude.{◌≡◌, ◌*◌, ◌<◌, ◌≤◌, ◌++◌, ◌∷◌, [], Some, length, take, IfOk};
+ghost use Rattle.a2_debug_script.specs.Held.{unguarded};
+ghost use Rattle.a2_debug_script.specs.Kept.{kept_at};
+ghost use Rattle.a2_debug_script.specs.Session.{raised};
+ghost use Rattle.circular_buffer.specs.Buffer.{buffer, keep_last, last_item};
+
+use a2_machine::Machine;
+use circular_buffer::HeapCircularBuffer;
+use std::alloc::{AllocError, Allocator, Global};
+use std::marker::Model;
+
+/// How many steps lead from one checkpoint to the next.
+pub const STRIDE: u32 = 1024;
+
+/// The most checkpoints that are held.
+const MOST_HELD: usize = 8;
+
+/// Checkpoints. All room is made at the start. The machines are never run, so they stay without a guard; and each stays in
+/// its box, since one is 4 KB and more, and a move from place to place would copy that.
+pub struct Checkpoints<A: Allocator = Global> {
+    ring: HeapCircularBuffer<Box<Machine<A>, A>, A>,
+    spare: Vec<Box<Machine<A>, A>, A>,
+}
+
+// Not derived, for the prover alone: it follows this as one call, and a derived one field by field.
+impl<A: Allocator> Drop for Checkpoints<A> {
+    fn drop(self) {
+        let Checkpoints { ring: _, spare: _ } = self;
+    }
+}
+
+impl<A: Allocator> Model for Checkpoints<A> {
+    ghost use Rattle.std.specs.Prelude.{◌≡◌, ◌+◌, ◌≤◌, length, map, vec_len, vec_capacity};
+    ghost use Rattle.std.specs.List.{sum_by};
+    ghost use Rattle.a2_debug_script.specs.Held.{unguarded, Checkpoints as Held};
+
+    ghost Value = { Held };
+
+    ghost view = { λ c. record {
+      held = map (λ b. unguarded b.value.state) c.ring.items;
+      made = sum_by (λ b. b.value.made) c.ring.items + sum_by (λ b. b.value.made) c.spare.items;
+    } };
+
+    ghost invariant = { λ c. (c.ring.capacity ≡ 8) × (length c.ring.items + vec_len c.spare ≡ 8) × (8 ≤ vec_capacity c.spare) };
+}
+
+// Puts a machine behind the others of the ring, which has room.
+fn put_back<A: Allocator>(
+    ring: &mut HeapCircularBuffer<Box<Machine<A>, A>, A>,
+    machine: Box<Machine<A>, A>,
+)
+    requires { length ring.old.items < ring.old.capacity }
+    ensures { ring.new ≡ buffer (ring.old.items ++ machine ∷ []) ring.old.capacity }
+{
+    // There is room, so nothing comes back.
+    let _ = ring.push_back(machine);
+}
+
+/// Makes a checkpoint where steps were made from one count to another that is one for it.
+pub fn keep_at<A: Allocator>(
+    checkpoints: &mut Checkpoints<A>,
+    machine: &Machine<A>,
+    from: u32,
+    count: u32,
+)
+    ensures held { checkpoints.new.held ≡ kept_at from count checkpoints.old.held (unguarded machine.now.state) }
+    ensures made { checkpoints.new.made ≡ checkpoints.old.made }
+{
+    if count > from && count % STRIDE == 0 {
+        checkpoints.keep(machine);
+    }
+}
+
+/// The oldest count that can be gone back to, where this one is reached.
+pub fn oldest_at(oldest: u32, count: u32) -> u32
+    ensures { result ≡ raised oldest count }
+{
+    oldest.max((count / STRIDE).saturating_sub(MOST_HELD as u32 - 1) * STRIDE)
+}
+
+impl<A: Allocator + Copy> Checkpoints<A> {
+    /// Eight machines out of use.
+    pub fn new(alloc: A) -> Result<Checkpoints<A>, AllocError>
+        ensures held { IfOk result (λ c. c.held ≡ []) }
+        ensures made { IfOk result (λ c. c.made ≡ 0) }
+    {
+        let ring = HeapCircularBuffer::with_capacity(alloc, MOST_HELD)?;
+        let mut spare = Vec::with_capacity(alloc, MOST_HELD)?;
+        for _ in 0..MOST_HELD {
+            spare.push(Box::new(alloc, Machine::for_copies(alloc)?)?)?;
+        }
+        Ok(Checkpoints { ring, spare })
+    }
+}
+
+impl<A: Allocator> Checkpoints<A> {
+    /// How many are held.
+    pub fn len(&self) -> usize
+        ensures len { result ≡ length self.now.held }
+        ensures eight { result ≤ 8 }
+    {
+        // For the prover alone: the invariant speaks of both fields.
+        let _ = &self.spare;
+        self.ring.len()
+    }
+
+    /// Makes a checkpoint, from a machine out of use or else from the oldest.
+    pub fn keep(&mut self, now: &Machine<A>)
+        ensures held { self.new.held ≡ keep_last 8 (self.old.held ++ unguarded now.now.state ∷ []) }
+        ensures made { self.new.made ≡ self.old.made }
+    {
+        if let Some(mut machine) = self.spare.pop() {
+            machine.restore(now);
+            put_back(&mut self.ring, machine);
+            return;
+        }
+        if let Some(mut machine) = self.ring.pop_front() {
+            machine.restore(now);
+            put_back(&mut self.ring, machine);
+        }
+    }
+
+    /// Holds no more than so many, the oldest ones.
+    pub fn truncate(&mut self, most: usize)
+        ensures held { self.new.held ≡ take most self.old.held }
+        ensures made { self.new.made ≡ self.old.made }
+    {
+        while self.ring.len() > most {
+            if let Some(machine) = self.ring.pop_back() {
+                self.spare.push_reserved(machine);
+            }
+        }
+    }
+
+    /// The machine becomes what the newest checkpoint is, under its own guard.
+    pub fn load_newest(&self, machine: &mut Machine<A>)
+        requires { 0 < length self.now.held }
+        ensures state { last_item self.now.held ≡ Some (unguarded machine.new.state) }
+        ensures guard { machine.new.state.guard ≡ machine.old.state.guard }
+        ensures made { machine.new.made ≡ machine.old.made }
+    {
+        if let Some(kept) = self.ring.back() {
+            machine.restore(kept);
+        }
+    }
+
+    /// The steps that the machines ever made.
+    pub fn made(&self) -> u128
+        ensures made { result ≡ self.now.made }
+        ensures fits { result ≤ 8 * 18446744073709551615 }
+    {
+        let mut made = 0u128;
+        for i in 0..self.ring.len() {
+            if let Some(machine) = self.ring.get(i) {
+                made += machine.made() as u128;
+            }
+        }
+        for machine in &self.spare {
+            made += machine.made() as u128;
+        }
+        made
+    }
+}

@@ -1,0 +1,7 @@
+use Rattle.std.specs.Prelude.{not}
+use Rattle.std.proofs.Common.{rules, eqb}
+use Rattle.arrayvec.proofs.ArrayVecLemmas.{filter-from_retain}
+use Rattle.a2_debugger.proofs.inspector.clear_at.Goals as goal
+
+pub returns : goal.returns
+returns c = filter-from_retain _ (λ place. not (eqb place.address c.args.address)) _ (λ x b f' y k. search rules) _ _ c.retain.ensures.filtered

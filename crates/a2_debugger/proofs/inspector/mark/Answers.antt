@@ -1,0 +1,8 @@
+use Rattle.a2_debugger.proofs.Calm.{warned}
+use Rattle.a2_debugger.proofs.inspector.mark.Goals as goal
+
+pub returns : goal.returns
+returns g c =
+    let stops = c.args.stops in
+    warned c.args.free c.args.program.now c.args.history.now _ stops.breaks.now stops.watches.now c.set.new.self c.requires.here c.requires.guard
+    c.set.ensures

@@ -1,0 +1,87 @@
+-- How breakpoints and their conditions are written. This project's profile.
+use Rattle.std.specs.Prelude.{ℕ, ◌==◌, List, [], ◌∷◌, if◌then◌else◌, Option, Some, None, ◌&&◌, Bool, false}
+use Rattle.a2_text.specs.Signs.{sign}
+use Rattle.a2_text.specs.Bytes.{capital}
+use Rattle.a2_asm.specs.Assembled.{Assembled}
+use Rattle.a2_places.specs.Places.{number_of, place_of}
+use Rattle.a2_debugger.specs.declared.stops.Register.{Register}
+use Rattle.a2_debugger.specs.declared.stops.Register.TheVariants.{A, X, Y, S, P}
+use Rattle.a2_debugger.specs.declared.stops.Subject.{Subject}
+use Rattle.a2_debugger.specs.declared.stops.Subject.TheVariants.{InRegister, InByte}
+use Rattle.a2_debugger.specs.declared.stops.Relation.{Relation}
+use Rattle.a2_debugger.specs.declared.stops.Relation.TheVariants.{Equal, Other, Less, More}
+use Rattle.a2_debugger.specs.declared.stops.Condition.{Condition}
+use Rattle.a2_debugger.specs.declared.stops.Break.{Break}
+
+abbrev pub register_by : ℕ → Option Register
+register_by letter =
+    if letter == sign "A" then Some A
+    else if letter == sign "X" then Some X
+    else if letter == sign "Y" then Some Y
+    else if letter == sign "S" then Some S
+    else if letter == sign "P" then Some P
+    else None
+
+-- the register of a letter in either case
+abbrev pub register_of : List ℕ → Option Register
+register_of [] = None
+register_of (letter ∷ []) = register_by (capital letter)
+register_of (letter ∷ next ∷ more) = None
+
+abbrev pub in_byte : Option ℕ → Option Subject
+in_byte None = None
+in_byte (Some address) = Some (InByte address)
+
+abbrev pub subject_by : Option Register → Option ℕ → Option Subject
+subject_by (Some register) place = Some (InRegister register)
+subject_by None place = in_byte place
+
+-- a register, or else the byte at a place
+abbrev pub subject_of : Assembled → List ℕ → Option Subject
+subject_of program word = subject_by (register_of word) (place_of program word)
+
+abbrev pub relation_of : List ℕ → Option Relation
+relation_of [] = None
+relation_of (c ∷ []) =
+    if c == sign "=" then Some Equal else if c == sign "<" then Some Less else if c == sign ">" then Some More else None
+relation_of (c ∷ d ∷ []) = if (c == sign "<") && (d == sign ">") then Some Other else None
+relation_of (c ∷ d ∷ e ∷ more) = None
+
+abbrev pub condition_by : Option Subject → Option Relation → Option ℕ → Option Condition
+condition_by None relation value = None
+condition_by (Some subject) None value = None
+condition_by (Some subject) (Some relation) None = None
+condition_by (Some subject) (Some relation) (Some value) =
+    Some (record { subject = subject; relation = relation; value = value })
+
+-- a subject, how it compares, and a number
+abbrev pub condition_in : Assembled → List (List ℕ) → Option Condition
+condition_in program [] = None
+condition_in program (subject ∷ []) = None
+condition_in program (subject ∷ relation ∷ []) = None
+condition_in program (subject ∷ relation ∷ value ∷ []) =
+    condition_by (subject_of program subject) (relation_of relation) (number_of value)
+condition_in program (subject ∷ relation ∷ value ∷ next ∷ more) = None
+
+-- the word IF in either case
+abbrev pub is_if : List ℕ → Bool
+is_if [] = false
+is_if (i ∷ []) = false
+is_if (i ∷ f ∷ []) = (capital i == sign "I") && (capital f == sign "F")
+is_if (i ∷ f ∷ next ∷ more) = false
+
+abbrev pub plain_break : Option ℕ → Option Break
+plain_break None = None
+plain_break (Some address) = Some (record { address = address; condition = None })
+
+abbrev pub break_where : Option ℕ → Option Condition → Option Break
+break_where None condition = None
+break_where (Some address) None = None
+break_where (Some address) (Some condition) = Some (record { address = address; condition = Some condition })
+
+-- a place, or one with IF and a condition behind it
+abbrev pub break_in : Assembled → List (List ℕ) → Option Break
+break_in program [] = None
+break_in program (place ∷ []) = plain_break (place_of program place)
+break_in program (place ∷ word ∷ more) =
+    if is_if word then break_where (place_of program place) (condition_in program more) else None

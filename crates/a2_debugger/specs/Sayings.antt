@@ -1,0 +1,86 @@
+-- What lines say. This project's profile.
+use Rattle.std.specs.Prelude.{◌≡◌, ◌≢◌, ℕ, ◌<◌, ◌≤◌, List, [], ◌∷◌, length, drop, Option, Some, None}
+use Rattle.a2_text.specs.Bytes.{number_in}
+use Rattle.a2_text.specs.Words.{words, only_word}
+use Rattle.a2_bus.specs.KeyText.{SpellsKeys}
+use Rattle.a2_asm.specs.Assembled.{Assembled}
+use Rattle.a2_places.specs.Places.{place_of, span_of}
+use Rattle.a2_debugger.specs.Stops.{watchable}
+use Rattle.a2_debugger.specs.Conditions.{break_in}
+use Rattle.a2_places.specs.declared.places.Span.{Span}
+use Rattle.a2_debugger.specs.declared.order.Order.{Order}
+use Rattle.a2_debugger.specs.declared.order.Order.TheVariants as order
+use Rattle.a2_debugger.specs.declared.verbs.Verb.{Verb}
+use Rattle.a2_debugger.specs.declared.verbs.Verb.TheVariants.{Step, Next, Out, Back, Rnext, Go, Until, Rback, Watch, Who, Break, Clear, Keys, Where, Regs, Print, Mem, Screen, List as Lines, Info, Help}
+
+-- a number of steps: one word of decimal digits, at most 65,535; 1 where there is no word
+abbrev pub count_in : List (List ℕ) → Option ℕ
+count_in [] = Some 1
+count_in (word ∷ []) = number_in 10 5 word
+count_in (word ∷ next ∷ more) = None
+
+abbrev pub place_by : Assembled → Option (List ℕ) → Option ℕ
+place_by program None = None
+place_by program (Some word) = place_of program word
+
+-- the address that the one word says
+abbrev pub place_in : Assembled → List (List ℕ) → Option ℕ
+place_in program words = place_by program (only_word words)
+
+abbrev pub span_by_word : Assembled → Option (List ℕ) → Option Span
+span_by_word program None = None
+span_by_word program (Some word) = watchable (span_of program word)
+
+-- the bytes to watch that the one word says
+abbrev pub span_in : Assembled → List (List ℕ) → Option Span
+span_in program words = span_by_word program (only_word words)
+
+-- all behind one blank spells these keys
+abbrev pub SpellsBehind : List ℕ → List ℕ → Type 0
+SpellsBehind rest keys = (0 < length rest) × SpellsKeys (drop 1 rest) keys × (length keys ≤ 4096)
+
+-- it spells none, or more than 4,096
+abbrev pub SpellsNoneBehind : List ℕ → Type 0
+SpellsNoneBehind rest = 0 < length rest → (keys : List ℕ) → SpellsKeys (drop 1 rest) keys → 4096 < length keys
+
+-- a verb and what stands behind it ask for this; which of a verb's showings is not told
+abbrev pub Says : Assembled → Verb → List ℕ → Order → Type 0
+Says program Step rest (order.Step n) = count_in (words rest) ≡ Some n
+Says program Back rest (order.Back n) = count_in (words rest) ≡ Some n
+Says program Next rest order.Next = words rest ≡ []
+Says program Out rest order.Out = words rest ≡ []
+Says program Rnext rest order.GoBackOver = words rest ≡ []
+Says program Go rest order.Go = words rest ≡ []
+Says program Until rest (order.Until address) = place_in program (words rest) ≡ Some address
+Says program Rback rest order.GoBack = words rest ≡ []
+Says program Watch rest (order.Watch span) = span_in program (words rest) ≡ Some span
+Says program Who rest (order.Who span) = span_in program (words rest) ≡ Some span
+Says program Break rest (order.Break b) = break_in program (words rest) ≡ Some b
+Says program Clear rest order.Clear = words rest ≡ []
+Says program Keys rest (order.TypeKeys keys) = SpellsBehind rest keys
+Says program Where rest (order.Show show) = Unit {0}
+Says program Regs rest (order.Show show) = Unit {0}
+Says program Print rest (order.Show show) = Unit {0}
+Says program Mem rest (order.Show show) = Unit {0}
+Says program Screen rest (order.Show show) = Unit {0}
+Says program Lines rest (order.Show show) = Unit {0}
+Says program Info rest (order.Show show) = Unit {0}
+Says program Help rest (order.Show show) = Unit {0}
+Says program verb rest order = ⊥
+
+-- they ask for nothing; why something cannot be shown is not told
+abbrev pub SaysNone : Assembled → Verb → List ℕ → Type 0
+SaysNone program Step rest = count_in (words rest) ≡ None
+SaysNone program Back rest = count_in (words rest) ≡ None
+SaysNone program Next rest = words rest ≢ []
+SaysNone program Out rest = words rest ≢ []
+SaysNone program Rnext rest = words rest ≢ []
+SaysNone program Go rest = words rest ≢ []
+SaysNone program Until rest = place_in program (words rest) ≡ None
+SaysNone program Rback rest = words rest ≢ []
+SaysNone program Watch rest = span_in program (words rest) ≡ None
+SaysNone program Who rest = span_in program (words rest) ≡ None
+SaysNone program Break rest = break_in program (words rest) ≡ None
+SaysNone program Clear rest = words rest ≢ []
+SaysNone program Keys rest = SpellsNoneBehind rest
+SaysNone program verb rest = Unit {0}

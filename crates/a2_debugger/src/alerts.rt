@@ -1,0 +1,278 @@
+//! Which steps alarm of a run that is gone along in bursts.
+
+ghost use Rattle.std.specs.Prelude.{◌≡◌, ◌⊎◌, ℕ, true, false, [], length, IfOk, IfSome};
+ghost use Rattle.std.specs.List.{list_any};
+ghost use Rattle.a2_machine.specs.State.{world_of_state};
+ghost use Rattle.a2_debugger.specs.Stops.{Moment, is_hit};
+ghost use Rattle.a2_debugger.specs.Alerts as alert;
+ghost use Rattle.a2_debugger.specs.Alerts.{is_marked, StandsCalm, IsCalm, MarksAllBut, AreAlerts};
+
+use crate::stops::{Break, ram_of};
+use a2_asm::{Program, Statement};
+use a2_machine::Machine;
+use a2_opcode::{Instr, Mnemonic, Mode, decode};
+use a2_places::Span;
+use a2_services::service_at;
+use std::alloc::{AllocError, Allocator, Global};
+use std::marker::Model;
+
+/// How many addresses there are.
+const ADDRESSES: usize = 0x1_0000;
+
+/// For each address, whether there is a breakpoint, and whether a step there may change a watched byte.
+pub struct Marks<A: Allocator = Global> {
+    stops: Vec<bool, A>,
+    stores: Vec<bool, A>,
+}
+
+// Not derived, for the prover alone: it follows this as one call, and a derived one field by field.
+impl<A: Allocator> Drop for Marks<A> {
+    fn drop(self) {
+        let Marks {
+            stops: _,
+            stores: _,
+        } = self;
+    }
+}
+
+impl<A: Allocator> Model for Marks<A> {
+    ghost use Rattle.std.specs.Prelude.{◌≡◌, length};
+    ghost use Rattle.a2_debugger.specs.Alerts.{Alerts as Seen};
+
+    ghost Value = { Seen };
+
+    ghost view = { λ m. record { stops = m.stops.items; stores = m.stores.items } };
+
+    ghost invariant = { λ m. (length m.stops.items ≡ 65536) × (length m.stores.items ≡ 65536) };
+}
+
+/// The same, as each step asks for them: all addresses are there, so that a look is one load, without a bound.
+#[derive(Drop)]
+pub struct Alerts<'a> {
+    stops: &'a [bool; ADDRESSES],
+    stores: &'a [bool; ADDRESSES],
+}
+
+impl<'a> Model for Alerts<'a> {
+    ghost use Rattle.std.specs.Prelude.{◌≡◌, length};
+    ghost use Rattle.a2_debugger.specs.Alerts.{Alerts as Seen};
+
+    ghost Value = { Seen };
+
+    ghost view = { λ a. record { stops = a.stops.now; stores = a.stores.now } };
+
+    ghost invariant = { λ a. (length a.stops.now ≡ 65536) × (length a.stores.now ≡ 65536) };
+}
+
+// Whether an address is watched.
+pub(crate) fn is_watched(watches: &[Span], address: u16) -> bool
+    ensures { result ≡ alert.is_watched watches.now address }
+{
+    watches
+        .iter()
+        .any(|span| span.first <= address && address <= span.last)
+}
+
+// Whether an instruction's operand is at no watched address, whatever registers and memory are.
+fn spares_operand(instr: Instr, watches: &[Span]) -> bool
+    ensures { result ≡ true → alert.SparesAt watches.now instr }
+{
+    match instr.mode {
+        Mode::Accumulator => true,
+        Mode::ZeroPage | Mode::Absolute => !is_watched(watches, instr.value),
+        _ => false,
+    }
+}
+
+// Whether an instruction stores and pushes at no watched address, whatever registers and memory are.
+#[tactic(auto, unfolding(a2_effect::specs::Effect::effect_of))]
+fn spares(instr: Instr, watches: &[Span]) -> bool
+    ensures { result ≡ true → alert.Spares watches.now instr }
+{
+    match instr.mnemonic {
+        Mnemonic::Asl
+        | Mnemonic::Lsr
+        | Mnemonic::Rol
+        | Mnemonic::Ror
+        | Mnemonic::Inc
+        | Mnemonic::Dec
+        | Mnemonic::Sta
+        | Mnemonic::Stx
+        | Mnemonic::Sty => spares_operand(instr, watches),
+        Mnemonic::Pha | Mnemonic::Php | Mnemonic::Jsr => false,
+        _ => true,
+    }
+}
+
+// The instruction that a statement's bytes are, as a machine holds them.
+fn standing<A: Allocator>(statement: &Statement, machine: &Machine<A>) -> Option<Instr>
+    ensures { IfSome result (λ instr. alert.Stands (world_of_state machine.now.state).memory statement.now instr) }
+{
+    let first = usize::from(statement.addr);
+    let bytes = ram_of(machine).get(first..first + usize::from(statement.length))?;
+    decode(bytes, statement.addr)
+}
+
+// Whether a statement is an instruction that spares what is watched, and no service.
+fn is_calm<A: Allocator>(statement: &Statement, machine: &Machine<A>, watches: &[Span]) -> bool
+    ensures { result ≡ true → StandsCalm watches.now (world_of_state machine.now.state).memory statement.now }
+{
+    if statement.instr.is_none() || service_at(statement.addr).is_some() {
+        return false;
+    }
+    match standing(statement, machine) {
+        Some(instr) => spares(instr, watches),
+        None => false,
+    }
+}
+
+// Marks a statement's first byte no longer where that is so.
+fn calm<A: Allocator>(
+    marks: &mut [bool],
+    statement: &Statement,
+    machine: &Machine<A>,
+    watches: &[Span],
+)
+    requires { length marks.old ≡ 65536 }
+    ensures { (address : ℕ) → is_marked marks.new address ≡ false → (is_marked marks.old address ≡ false)
+        ⊎ ((statement.now.addr ≡ address) × StandsCalm watches.now (world_of_state machine.now.state).memory statement.now) }
+{
+    if is_calm(statement, machine, watches) {
+        marks[usize::from(statement.addr)] = false;
+    }
+}
+
+// The same for each statement.
+fn calm_all<A: Allocator>(
+    marks: &mut [bool],
+    statements: &[Statement],
+    machine: &Machine<A>,
+    watches: &[Span],
+)
+    requires size { length marks.old ≡ 65536 }
+    requires all { MarksAllBut watches.now statements.now (world_of_state machine.now.state).memory marks.old }
+    ensures { MarksAllBut watches.now statements.now (world_of_state machine.now.state).memory marks.new }
+{
+    for statement in statements {
+        calm(marks, statement, machine, watches);
+    }
+}
+
+// Marks all addresses, or none.
+fn fill(marks: &mut [bool], mark: bool)
+    requires { length marks.old ≡ 65536 }
+    ensures { (address : ℕ) → is_marked marks.new address ≡ false → mark ≡ false }
+{
+    marks.fill(mark);
+}
+
+// Marks where a step may change a watched byte, if there are any: all but where instructions stand that store at none.
+fn mark_stores<A: Allocator>(
+    marks: &mut [bool],
+    free: bool,
+    statements: &[Statement],
+    machine: &Machine<A>,
+    watches: &[Span],
+)
+    requires { length marks.old ≡ 65536 }
+    ensures { (address : ℕ) → is_marked marks.new address ≡ false
+        → (watches.now ≡ [])
+        ⊎ ((free ≡ false) × IsCalm watches.now statements.now (world_of_state machine.now.state).memory address) }
+{
+    fill(marks, !watches.is_empty());
+    if !free && !watches.is_empty() {
+        calm_all(marks, statements, machine, watches);
+    }
+}
+
+// Marks where there is a breakpoint.
+fn mark_stops(marks: &mut [bool], breaks: &[Break])
+    requires { length marks.old ≡ 65536 }
+    ensures { (moment : Moment) → list_any (is_hit moment) breaks.now ≡ true → is_marked marks.new moment.pc ≡ true }
+{
+    marks.fill(false);
+    for place in breaks {
+        marks[usize::from(place.address)] = true;
+    }
+}
+
+// No address is marked.
+fn no_marks<A: Allocator>(alloc: A) -> Result<Vec<bool, A>, AllocError>
+    ensures { IfOk result (λ marks. length marks.items ≡ 65536) }
+{
+    vec![in alloc; false; ADDRESSES]
+}
+
+// All addresses.
+fn whole(marks: &[bool]) -> &[bool; ADDRESSES]
+    requires { length marks.now ≡ 65536 }
+    ensures { result.now ≡ marks.now }
+{
+    match marks.first_chunk() {
+        Some(marks) => marks,
+        None => unreachable!(),
+    }
+}
+
+impl<A: Allocator + Copy> Marks<A> {
+    /// No address is marked. Refused only for want of memory.
+    pub fn new(alloc: A) -> Result<Marks<A>, AllocError> {
+        Ok(Marks {
+            stops: no_marks(alloc)?,
+            stores: no_marks(alloc)?,
+        })
+    }
+}
+
+impl<A: Allocator> Marks<A> {
+    /// Marks the addresses of breakpoints; and where bytes are watched all at which a step may change one: all but those at
+    /// which an instruction of a program stands that is not free of the guard, as a machine holds it, and that stores nothing,
+    /// or at the address alone that is its operand, which is not watched.
+    pub fn set<C: Allocator>(
+        &mut self,
+        free: bool,
+        program: &Program<C>,
+        machine: &Machine<C>,
+        breaks: &[Break],
+        watches: &[Span],
+    )
+        ensures { AreAlerts free program.now.statements (world_of_state machine.now.state).memory breaks.now watches.now self.new }
+    {
+        mark_stops(self.stops.as_mut_slice(), breaks);
+        mark_stores(
+            self.stores.as_mut_slice(),
+            free,
+            program.statements(),
+            machine,
+            watches,
+        );
+    }
+
+    /// As each step asks for them.
+    pub fn lent(&self) -> Alerts<'_>
+        ensures { result ≡ self.now }
+    {
+        Alerts {
+            stops: whole(self.stops.as_slice()),
+            stores: whole(self.stores.as_slice()),
+        }
+    }
+}
+
+impl Alerts<'_> {
+    /// Whether there is a breakpoint at an address.
+    #[inline(always)]
+    pub fn has_stop(&self, address: u16) -> bool
+        ensures { result ≡ is_marked self.now.stops address }
+    {
+        self.stops[usize::from(address)]
+    }
+
+    /// Whether a step at an address may change a watched byte.
+    #[inline(always)]
+    pub fn may_store(&self, address: u16) -> bool
+        ensures { result ≡ is_marked self.now.stores address }
+    {
+        self.stores[usize::from(address)]
+    }
+}

@@ -1,0 +1,609 @@
+//! A source's run, and the lines of a debugger.
+
+ghost use Rattle.std.specs.Prelude.{◌≡◌, ◌==◌, ◌&&◌, ◌⊎◌, ◌-◌, ℕ, List, false, IfOk, IfErr};
+ghost use Rattle.a2_stream.specs.Stream.{SendsOrBreaks};
+ghost use Rattle.a2_machine.specs.State.{world_of_state};
+ghost use Rattle.a2_history.specs.Going.{here, Warns};
+ghost use Rattle.a2_history.specs.Routines.{entered};
+ghost use Rattle.a2_routines.specs.Routines.{is_call as is_call_of};
+ghost use Rattle.a2_asm.specs.Assembled.{Assembled};
+ghost use Rattle.a2_run.specs.Meaning.{IsProgramOf};
+ghost use Rattle.a2_run.specs.Started.{RefusesText, guard_of_run};
+ghost use Rattle.a2_debugger.specs.Alerts.{WarnsOfStops};
+ghost use Rattle.a2_debugger.specs.Stops.{is_stop, is_changed_in};
+ghost use Rattle.a2_debugger.specs.Inspections.{
+  IsDone,
+  IsObeyed,
+  IsAnswered,
+  IsBegun,
+  is_at,
+  GoesOn,
+  GoesOver,
+  GoesOut,
+  GoesBack,
+  GoesBackOver,
+  TypesBy,
+  is_left,
+  innermost,
+  others,
+  unlike,
+  with_break,
+  with_watch,
+  front,
+  meant,
+};
+
+mod replay;
+
+use crate::alerts::Marks;
+use crate::order::{Order, Outcome, Show};
+use crate::reading::order_of;
+use crate::sheet::{Detail, Stand, tell};
+use crate::sights::{Alarm, At, Changed, Left, Stops};
+use crate::stops::Break;
+use crate::verbs::verb_of;
+use a2_asm::Program;
+use a2_bus::Keys;
+use a2_explain::Scene;
+use a2_history::{Entry, Halt, History, Lookout, Nothing, Sight, TypingFault, is_call};
+use a2_machine::{Cause, Machine};
+use a2_places::Span;
+use a2_run::{RunFault, program_of, started};
+use a2_stream::{Output, WriteFault};
+use a2_talk::Partner;
+use a2_text::{cut, first_word, split_word};
+use arrayvec::ArrayVec;
+use std::alloc::{Allocator, Global};
+use std::marker::Model;
+
+// The most bytes of a line.
+const MOST_BYTES: usize = 255;
+
+// A line.
+type Line = ArrayVec<u8, MOST_BYTES>;
+
+// The most breakpoints, and the most spans of bytes that are watched. What is told where there are so many names them.
+const MOST_BREAKS: usize = 64;
+
+const MOST_WATCHES: usize = 8;
+
+// Breakpoints, and what is watched.
+type Breaks = ArrayVec<Break, MOST_BREAKS>;
+
+type Watches = ArrayVec<Span, MOST_WATCHES>;
+
+/// A source's run, gone along in both directions by the lines of a debugger, breakpoints, bytes that are watched, and the line
+/// that an empty one repeats.
+pub struct Inspector<'a, A: Allocator = Global> {
+    alloc: A,
+    program: Program<A>,
+    lines: Vec<&'a [u8], A>,
+    history: History<A>,
+    // The machine before the order that was done last.
+    before: Machine<A>,
+    // Where steps alarm as a run goes on to a stop.
+    marks: Marks<A>,
+    // Whether the run is free of the guard.
+    free: bool,
+    breaks: Breaks,
+    watches: Watches,
+    last: Line,
+    // The most steps that one line makes which looks for a place.
+    most: u32,
+    // What a stop tells of.
+    detail: Detail,
+}
+
+// Not derived, for the prover alone: it follows this as one call, and a derived one field by field.
+impl<'a, A: Allocator> Drop for Inspector<'a, A> {
+    fn drop(self) {
+        let Inspector {
+            alloc: _,
+            program: _,
+            lines: _,
+            history: _,
+            before: _,
+            marks: _,
+            free: _,
+            breaks: _,
+            watches: _,
+            last: _,
+            most: _,
+            detail: _,
+        } = self;
+    }
+}
+
+impl<'a, A: Allocator> Model for Inspector<'a, A> {
+    ghost use Rattle.std.specs.Prelude.{◌≡◌};
+    ghost use Rattle.a2_run.specs.Started.{guard_of_run};
+    ghost use Rattle.a2_debugger.specs.Inspections.{Inspection};
+
+    ghost Value = { Inspection };
+
+    ghost view = { λ i. record {
+      program = i.program;
+      track = i.history;
+      breaks = i.breaks.items;
+      watches = i.watches.items;
+      last = i.last.items;
+      most = i.most;
+    } };
+
+    // The guard of the run is that of its program, where it is not free.
+    ghost invariant = { λ i. i.history.course.origin.guard ≡ guard_of_run i.free i.program };
+}
+
+// Makes steps, at most so many, up to what is looked for, in bursts.
+fn go_on<A: Allocator + Copy, S: Sight, L: Lookout>(
+    history: &mut History<A>,
+    most: u32,
+    sight: &S,
+    lookout: &L,
+) -> Outcome
+    requires { Warns (S.is_seen sight.now) (L.alarms lookout.now) history.old.course history.old.position }
+    ensures { GoesOn (S.is_seen sight.now) most history.old history.new }
+{
+    match history.advance(most, sight, lookout) {
+        Halt::Seen => Outcome::Moved,
+        Halt::Stopped(cause) => Outcome::Stopped(cause),
+    }
+}
+
+// Makes so many steps.
+fn step<A: Allocator + Copy>(history: &mut History<A>, steps: u16) -> Outcome
+    ensures { GoesOn (λ world. false) steps history.old history.new }
+{
+    match go_on(history, u32::from(steps), &Nothing, &Nothing) {
+        Outcome::Stopped(Cause::Limit) => Outcome::Moved,
+        outcome => outcome,
+    }
+}
+
+// Goes back so many steps, but not beyond the start.
+fn back<A: Allocator + Copy>(history: &mut History<A>, steps: u16) -> Outcome
+    ensures { history.new ≡ record history.old { position = history.old.position - steps } }
+{
+    let position = history.position().saturating_sub(u64::from(steps));
+    history.go_back(position);
+    Outcome::Moved
+}
+
+// Goes back to the newest earlier place at which something is seen.
+fn go_back<A: Allocator + Copy, S: Sight>(history: &mut History<A>, sight: &S) -> Outcome
+    ensures { GoesBack (S.is_seen sight.now) history.old history.new }
+{
+    match history.newest(sight) {
+        Some(position) => {
+            history.go_back(position);
+            Outcome::Moved
+        }
+        None => Outcome::NoneEarlier,
+    }
+}
+
+// Notes the machine before an order.
+fn note<A: Allocator>(before: &mut Machine<A>, history: &History<A>)
+    ensures { world_of_state before.new.state ≡ here history.now }
+{
+    before.copy_from(history.machine());
+}
+
+// Marks where steps alarm as a run goes on to one of these stops.
+fn mark<A: Allocator>(
+    marks: &mut Marks<A>,
+    free: bool,
+    program: &Program<A>,
+    history: &History<A>,
+    stops: Stops<A>,
+)
+    requires here { world_of_state stops.before.now.state ≡ here history.now }
+    requires guard { history.now.course.origin.guard ≡ guard_of_run free program.now }
+    ensures { WarnsOfStops marks.new stops.entry.breaks.now stops.entry.watches.now history.now }
+{
+    marks.set(free, program, stops.before, stops.breaks, stops.watches);
+}
+
+// Makes steps, at most so many, up to a stop.
+fn go<A: Allocator + Copy>(
+    history: &mut History<A>,
+    most: u32,
+    marks: &Marks<A>,
+    stops: Stops<A>,
+) -> Outcome
+    requires here { world_of_state stops.before.now.state ≡ here history.old }
+    requires warns { WarnsOfStops marks.now stops.breaks.now stops.watches.now history.old }
+    ensures { GoesOn (is_stop stops.entry.breaks.now stops.entry.watches.now (here history.old)) most history.old history.new }
+{
+    let alarm = Alarm {
+        alerts: marks.lent(),
+        stops,
+    };
+    go_on(history, most, &stops, &alarm)
+}
+
+// Makes steps, at most so many, up to an address.
+fn until<A: Allocator + Copy>(history: &mut History<A>, most: u32, address: u16) -> Outcome
+    ensures { GoesOn (is_at address) most history.old history.new }
+{
+    let at = At { address };
+    go_on(history, most, &at, &at)
+}
+
+// Makes steps, at most so many, until a routine is left, by the stack pointer before its JSR, or to a stop.
+fn leave<A: Allocator + Copy>(
+    history: &mut History<A>,
+    most: u32,
+    s: u8,
+    marks: &Marks<A>,
+    stops: Stops<A>,
+) -> Outcome
+    requires here { world_of_state stops.before.now.state ≡ here history.old }
+    requires warns { WarnsOfStops marks.now stops.breaks.now stops.watches.now history.old }
+    ensures { GoesOn (is_left s (is_stop stops.entry.breaks.now stops.entry.watches.now (here history.old)))
+        most history.old history.new }
+{
+    let alarm = Alarm {
+        alerts: marks.lent(),
+        stops,
+    };
+    let left = Left { s, alarm };
+    go_on(history, most, &left, &left)
+}
+
+// Makes a step, or those of the routine that a JSR enters.
+fn next<A: Allocator + Copy>(
+    history: &mut History<A>,
+    most: u32,
+    marks: &Marks<A>,
+    stops: Stops<A>,
+) -> Outcome
+    requires here { world_of_state stops.before.now.state ≡ here history.old }
+    requires warns { WarnsOfStops marks.now stops.breaks.now stops.watches.now history.old }
+    ensures { GoesOver (is_call_of (here history.old)) (here history.old).registers.s
+        (is_stop stops.entry.breaks.now stops.entry.watches.now (here history.old)) most history.old history.new }
+{
+    if is_call(history.machine()) {
+        let s = history.machine().regs().s;
+        leave(history, most, s, marks, stops)
+    } else {
+        step(history, 1)
+    }
+}
+
+// Makes steps until the routine that was entered last is left.
+fn out<A: Allocator + Copy>(
+    history: &mut History<A>,
+    most: u32,
+    marks: &Marks<A>,
+    stops: Stops<A>,
+) -> Outcome
+    requires here { world_of_state stops.before.now.state ≡ here history.old }
+    requires warns { WarnsOfStops marks.now stops.breaks.now stops.watches.now history.old }
+    ensures { GoesOut (innermost (entered history.old.course history.old.position))
+        (is_stop stops.entry.breaks.now stops.entry.watches.now (here history.old)) most history.old history.new
+        ⊎ (history.new ≡ history.old) }
+{
+    let Ok(entries) = history.entered() else {
+        return Outcome::Memory;
+    };
+    match entries.as_slice().last() {
+        Some(entry) => leave(history, most, entry.s, marks, stops),
+        None => Outcome::NoRoutine,
+    }
+}
+
+// Goes back to the newest earlier stop.
+fn go_back_to_stop<A: Allocator + Copy>(history: &mut History<A>, stops: Stops<A>) -> Outcome
+    requires { world_of_state stops.before.now.state ≡ here history.old }
+    ensures { GoesBack (is_stop stops.entry.breaks.now stops.entry.watches.now (here history.old)) history.old history.new }
+{
+    go_back(history, &stops)
+}
+
+// Goes back a step, or those of a whole routine.
+fn go_back_over<A: Allocator + Copy>(history: &mut History<A>) -> Outcome
+    ensures { GoesBackOver history.old history.new ⊎ (history.new ≡ history.old) }
+{
+    match history.newest_outside() {
+        Ok(Some(position)) => {
+            history.go_back(position);
+            Outcome::Moved
+        }
+        Ok(None) => Outcome::Moved,
+        Err(_) => Outcome::Memory,
+    }
+}
+
+// Goes back to the newest step that changed one of some bytes, before it; if there is none, that is told.
+fn who<A: Allocator + Copy>(history: &mut History<A>, span: Span, before: &Machine<A>) -> Outcome
+    requires { world_of_state before.now.state ≡ here history.old }
+    ensures { GoesBack (λ world. is_changed_in (here history.old) world span) history.old history.new }
+{
+    match go_back(history, &Changed { span, before }) {
+        Outcome::NoneEarlier => Outcome::NeverChanged(span),
+        outcome => outcome,
+    }
+}
+
+// Types keys where the run stands.
+fn type_keys<A: Allocator + Copy>(history: &mut History<A>, keys: Keys) -> Outcome
+    ensures { TypesBy result keys history.old history.new }
+{
+    match history.type_keys(keys) {
+        Ok(()) => Outcome::Typed,
+        Err(TypingFault::Full) => Outcome::KeysFull,
+        Err(TypingFault::Memory) => Outcome::Memory,
+    }
+}
+
+// Takes the breakpoint at an address away.
+fn clear_at(breaks: &mut Breaks, address: u16)
+    ensures { breaks.new.items ≡ others address breaks.old.items }
+{
+    breaks.retain(|place| place.address != address);
+}
+
+// Sets a breakpoint, which takes the place of that at its address.
+fn set(breaks: &mut Breaks, place: Break) -> Outcome
+    ensures { breaks.new.items ≡ with_break place breaks.old.items }
+{
+    clear_at(breaks, place.address);
+    if breaks.len() < MOST_BREAKS {
+        breaks.push(place);
+        return Outcome::Set(place);
+    }
+    Outcome::Full
+}
+
+// Whether both are the same addresses.
+fn are_alike(one: &Span, other: Span) -> bool
+    ensures { result ≡ ((one.now.first == other.first) && (one.now.last == other.last)) }
+{
+    one.first == other.first && one.last == other.last
+}
+
+// Watches these addresses no longer.
+fn forget(watches: &mut Watches, span: Span)
+    ensures { watches.new.items ≡ unlike span watches.old.items }
+{
+    watches.retain(|watched| !are_alike(watched, span));
+}
+
+// Watches bytes.
+fn watch(watches: &mut Watches, span: Span) -> Outcome
+    ensures { watches.new.items ≡ with_watch span watches.old.items }
+{
+    forget(watches, span);
+    if watches.len() < MOST_WATCHES {
+        watches.push(span);
+        return Outcome::Watched(span);
+    }
+    Outcome::FullWatches
+}
+
+// A line of these bytes, as far as there is room.
+fn line_of(bytes: &[u8]) -> Line
+    ensures { result.items ≡ front bytes.now }
+{
+    let mut line = Line::new();
+    line.try_extend_from_slice(&bytes[..MOST_BYTES.min(bytes.len())])
+        .unwrap();
+    line
+}
+
+// The line that is done: the last again, where this one is blank.
+fn meant_by(line: &[u8], last: &Line) -> Line
+    ensures { result.items ≡ meant line.now last.now.items }
+{
+    if first_word(line).is_none() {
+        line_of(last.as_slice())
+    } else {
+        line_of(line)
+    }
+}
+
+impl<'a, A: Allocator + Copy> Inspector<'a, A> {
+    /// The run of `source` at its start, with these keys waiting, guarded or `free`. `go` and `until` make at most `most` steps
+    /// each. On the way at most `kept` copies of the machine are kept, each of some 124,000 bytes: the more, the fewer steps are
+    /// made again where the run goes back. Refused where the source is, and for want of memory.
+    pub fn new(
+        alloc: A,
+        source: &'a [u8],
+        keys: &Keys,
+        free: bool,
+        most: u32,
+        kept: usize,
+    ) -> Result<Inspector<'a, A>, RunFault>
+        ensures begun { IfOk result (λ i. (program : Assembled) × IsProgramOf source.now program
+            × IsBegun free keys.now most program i) }
+        ensures refused { IfErr result (λ fault. RefusesText source.now fault) }
+    {
+        let program = program_of(alloc, source)?;
+        let lines = cut(alloc, source)?;
+        let machine = started(alloc, &program, keys, free)?;
+        let before = Machine::for_copies(alloc)?;
+        let marks = Marks::new(alloc)?;
+        let history = History::new(alloc, machine, kept)?;
+        Ok(Inspector {
+            alloc,
+            program,
+            lines,
+            history,
+            before,
+            marks,
+            free,
+            breaks: Breaks::new(),
+            watches: Watches::new(),
+            last: Line::new(),
+            most,
+            detail: Detail::Full,
+        })
+    }
+
+    // Does what an order says.
+    fn perform(&mut self, order: Order) -> Outcome
+        ensures { IsDone order self.old self.new }
+    {
+        note(&mut self.before, &self.history);
+        let stops = Stops {
+            breaks: self.breaks.as_slice(),
+            watches: self.watches.as_slice(),
+            before: &self.before,
+        };
+        let (program, free) = (&self.program, self.free);
+        match order {
+            Order::Step(steps) => step(&mut self.history, steps),
+            Order::Next => {
+                mark(&mut self.marks, free, program, &self.history, stops);
+                next(&mut self.history, self.most, &self.marks, stops)
+            }
+            Order::Out => {
+                mark(&mut self.marks, free, program, &self.history, stops);
+                out(&mut self.history, self.most, &self.marks, stops)
+            }
+            Order::Back(steps) => back(&mut self.history, steps),
+            Order::GoBackOver => go_back_over(&mut self.history),
+            Order::Go => {
+                mark(&mut self.marks, free, program, &self.history, stops);
+                go(&mut self.history, self.most, &self.marks, stops)
+            }
+            Order::Until(address) => until(&mut self.history, self.most, address),
+            Order::GoBack => go_back_to_stop(&mut self.history, stops),
+            Order::Who(span) => who(&mut self.history, span, stops.before),
+            Order::Watch(span) => watch(&mut self.watches, span),
+            Order::Break(place) => set(&mut self.breaks, place),
+            Order::Clear => {
+                self.breaks.clear();
+                self.watches.clear();
+                Outcome::Cleared
+            }
+            Order::TypeKeys(keys) => type_keys(&mut self.history, keys),
+            Order::Show(show) => Outcome::Shown(show),
+        }
+    }
+
+    // Does what a line says that is not blank.
+    fn obey(&mut self, line: &[u8]) -> Outcome
+        ensures { IsObeyed line.now self.old self.new }
+    {
+        let (word, rest) = split_word(line);
+        if word.is_empty() {
+            return Outcome::Nothing;
+        }
+        let Some(verb) = verb_of(word) else {
+            return Outcome::NoWord;
+        };
+        match order_of(&self.program, verb, rest) {
+            Some(order) => self.perform(order),
+            None => Outcome::Refused(verb),
+        }
+    }
+}
+
+// The routines that were entered, where they are to be shown; or that memory is wanted for them.
+fn with_entries<A: Allocator + Copy>(
+    alloc: A,
+    history: &mut History<A>,
+    outcome: Outcome,
+) -> (Outcome, Vec<Entry, A>)
+    ensures { history.new ≡ history.old }
+{
+    let Outcome::Shown(Show::Place) = outcome else {
+        return (outcome, Vec::new(alloc));
+    };
+    match history.entered() {
+        Ok(entries) => (outcome, entries),
+        Err(_) => (Outcome::Memory, Vec::new(alloc)),
+    }
+}
+
+impl<A: Allocator + Copy> Inspector<'_, A> {
+    // Answers a line, in this detail.
+    fn answer_in<W: Output>(
+        &mut self,
+        detail: Detail,
+        line: &[u8],
+        writer: &mut W,
+    ) -> Result<(), WriteFault>
+        ensures { (text : List ℕ) × IsAnswered line.now self.old self.new
+            × SendsOrBreaks (W.taker writer.old) (W.taker writer.new) result text }
+    {
+        let line = meant_by(line, &self.last);
+        let outcome = self.obey(line.as_slice());
+        self.last = line;
+        let (outcome, entries) = with_entries(self.alloc, &mut self.history, outcome);
+        let stand = Stand {
+            scene: Scene {
+                program: &self.program,
+                lines: self.lines.as_slice(),
+            },
+            machine: self.history.machine(),
+            before: &self.before,
+            breaks: self.breaks.as_slice(),
+            watches: self.watches.as_slice(),
+            entries: entries.as_slice(),
+            most: self.most,
+            detail,
+        };
+        tell(self.alloc, &stand, outcome, writer)
+    }
+
+    /// Answers a line for whoever shows source and screen beside the answer: at a stop it has neither.
+    pub fn answer_beside<W: Output>(
+        &mut self,
+        line: &[u8],
+        writer: &mut W,
+    ) -> Result<(), WriteFault>
+        ensures { (text : List ℕ) × IsAnswered line.now self.old self.new
+            × SendsOrBreaks (W.taker writer.old) (W.taker writer.new) result text }
+    {
+        self.answer_in(Detail::Beside, line, writer)
+    }
+}
+
+impl<A: Allocator + Copy> Partner for Inspector<'_, A> {
+    ghost use Rattle.a2_debugger.specs.Inspections.{IsAnswered};
+
+    ghost meets = { λ line old text new. IsAnswered line old new };
+
+    fn answer<W: Output>(&mut self, line: &[u8], writer: &mut W) -> Result<(), WriteFault> {
+        self.answer_in(self.detail, line, writer)
+    }
+}
+
+impl<A: Allocator> Inspector<'_, A> {
+    /// From now on no answer has lines of the source, but for that of `list`, which asks for them.
+    pub fn tell_plainly(&mut self)
+        ensures { self.new ≡ self.old }
+    {
+        self.detail = Detail::Plain;
+    }
+}
+
+// What is shown of a run beside its answers.
+impl<'a, A: Allocator> Inspector<'a, A> {
+    /// The machine where the run stands.
+    pub fn machine(&self) -> &Machine<A>
+        ensures { world_of_state result.now.state ≡ here self.now.track }
+    {
+        self.history.machine()
+    }
+
+    /// The machine before the last line that asked for something.
+    pub fn before(&self) -> &Machine<A> {
+        &self.before
+    }
+
+    /// The source's program.
+    pub fn program(&self) -> &Program<A>
+        ensures { result.now ≡ self.now.program }
+    {
+        &self.program
+    }
+
+    /// The source's lines.
+    pub fn lines(&self) -> &[&'a [u8]] {
+        self.lines.as_slice()
+    }
+}

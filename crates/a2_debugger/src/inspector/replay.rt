@@ -1,0 +1,39 @@
+//! A run that was made elsewhere, made again.
+
+ghost use Rattle.std.specs.Prelude.{◌≡◌, ◌↔◌, ◌-◌, min, true, false, OnOk, OnErr};
+ghost use Rattle.a2_debugger.specs.Inspections.{GoesOn, with_keys_typed};
+
+use super::{Inspector, go_on, note};
+use a2_bus::Keys;
+use a2_history::{Nothing, TypingFault};
+use std::alloc::Allocator;
+
+/// The greatest position.
+const MOST_POSITION: u64 = 100_000_000;
+
+impl<A: Allocator + Copy> Inspector<'_, A> {
+    /// Goes on to `position`, so many steps behind the start, or as far as the run goes, at most to 100,000,000: whether it
+    /// stands there. No byte counts as changed by that.
+    pub fn bring(&mut self, position: u64) -> bool
+        ensures gone { GoesOn (λ world. false) (min (position - self.old.track.position) 100_000_000) self.old.track
+            self.new.track }
+        ensures there { (result ≡ true) ↔ (self.new.track.position ≡ position) }
+        ensures kept { self.new ≡ record self.old { track = self.new.track } }
+    {
+        let ahead = position
+            .saturating_sub(self.history.position())
+            .min(MOST_POSITION) as u32;
+        let _ = go_on(&mut self.history, ahead, &Nothing, &Nothing);
+        note(&mut self.before, &self.history);
+        self.history.position() == position
+    }
+
+    /// Types `keys` where it stands; keys that were typed at later positions are forgotten. Refused, with nothing changed, where
+    /// more than 4,096 would wait, and for want of memory.
+    pub fn type_keys(&mut self, keys: Keys) -> Result<(), TypingFault>
+        ensures typed { OnOk result (self.new ≡ record self.old { track = with_keys_typed keys self.old.track }) }
+        ensures kept { OnErr result (self.new ≡ self.old) }
+    {
+        self.history.type_keys(keys)
+    }
+}

@@ -1,0 +1,111 @@
+//! What lines say.
+
+ghost use Rattle.std.specs.Prelude.{◌≡◌, ◌≢◌, None, Some, MatchOption, IfSome, IfNone, []};
+ghost use Rattle.a2_text.specs.Words.{words};
+ghost use Rattle.a2_debugger.specs.Sayings.{Says, SaysNone, count_in as count_of, place_in as place_of_words};
+ghost use Rattle.a2_debugger.specs.Sayings.{span_in as span_of_words, SpellsBehind, SpellsNoneBehind};
+
+use crate::conditions::{break_in, register_of};
+use crate::order::{Order, Show};
+use crate::stops::watchable;
+use crate::verbs::Verb;
+use a2_asm::Program;
+use a2_bus::Keys;
+use a2_places::{Span, place_of, span_of};
+use a2_text::{first_word, number_in, only_word};
+use std::alloc::Allocator;
+
+// The number that the one word of a text says; 1 where it has none.
+fn count_in(text: &[u8]) -> Option<u16>
+    ensures { result ≡ count_of (words text.now) }
+{
+    let Some((word, behind)) = first_word(text) else {
+        return Some(1);
+    };
+    match first_word(behind) {
+        Some(_) => None,
+        None => number_in(10, 5, word),
+    }
+}
+
+// The address that the one word of a text says.
+fn place_in<A: Allocator>(program: &Program<A>, text: &[u8]) -> Option<u16>
+    ensures { result ≡ place_of_words program.now (words text.now) }
+{
+    place_of(program, only_word(text)?)
+}
+
+// The addresses to watch that the one word of a text says.
+fn span_in<A: Allocator>(program: &Program<A>, text: &[u8]) -> Option<Span>
+    ensures { result ≡ span_of_words program.now (words text.now) }
+{
+    watchable(span_of(program, only_word(text)?))
+}
+
+// The keys that stand behind the one blank.
+fn keys_in(rest: &[u8]) -> Option<Keys>
+    ensures some { IfSome result (λ keys. SpellsBehind rest.now keys) }
+    ensures none { IfNone result (SpellsNoneBehind rest.now) }
+{
+    let (_, text) = rest.split_first()?;
+    let Ok(text) = std::str::from_utf8(text) else {
+        return None;
+    };
+    Keys::parse(text)
+}
+
+// The value that is to be shown: PC's, a register's, or else a place's.
+fn value_in<A: Allocator>(program: &Program<A>, rest: &[u8]) -> Option<Show> {
+    let word = only_word(rest)?;
+    if word.eq_ignore_ascii_case(b"PC") {
+        return Some(Show::Counter);
+    }
+    match register_of(word) {
+        Some(register) => Some(Show::Register(register)),
+        None => Some(Show::Address(place_of(program, word)?)),
+    }
+}
+
+// The bytes that are to be shown.
+fn bytes_in<A: Allocator>(program: &Program<A>, rest: &[u8]) -> Option<Show> {
+    Some(Show::Memory(span_of(program, only_word(rest)?)?))
+}
+
+// What a word asks for that stands alone.
+fn alone(order: Order, rest: &[u8]) -> Option<Order>
+    ensures { MatchOption result (words rest.now ≢ []) (λ said. (said ≡ order) × (words rest.now ≡ [])) }
+{
+    match first_word(rest) {
+        Some(_) => None,
+        None => Some(order),
+    }
+}
+
+/// What a verb and what stands behind it ask for.
+pub fn order_of<A: Allocator>(program: &Program<A>, verb: Verb, rest: &[u8]) -> Option<Order>
+    ensures { MatchOption result (SaysNone program.now verb rest.now) (λ order. Says program.now verb rest.now order) }
+{
+    match verb {
+        Verb::Step => Some(Order::Step(count_in(rest)?)),
+        Verb::Back => Some(Order::Back(count_in(rest)?)),
+        Verb::Until => Some(Order::Until(place_in(program, rest)?)),
+        Verb::Watch => Some(Order::Watch(span_in(program, rest)?)),
+        Verb::Who => Some(Order::Who(span_in(program, rest)?)),
+        Verb::Break => Some(Order::Break(break_in(program, rest)?)),
+        Verb::Keys => Some(Order::TypeKeys(keys_in(rest)?)),
+        Verb::Print => Some(Order::Show(value_in(program, rest)?)),
+        Verb::Mem => Some(Order::Show(bytes_in(program, rest)?)),
+        Verb::Next => alone(Order::Next, rest),
+        Verb::Out => alone(Order::Out, rest),
+        Verb::Rnext => alone(Order::GoBackOver, rest),
+        Verb::Go => alone(Order::Go, rest),
+        Verb::Rback => alone(Order::GoBack, rest),
+        Verb::Clear => alone(Order::Clear, rest),
+        Verb::Where => alone(Order::Show(Show::Place), rest),
+        Verb::Regs => alone(Order::Show(Show::Registers), rest),
+        Verb::Screen => alone(Order::Show(Show::Screen), rest),
+        Verb::List => alone(Order::Show(Show::Lines), rest),
+        Verb::Info => alone(Order::Show(Show::Stops), rest),
+        Verb::Help => alone(Order::Show(Show::Help), rest),
+    }
+}

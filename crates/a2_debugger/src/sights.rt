@@ -1,0 +1,159 @@
+//! What is looked for in a run.
+
+use crate::alerts::Alerts;
+use crate::stops::{Break, Moment, are_changed, is_at_break, is_changed_in, ram_of};
+use a2_burst::Look;
+use a2_history::{Lookout, Sight};
+use a2_machine::Machine;
+use a2_places::Span;
+use std::alloc::Allocator;
+
+/// Worlds at an address.
+#[derive(Clone, Copy)]
+pub struct At {
+    pub address: u16,
+}
+
+impl Sight for At {
+    ghost use Rattle.std.specs.Prelude.{◌==◌};
+
+    ghost is_seen = { λ at world. world.registers.pc == at.address };
+
+    fn is_seen<A: Allocator>(&self, machine: &Machine<A>) -> bool {
+        machine.regs().pc == self.address
+    }
+}
+
+impl Lookout for At {
+    ghost use Rattle.std.specs.Prelude.{◌==◌};
+
+    ghost alarms = { λ at shown. shown.look.next_pc == at.address };
+
+    #[inline(always)]
+    fn alarms(&self, look: Look, _ram: &[u8]) -> bool {
+        look.next_pc == self.address
+    }
+}
+
+/// Worlds at a breakpoint, or in which a watched byte is another than in a machine before.
+#[derive(Clone, Copy)]
+pub struct Stops<'a, B: Allocator> {
+    pub breaks: &'a [Break],
+    pub watches: &'a [Span],
+    pub before: &'a Machine<B>,
+}
+
+impl<B: Allocator> Sight for Stops<'_, B> {
+    ghost use Rattle.a2_machine.specs.State.{world_of_state};
+    ghost use Rattle.a2_debugger.specs.Stops.{is_stop};
+
+    ghost is_seen = { λ stops world. is_stop stops.breaks.now stops.watches.now (world_of_state stops.before.now.state) world };
+
+    fn is_seen<A: Allocator>(&self, machine: &Machine<A>) -> bool {
+        is_at_break(self.breaks, &Moment::of(machine))
+            || are_changed(self.watches, ram_of(self.before), ram_of(machine))
+    }
+}
+
+/// What alarms on the way to a stop: a step to a breakpoint whose condition holds, and one that may have stored where a watched
+/// byte is another.
+#[derive(Drop)]
+pub struct Alarm<'a, B: Allocator> {
+    pub alerts: Alerts<'a>,
+    pub stops: Stops<'a, B>,
+}
+
+impl<B: Allocator> Alarm<'_, B> {
+    ghost use Rattle.std.specs.Prelude.{◌≡◌, ◌&&◌, slice_get};
+    ghost use Rattle.std.specs.List.{list_any};
+    ghost use Rattle.a2_bus.specs.Memory.{peek};
+    ghost use Rattle.a2_machine.specs.State.{world_of_state};
+    ghost use Rattle.a2_debugger.specs.Alerts.{is_marked, moment_behind};
+    ghost use Rattle.a2_debugger.specs.Stops.{is_hit, is_span_changed};
+
+    // Whether a step comes to a breakpoint whose condition holds.
+    #[inline(always)]
+    fn comes_to_break(&self, look: Look, ram: &[u8]) -> bool
+        ensures { result ≡ (is_marked self.now.alerts.stops look.next_pc
+            && list_any (is_hit (moment_behind (record { look = look; ram = slice_get ram.now }))) self.now.stops.breaks.now) }
+    {
+        self.alerts.has_stop(look.next_pc)
+            && is_at_break(self.stops.breaks, &Moment::behind(look, ram))
+    }
+
+    // Whether a step may have stored, and a watched byte is another behind it.
+    #[inline(always)]
+    fn leaves_change(&self, look: Look, ram: &[u8]) -> bool
+        ensures { result ≡ (is_marked self.now.alerts.stores look.pc
+            && list_any (is_span_changed (peek (world_of_state self.now.stops.before.now.state).memory) (slice_get ram.now))
+            self.now.stops.watches.now) }
+    {
+        self.alerts.may_store(look.pc)
+            && are_changed(self.stops.watches, ram_of(self.stops.before), ram)
+    }
+}
+
+impl<B: Allocator> Lookout for Alarm<'_, B> {
+    ghost use Rattle.a2_machine.specs.State.{world_of_state};
+    ghost use Rattle.a2_debugger.specs.Alerts.{alarms as alarms_of};
+
+    ghost alarms = { λ alarm shown. alarms_of alarm.alerts alarm.stops.breaks.now alarm.stops.watches.now
+        (world_of_state alarm.stops.before.now.state) shown };
+
+    #[inline(always)]
+    fn alarms(&self, look: Look, ram: &[u8]) -> bool {
+        self.comes_to_break(look, ram) || self.leaves_change(look, ram)
+    }
+}
+
+/// Worlds in which a routine is left, by the stack pointer before its JSR; and those of stops.
+#[derive(Drop)]
+pub struct Left<'a, B: Allocator> {
+    pub s: u8,
+    pub alarm: Alarm<'a, B>,
+}
+
+impl<B: Allocator> Sight for Left<'_, B> {
+    ghost use Rattle.a2_machine.specs.State.{world_of_state};
+    ghost use Rattle.a2_debugger.specs.Stops.{is_stop};
+    ghost use Rattle.a2_debugger.specs.Inspections.{is_left};
+
+    ghost is_seen = { λ left world. is_left left.s (is_stop left.alarm.stops.breaks.now left.alarm.stops.watches.now
+        (world_of_state left.alarm.stops.before.now.state)) world };
+
+    fn is_seen<A: Allocator>(&self, machine: &Machine<A>) -> bool {
+        machine.regs().s >= self.s || self.alarm.stops.is_seen(machine)
+    }
+}
+
+impl<B: Allocator> Lookout for Left<'_, B> {
+    ghost use Rattle.std.specs.Prelude.{◌||◌, nat_le};
+    ghost use Rattle.a2_machine.specs.State.{world_of_state};
+    ghost use Rattle.a2_debugger.specs.Alerts.{alarms as alarms_of};
+
+    ghost alarms = { λ left shown. nat_le left.s shown.look.next_s || alarms_of left.alarm.alerts left.alarm.stops.breaks.now
+        left.alarm.stops.watches.now (world_of_state left.alarm.stops.before.now.state) shown };
+
+    #[inline(always)]
+    fn alarms(&self, look: Look, ram: &[u8]) -> bool {
+        look.next_s >= self.s || self.alarm.alarms(look, ram)
+    }
+}
+
+/// Worlds in which one of some bytes is another than in a machine before.
+#[derive(Drop)]
+pub struct Changed<'a, B: Allocator> {
+    pub span: Span,
+    pub before: &'a Machine<B>,
+}
+
+impl<B: Allocator> Sight for Changed<'_, B> {
+    ghost use Rattle.a2_machine.specs.State.{world_of_state};
+    ghost use Rattle.a2_debugger.specs.Stops.{is_changed_in as is_changed_in_of};
+
+    ghost is_seen = { λ changed world. is_changed_in_of (world_of_state changed.before.now.state) world changed.span };
+
+    fn is_seen<A: Allocator>(&self, machine: &Machine<A>) -> bool {
+        is_changed_in(&self.span, ram_of(self.before), ram_of(machine))
+    }
+}

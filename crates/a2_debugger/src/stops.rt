@@ -1,0 +1,233 @@
+//! Where a run stops for whoever looks: breakpoints with their conditions, and bytes that are watched.
+
+ghost use Rattle.std.specs.Prelude.{◌≡◌, ◌||◌, slice_get};
+ghost use Rattle.std.specs.List.{list_any};
+ghost use Rattle.a2_bus.specs.Memory.{peek};
+ghost use Rattle.a2_machine.specs.State.{world_of_state};
+ghost use Rattle.a2_debugger.specs.Alerts.{told, moment_behind};
+ghost use Rattle.a2_debugger.specs.Stops as stop;
+
+use a2_burst::Look;
+use a2_machine::Machine;
+use a2_places::Span;
+use std::alloc::Allocator;
+
+// The most bytes that are watched together.
+const MOST_WATCHED: u16 = 256;
+
+/// A register of a byte.
+#[derive(Clone, Copy)]
+pub enum Register {
+    A,
+    X,
+    Y,
+    S,
+    P,
+}
+
+/// What a condition is about.
+#[derive(Clone, Copy)]
+pub enum Subject {
+    /// What a register holds.
+    InRegister(Register),
+    /// The byte at an address.
+    InByte(u16),
+}
+
+/// How a condition compares.
+#[derive(Clone, Copy)]
+pub enum Relation {
+    Equal,
+    Other,
+    Less,
+    More,
+}
+
+/// What is to hold for a stop at a breakpoint.
+#[derive(Clone, Copy)]
+pub struct Condition {
+    pub subject: Subject,
+    pub relation: Relation,
+    pub value: u16,
+}
+
+/// A breakpoint.
+#[derive(Clone, Copy, Default)]
+pub struct Break {
+    pub address: u16,
+    /// Where there is one, only worlds in which it holds are stops.
+    pub condition: Option<Condition>,
+}
+
+/// What a stop may be about: the registers as bytes, and RAM.
+#[derive(Clone, Copy)]
+pub struct Moment<'a> {
+    pub pc: u16,
+    pub a: u8,
+    pub x: u8,
+    pub y: u8,
+    pub s: u8,
+    /// The flags, as the byte that PHP pushes.
+    pub p: u8,
+    /// The 49,152 bytes from address 0 on.
+    pub ram: &'a [u8],
+}
+
+impl<'a> Moment<'a> {
+    /// That of a machine.
+    pub fn of<A: Allocator>(machine: &'a Machine<A>) -> Moment<'a>
+        ensures { told result ≡ stop.moment_of (world_of_state machine.now.state) }
+    {
+        let regs = machine.regs();
+        Moment {
+            pc: regs.pc,
+            a: regs.a,
+            x: regs.x,
+            y: regs.y,
+            s: regs.s,
+            p: regs.p.pushed(),
+            ram: ram_of(machine),
+        }
+    }
+
+    /// That behind a step, as an observer is shown it.
+    #[inline(always)]
+    pub fn behind(look: Look, ram: &'a [u8]) -> Moment<'a>
+        ensures { told result ≡ moment_behind (record { look = look; ram = slice_get ram.now }) }
+    {
+        Moment {
+            pc: look.next_pc,
+            a: look.next_a,
+            x: look.next_x,
+            y: look.next_y,
+            s: look.next_s,
+            p: look.next_p,
+            ram,
+        }
+    }
+}
+
+/// A machine's RAM.
+pub fn ram_of<A: Allocator>(machine: &Machine<A>) -> &[u8]
+    ensures { slice_get result.now ≡ peek (world_of_state machine.now.state).memory }
+{
+    machine.space().ram()
+}
+
+// The byte of RAM at an address, where there is one.
+fn byte_at(ram: &[u8], address: u16) -> Option<u8>
+    ensures { result ≡ slice_get ram.now address }
+{
+    ram.get(usize::from(address)).copied()
+}
+
+/// What a register holds.
+pub fn in_register(register: Register, moment: &Moment) -> u8
+    ensures { result ≡ stop.in_register register (told moment.now) }
+{
+    match register {
+        Register::A => moment.a,
+        Register::X => moment.x,
+        Register::Y => moment.y,
+        Register::S => moment.s,
+        Register::P => moment.p,
+    }
+}
+
+// What a condition is about, where there is such a byte.
+fn value_of(subject: Subject, moment: &Moment) -> Option<u8>
+    ensures { result ≡ stop.value_of subject (told moment.now) }
+{
+    match subject {
+        Subject::InRegister(register) => Some(in_register(register, moment)),
+        Subject::InByte(address) => byte_at(moment.ram, address),
+    }
+}
+
+// Whether a value compares so with another.
+fn compares(relation: Relation, value: u8, than: u16) -> bool
+    ensures { result ≡ stop.compares relation value than }
+{
+    let value = u16::from(value);
+    match relation {
+        Relation::Equal => value == than,
+        Relation::Other => value != than,
+        Relation::Less => value < than,
+        Relation::More => value > than,
+    }
+}
+
+// Whether a condition holds, where there is one.
+fn holds(condition: Option<Condition>, moment: &Moment) -> bool
+    ensures { result ≡ stop.holds condition (told moment.now) }
+{
+    let Some(condition) = condition else {
+        return true;
+    };
+    match value_of(condition.subject, moment) {
+        Some(value) => compares(condition.relation, value, condition.value),
+        None => false,
+    }
+}
+
+// Whether a breakpoint is there and its condition holds.
+fn is_hit(place: &Break, moment: &Moment) -> bool
+    ensures { result ≡ stop.is_hit (told moment.now) place.now }
+{
+    place.address == moment.pc && holds(place.condition, moment)
+}
+
+// Whether two bytes, which may be none, differ.
+fn is_other(one: Option<u8>, other: Option<u8>) -> bool
+    ensures { result ≡ stop.is_other one other }
+{
+    match (one, other) {
+        (Some(one), Some(other)) => one != other,
+        _ => false,
+    }
+}
+
+// Whether this was found before, or the byte at an address is another than before.
+fn is_changed_too(was: bool, address: u16, before: &[u8], ram: &[u8]) -> bool
+    ensures { result ≡ (was || stop.is_changed address (slice_get before.now) (slice_get ram.now)) }
+{
+    was || is_other(byte_at(ram, address), byte_at(before, address))
+}
+
+/// Whether one of these bytes of RAM is another than before.
+pub fn is_changed_in(span: &Span, before: &[u8], ram: &[u8]) -> bool
+    ensures { result ≡ stop.is_span_changed (slice_get before.now) (slice_get ram.now) span.now }
+{
+    let first = u32::from(span.first);
+    let mut is_changed = false;
+    for offset in 0..(u32::from(span.last) + 1).saturating_sub(first) {
+        is_changed = is_changed_too(is_changed, (first + offset) as u16, before, ram);
+    }
+    is_changed
+}
+
+/// Whether one of these breakpoints is there and its condition holds.
+pub fn is_at_break(breaks: &[Break], moment: &Moment) -> bool
+    ensures { result ≡ list_any (stop.is_hit (told moment.now)) breaks.now }
+{
+    breaks.iter().any(|place| is_hit(place, moment))
+}
+
+/// Whether one of the watched bytes of RAM is another than before.
+pub fn are_changed(watches: &[Span], before: &[u8], ram: &[u8]) -> bool
+    ensures { result ≡ list_any (stop.is_span_changed (slice_get before.now) (slice_get ram.now)) watches.now }
+{
+    watches.iter().any(|span| is_changed_in(span, before, ram))
+}
+
+/// The addresses, where they may be watched together: at most 256.
+pub fn watchable(span: Option<Span>) -> Option<Span>
+    ensures { result ≡ stop.watchable span }
+{
+    let span = span?;
+    if u32::from(span.last) < u32::from(span.first) + u32::from(MOST_WATCHED) {
+        Some(span)
+    } else {
+        None
+    }
+}

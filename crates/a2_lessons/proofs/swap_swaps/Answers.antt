@@ -1,5 +1,0 @@
-use Rattle.a2_lessons.proofs.Swapping as theorem
-use Rattle.a2_lessons.proofs.swap_swaps.Goals as goal
-
-pub returns : goal.returns
-returns c = theorem.swap_swaps

@@ -1,5 +1,0 @@
-use Rattle.a2_lessons.proofs.AddingWords as theorem
-use Rattle.a2_lessons.proofs.wide_sum_adds.Goals as goal
-
-pub returns : goal.returns
-returns c = theorem.wide_sum_adds

@@ -1,0 +1,40 @@
+-- What is told beside the lines of the Monitor's answers. This project's profile.
+use Rattle.std.specs.Prelude.{◌≡◌, ◌⊎◌, ℕ, ◌==◌, false, List, ◌++◌, codes, All}
+use Rattle.std.specs.List.{flat_map}
+use Rattle.a2_monitor_session.specs.Calls.{Attended}
+use Rattle.a2_monitor_session.specs.Monitors.{IsAnswer}
+
+-- no line ends within
+abbrev pub IsPlain : List ℕ → Type 0
+IsPlain text = All (λ c. (c == 10) ≡ false) text
+
+-- a line, and what is told beside it
+pub record Row : Type 0 where
+  pub line : List ℕ
+  pub told : List ℕ
+
+abbrev pub IsRow : Row → Type 0
+IsRow row = IsPlain row.line × IsPlain row.told
+
+-- the line alone, and with what is told beside it
+abbrev pub line_alone : Row → List ℕ
+line_alone row = row.line ++ codes "\n"
+
+abbrev pub line_whole : Row → List ℕ
+line_whole row = row.line ++ row.told ++ codes "\n"
+
+-- a text is another, of which something is told behind lines, each before its end
+pub record IsBeside (own text : List ℕ) : Type 0 where
+  pub rows : List Row
+  pub are_rows : All IsRow rows
+  pub rest : List ℕ
+  pub own_is : own ≡ flat_map line_alone rows ++ rest
+  pub text_is : text ≡ flat_map line_whole rows ++ rest
+
+-- the same, or a line that says that there was no memory for it
+abbrev pub IsToldOrNot : List ℕ → List ℕ → Type 0
+IsToldOrNot own text = IsBeside own text ⊎ (text ≡ codes "NO MEMORY FOR THE ANSWER\n")
+
+-- the Monitor's own answer to a line, told so, and what that leaves
+abbrev pub IsAnswerBeside : List ℕ → Attended → List ℕ → Attended → Type 0
+IsAnswerBeside line old text new = (own : List ℕ) × IsAnswer line old own new × IsToldOrNot own text

@@ -1,0 +1,22 @@
+-- What is pressed while a program waits for a key. This project's profile.
+use Rattle.std.specs.Prelude.{ℕ, ◌<◌, false, List, [], Some, None}
+use Rattle.a2_strokes.specs.Strokes.{first}
+use Rattle.a2_strokes.specs.declared.strokes.Stroke.{Stroke}
+use Rattle.a2_strokes.specs.declared.strokes.Stroke.TheVariants as stroke
+use Rattle.a2_monitor_session.specs.declared.press.Press.{Press}
+use Rattle.a2_monitor_session.specs.declared.press.Press.TheVariants.{Key, Stop, Nothing}
+
+-- one key and nothing behind it; Ctrl-] stops the program
+abbrev pub pressed_by : Stroke → List ℕ → Press
+pressed_by (stroke.Key key) [] = Key key
+pressed_by stroke.Prefix [] = Stop
+pressed_by _ _ = Nothing
+
+-- RETURN comes as a line without bytes
+abbrev pub pressed : List ℕ → Press
+pressed line = elim (first false line) [ None ↦ Key 13 | Some found ↦ pressed_by found.stroke found.rest ]
+
+-- a key has seven bits
+abbrev pub HasCode : Press → Type 0
+HasCode (Key key) = key < 128
+HasCode _ = Unit {0}

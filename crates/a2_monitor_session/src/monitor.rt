@@ -1,0 +1,386 @@
+//! The Monitor at a terminal.
+
+ghost use Rattle.std.specs.Prelude.{◌≡◌, ◌↔◌, ◌-◌, ◌<◌, ◌≤◌, ◌++◌, [], ℕ, List, true, Some, None, is_some, if◌then◌else◌, IfOk};
+ghost use Rattle.std.specs.Prelude.{IfErr};
+ghost use Rattle.a2_stream.specs.Stream.{SendsOrBreaks};
+ghost use Rattle.a2_asm.specs.Assembled.{Assembled};
+ghost use Rattle.a2_machine.specs.State.{world_of_state};
+ghost use Rattle.a2_talk.specs.Turns.{RepliesTo};
+ghost use Rattle.a2_monitor.specs.Replies.{IsReply};
+ghost use Rattle.a2_monitor.specs.Sittings.{IsFreeRun, sitting_of};
+ghost use Rattle.a2_run.specs.Scripts.{start_sitting};
+ghost use Rattle.a2_run.specs.Meaning.{IsProgramOf};
+ghost use Rattle.a2_run.specs.Started.{IsStarted, RefusesText};
+ghost use Rattle.a2_monitor_session.specs.Monitors.{IsHelp, IsBegun, IsTurnedDown};
+ghost use Rattle.a2_monitor_session.specs.Calls.{Begin, IsTold, IsCallTold, IsPressTold, ending};
+ghost use Rattle.a2_monitor_session.specs.Presses.{pressed};
+ghost use Rattle.a2_monitor_session.specs.Screens.{screen_of, screen_where};
+ghost use Rattle.a2_monitor_session.specs.declared.press.Press.TheVariants.{Key};
+
+use crate::look::{Look, put_screen};
+use crate::press::{Press, press_of};
+use a2_asm::Program;
+use a2_bus::Keys;
+use a2_hex::{HexFault, load_lines};
+use a2_machine::{Cause, FIRST_ENTRY, Machine};
+use a2_monitor::{MOST_STEPS, MonFault, Session, called_in};
+use a2_run::{RunFault, program_of, started};
+use a2_stream::{Output, WriteFault, put, put_all};
+use a2_talk::Partner;
+use a2_text::capital;
+use std::alloc::{AllocError, Allocator, Global};
+use std::cell::Cell;
+use std::marker::Model;
+
+// The forms of lines, in words.
+const HELP: &[u8] = b"300            shows the byte there
+300.30F        shows bytes
+300:A9 C1      stores bytes; :20 ED goes on behind them
+400<300.30FM   copies
+400<300.30FV   tells where bytes differ
+300L           lists 20 instructions
+300G           calls what stands there; keys that it waits for are typed
+quit, Ctrl-D   ends
+Numbers are hexadecimal.
+";
+
+/// What tells that a program waits.
+const WAITS: &[u8] = b"IT WAITS FOR A KEY; CTRL-] STOPS IT\n";
+
+/// What tells that a key was not typed.
+const FULL: &[u8] = b"4096 KEYS WAIT\n";
+
+/// The Monitor at a terminal: a session whose lines are answered, a refused one by the text of its refusal. `help`, in either
+/// case, tells the forms. Behind a run stands the picture of its screen, where that changed. Where keys can be typed, a program
+/// that is called and wants one waits for it: each line is then a key, as the terminal gives it, until the run ends. Contracts
+/// see the session, whether keys can be typed, and the steps that a program which waits may still make.
+pub struct Monitor<'a, A: Allocator = Global> {
+    session: Session<A>,
+    // What says to whoever reads the terminal that a key is wanted, and no line.
+    keyboard: Option<&'a Cell<bool>>,
+    wait: Option<u32>,
+}
+
+// Not derived, for the prover alone: it follows this as one call, and a derived one field by field.
+impl<'a, A: Allocator> Drop for Monitor<'a, A> {
+    fn drop(self) {
+        let Monitor {
+            session: _,
+            keyboard: _,
+            wait: _,
+        } = self;
+    }
+}
+
+impl<'a, A: Allocator> Model for Monitor<'a, A> {
+    ghost use Rattle.std.specs.Prelude.{is_some};
+    ghost use Rattle.a2_monitor_session.specs.Calls.{Attended};
+
+    ghost Value = { Attended };
+
+    ghost view = { λ m. record { session = m.session; is_live = is_some m.keyboard; wait = m.wait } };
+}
+
+// Whether a line asks for help.
+fn is_help(line: &[u8]) -> bool
+    ensures { (result ≡ true) ↔ IsHelp line.now }
+{
+    match line {
+        [a, b, c, d] => [capital(*a), capital(*b), capital(*c), capital(*d)] == *b"HELP",
+        _ => false,
+    }
+}
+
+// Does what a line says, and writes its answer or the text of its refusal.
+fn reply<A: Allocator, W: Output>(
+    session: &mut Session<A>,
+    line: &[u8],
+    writer: &mut W,
+) -> Result<(), WriteFault>
+    ensures { RepliesTo IsReply line.now (sitting_of session.old) (sitting_of session.new)
+        (W.taker writer.old) (W.taker writer.new) result }
+{
+    let Err(fault) = session.line(line, writer) else {
+        return Ok(());
+    };
+    if fault == MonFault::Write {
+        return Err(WriteFault);
+    }
+    put_all(&[fault.text().as_bytes(), b"\n"], writer)
+}
+
+/// A machine with what a text holds.
+#[derive(Drop)]
+struct Loaded<A: Allocator> {
+    machine: Machine<A>,
+    // That of a source; none where the text is object lines.
+    program: Option<Program<A>>,
+}
+
+// A machine with a source's program.
+fn with_source<A: Allocator + Copy>(alloc: A, text: &[u8]) -> Result<Loaded<A>, RunFault>
+    ensures made { IfOk result (λ loaded. (program : Assembled) × IsProgramOf text.now program
+        × IsStarted true program [] loaded.machine.state) }
+    ensures refused { IfErr result (λ fault. RefusesText text.now fault) }
+{
+    let program = program_of(alloc, text)?;
+    Ok(Loaded {
+        machine: started(alloc, &program, &Keys::new(), true)?,
+        program: Some(program),
+    })
+}
+
+// A machine with what a text holds: object lines, or else a source.
+fn with_text<A: Allocator + Copy>(alloc: A, text: &[u8]) -> Result<Loaded<A>, RunFault>
+    ensures begun { IfOk result (λ loaded. IsBegun text.now
+        (record { world = world_of_state loaded.machine.state; steps = loaded.machine.state.steps; next = 0 })) }
+    ensures refused { IfErr result (λ fault. IsTurnedDown text.now fault) }
+{
+    match load_lines(alloc, text) {
+        Ok(image) => {
+            let mut machine = Machine::new(alloc)?;
+            machine.boot(&image, FIRST_ENTRY);
+            Ok(Loaded {
+                machine,
+                program: None,
+            })
+        }
+        Err(HexFault::Memory) => Err(RunFault::Memory),
+        Err(_) => with_source(alloc, text),
+    }
+}
+
+impl<'a, A: Allocator + Copy> Monitor<'a, A> {
+    /// The Monitor over a machine as it is switched on. Keys can be typed where there is a `keyboard`: it holds, behind each
+    /// answer, whether the next line is a key. Refused only for want of memory.
+    pub fn new(alloc: A, keyboard: Option<&'a Cell<bool>>) -> Result<Monitor<'a, A>, AllocError>
+        ensures session { IfOk result (λ monitor. sitting_of monitor.session ≡ start_sitting) }
+        ensures live { IfOk result (λ monitor. monitor.is_live ≡ is_some keyboard.entry) }
+        ensures wait { IfOk result (λ monitor. monitor.wait ≡ None) }
+    {
+        let machine = Machine::new(alloc)?;
+        Ok(Monitor {
+            session: Session::new(machine),
+            keyboard,
+            wait: None,
+        })
+    }
+
+    /// The same with what `text` holds: object lines, or, where it is none, a source. Refused where the source is, and for
+    /// want of memory.
+    pub fn with(
+        alloc: A,
+        keyboard: Option<&'a Cell<bool>>,
+        text: &[u8],
+    ) -> Result<Monitor<'a, A>, RunFault>
+        ensures begun { IfOk result (λ monitor. IsBegun text.now (sitting_of monitor.session)) }
+        ensures live { IfOk result (λ monitor. monitor.is_live ≡ is_some keyboard.entry) }
+        ensures wait { IfOk result (λ monitor. monitor.wait ≡ None) }
+        ensures refused { IfErr result (λ fault. IsTurnedDown text.now fault) }
+    {
+        let (monitor, _) = Monitor::with_program(alloc, keyboard, text)?;
+        Ok(monitor)
+    }
+
+    // The same with the program, where the text is a source.
+    pub(crate) fn with_program(
+        alloc: A,
+        keyboard: Option<&'a Cell<bool>>,
+        text: &[u8],
+    ) -> Result<(Monitor<'a, A>, Option<Program<A>>), RunFault>
+        ensures begun { IfOk result (λ (monitor, _). IsBegun text.now (sitting_of monitor.session)) }
+        ensures live { IfOk result (λ (monitor, _). monitor.is_live ≡ is_some keyboard.entry) }
+        ensures wait { IfOk result (λ (monitor, _). monitor.wait ≡ None) }
+        ensures refused { IfErr result (λ fault. IsTurnedDown text.now fault) }
+    {
+        let loaded = with_text(alloc, text)?;
+        let monitor = Monitor {
+            session: Session::new(loaded.machine),
+            keyboard,
+            wait: None,
+        };
+        Ok((monitor, loaded.program))
+    }
+}
+
+/// What stood before a run.
+#[derive(Drop)]
+struct Before {
+    look: Look,
+    steps: u64,
+}
+
+// What stands there before a run.
+fn standing<A: Allocator>(session: &Session<A>) -> Before
+    ensures look { result.look ≡ screen_of (sitting_of session.now).world }
+    ensures steps { result.steps ≡ (sitting_of session.now).steps }
+{
+    let machine = session.machine();
+    Before {
+        look: Look::at(machine),
+        steps: machine.steps(),
+    }
+}
+
+// Writes how a run ended, or that its program waits.
+fn put_ending<A: Allocator, W: Output>(
+    session: &Session<A>,
+    waits: bool,
+    notice: &[u8],
+    cause: Cause,
+    writer: &mut W,
+) -> Result<(), WriteFault>
+    ensures { SendsOrBreaks (W.taker writer.old) (W.taker writer.new) result
+        (ending waits notice.now (sitting_of session.now) cause) }
+{
+    if waits {
+        put(notice, writer)
+    } else {
+        session.tell(cause, writer)
+    }
+}
+
+// Writes what is told behind a run: the screen where it changed, and how the run ended, or that its program waits.
+#[tactic(auto, using(a2_stream::proofs::Joined::broke_off, a2_stream::proofs::Joined::went_on))]
+fn put_run<A: Allocator, W: Output>(
+    session: &Session<A>,
+    is_changed: bool,
+    waits: bool,
+    notice: &[u8],
+    cause: Cause,
+    writer: &mut W,
+) -> Result<(), WriteFault>
+    ensures { SendsOrBreaks (W.taker writer.old) (W.taker writer.new) result
+        (screen_where is_changed (sitting_of session.now).world ++ ending waits notice.now (sitting_of session.now) cause) }
+{
+    put_screen(session.machine(), is_changed, writer)?;
+    put_ending(session, waits, notice, cause, writer)
+}
+
+// Whether a program that stopped so waits, where keys can be typed.
+fn waits_by(is_live: bool, cause: Cause) -> bool
+    ensures { result ≡ Rattle.a2_monitor_session.specs.Calls.waits_by is_live cause }
+{
+    match cause {
+        Cause::Keys => is_live,
+        _ => false,
+    }
+}
+
+// The steps that are left of so many to a program that waits.
+fn left_where(waits: bool, limit: u32, made: u64) -> Option<u32>
+    requires { made ≤ limit }
+    ensures { result ≡ (if waits then Some (limit - made) else None) }
+{
+    if waits {
+        Some(limit - made as u32)
+    } else {
+        None
+    }
+}
+
+impl<A: Allocator> Monitor<'_, A> {
+    /// Whether a program waits for a key, so that the next line is one.
+    pub(crate) fn is_waiting(&self) -> bool
+        ensures { result ≡ is_some self.now.wait }
+    {
+        self.wait.is_some()
+    }
+
+    // Notes whether a program waits, and how many steps it may still make.
+    fn note(&mut self, wait: Option<u32>)
+        ensures { self.new ≡ record self.old { wait = wait } }
+    {
+        self.wait = wait;
+        if let Some(keyboard) = self.keyboard {
+            keyboard.set(wait.is_some());
+        }
+    }
+
+    // Tells of a run, behind which it stands.
+    fn follow<W: Output>(
+        &mut self,
+        before: &Before,
+        limit: u32,
+        cause: Cause,
+        notice: &[u8],
+        writer: &mut W,
+    ) -> Result<(), WriteFault>
+        requires more { before.now.steps ≤ (sitting_of self.old.session).steps }
+        requires few { (sitting_of self.old.session).steps - before.now.steps ≤ limit }
+        ensures { (begin : Begin) → before.now.look ≡ screen_of begin.sitting.world → before.now.steps ≡ begin.sitting.steps
+            → IsFreeRun begin.world limit begin.sitting (sitting_of self.old.session) cause
+            → (text : List ℕ) × IsTold begin limit notice.now self.old.is_live text self.new
+            × SendsOrBreaks (W.taker writer.old) (W.taker writer.new) result text }
+    {
+        let machine = self.session.machine();
+        let is_same = before.look.is_at(machine);
+        let made = machine.steps() - before.steps;
+        let waits = waits_by(self.keyboard.is_some(), cause);
+        self.note(left_where(waits, limit, made));
+        put_run(&self.session, !is_same, waits, notice, cause, writer)
+    }
+
+    // Calls a program.
+    fn call<W: Output>(&mut self, at: u16, writer: &mut W) -> Result<(), WriteFault>
+        ensures { (text : List ℕ) × IsCallTold at self.old text self.new
+            × SendsOrBreaks (W.taker writer.old) (W.taker writer.new) result text }
+    {
+        let before = standing(&self.session);
+        let cause = self.session.call(at);
+        self.follow(&before, MOST_STEPS, cause, WAITS, writer)
+    }
+
+    // Types a key at a program that waits, and lets it go on.
+    fn type_key<W: Output>(&mut self, key: u8, limit: u32, writer: &mut W) -> Result<(), WriteFault>
+        requires { key < 128 }
+        ensures { (text : List ℕ) × IsPressTold limit (Key key) self.old text self.new
+            × SendsOrBreaks (W.taker writer.old) (W.taker writer.new) result text }
+    {
+        if self.session.type_keys(&Keys::one(key)).is_err() {
+            return put(FULL, writer);
+        }
+        let before = standing(&self.session);
+        let cause = self.session.go_on(limit);
+        self.follow(&before, limit, cause, b"", writer)
+    }
+
+    // Does what is pressed while a program waits.
+    fn press<W: Output>(
+        &mut self,
+        line: &[u8],
+        limit: u32,
+        writer: &mut W,
+    ) -> Result<(), WriteFault>
+        ensures { (text : List ℕ) × IsPressTold limit (pressed line.now) self.old text self.new
+            × SendsOrBreaks (W.taker writer.old) (W.taker writer.new) result text }
+    {
+        match press_of(line) {
+            Press::Key(key) => self.type_key(key, limit, writer),
+            Press::Stop => {
+                self.note(None);
+                self.session.tell(Cause::Keys, writer)
+            }
+            Press::Nothing => Ok(()),
+        }
+    }
+}
+
+impl<A: Allocator> Partner for Monitor<'_, A> {
+    ghost use Rattle.a2_monitor_session.specs.Monitors.{IsAnswer};
+
+    ghost meets = { IsAnswer };
+
+    fn answer<W: Output>(&mut self, line: &[u8], writer: &mut W) -> Result<(), WriteFault> {
+        if let Some(limit) = self.wait {
+            return self.press(line, limit, writer);
+        }
+        if is_help(line) {
+            return put(HELP, writer);
+        }
+        match called_in(line) {
+            Some(at) => self.call(at, writer),
+            None => reply(&mut self.session, line, writer),
+        }
+    }
+}

@@ -1,0 +1,25 @@
+-- Keys that are typed for a routine, and that it takes. This project's own.
+use Rattle.std.specs.Prelude.{◌≡◌, ℕ, suc, List, [], map, Option}
+use Rattle.std.specs.List.{concat}
+use Rattle.a2_bus.specs.PowerOn.{start_memory}
+use Rattle.a2_services.specs.World.{World}
+use Rattle.a2_machine.specs.Meaning.{world_at}
+use Rattle.a2_promise.specs.declared.promises.Promise.{Promise}
+use Rattle.a2_promise_try.specs.Entering.{laid}
+use Rattle.a2_promise_try.specs.Kept.{Keeps, code}
+use Rattle.a2_promise_try.specs.States.{Trial}
+
+-- the keys that a promise says are taken: the characters of its texts, one behind another
+abbrev pub keys_of : Promise → List ℕ
+keys_of promise = concat (map (λ text. text.characters.items) promise.texts.takes.items)
+
+-- the routine of a program entered as `laid` has it, where these keys wait, and no others
+abbrev pub laid_with_keys : (ℕ → Option ℕ) → ℕ → List ℕ → Trial
+laid_with_keys program address keys =
+    let trial = laid program address [] in
+    record trial { base = record trial.base { memory = start_memory program keys } }
+
+-- a promise is kept in a world within the limit, and all keys are taken: none waits behind the routine's return
+pub record KeepsWithKeys (promise : Promise) (limit : ℕ) (world : World) : Type 0 where
+  pub keeps : Keeps promise limit world
+  pub taken : (world_at code world (suc keeps.steps)).memory.devices.keys ≡ []

@@ -1,0 +1,23 @@
+-- A state in which a routine is tried, as a machine that enters it. This project's own.
+use Rattle.std.specs.Prelude.{◌≡◌, ℕ, List, Option, Some, None, IfSome}
+use Rattle.a2_services.specs.World.{World}
+use Rattle.a2_machine.specs.Start.{called_at, start_world}
+use Rattle.a2_machine.specs.State.{Device}
+use Rattle.a2_promise_try.specs.declared.inputs.Input.{Input}
+use Rattle.a2_promise_try.specs.States.{with_values}
+
+-- what is laid over RAM: each byte of the program, and others, which may be any
+abbrev pub IsFilled : (ℕ → Option ℕ) → (ℕ → Option ℕ) → Type 0
+IsFilled program filled = (a : ℕ) → IfSome (program a) (λ byte. filled a ≡ Some byte)
+
+-- The machine at its start, with the program and bytes that may be any laid over its RAM, and these keys typed, as by a JSR at the
+-- routine of an address; and there these inputs have these values.
+pub record IsEntry (program : ℕ → Option ℕ) (address : ℕ) (keys : List ℕ) (inputs : List Input) (values : List ℕ) (world : World) : Type 0 where
+  pub filled : ℕ → Option ℕ
+  pub is_filled : IsFilled program filled
+  pub world_is : world ≡ with_values inputs values (called_at address (start_world filled address keys))
+
+-- it has made no step since its start, and has no guard
+pub record IsFresh (machine : Device) : Type 0 where
+  pub steps : machine.state.steps ≡ 0
+  pub guard : machine.state.guard ≡ None

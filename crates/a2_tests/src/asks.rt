@@ -1,0 +1,223 @@
+//! Whether what a line of a case asks holds of a run's end.
+
+ghost use Rattle.std.specs.Prelude.{◌≡◌, ◌↔◌, true, false, map, MatchOption};
+ghost use Rattle.std.specs.List.{list_all};
+ghost use Rattle.a2_bus.specs.View.{memory_of};
+ghost use Rattle.a2_effect.specs.View.{registers_of};
+ghost use Rattle.a2_text.specs.Words.{words};
+ghost use Rattle.a2_tests.specs.Asks as asked;
+ghost use Rattle.a2_tests.specs.Asks.{IsFirstMissed, Meets, MeetsAll, MeetsFirst, end_at};
+
+use crate::line::{Asked, Line, behind};
+use crate::rows::{holds, row_is, rows_fit};
+use crate::settings::{byte_of, digits_in, name_in};
+use a2_asm::{Program, Statement};
+use a2_cpu::Regs;
+use a2_machine::{Cause, Machine};
+use a2_opcode::Mnemonic;
+use a2_text::{first_word, number_in};
+use std::alloc::Allocator;
+
+/// A run's end: the program of the source, the machine where its run ended, by which cause, and the rows of its screen.
+#[derive(Drop)]
+pub(crate) struct Ending<'a, A: Allocator> {
+    pub program: &'a Program<A>,
+    pub machine: &'a Machine<A>,
+    pub cause: Cause,
+    pub rows: &'a [&'a [u8]],
+}
+
+/// The address of a place: a number behind `$`, or a name of the program.
+pub(crate) fn place_of<A: Allocator>(program: &Program<A>, place: &str) -> Option<u16>
+    ensures { result ≡ asked.place_of program.now place.now }
+{
+    match place.as_bytes() {
+        [b'$', digits @ ..] => number_in(16, 4, digits),
+        _ => program.name(place),
+    }
+}
+
+// Whether a byte is the one that is wanted.
+fn is_byte(byte: Option<u8>, wanted: Option<u16>) -> bool
+    ensures { result ≡ asked.is_byte byte wanted }
+{
+    match byte {
+        Some(byte) => match wanted {
+            Some(wanted) => u16::from(byte) == wanted,
+            None => false,
+        },
+        None => false,
+    }
+}
+
+/// The first byte of memory that is not as it is wanted from an address on: its address, and the word that says what is wanted.
+pub(crate) fn first_other<'a, A: Allocator>(
+    machine: &Machine<A>,
+    address: u16,
+    bytes: &'a [u8],
+) -> Option<(u16, &'a [u8])>
+    ensures { MatchOption result (asked.has_bytes (memory_of machine.now.state.bus) address (words bytes.now) ≡ true)
+        (λ _. asked.has_bytes (memory_of machine.now.state.bus) address (words bytes.now) ≡ false) }
+{
+    let mut rest = bytes;
+    let mut at = address;
+    while let Some((word, behind)) = first_word(rest) {
+        if !is_byte(machine.peek(at), byte_of(word)) {
+            return Some((at, word));
+        }
+        at = at.wrapping_add(1);
+        rest = behind;
+    }
+    None
+}
+
+// What a register of one letter holds.
+fn held_by(regs: Regs, name: &[u8]) -> Option<u8>
+    ensures { result ≡ asked.register_byte (registers_of regs) name.now }
+{
+    match name {
+        [c] => match *c {
+            b'A' => Some(regs.a),
+            b'X' => Some(regs.x),
+            b'Y' => Some(regs.y),
+            b'P' => Some(regs.p.pushed()),
+            b'S' => Some(regs.s),
+            _ => None,
+        },
+        _ => None,
+    }
+}
+
+/// What a register of the machine holds, by its letter.
+pub(crate) fn register_byte<A: Allocator>(machine: &Machine<A>, name: &[u8]) -> Option<u8>
+    ensures { result ≡ asked.register_byte (registers_of machine.now.state.regs) name.now }
+{
+    held_by(machine.regs(), name)
+}
+
+// Whether the register that a word names holds its byte.
+fn is_held<A: Allocator>(machine: &Machine<A>, word: &[u8]) -> bool
+    ensures { result ≡ asked.is_held (registers_of machine.now.state.regs) word.now }
+{
+    is_byte(
+        register_byte(machine, name_in(word)),
+        byte_of(digits_in(word)),
+    )
+}
+
+/// The first word of a text whose register does not hold its byte.
+pub(crate) fn first_wrong<'a, A: Allocator>(
+    machine: &Machine<A>,
+    text: &'a [u8],
+) -> Option<&'a [u8]>
+    ensures { MatchOption result (list_all (asked.is_held (registers_of machine.now.state.regs)) (words text.now) ≡ true)
+        (λ _. list_all (asked.is_held (registers_of machine.now.state.regs)) (words text.now) ≡ false) }
+{
+    let mut rest = text;
+    while let Some((word, behind)) = first_word(rest) {
+        if !is_held(machine, word) {
+            return Some(word);
+        }
+        rest = behind;
+    }
+    None
+}
+
+/// How many bytes statements have.
+pub(crate) fn size_of(statements: &[Statement]) -> u128
+    ensures { result ≡ asked.size_of statements.now }
+{
+    let mut size: u128 = 0;
+    for statement in statements {
+        size += u128::from(statement.length);
+    }
+    size
+}
+
+// Whether a statement is an instruction of this mnemonic.
+fn is_use(statement: &Statement, mnemonic: Mnemonic) -> bool
+    ensures { result ≡ asked.is_use mnemonic statement.now }
+{
+    match statement.instr {
+        Some(instr) => instr.mnemonic.name() == mnemonic.name(),
+        None => false,
+    }
+}
+
+/// The first statement that is an instruction of this mnemonic.
+pub(crate) fn user_of(statements: &[Statement], mnemonic: Mnemonic) -> Option<Statement>
+    ensures { result ≡ asked.user_of statements.now mnemonic }
+{
+    for statement in statements {
+        if is_use(statement, mnemonic) {
+            return Some(*statement);
+        }
+    }
+    None
+}
+
+// Whether two causes are one.
+fn is_cause(cause: Cause, other: Cause) -> bool
+    ensures { (result ≡ true) ↔ (cause ≡ other) }
+{
+    cause == other
+}
+
+// Whether these bytes stand at a place.
+fn has_bytes<A: Allocator>(ending: &Ending<A>, place: &str, bytes: &[u8]) -> bool
+    ensures { result ≡ asked.has_bytes_at (memory_of ending.now.machine.now.state.bus)
+        (asked.place_of ending.now.program.now place.now) bytes.now }
+{
+    match place_of(ending.program, place) {
+        Some(address) => first_other(ending.machine, address, bytes).is_none(),
+        None => false,
+    }
+}
+
+// Whether what a line asks of the program and the counts holds of a run's end.
+fn is_met_by<A: Allocator>(line: Line, rest: &[Asked], ending: &Ending<A>) -> bool
+    requires { map (λ x. x.now) ending.now.rows.now ≡ asked.rows_of (memory_of ending.now.machine.now.state.bus) }
+    ensures { (result ≡ true) ↔ Meets line.entry rest.now ending.now.program.now
+        (end_at ending.now.machine.now.state ending.now.cause) }
+{
+    match line {
+        Line::Screen => rows_fit(rest, ending.rows),
+        Line::Shows(number, text) => row_is(number, text, ending.rows),
+        Line::Holds(text) => holds(ending.rows, text),
+        Line::Mem(place, bytes) => has_bytes(ending, place, bytes),
+        Line::Reg(text) => first_wrong(ending.machine, text).is_none(),
+        Line::Stop(cause) => is_cause(ending.cause, cause),
+        Line::Cycles(most) => ending.machine.cycles() <= u64::from(most),
+        Line::Bytes(most) => size_of(ending.program.statements()) <= u128::from(most),
+        Line::Uses(mnemonic) => user_of(ending.program.statements(), mnemonic).is_some(),
+        Line::Avoids(mnemonic) => user_of(ending.program.statements(), mnemonic).is_none(),
+        _ => true,
+    }
+}
+
+// Whether what the first of these lines asks holds of a run's end.
+fn is_met<A: Allocator>(lines: &[Asked], ending: &Ending<A>) -> bool
+    requires { map (λ x. x.now) ending.now.rows.now ≡ asked.rows_of (memory_of ending.now.machine.now.state.bus) }
+    ensures { (result ≡ true) ↔ MeetsFirst lines.now ending.now.program.now
+        (end_at ending.now.machine.now.state ending.now.cause) }
+{
+    match lines {
+        [asked, rest @ ..] => is_met_by(asked.line, rest, ending),
+        [] => true,
+    }
+}
+
+/// The index of the first of these lines that asks what does not hold.
+pub(crate) fn first_missed<A: Allocator>(lines: &[Asked], ending: &Ending<A>) -> Option<usize>
+    requires { map (λ x. x.now) ending.now.rows.now ≡ asked.rows_of (memory_of ending.now.machine.now.state.bus) }
+    ensures { MatchOption result (MeetsAll lines.now ending.now.program.now
+        (end_at ending.now.machine.now.state ending.now.cause))
+        (λ n. IsFirstMissed lines.now ending.now.program.now (end_at ending.now.machine.now.state ending.now.cause) n) }
+{
+    for index in 0..lines.len() {
+        if !is_met(behind(lines, index), ending) {
+            return Some(index);
+        }
+    }
+    None
+}

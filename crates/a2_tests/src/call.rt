@@ -1,0 +1,152 @@
+//! What a case runs: the source, and where the case calls a routine, lines before it that call it.
+
+ghost use Rattle.std.specs.Prelude.{◌≡◌, ◌++◌, Some, None, IfOk, OnOk, IfSome, MatchOption, map, true, false};
+ghost use Rattle.std.specs.List.{flat_map};
+ghost use Rattle.a2_text.specs.Words.{words};
+ghost use Rattle.a2_tests.specs.Calls as said;
+
+use crate::line::{Asked, Call, Line};
+use crate::settings::{digits_in, name_in};
+use a2_text::first_word;
+use std::alloc::{AllocError, Allocator};
+
+// The call of a line, or the one before.
+fn call_or<'a>(before: Option<Call<'a>>, line: Line<'a>) -> Option<Call<'a>>
+    ensures { result ≡ said.call_or before.entry line.entry }
+{
+    match line {
+        Line::Call(call) => Some(call),
+        _ => before,
+    }
+}
+
+/// The call of a routine that lines ask for: that of the last line that says so.
+pub(crate) fn call_in<'a>(lines: &[Asked<'a>]) -> Option<Call<'a>>
+    ensures { result ≡ said.call_from None lines.now }
+{
+    let mut found = None;
+    for asked in lines {
+        found = call_or(found, asked.line);
+    }
+    found
+}
+
+// The operation that gives a register its byte.
+fn load_of<'a>(place: &'a [u8]) -> Option<&'a [u8]>
+    ensures { MatchOption result (said.load_of place.now ≡ None) (λ load. said.load_of place.now ≡ Some load.now) }
+{
+    match place {
+        [c] => match *c {
+            b'A' => Some(b" LDA #$"),
+            b'X' => Some(b" LDX #$"),
+            b'Y' => Some(b" LDY #$"),
+            _ => None,
+        },
+        _ => None,
+    }
+}
+
+/// Appends pieces.
+pub(crate) fn append<A: Allocator>(
+    text: &mut Vec<u8, A>,
+    pieces: &[&[u8]],
+) -> Result<(), AllocError>
+    ensures { OnOk result (text.new.items ≡ text.old.items ++ flat_map (λ piece. piece.now) pieces.now) }
+{
+    for piece in pieces {
+        text.extend_from_slice(piece)?;
+    }
+    Ok(())
+}
+
+// Appends the line of a word that gives a register its byte.
+fn append_load<A: Allocator>(text: &mut Vec<u8, A>, word: &[u8]) -> Result<(), AllocError>
+    ensures { OnOk result (text.new.items ≡ text.old.items ++ said.load_lines word.now) }
+{
+    match load_of(name_in(word)) {
+        Some(load) => append(text, &[load, digits_in(word), b"\n"]),
+        None => Ok(()),
+    }
+}
+
+// Appends the lines of a word that stores a byte.
+fn append_store<A: Allocator>(text: &mut Vec<u8, A>, word: &[u8]) -> Result<(), AllocError>
+    ensures { OnOk result (text.new.items ≡ text.old.items ++ said.store_lines word.now) }
+{
+    match load_of(name_in(word)) {
+        Some(_) => Ok(()),
+        None => append(
+            text,
+            &[
+                b" LDA #$",
+                digits_in(word),
+                b"\n STA ",
+                name_in(word),
+                b"\n",
+            ],
+        ),
+    }
+}
+
+// Appends the ones or the others.
+fn append_setting<A: Allocator>(
+    text: &mut Vec<u8, A>,
+    word: &[u8],
+    stores: bool,
+) -> Result<(), AllocError>
+    ensures { OnOk result (text.new.items ≡ text.old.items ++ said.setting_lines stores word.now) }
+{
+    if stores {
+        append_store(text, word)
+    } else {
+        append_load(text, word)
+    }
+}
+
+// Appends those of each word.
+fn append_settings<A: Allocator>(
+    text: &mut Vec<u8, A>,
+    settings: &[u8],
+    stores: bool,
+) -> Result<(), AllocError>
+    ensures { OnOk result (text.new.items ≡ text.old.items ++ said.all_lines stores (words settings.now)) }
+{
+    let mut rest = settings;
+    while let Some((word, behind)) = first_word(rest) {
+        append_setting(text, word, stores)?;
+        rest = behind;
+    }
+    Ok(())
+}
+
+// Appends the lines that call a routine and return, and behind which the source begins as it would by itself.
+#[tactic(auto, unfolding(crate::specs::Calls::call_lines))]
+fn append_call<A: Allocator>(text: &mut Vec<u8, A>, name: &[u8]) -> Result<(), AllocError>
+    ensures { OnOk result (text.new.items ≡ text.old.items ++ said.call_lines name.now) }
+{
+    append(text, &[b" JSR ", name, b"\n RTS\n ORG $300\n"])
+}
+
+// Appends a text.
+fn append_text<A: Allocator>(text: &mut Vec<u8, A>, other: &[u8]) -> Result<(), AllocError>
+    ensures { OnOk result (text.new.items ≡ text.old.items ++ other.now) }
+{
+    text.extend_from_slice(other)
+}
+
+/// The text that runs in a case that calls a routine: at $BF00 lines that store the bytes, load the registers, call the
+/// routine and return, and behind them the source.
+pub(crate) fn calling_text<A: Allocator>(
+    alloc: A,
+    call: Call,
+    source: &[u8],
+) -> Result<Vec<u8, A>, AllocError>
+    ensures { IfOk result (λ text. text.items ≡ said.calling_text call.entry.name.now call.entry.settings.now source.now) }
+{
+    let mut text = Vec::from_slice(alloc, b" ORG $BF00\n")?;
+    append_settings(&mut text, call.settings, true)?;
+    append_settings(&mut text, call.settings, false)?;
+    append_call(&mut text, call.name)?;
+    append_text(&mut text, source)?;
+    Ok(text)
+}

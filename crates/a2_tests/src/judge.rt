@@ -1,0 +1,233 @@
+//! What is found of a source, case by case.
+
+ghost use Rattle.std.specs.Prelude.{◌≡◌, [], Some, IfOk, IfErr};
+ghost use Rattle.a2_bus.specs.View.{memory_of};
+ghost use Rattle.a2_asm.specs.Assembled.{Assembled};
+ghost use Rattle.a2_machine.specs.Meaning.{End};
+ghost use Rattle.a2_run.specs.Meaning.{IsProgramOf, picture_of as picture};
+ghost use Rattle.a2_run.specs.Started.{RefusesText};
+ghost use Rattle.a2_tests.specs.Asks.{IsFirstMissed, end_at};
+ghost use Rattle.a2_tests.specs.Judging as judging;
+ghost use Rattle.a2_tests.specs.Judging.{AreKeys, AreVerdicts, IsFound, IsVerdict, IsVerdictOf, RunsTo};
+
+use crate::asks::{Ending, first_missed};
+use crate::call::{call_in, calling_text};
+use crate::cases::Case;
+use crate::line::{Asked, Line, behind};
+use crate::told::told_of_miss;
+use a2_asm::Program;
+use a2_bus::Keys;
+use a2_machine::{Cause, Machine};
+use a2_page::print;
+use a2_run::{DEFAULT_STEPS, RunFault, program_of, started};
+use a2_stream::{Kept, Output};
+use a2_text::cut;
+use std::alloc::{AllocError, Allocator};
+
+/// What is found of a case.
+pub enum Verdict<A: Allocator> {
+    /// All that it asks holds.
+    Passed,
+    /// What the line of this number asks does not hold; and what is there in its place.
+    Missed(usize, Vec<u8, A>),
+    /// Its routine can't be called: the source has none of that name, or it can't stand behind the lines that call it.
+    NotCalled,
+}
+
+// Not derived, for the prover alone: it follows this as one call, and a derived one field by field.
+impl<A: Allocator> Drop for Verdict<A> {
+    fn drop(self) {
+        match self {
+            Verdict::Passed => {}
+            Verdict::Missed(_, _) => {}
+            Verdict::NotCalled => {}
+        }
+    }
+}
+
+// The limit of a line, or the one before.
+fn limit_or(before: u32, line: Line) -> u32
+    ensures { result ≡ judging.limit_or before line.entry }
+{
+    match line {
+        Line::Limit(limit) => limit,
+        _ => before,
+    }
+}
+
+// The most steps that lines allow: of several the last.
+fn limit_in(lines: &[Asked]) -> u32
+    ensures { result ≡ judging.limit_of lines.now }
+{
+    let mut limit = DEFAULT_STEPS;
+    for asked in lines {
+        limit = limit_or(limit, asked.line);
+    }
+    limit
+}
+
+// The keys of a line, as they are spelt, or those before.
+fn keys_or<'a>(before: &'a str, line: Line<'a>) -> &'a str
+    ensures { result.now ≡ judging.keys_or before.now line.entry }
+{
+    match line {
+        Line::Keys(text) => text,
+        _ => before,
+    }
+}
+
+// The keys that lines have waiting, as they are spelt: of several the last.
+fn spelling_in<'a>(lines: &[Asked<'a>]) -> &'a str
+    ensures { result.now ≡ judging.keys_from [] lines.now }
+{
+    let mut keys = "";
+    for asked in lines {
+        keys = keys_or(keys, asked.line);
+    }
+    keys
+}
+
+// The keys that lines have waiting.
+fn keys_in(lines: &[Asked]) -> Keys
+    ensures { AreKeys (judging.keys_from [] lines.now) result }
+{
+    match Keys::parse(spelling_in(lines)) {
+        Some(keys) => keys,
+        None => Keys::new(),
+    }
+}
+
+// The picture of what a machine's screen shows.
+fn picture_of<A: Allocator + Copy>(alloc: A, machine: &Machine<A>) -> Result<Kept<A>, AllocError>
+    ensures { IfOk result (λ kept. (⟦<Kept<A> as Output>⟧.taker kept).bytes ≡ Some (picture (memory_of machine.now.state.bus))) }
+{
+    let mut picture = Kept::new(alloc);
+    match print(&machine.view(), &mut picture) {
+        Ok(()) => Ok(picture),
+        Err(_) => Err(AllocError),
+    }
+}
+
+// What is told of the first line whose demand does not hold.
+fn missed<A: Allocator + Copy>(
+    alloc: A,
+    lines: &[Asked],
+    index: usize,
+    ending: &Ending<A>,
+) -> Result<Verdict<A>, AllocError>
+    requires { IsFirstMissed lines.now ending.now.program.now (end_at ending.now.machine.now.state ending.now.cause) index }
+    ensures { IfOk result (λ verdict.
+        IsFound lines.now ending.now.program.now (end_at ending.now.machine.now.state ending.now.cause) verdict) }
+{
+    let told = told_of_miss(alloc, behind(lines, index), ending)?;
+    Ok(Verdict::Missed(lines[index].number, told))
+}
+
+// What is found of a run that ended.
+fn weighed<A: Allocator + Copy>(
+    alloc: A,
+    lines: &[Asked],
+    program: &Program<A>,
+    machine: &Machine<A>,
+    cause: Cause,
+) -> Result<Verdict<A>, AllocError>
+    ensures { IfOk result (λ verdict. IsFound lines.now program.now (end_at machine.now.state cause) verdict) }
+{
+    let picture = picture_of(alloc, machine)?;
+    let rows = cut(alloc, picture.as_slice())?;
+    let ending = Ending {
+        program,
+        machine,
+        cause,
+        rows: rows.as_slice(),
+    };
+    match first_missed(lines, &ending) {
+        None => Ok(Verdict::Passed),
+        Some(index) => missed(alloc, lines, index, &ending),
+    }
+}
+
+// What is found of the run of a program, where the source's program is this one.
+fn ran<A: Allocator + Copy>(
+    alloc: A,
+    lines: &[Asked],
+    program: &Program<A>,
+    running: &Program<A>,
+) -> Result<Verdict<A>, AllocError>
+    ensures { IfOk result (λ verdict. (end : End) × RunsTo lines.now running.now end
+        × IsFound lines.now program.now end verdict) }
+{
+    // For the prover alone: a law of every program, by which the guarded bytes run as its statements.
+    running.is_sound();
+    let keys = keys_in(lines);
+    let mut machine = started(alloc, running, &keys, false)?;
+    let cause = machine.run(limit_in(lines));
+    weighed(alloc, lines, program, &machine, cause)
+}
+
+// The verdict over a case that calls a routine.
+fn judge_call<A: Allocator + Copy>(
+    alloc: A,
+    lines: &[Asked],
+    text: &[u8],
+    program: &Program<A>,
+) -> Result<Verdict<A>, AllocError>
+    ensures { IfOk result (λ verdict. IsVerdictOf lines.now text.now program.now verdict) }
+{
+    match program_of(alloc, text) {
+        Ok(running) => ran(alloc, lines, program, &running),
+        Err(RunFault::Source(_)) => Ok(Verdict::NotCalled),
+        Err(_) => Err(AllocError),
+    }
+}
+
+// The verdict over a case of a source with this program.
+fn judge_case<A: Allocator + Copy>(
+    alloc: A,
+    lines: &[Asked],
+    source: &[u8],
+    program: &Program<A>,
+) -> Result<Verdict<A>, AllocError>
+    requires { IsProgramOf source.now program.now }
+    ensures { IfOk result (λ verdict. IsVerdict lines.now source.now program.now verdict) }
+{
+    match call_in(lines) {
+        Some(call) => {
+            let text = calling_text(alloc, call, source)?;
+            judge_call(alloc, lines, text.as_slice(), program)
+        }
+        None => ran(alloc, lines, program, program),
+    }
+}
+
+// The verdicts over the cases of a source with this program.
+fn judge_cases<A: Allocator + Copy>(
+    alloc: A,
+    cases: &[Case<A>],
+    source: &[u8],
+    program: &Program<A>,
+) -> Result<Vec<Verdict<A>, A>, AllocError>
+    requires { IsProgramOf source.now program.now }
+    ensures { IfOk result (λ verdicts. AreVerdicts source.now program.now cases.now verdicts.items) }
+{
+    let mut verdicts = Vec::new(alloc);
+    for case in cases {
+        verdicts.push(judge_case(alloc, case.lines.as_slice(), source, program)?)?;
+    }
+    Ok(verdicts)
+}
+
+/// What is found of a source in each of these cases. A case passed exactly where all that it asks holds of the end of its run.
+/// Refused where the source is, and for want of memory. This project's profile.
+pub fn judge_source<A: Allocator + Copy>(
+    alloc: A,
+    cases: &[Case<A>],
+    source: &[u8],
+) -> Result<Vec<Verdict<A>, A>, RunFault>
+    ensures judged { IfOk result (λ verdicts. (program : Assembled) × IsProgramOf source.now program
+        × AreVerdicts source.now program cases.now verdicts.items) }
+    ensures refused { IfErr result (λ fault. RefusesText source.now fault) }
+{
+    let program = program_of(alloc, source)?;
+    Ok(judge_cases(alloc, cases, source, &program)?)
+}

@@ -1,0 +1,172 @@
+-- A machine in the midst of a run at which keys are typed.
+use Rattle.std.proofs.Common.{◌≡◌, ◌⊎◌, inl, inr, ℕ, suc, ◌+◌, ◌-◌, ◌^◌, ◌<◌, ◌≤◌, List, [], length, refl, sym, ap, ap₂, ◌∙◌, subst, arith, Some, None}
+use Rattle.a2_bus.specs.View.{memory_of}
+use Rattle.a2_services.specs.World.{World}
+use Rattle.a2_machine.specs.declared.causes.Cause.{Cause}
+use Rattle.a2_machine.specs.declared.causes.Cause.TheVariants.{Limit}
+use Rattle.a2_machine.specs.Meaning.{Code, stuck, world_at}
+use Rattle.a2_machine.specs.ByteRun.{bytes}
+use Rattle.a2_machine.specs.State.{Device, world_of_state, code_of, steps_left, IsMachineRun}
+use Rattle.a2_timed_keys.specs.declared.strokes.Typed.{Typed}
+use Rattle.a2_timed_keys.specs.Typed.{keys_at, typed, with_keys, world_before_keys, world_with_keys, IsTypedStop, IsOverfull}
+use Rattle.a2_timed_keys.proofs.Worlds.{waiting, waiting-typed, world-start, world-typed, before-more, with-more}
+
+-- a machine stands behind so many steps, with the keys that are typed there
+pub record IsRunning (code : Code) (start : World) (log : List Typed) (limit made : ℕ) (machine : Device) : Type 0 where
+  pub within : made ≤ limit
+  pub steps : machine.state.steps ≡ made
+  pub code_is : code_of machine.state ≡ code
+  pub reached : world_of_state machine.state ≡ world_with_keys code start log made
+  pub first : (k : ℕ) → k < made → stuck code (world_with_keys code start log k) ≡ None
+
+pub keys_hold : (keys : List ℕ) (device : Device) → world_of_state (with_keys keys device).state ≡ typed keys (world_of_state device.state)
+unfolding typed memory_of
+keys_hold keys device = refl
+
+waiting_is : (device : Device) → waiting (world_of_state device.state) ≡ length device.state.bus.devices.keys
+unfolding memory_of
+waiting_is device = refl
+
+-- at the start
+pub running_start : (old new : Device) (log : List Typed) (limit : ℕ) → old.state.steps ≡ 0 → new ≡ with_keys (keys_at log 0) old
+    → IsRunning (code_of old.state) (world_of_state old.state) log limit 0 new
+running_start old new log limit steps is = subst (λ (d : Device). IsRunning (code_of old.state) (world_of_state old.state) log limit 0 d) (sym is) (record {
+  within = omega arith;
+  steps = steps;
+  code_is = refl;
+  reached = keys_hold (keys_at log 0) old ∙ sym (world-start (code_of old.state) (world_of_state old.state) log);
+  first = λ k l. absurd (omega (arith, l));
+})
+
+overfull : (code : Code) (start : World) (log : List Typed) (limit steps : ℕ) (device : Device) → steps ≤ limit
+    → ((k : ℕ) → k < steps → stuck code (world_with_keys code start log k) ≡ None)
+    → world_of_state device.state ≡ world_before_keys code start log steps
+    → 4096 < length device.state.bus.devices.keys + length (keys_at log steps) → IsOverfull code start log limit steps
+overfull code start log limit steps device within first holds full =
+    let count : waiting (world_with_keys code start log steps) ≡ length device.state.bus.devices.keys + length (keys_at log steps)
+    = ap (λ w. waiting w) (world-typed code start log steps) ∙ waiting-typed (keys_at log steps) (world_before_keys code start log steps)
+    ∙ ap (λ w. waiting w + length (keys_at log steps)) (sym holds) ∙ ap (λ n. n + length (keys_at log steps)) (waiting_is device) in
+    record { within = within; first = first; full = subst (λ n. 4096 < n) (sym count) full }
+
+pub overfull_start : (old : Device) (log : List Typed) (limit : ℕ) → 4096 < length old.state.bus.devices.keys + length (keys_at log 0)
+    → IsOverfull (code_of old.state) (world_of_state old.state) log limit 0
+unfolding world_before_keys
+overfull_start old log limit full =
+    overfull (code_of old.state) (world_of_state old.state) log limit 0 old (omega arith) (λ k l. absurd (omega (arith, l))) refl full
+
+two : (m n : ℕ) → (m < n) ⊎ (n ≤ m)
+two m n = grind (arith)
+
+module _ (code : Code) (start : World) (log : List Typed) (limit made until : ℕ) (old new : Device) (cause : Cause)
+    (low : limit < 2 ^ 32) (more : made < until) (within : until ≤ limit)
+    (none : (k : ℕ) → made < k → k < until → keys_at log k ≡ [])
+    (run : IsMachineRun (until - made) old new cause) (at : IsRunning code start log limit made old) where
+  count : ℕ
+  count = new.state.steps - old.state.steps
+
+  new_is : new.state.steps ≡ made + count
+  unfolding count
+  new_is = omega (arith, run.more, at.steps)
+
+  few : count ≤ until - made
+  unfolding count
+  few = omega (arith, run.end.within)
+
+  reached_is : world_of_state new.state ≡ world_at code (world_with_keys code start log made) count
+  unfolding count
+  reached_is = run.end.reached ∙ ap₂ (λ c w. world_at c w (new.state.steps - old.state.steps)) at.code_is at.reached
+
+  new_code : code_of new.state ≡ code
+  new_code = ap (λ g. bytes g) run.guard ∙ at.code_is
+
+  going : (i : ℕ) → (i < made) ⊎ (made ≤ i) → i < new.state.steps → stuck code (world_with_keys code start log i) ≡ None
+  unfolding count
+  going i (inl l) m = at.first i l
+  going i (inr l) m =
+      let k : ℕ = i - made in
+      let is : i ≡ made + k = omega (arith, l) in
+      let lt : k < new.state.steps - old.state.steps = omega (arith, l, m, new_is) in
+      let below : i < until = omega (arith, m, new_is, few, more) in
+      ap (λ w. stuck code w) (with-more code start log made k i is (λ j h g. none j h (omega (arith, g, below))))
+      ∙ ap₂ (λ c w. stuck c (world_at c w k)) (sym at.code_is) (sym at.reached)
+      ∙ run.end.first k lt
+
+  -- it came to the steps where keys are typed next
+  came : until ≤ new.state.steps → count ≡ until - made
+  came h = omega (arith, few, new_is, h, more)
+
+  before : until ≤ new.state.steps → world_of_state new.state ≡ world_before_keys code start log until
+  before h =
+      let j : ℕ = until - made - 1 in
+      let is : until ≡ made + suc j = omega (arith, more) in
+      let whole : count ≡ suc j = omega (arith, came h, more) in
+      reached_is ∙ ap (λ n. world_at code (world_with_keys code start log made) n) whole ∙ sym (before-more code start log made j until is none)
+
+  going_on : (after : Device) → until ≤ new.state.steps → after ≡ with_keys (keys_at log until) new → IsRunning code start log limit until after
+  going_on after h is = subst (λ (d : Device). IsRunning code start log limit until d) (sym is) (record {
+    within = within;
+    steps = omega (arith, new_is, came h, more);
+    code_is = new_code;
+    reached = keys_hold (keys_at log until) new ∙ ap (λ w. typed (keys_at log until) w) (before h) ∙ sym (world-typed code start log until);
+    first = λ k l. going k (two k made) (omega (arith, l, h));
+  })
+
+  pub running_on : (after : Device) (due : ℕ) → due ≡ until → due ≤ new.state.steps → after ≡ with_keys (keys_at log due) new → IsRunning code start log limit until after
+  running_on after due e h is = going_on after (omega (arith, e, h)) (is ∙ ap (λ n. with_keys (keys_at log n) new) e)
+
+  overfull_until : until ≤ new.state.steps → 4096 < length new.state.bus.devices.keys + length (keys_at log until)
+      → IsOverfull code start log limit until
+  overfull_until h full = overfull code start log limit until new within (λ k l. going k (two k made) (omega (arith, l, h))) (before h) full
+
+  pub overfull_on : (due : ℕ) → due ≡ until → due ≤ new.state.steps → 4096 < length new.state.bus.devices.keys + length (keys_at log due)
+      → IsOverfull code start log limit due
+  overfull_on due e h full =
+      subst (λ n. IsOverfull code start log limit n) (sym e)
+      (overfull_until (omega (arith, e, h)) (subst (λ n. 4096 < length new.state.bus.devices.keys + length (keys_at log n)) e full))
+
+  -- it stopped before
+  pub stopped : new.state.steps < until → IsTypedStop code start log limit new.state cause
+  unfolding count
+  stopped h = record {
+    within = omega (arith, h, within);
+    reached = reached_is ∙ sym (with-more code start log made count new.state.steps new_is (λ k l g. none k l (omega (arith, g, h))));
+    first = λ k l. going k (two k made) l;
+    cause = go run.end.cause;
+  }
+    where
+      go : (stuck (code_of old.state) (world_of_state new.state) ≡ Some cause)
+          ⊎ ((stuck (code_of old.state) (world_of_state new.state) ≡ None) × (new.state.steps - old.state.steps ≡ steps_left (until - made) old.state) × (cause ≡ Limit))
+          → (stuck code (world_of_state new.state) ≡ Some cause)
+          ⊎ ((stuck code (world_of_state new.state) ≡ None) × (new.state.steps ≡ limit) × (cause ≡ Limit))
+      go (inl e) = inl (ap (λ c. stuck c (world_of_state new.state)) (sym at.code_is) ∙ e)
+      go (inr e) = absurd (omega (arith, e.1, h, at.steps, low, within, more, run.more))
+
+-- all steps of the limit were made
+pub stopped_last : (code : Code) (start : World) (log : List Typed) (limit made : ℕ) (old new : Device) (cause : Cause) → limit ≤ made
+    → IsMachineRun 0 old new cause → IsRunning code start log limit made old → IsTypedStop code start log limit new.state cause
+stopped_last code start log limit made old new cause all run at = record {
+  within = omega (arith, none, at.steps, at.within);
+  reached = ap (λ (d : Device). world_of_state d.state) same ∙ at.reached ∙ ap (λ n. world_with_keys code start log n) steps;
+  first = λ k l. at.first k (omega (arith, l, steps));
+  cause = go run.end.cause;
+}
+  where
+    none : new.state.steps ≡ old.state.steps
+    none = omega (arith, run.more, run.end.within)
+
+    same : new ≡ old
+    same = run.none none
+
+    steps : made ≡ new.state.steps
+    steps = omega (arith, none, at.steps)
+
+    go : (stuck (code_of old.state) (world_of_state new.state) ≡ Some cause)
+        ⊎ ((stuck (code_of old.state) (world_of_state new.state) ≡ None) × (new.state.steps - old.state.steps ≡ steps_left 0 old.state) × (cause ≡ Limit))
+        → (stuck code (world_of_state new.state) ≡ Some cause)
+        ⊎ ((stuck code (world_of_state new.state) ≡ None) × (new.state.steps ≡ limit) × (cause ≡ Limit))
+    go (inl e) = inl (ap (λ c. stuck c (world_of_state new.state)) (sym at.code_is) ∙ e)
+    go (inr e) = inr (
+      ap (λ c. stuck c (world_of_state new.state)) (sym at.code_is) ∙ e.0,
+      omega (arith, none, at.steps, at.within, all),
+      e.2,
+    )
