@@ -18,7 +18,7 @@ class Met:
         flags = "; ".join(f"{it.lower()} = {flag(found.flags[it])}" for it in "NVDIZC")
         registers = "; ".join(f"{it.lower()} = {found.registers[it]}" for it in "AXYS")
         cells = list_of(f"({a}, {byte})" for a, byte in found.bytes)
-        self.text = f"-- Written by a2-prove: a state that is as {promise.name} requires.\n" + USES.format(proofs, told.module)
+        self.text = f"-- Written by a2lab prove: a state that is as {promise.name} requires.\n" + USES.format(proofs, told.module)
         self.text += f"\nabbrev pub state : State\nstate = record {{\n  registers = record {{ {registers}; pc = {promise.address}; "
         self.text += f"flags = record {{ {flags} }} }};\n  bytes = {cells};\n}}\n"
         self.text += "\npub met : is_met terms laid state ≡ true\nmet = refl -- @0\n"

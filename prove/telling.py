@@ -58,7 +58,7 @@ class Told:
         self.marks = []
         facts = iter(promise.wanted), iter(promise.promised)
         self.clauses = dict(zip(FACTS, facts))
-        self.text = f"-- Written by a2-prove: what the lines before {promise.name} say.\n" + USES % proofs
+        self.text = f"-- Written by a2lab prove: what the lines before {promise.name} say.\n" + USES % proofs
         for k, line in enumerate(promise.lines, 1):
             self.text += f"\n-- line {line.number}\n" + self.line(k, line)
         self.text += self.end(promise)

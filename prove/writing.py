@@ -13,7 +13,7 @@ from .terms import codes, list_of
 CRATE = "promised"
 # The crates that it stands on.
 BELOW = (
-    "a2_promise_rules a2_theorems a2_promise_try a2_reads a2_uses a2_promise a2_run a2_monitor a2_debug_script a2_text a2_stream a2_opcode "
+    "a2_promise_rules a2_theorems a2_promise_certify a2_footprint a2_promise a2_run a2_text a2_stream a2_opcode "
     "a2_syntax a2_hex a2_asm a2_page a2_bus a2_effect a2_cpu a2_burst a2_services a2_machine"
 )
 S = 0xFD
@@ -140,7 +140,7 @@ def literal(text):
 
 
 def text_file(source):
-    text = "-- Written by a2-prove: a source text.\n" + STATEMENT_USES
+    text = "-- Written by a2lab prove: a source text.\n" + STATEMENT_USES
     text += "\nabbrev pub text : List ℕ\ntext = concat (\n"
     return text + "".join(f"    {literal(line)} ∷\n" for line in LINE.findall(source.text)) + "    [])\n"
 
@@ -171,7 +171,7 @@ def program_file(source):
     of = [it for it in program.statements if it.is_instruction]
     names = [", ".join(sorted(it)) for it in ({it.mnemonic.capitalize() for it in of}, {it.mode for it in of})]
     uses = PROGRAM_USES % (*names, source.specs)
-    text = "-- Written by a2-prove: the statements, lines and names of the text, which are computed of it.\n" + uses
+    text = "-- Written by a2lab prove: the statements, lines and names of the text, which are computed of it.\n" + uses
     text += rows("listing", "List Statement", (statement(it) for it in program.statements))
     text += "\nabbrev pub code : Code\ncode = code_of listing\n"
     text += rows("lines", "List (List ℕ)", (codes(line) for line in source.lines))
@@ -273,7 +273,7 @@ def ending(written):
 
 def proof_file(written, all_written):
     proofs = written.source.proofs
-    text = f"-- Written by a2-prove.\n{PROOF_USES}use {proofs}.Program.{{code}}\n"
+    text = f"-- Written by a2lab prove.\n{PROOF_USES}use {proofs}.Program.{{code}}\n"
     if written.s == S:
         text += END_USES.format(written.source, written.told.module, written.met.module)
     for address, s in sorted(written.calls):
@@ -291,7 +291,7 @@ def function_of(written):
 
 
 def module_file(source, tops):
-    text = "//! Written by a2-prove.\n\nghost use Rattle.std.specs.Prelude.{codes};\n"
+    text = "//! Written by a2lab prove.\n\nghost use Rattle.std.specs.Prelude.{codes};\n"
     text += f"ghost use {source.specs}.{{text}};\nghost use Rattle.a2_promise_rules.specs.Promised.{{IsProved}};\n"
     for it in tops:
         name = it.routine.name
@@ -335,7 +335,7 @@ def write_crate(folder, sources):
     names = [source.name for source, _ in sources]
     files = {
         "specs/Lib.antt": declared(names),
-        "src/lib.rt": "//! Written by a2-prove.\n#![tactic(auto)]\n\n" + declared(names, ";"),
+        "src/lib.rt": "//! Written by a2lab prove.\n#![tactic(auto)]\n\n" + declared(names, ";"),
     }
     for source, written in sources:
         files.update(files_of(source, written))

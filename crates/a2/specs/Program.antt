@@ -5,11 +5,11 @@ use Rattle.a2_machine.specs.declared.causes.Cause.{Cause}
 use Rattle.a2_run.specs.declared.Options.{Options}
 use Rattle.a2_run.specs.declared.fault.RunFault.{RunFault}
 use Rattle.a2_run.specs.declared.fault.RunFault.TheVariants.{Read}
-use Rattle.a2_run.specs.Answers.{Answers, LeavesBehind, OfSource, OfScript, NothingSent, RestsOnTexts, is_read_fault, is_write_fault}
+use Rattle.a2_run.specs.Answers.{Answers, LeavesBehind, OfSource, NothingSent, RestsOnTexts, is_read_fault, is_write_fault}
 use Rattle.a2_run.specs.Meaning.{IsRefused, IsRun, AreObjectLines}
-use Rattle.a2_run.specs.Scripts.{IsRefusedScript, IsMonText}
-use Rattle.a2_run.specs.DebugScripts.{IsDebugRefusal, IsDebugText, ReadsFail}
 use Rattle.a2_run.specs.Status.{status_of}
+use Rattle.a2_scripts.specs.Scripts.{IsRefusedScript, IsMonText, OfScript}
+use Rattle.a2_scripts.specs.DebugScripts.{IsDebugRefusal, IsDebugText, ReadsFail}
 use Rattle.a2_host.specs.Complaints.{TellsLine}
 use Rattle.a2_host.specs.Shelves.{Shelved, Opens}
 use Rattle.a2.specs.declared.words.Order.{Order}

@@ -19,7 +19,8 @@ ghost use Rattle.a2.specs.Words.{Asks, NamesFile, done_status, plain, status_of_
 use crate::words::{Order, RunOrder, WordsFault, order_of};
 use a2_host::{Shelf, tell};
 use a2_machine::Cause;
-use a2_run::{RunFault, asm_text, debug_text, fault_status, mon_text, run_text, status};
+use a2_run::{RunFault, asm_text, fault_status, run_text, status};
+use a2_scripts::{debug_text, mon_text};
 use a2_stream::{Input, Output, put};
 use std::alloc::Global;
 

@@ -2,3 +2,4 @@ pub mod Cuts
 pub mod First
 pub mod Numbering
 pub mod Telling
+mod Marking

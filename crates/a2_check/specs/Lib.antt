@@ -1,2 +1,3 @@
 pub mod Unread
 pub mod Refusals
+pub mod Warnings

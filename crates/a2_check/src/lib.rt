@@ -1,4 +1,4 @@
-//! Every refusal of a source: which they are, and what is told of each.
+//! Every refusal of a source, and warnings of one that is accepted: which they are, and what is told of each.
 //!
 //! How it is called is shown in CALLING.md.
 #![tactic(auto)]
@@ -18,7 +18,9 @@ mod tell;
 mod told;
 mod unread;
 mod verdict;
+mod warnings;
 
 pub use laws::the_first_is_the_texts_refusal;
 pub use tell::{Format, TellFault, put_refusals};
 pub use verdict::{Verdict, refusals_of, verdict_of};
+pub use warnings::{Warning, WarningKind, put_warnings, warnings_of};

@@ -40,7 +40,7 @@ use Rattle.a2_run.specs.Started.{guard_of_run}
 use Rattle.a2_history.specs.declared.Typed.{Typed}
 use Rattle.a2_history.specs.Courses.{Course, typed, with_keys, with_logged, arrived, world_on, NoneStuck}
 use Rattle.a2_history.specs.Going.{Track, here, Warns}
-use Rattle.a2_places.specs.declared.places.Span.{Span}
+use Rattle.a2_symbols.specs.declared.places.Span.{Span}
 use Rattle.a2_debugger.specs.declared.stops.Break.{Break}
 use Rattle.a2_debugger.specs.Inspections.{is_at, is_left}
 use Rattle.a2_debugger.specs.Stops.{Moment, moment_of, holds, is_hit, is_other, is_changed_from, is_span_changed, is_changed_in, is_stop}

@@ -18,7 +18,7 @@ use Rattle.a2_history.specs.Going.{Track, here, Warns}
 use Rattle.a2_debugger.specs.Stops.{Moment, is_hit, is_span_changed, is_stop}
 use Rattle.a2_debugger.specs.declared.stops.Break.{Break}
 use Rattle.a2_debugger.specs.declared.stops.Moment.{Moment as DeclaredMoment}
-use Rattle.a2_places.specs.declared.places.Span.{Span}
+use Rattle.a2_symbols.specs.declared.places.Span.{Span}
 
 -- for each address, whether there is a breakpoint, and whether a step there may change a watched byte
 pub record Alerts : Type 0 where

@@ -3,7 +3,7 @@ use Rattle.std.specs.Prelude.{ℕ, ◌==◌, List, [], ◌∷◌, if◌then◌el
 use Rattle.a2_text.specs.Signs.{sign}
 use Rattle.a2_text.specs.Bytes.{capital}
 use Rattle.a2_asm.specs.Assembled.{Assembled}
-use Rattle.a2_places.specs.Places.{number_of, place_of}
+use Rattle.a2_symbols.specs.Places.{number_of, place_of}
 use Rattle.a2_debugger.specs.declared.stops.Register.{Register}
 use Rattle.a2_debugger.specs.declared.stops.Register.TheVariants.{A, X, Y, S, P}
 use Rattle.a2_debugger.specs.declared.stops.Subject.{Subject}

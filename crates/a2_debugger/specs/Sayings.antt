@@ -4,10 +4,10 @@ use Rattle.a2_text.specs.Bytes.{number_in}
 use Rattle.a2_text.specs.Words.{words, only_word}
 use Rattle.a2_bus.specs.KeyText.{SpellsKeys}
 use Rattle.a2_asm.specs.Assembled.{Assembled}
-use Rattle.a2_places.specs.Places.{place_of, span_of}
+use Rattle.a2_symbols.specs.Places.{place_of, span_of}
 use Rattle.a2_debugger.specs.Stops.{watchable}
 use Rattle.a2_debugger.specs.Conditions.{break_in}
-use Rattle.a2_places.specs.declared.places.Span.{Span}
+use Rattle.a2_symbols.specs.declared.places.Span.{Span}
 use Rattle.a2_debugger.specs.declared.order.Order.{Order}
 use Rattle.a2_debugger.specs.declared.order.Order.TheVariants as order
 use Rattle.a2_debugger.specs.declared.verbs.Verb.{Verb}

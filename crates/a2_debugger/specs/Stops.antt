@@ -12,7 +12,7 @@ use Rattle.a2_debugger.specs.declared.stops.Relation.{Relation}
 use Rattle.a2_debugger.specs.declared.stops.Relation.TheVariants.{Equal, Other, Less, More}
 use Rattle.a2_debugger.specs.declared.stops.Condition.{Condition}
 use Rattle.a2_debugger.specs.declared.stops.Break.{Break}
-use Rattle.a2_places.specs.declared.places.Span.{Span}
+use Rattle.a2_symbols.specs.declared.places.Span.{Span}
 
 -- what a stop may be about: the registers as bytes, of P the byte that PHP pushes, and the byte of RAM at each address
 pub record Moment : Type 0 where

@@ -9,10 +9,11 @@ ghost use Rattle.a2_debugger.specs.Alerts.{is_marked, StandsCalm, IsCalm, MarksA
 
 use crate::stops::{Break, ram_of};
 use a2_asm::{Program, Statement};
+use a2_effect::stores_operand;
 use a2_machine::Machine;
 use a2_opcode::{Instr, Mnemonic, Mode, decode};
-use a2_places::Span;
 use a2_services::service_at;
+use a2_symbols::Span;
 use std::alloc::{AllocError, Allocator, Global};
 use std::marker::Model;
 
@@ -90,16 +91,8 @@ fn spares(instr: Instr, watches: &[Span]) -> bool
     ensures { result ≡ true → alert.Spares watches.now instr }
 {
     match instr.mnemonic {
-        Mnemonic::Asl
-        | Mnemonic::Lsr
-        | Mnemonic::Rol
-        | Mnemonic::Ror
-        | Mnemonic::Inc
-        | Mnemonic::Dec
-        | Mnemonic::Sta
-        | Mnemonic::Stx
-        | Mnemonic::Sty => spares_operand(instr, watches),
         Mnemonic::Pha | Mnemonic::Php | Mnemonic::Jsr => false,
+        _ if stores_operand(instr.mnemonic) => spares_operand(instr, watches),
         _ => true,
     }
 }

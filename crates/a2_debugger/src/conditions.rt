@@ -2,12 +2,12 @@
 
 ghost use Rattle.std.specs.Prelude.{◌≡◌};
 ghost use Rattle.a2_text.specs.Words.{words};
-ghost use Rattle.a2_places.specs.Places.{number_of as number_said};
+ghost use Rattle.a2_symbols.specs.Places.{number_of as number_said};
 ghost use Rattle.a2_debugger.specs.Conditions as written;
 
 use crate::stops::{Break, Condition, Register, Relation, Subject};
 use a2_asm::Program;
-use a2_places::{number_of, place_of};
+use a2_symbols::{number_of, place_of};
 use a2_text::{capital, first_word};
 use std::alloc::Allocator;
 

@@ -3,7 +3,7 @@
 use crate::stops::{Break, Register};
 use crate::verbs::Verb;
 use a2_bus::Keys;
-use a2_places::Span;
+use a2_symbols::Span;
 
 /// What is shown. Nothing changes by it.
 #[derive(Clone, Copy)]

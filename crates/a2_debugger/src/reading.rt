@@ -11,7 +11,7 @@ use crate::stops::watchable;
 use crate::verbs::Verb;
 use a2_asm::Program;
 use a2_bus::Keys;
-use a2_places::{Span, place_of, span_of};
+use a2_symbols::{Span, place_of, span_of};
 use a2_text::{first_word, number_in, only_word};
 use std::alloc::Allocator;
 

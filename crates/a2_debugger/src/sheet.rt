@@ -7,13 +7,12 @@ use crate::changes::{put_bytes, put_registers, put_screen_changes};
 use crate::order::{Outcome, Show};
 use crate::stops::{Break, Condition, Moment, Register, Relation, Subject, in_register};
 use crate::verbs::Verb;
-use a2_explain::{Scene, put_address, put_place};
 use a2_history::Entry;
 use a2_machine::{Cause, Machine, write_registers};
 use a2_opcode::list_line;
 use a2_page::print;
-use a2_places::{Span, statement_at};
 use a2_stream::{Kept, Output, WriteFault, put, put_all};
+use a2_symbols::{Scene, Span, put_address, put_place, statement_at};
 use a2_text::{decimal, hex_pair, hex_word};
 use std::alloc::Allocator;
 

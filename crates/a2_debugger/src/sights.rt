@@ -5,7 +5,7 @@ use crate::stops::{Break, Moment, are_changed, is_at_break, is_changed_in, ram_o
 use a2_burst::Look;
 use a2_history::{Lookout, Sight};
 use a2_machine::Machine;
-use a2_places::Span;
+use a2_symbols::Span;
 use std::alloc::Allocator;
 
 /// Worlds at an address.

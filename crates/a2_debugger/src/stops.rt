@@ -9,7 +9,7 @@ ghost use Rattle.a2_debugger.specs.Stops as stop;
 
 use a2_burst::Look;
 use a2_machine::Machine;
-use a2_places::Span;
+use a2_symbols::Span;
 use std::alloc::Allocator;
 
 // The most bytes that are watched together.

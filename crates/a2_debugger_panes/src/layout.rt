@@ -2,7 +2,7 @@
 
 ghost use Rattle.std.specs.Prelude.{◌≡◌, ◌+◌, ◌-◌, ◌<◌, ◌≤◌};
 
-use a2_ansi::{MOST_COLUMNS, MOST_ROWS};
+use a2_tty::{MOST_COLUMNS, MOST_ROWS};
 
 /// The least rows and columns of panes.
 pub const LEAST_ROWS: u8 = 24;

@@ -3,12 +3,12 @@
 ghost use Rattle.std.specs.Prelude.{◌<◌};
 
 use crate::layout::{Layout, SOURCE};
-use a2_ansi::{Frame, Shot, Tile};
 use a2_debugger::Inspector;
 use a2_machine::Machine;
 use a2_opcode::list_line;
-use a2_places::statement_at;
+use a2_symbols::statement_at;
 use a2_text::{decimal, hex_pair, hex_word};
+use a2_tty::{Frame, Shot, Tile};
 
 /// The row of the registers, of the flags and the step, and of the instruction.
 const REGISTERS: u8 = 0;

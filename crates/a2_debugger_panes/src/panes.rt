@@ -3,17 +3,16 @@
 ghost use Rattle.std.specs.Prelude.{◌≡◌, ◌<◌, ◌↔◌, true, List, ℕ};
 ghost use Rattle.a2_stream.specs.Stream.{SendsOrBreaks};
 ghost use Rattle.a2_debugger.specs.Inspections.{IsAnswered};
-ghost use Rattle.a2_talk.specs.Turns.{RepliesTo};
+ghost use Rattle.a2_tty.specs.Turns.{RepliesTo};
 ghost use Rattle.a2_debugger_panes.specs.Panes.{IsPanes};
 
 use crate::layout::Layout;
 use crate::paint::painted;
-use a2_ansi::{Colours, Frame, put_frame};
 use a2_debugger::Inspector;
-use a2_places::span_of;
 use a2_stream::{Output, ToWrite, WriteFault, put, put_all};
-use a2_talk::Partner;
+use a2_symbols::span_of;
 use a2_text::{capital, decimal, first_word};
+use a2_tty::{Colours, Frame, Partner, Size, put_frame};
 use std::alloc::Global;
 use std::cell::Cell;
 
@@ -22,8 +21,7 @@ const ENTER: &[u8] = b"\x1B[?1049h\x1B[2J";
 
 const LEAVE: &[u8] = b"\x1B[0m\x1B[?1049l\r\x1B[K";
 
-const TOO_SMALL: &[u8] =
-    b"panes want a terminal of 80 columns of 24 rows or more, begun by a2lab-debug\n";
+const TOO_SMALL: &[u8] = b"panes need a terminal of at least 80 columns and 24 rows\n";
 
 /// Where panes are drawn: the columns in which lines are edited, the terminal's rows and columns, and its colours. Of more than
 /// 64 rows or 255 columns the first are taken.
@@ -126,14 +124,11 @@ fn drawn(
     if before.is_none() {
         put(ENTER, &mut writer)?;
     }
-    put_frame(
-        before,
-        frame,
-        layout.rows(),
-        layout.columns(),
-        colours,
-        &mut writer,
-    )?;
+    let size = Size {
+        rows: layout.rows(),
+        columns: layout.columns(),
+    };
+    put_frame(before, frame, size, colours, &mut writer)?;
     put_blank(layout, layout.prompt() + 1, &mut writer)?;
     put_blank(layout, layout.prompt(), &mut writer)?;
     Ok(bytes)

@@ -2,7 +2,7 @@
 //!
 //! [`Live`] are the registers as they are computed with, [`Regs`] as they are kept. A mode is a type of [`modes`], which finds where
 //! an operand is; a mnemonic one of [`mnemonics`], which says what it does to the registers; and what it does with a memory, one
-//! function a family of [`families`]. Of these `a2_cpu` makes an instruction over any bus, and `a2_burst` bursts of them over RAM. Each
+//! function a family of [`families`]. [`stores_operand`] says which mnemonics store at their operand. Of these `a2_cpu` makes an instruction over any bus, and `a2_burst` bursts of them over RAM. Each
 //! is as the MCS6500 Microcomputer Family Programming Manual (MOS Technology, 1976) has it.
 //!
 //! How it is called is shown in CALLING.md.
@@ -17,9 +17,11 @@ mod live;
 pub mod mnemonics;
 pub mod modes;
 mod status;
+mod stores;
 
 pub use live::Live;
 pub use status::Status;
+pub use stores::stores_operand;
 
 /// The registers (MCS6500 Programming Manual, chapters 2 to 4, 6 and 8).
 #[derive(Clone, Copy, PartialEq, Eq, Debug)]

@@ -6,10 +6,8 @@
 mod course;
 mod pushes;
 mod rounds;
-mod scene;
 mod stop;
 mod window;
 
 pub use course::Course;
-pub use scene::{Scene, put_address, put_number, put_place};
 pub use stop::{explain_stop, tell_stop};

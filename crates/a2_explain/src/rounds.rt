@@ -1,12 +1,12 @@
 //! A run that goes round in few places.
 
 use crate::course::{Course, run_to};
-use crate::scene::{Scene, put_number, put_place};
 use a2_asm::{Program, Statement};
 use a2_bus::locations::KBD;
 use a2_opcode::Mode;
 use a2_run::RunFault;
 use a2_stream::{Output, WriteFault, put};
+use a2_symbols::{Scene, put_number, put_place};
 use std::alloc::{AllocError, Allocator};
 
 // How many steps before the limit are looked at.

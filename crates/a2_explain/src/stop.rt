@@ -3,16 +3,15 @@
 use crate::course::{Course, run_to};
 use crate::pushes::Pushes;
 use crate::rounds::tell_round;
-use crate::scene::{Scene, put_address, put_number, put_place};
 use crate::window::{WATCHED, tell_window};
 use a2_asm::Program;
 use a2_cpu::Regs;
 use a2_hex::RAM_END;
 use a2_machine::Cause;
 use a2_opcode::{Instr, Mnemonic};
-use a2_places::statement_at;
 use a2_run::{RunFault, program_of};
 use a2_stream::{Output, WriteFault, put};
+use a2_symbols::{Scene, put_address, put_number, put_place, statement_at};
 use a2_text::cut;
 use std::alloc::Allocator;
 

@@ -1,13 +1,12 @@
 //! Which lines put the window and the cursor off the screen.
 
 use crate::course::{Course, run_to};
-use crate::scene::{Scene, put_place};
 use a2_bus::locations::{CH, CV, WNDBTM, WNDLFT, WNDTOP, WNDWDTH};
 use a2_machine::Machine;
-use a2_places::statement_at;
 use a2_run::RunFault;
 use a2_services::{Needs, row_of, service_at};
 use a2_stream::{Output, WriteFault, put};
+use a2_symbols::{Scene, put_place, statement_at};
 use a2_text::hex_pair;
 use std::alloc::Allocator;
 

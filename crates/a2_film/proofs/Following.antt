@@ -1,28 +1,24 @@
 -- What a step does to the devices: it takes some of the waiting keys, and switches.
 use Rattle.std.specs.Prelude.{◌≡◌, ℕ, suc, ◌+◌, ◌*◌, ◌/◌, ◌%◌, Bool, true, false, ◌==◌, nat_lt, if◌then◌else◌, List, [], ◌∷◌}
-use Rattle.std.specs.Prelude.{◌++◌, length, fold, refl}
+use Rattle.std.specs.Prelude.{◌++◌, length, refl}
 use Rattle.std.proofs.Common.{sym, ap, ◌∙◌, arith, subst, append_assoc, length-append}
 use Rattle.a2_page.specs.declared.Switches.{Switches}
-use Rattle.a2_page.specs.Grid.{cleared, byte_in}
-use Rattle.a2_page.specs.Text.{blocks_of}
 use Rattle.a2_opcode.specs.declared.Row.{Row}
 use Rattle.a2_bus.proofs.Relating.{IsSimulation}
 use Rattle.a2_bus.specs.Devices.{Devices, key_taken, switched, after_access}
-use Rattle.a2_bus.specs.Memory.{Memory, ram_byte, ram_end, with_ram, memory_access}
+use Rattle.a2_bus.specs.Memory.{Memory, ram_end, with_ram, memory_access}
 use Rattle.a2_effect.specs.Instruction.{performed}
 use Rattle.a2_cpu.proofs.Simulation.{performed-alike}
 use Rattle.a2_services.specs.declared.rows.Service.{Service}
-use Rattle.a2_services.specs.declared.rows.Service.TheVariants.{Cout, Cout1, Crout, Home, Prbyte, Prhex, Setinv, Setnorm, Vtab, Clreol}
-use Rattle.a2_services.specs.declared.rows.Service.TheVariants.{Clreop, Rdkey, Keyin, Getln, Wait, Setcol, Plot, Hline, Vline, Scrn}
-use Rattle.a2_services.specs.declared.rows.Service.TheVariants.{Clrscr}
+use Rattle.a2_services.specs.declared.rows.Service.TheVariants.{Keyin, Getln}
 use Rattle.a2_services.specs.World.{World}
-use Rattle.a2_services.specs.Blocks.{painted, painted_across, painted_down, span_of, black}
-use Rattle.a2_services.specs.Put.{window_of, with_cursor_column, with_cursor_row, prompt_character, with_page1, after_put}
+use Rattle.a2_services.specs.Put.{prompt_character, after_put}
 use Rattle.a2_services.specs.Reading.{reading, kept}
-use Rattle.a2_services.specs.Services.{Reading, byte_of_key, after_byte, line_read, with_key_taken, cleared_to_end, cleared_below}
-use Rattle.a2_services.specs.Services.{back, output, with_memory, with_a, with_x, digit_byte, effect, served}
+use Rattle.a2_services.specs.Services.{Reading, byte_of_key, after_byte, line_read, with_key_taken, cleared_to_end}
+use Rattle.a2_services.specs.Services.{back, output, with_memory, with_a, with_x, effect, served}
 use Rattle.a2_services.proofs.Lines.{ram_devices, put_devices, after_byte_devices}
-use Rattle.a2_services.proofs.Counting.{cleared_devices, base_devices, returned_devices, output_devices}
+use Rattle.a2_services.proofs.Counting.{cleared_devices, base_devices, returned_devices}
+use Rattle.a2_services.proofs.Effects.{effect_devices}
 use Rattle.a2_film.specs.Changes.{keys_taken}
 
 -- devices follow from others where some of the waiting keys were taken, and the switches set
@@ -165,46 +161,8 @@ line-follows d (key ∷ keys) line h = go (byte == 0x8D) (λ next. line-follows 
         rest (after_byte byte (reading noted line.len))
         (subst (Follows d) (sym (after_byte_devices byte (reading noted line.len))) stored)
 
--- a service that leaves a memory with the same devices and returns
-left-follows : (m : Memory) (w : World) → m.devices ≡ w.memory.devices
-    → Follows w.memory.devices (back (with_memory m w)).memory.devices
-left-follows m w same = follows-same _ _ (ap (λ (x : Memory). x.devices) (returned_devices (with_memory m w)) ∙ same)
-
-output-follows : (m : Memory) (w : World) → m.devices ≡ w.memory.devices
-    → Follows w.memory.devices (back (output m w)).memory.devices
-output-follows m w same = follows-same _ _ (output_devices m w ∙ same)
-
-painted_devices : (row column : ℕ) (m : Memory) → (painted row column m).devices ≡ m.devices
-unfolding painted
-painted_devices row column m = refl
-
-steps_devices : (step : ℕ → Memory → Memory) → ((k : ℕ) (m : Memory) → (step k m).devices ≡ m.devices)
-    → (ks : List ℕ) (m : Memory) → (fold (λ m k. step k m) m ks).devices ≡ m.devices
-steps_devices step keeps [] m = refl
-steps_devices step keeps (k ∷ ks) m = steps_devices step keeps ks (step k m) ∙ keeps k m
-
 effect-follows : (service : Service) (w : World) → Follows w.memory.devices (effect service w).memory.devices
 unfolding effect
-effect-follows Cout w = follows-refl w.memory.devices
-effect-follows Cout1 w = output-follows (after_put w.registers.a w.memory) w (put_devices w.registers.a w.memory)
-effect-follows Crout w = follows-refl w.memory.devices
-effect-follows Home w =
-    let blank = with_page1 (cleared (window_of w.memory) w.memory.page1) w.memory in
-    output-follows (with_cursor_row (window_of w.memory).top (with_cursor_column 0 blank)) w
-    (ram_devices (with_cursor_column 0 blank) 0x25 (window_of w.memory).top ∙ ram_devices blank 0x24 0)
-effect-follows Prbyte w =
-    let first = after_put (digit_byte (w.registers.a / 16)) w.memory in
-    output-follows (after_put (digit_byte (w.registers.a % 16)) first) w
-    (put_devices (digit_byte (w.registers.a % 16)) first ∙ put_devices (digit_byte (w.registers.a / 16)) w.memory)
-effect-follows Prhex w =
-    let byte = digit_byte (w.registers.a % 16) in
-    output-follows (after_put byte w.memory) w (put_devices byte w.memory)
-effect-follows Setinv w = left-follows (with_ram w.memory 0x32 0x3F) w (ram_devices w.memory 0x32 0x3F)
-effect-follows Setnorm w = left-follows (with_ram w.memory 0x32 0xFF) w (ram_devices w.memory 0x32 0xFF)
-effect-follows Vtab w = output-follows w.memory w refl
-effect-follows Clreol w = left-follows (cleared_to_end w.memory) w (cleared_devices w.memory)
-effect-follows Clreop w = output-follows (cleared_below (cleared_to_end w.memory)) w (cleared_devices w.memory)
-effect-follows Rdkey w = follows-refl w.memory.devices
 effect-follows Keyin w = go w.memory.devices.keys
   where
     go : (keys : List ℕ)
@@ -224,28 +182,8 @@ effect-follows Getln w =
     subst (Follows w.memory.devices)
     (sym (ap (λ (x : Memory). x.devices) (returned_devices (with_x line.len (output line.memory w))) ∙ base_devices line.memory))
     follows.is
-effect-follows Wait w = follows-same _ _ (ap (λ (x : Memory). x.devices) (returned_devices (with_a 0 w)))
-effect-follows Setcol w =
-    let colours = 17 * (w.registers.a % 16) in
-    left-follows (with_ram w.memory 0x30 colours) w (ram_devices w.memory 0x30 colours)
-effect-follows Plot w = left-follows (painted w.registers.a w.registers.y w.memory) w
-    (painted_devices w.registers.a w.registers.y w.memory)
-effect-follows Hline w =
-    let columns = span_of w.registers.y (ram_byte w.memory 0x2C) in
-    left-follows (painted_across w.registers.a columns w.memory) w
-    (steps_devices (λ column m. painted w.registers.a column m) (λ column m. painted_devices w.registers.a column m) columns
-    w.memory)
-effect-follows Vline w =
-    let rows = span_of w.registers.a (ram_byte w.memory 0x2D) in
-    left-follows (painted_down rows w.registers.y w.memory) w
-    (steps_devices (λ row m. painted row w.registers.y m) (λ row m. painted_devices row w.registers.y m) rows w.memory)
-effect-follows Scrn w =
-    follows-same _ _ (ap (λ (m : Memory). m.devices)
-    (returned_devices (with_a (byte_in (blocks_of w.memory.page1) w.registers.a w.registers.y) w)))
-effect-follows Clrscr w =
-    let page = with_page1 black w.memory in
-    left-follows (with_ram (with_ram page 0x30 0) 0x2D 47) w
-    (ram_devices (with_ram page 0x30 0) 0x2D 47 ∙ ram_devices page 0x30 0)
+-- one whose row says that it needs no key leaves the devices as they are
+effect-follows service w = follows-same _ _ (effect_devices service w refl)
 
 pub served-follows : (service : Service) (w : World) → Follows w.memory.devices (served service w).memory.devices
 unfolding served

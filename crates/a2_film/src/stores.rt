@@ -9,31 +9,21 @@ ghost use Rattle.a2_cpu.specs.StepStores.{step_stores};
 ghost use Rattle.a2_cpu.specs.View.{before_step};
 
 use a2_cpu::writes;
+use a2_effect::stores_operand;
 use a2_machine::Machine;
 use a2_opcode::{Mnemonic, row_of};
 use arrayvec::ArrayVec;
 use std::alloc::Allocator;
 
-// Whether instructions of this mnemonic store.
+// Whether instructions of this mnemonic store or push.
 #[tactic(auto, unfolding(a2_effect::specs::Effect::effect_of))]
 fn is_storing(mnemonic: Mnemonic) -> bool
     ensures { result ≡ false → (place : Place) (s : ℕ) → effect_stores (effect_of mnemonic) place s ≡ [] }
 {
-    matches!(
-        mnemonic,
-        Mnemonic::Asl
-            | Mnemonic::Lsr
-            | Mnemonic::Rol
-            | Mnemonic::Ror
-            | Mnemonic::Inc
-            | Mnemonic::Dec
-            | Mnemonic::Sta
-            | Mnemonic::Stx
-            | Mnemonic::Sty
-            | Mnemonic::Pha
-            | Mnemonic::Php
-            | Mnemonic::Jsr
-    )
+    match mnemonic {
+        Mnemonic::Pha | Mnemonic::Php | Mnemonic::Jsr => true,
+        _ => stores_operand(mnemonic),
+    }
 }
 
 // Whether the instruction at PC stores, as far as its opcode tells.

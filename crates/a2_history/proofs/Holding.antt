@@ -4,7 +4,7 @@ use Rattle.std.specs.List.{AllByRecursion, items_where_true}
 use Rattle.std.specs.List.Retain.{IsFiltered, ReturnsInTurn}
 use Rattle.std.proofs.lemmas.List.Elements.{All-from_recursion, recursion_from_All, All-push}
 use Rattle.a2_machine.specs.State.{MachineState, Device}
-use Rattle.a2_spread.specs.Spread.{IsKept, IsWidth}
+use Rattle.a2_history.specs.Spacing.{IsKept, IsWidth}
 use Rattle.a2_history.specs.Courses.{Course, world_on}
 use Rattle.a2_history.specs.Going.{IsOn, AreOn}
 use Rattle.a2_history.specs.Held.{Thins, IsCopy, Holds}

@@ -4,3 +4,6 @@ mod Histories
 mod Leaping
 mod Routes
 mod Holding
+mod Counting
+mod Placing
+mod Nearness

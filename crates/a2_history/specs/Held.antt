@@ -1,7 +1,7 @@
 -- Which checkpoints are held. No public clause cites this file.
 use Rattle.std.specs.Prelude.{◌≡◌, ◌⊎◌, ℕ, List, [], ◌∷◌, ◌++◌, All}
 use Rattle.a2_machine.specs.State.{MachineState, Device, world_of_state}
-use Rattle.a2_spread.specs.Spread.{IsKept, IsWidth}
+use Rattle.a2_history.specs.Spacing.{IsKept, IsWidth}
 
 -- one list is another without some, none of which is kept
 abbrev pub Thins : ℕ → ℕ → List Device → List Device → Type 0

@@ -5,3 +5,6 @@ pub mod Gone
 pub mod Bursts
 pub mod Routines
 pub mod Held
+pub mod Places
+pub mod Spacing
+pub mod SpacingLaws

@@ -1,7 +1,7 @@
 -- The routines that a course entered and did not leave. This project's profile.
 use Rattle.std.specs.Prelude.{ℕ, ◌<◌, ◌≤◌, List, length, Option, Some, None}
-use Rattle.a2_routines.specs.declared.routines.Entry.{Entry}
-use Rattle.a2_routines.specs.Routines as along
+use Rattle.a2_symbols.specs.declared.routines.Entry.{Entry}
+use Rattle.a2_symbols.specs.Routines as along
 use Rattle.a2_history.specs.Courses.{Course, world_on}
 
 -- the routines entered and not left on the way to a position, the outermost first

@@ -2,13 +2,13 @@
 
 ghost use Rattle.std.specs.Prelude.{◌≡◌, ◌⊎◌, ◌≤◌, ◌<◌, ◌++◌, ◌∷◌, [], length, slice_index_or, All, IfSome};
 ghost use Rattle.a2_machine.specs.State.{Device};
-ghost use Rattle.a2_spread.specs.Spread.{IsKept};
+ghost use Rattle.a2_history.specs.Spacing.{IsKept};
 ghost use Rattle.a2_history.specs.Courses.{Course};
 ghost use Rattle.a2_history.specs.Going.{IsOn, AreOn};
 ghost use Rattle.a2_history.specs.Held.{Thins, IsCopy, Holds};
 
+use crate::spacing::{STRIDE, is_kept, width_of};
 use a2_machine::Machine;
-use a2_spread::{STRIDE, is_kept, width_of};
 use std::alloc::{Allocator, Global};
 use std::marker::Model;
 

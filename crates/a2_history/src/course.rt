@@ -11,11 +11,11 @@ ghost use Rattle.a2_history.specs.Bursts.{IsBurst, IsQuiet};
 ghost use Rattle.a2_history.specs.Typing.{IsTyped, IsTypedBy};
 ghost use Rattle.a2_history.specs.declared.fault.TypingFault.TheVariants.{Full};
 
+use crate::spacing::STRIDE;
 use crate::{Sight, Typed, TypingFault};
 use a2_burst::{NoObserver, Observer};
 use a2_bus::Keys;
 use a2_machine::{Cause, Machine};
-use a2_spread::STRIDE;
 use std::alloc::{AllocError, Allocator, Global};
 use std::marker::Model;
 

@@ -12,16 +12,16 @@ use crate::checkpoints::Checkpoints;
 use crate::course::Course;
 use crate::lookout::Watcher;
 use crate::routines::way_to;
+use crate::spacing::STRIDE;
 use crate::{Halt, Lookout, Sight, TypingFault};
 use a2_bus::Keys;
 use a2_machine::{Cause, Machine};
-use a2_routines::Entry;
-use a2_spread::STRIDE;
+use a2_symbols::Entry;
 use std::alloc::{AllocError, Allocator, Global};
 use std::marker::Model;
 
 /// The greatest position: the most steps of a history.
-const MOST_STEPS: u64 = 100_000_000;
+const HISTORY_MAX_STEPS: u64 = 100_000_000;
 
 /// How far a scout stays behind, in steps: a copy takes what some 250 steps of a run take, and these are made again once, to
 /// where an alarmed burst began.
@@ -69,7 +69,7 @@ impl<A: Allocator> Model for History<A> {
 impl<A: Allocator + Copy> History<A> {
     /// The history of a machine that has made no step, at its start, with at most `most` checkpoints later, of which each takes
     /// some 124,000 bytes. They are made at each 1,024 steps, and later at each fiftieth to hundredth of the steps so far; of
-    /// these are held those that `a2_spread` keeps where the farthest position is that was reached. Refused only for want of
+    /// these are held those that `is_kept` keeps where the farthest position is that was reached. Refused only for want of
     /// memory.
     pub fn new(alloc: A, machine: Machine<A>, most: usize) -> Result<History<A>, AllocError>
         requires { machine.state.steps ≡ 0 }
@@ -99,7 +99,7 @@ impl<A: Allocator + Copy> History<A> {
             self.new.position result }
     {
         let from = self.machine.steps();
-        let end = (from + u64::from(limit)).min(MOST_STEPS);
+        let end = (from + u64::from(limit)).min(HISTORY_MAX_STEPS);
         let halt = burst_on(
             self.alloc,
             &self.course,

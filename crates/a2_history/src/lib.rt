@@ -10,14 +10,19 @@ mod history;
 mod lookout;
 mod routines;
 mod sight;
+mod spacing;
 
 use a2_bus::Keys;
 use a2_machine::Cause;
-pub use a2_routines::{Entry, is_call};
+pub use a2_symbols::{Entry, is_call};
 pub use fault::TypingFault;
 pub use history::History;
 pub use lookout::Lookout;
 pub use sight::{Nothing, Sight};
+pub use spacing::{
+    STRIDE, WIDEST, each_position_has_a_checkpoint_near, is_kept, most_kept, no_more_are_kept,
+    none_is_wanted_again, width_of, within_a_fiftieth,
+};
 
 /// Keys that were typed at a position.
 #[derive(Drop)]

@@ -1,4 +1,4 @@
-//! What a program takes from its host: its words, its files, and where it tells a fault.
+//! What a program takes from its host: its words, files that it reads, files that it writes whole, and where it tells a fault.
 //!
 //! How it is called is shown in CALLING.md.
 #![tactic(auto)]
@@ -7,8 +7,11 @@ ghost use Rattle.std.specs.Prelude.{◌≡◌, ◌++◌, IfSome, None, codes};
 ghost use Rattle.a2_host.specs.Complaints.{TellsLine};
 ghost use Rattle.a2_host.specs.Shelves.{Opens, Shelved};
 
+mod drafts;
+
 use a2_stream::{FromRead, Input, Output, ReadFault, put, put_all};
 use arrayvec::ArrayString;
+pub use drafts::{Desk, HostDesk, HostDraft};
 use std::alloc::AllocError;
 use std::fs::File;
 use std::{env, fs, io};

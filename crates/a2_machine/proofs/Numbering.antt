@@ -19,14 +19,14 @@ service_in place = slice_index_or services place Cout
 abbrev number : Service → ℕ
 number service = tag_of the_type service
 
-numbers : map number services ≡ range_with_len 0 21
+numbers : map number services ≡ range_with_len 0 (length services)
 numbers = refl
 
 -- the service at a number has this number
-pub number_is : (i : ℕ) → i < 21 → number (service_in i) ≡ i
+pub number_is : (i : ℕ) → i < length services → number (service_in i) ≡ i
 number_is i within =
     sym (get_or-map number services i Cout 0 within) ∙ ap (λ ns. slice_index_or ns i 0) numbers
-    ∙ get_or-range_with_len 0 21 i 0 within ∙ (let e : 0 + i ≡ i = omega arith in e)
+    ∙ get_or-range_with_len 0 (length services) i 0 within ∙ (let e : 0 + i ≡ i = omega arith in e)
 
 -- and each stands at its own
 service_is : (service : Service) → service_in (number service) ≡ service
@@ -37,7 +37,7 @@ service_is _ = refl
 abbrev AreAsked : List Bool → (Service → Bool) → ℕ → ℕ → Type 0
 AreAsked blocked was count address = (s : Service) → slice_index_or blocked (number s) false ≡ (was s || (nat_lt (number s) count && reach s address))
 
-pub one_asked : (blocked : List Bool) (was : Service → Bool) (i address : ℕ) (at : ℕ) (reached : Bool) → length blocked ≡ 21 → i < 21 → at ≡ i
+pub one_asked : (blocked : List Bool) (was : Service → Bool) (i address : ℕ) (at : ℕ) (reached : Bool) → length blocked ≡ length services → i < length services → at ≡ i
     → reached ≡ reach (service_in i) address → AreAsked blocked was i address
     → AreAsked (slice_set blocked at (slice_index_or blocked at false || reached)) was (i + 1) address
 one_asked blocked was i address at reached size within here told asked s =

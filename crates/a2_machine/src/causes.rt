@@ -73,7 +73,7 @@ macro_rules! sentences {
 
 impl Cause {
     /// How many causes there are.
-    pub const COUNT: usize = 10;
+    pub const COUNT: usize = causes!(all).len();
 
     /// Each cause, in their order.
     pub const ALL: [Cause; Cause::COUNT] = causes!(all);

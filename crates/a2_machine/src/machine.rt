@@ -19,9 +19,9 @@ ghost use Rattle.a2_machine.specs.State.{world_of_state, code_of, cause_of, most
 ghost use Rattle.a2_machine.specs.declared.causes.Cause.TheVariants.{Limit};
 ghost use Rattle.a2_machine.specs.declared.Stop.TheVariants.{Cause as StopCause, Breakpoint};
 
+use crate::code_guard::{CodeGuard, NOTES};
 use crate::step::cause_at;
 use crate::steps::{StepsMade, make_one_step, make_steps, make_steps_alone};
-use crate::watch::{NOTES, Watch};
 use crate::{Cause, Stop};
 use a2_asm::Program;
 use a2_burst::{NoObserver, Observer};
@@ -36,7 +36,7 @@ use std::alloc::{AllocError, Allocator, Global};
 use std::marker::Model;
 
 /// The most steps that a machine makes from a start.
-const MOST_STEPS: u64 = 1_000_000_000_000;
+const MACHINE_MAX_STEPS: u64 = 1_000_000_000_000;
 
 /// Where PC stands with no program, $0300 (this project's profile).
 pub const FIRST_ENTRY: u16 = 0x0300;
@@ -57,11 +57,11 @@ fn cause_in(stop: Stop) -> Cause
 /// the cycles and steps since its start, its guard, and how many steps it ever made.
 pub struct Machine<A: Allocator = Global> {
     board: Board<A>,
-    watch: Watch<A>,
+    guard: CodeGuard<A>,
     // Room for what a long run notes, or none.
     notes: Vec<u8, A>,
     // The guard that was taken away last: what a free run is likely to keep to.
-    likely: Option<Watch<A>>,
+    likely: Option<CodeGuard<A>>,
     regs: Regs,
     cycles: u64,
     steps: u64,
@@ -73,7 +73,7 @@ impl<A: Allocator> Drop for Machine<A> {
     fn drop(self) {
         let Machine {
             board: _,
-            watch: _,
+            guard: _,
             notes: _,
             likely: _,
             regs: _,
@@ -93,7 +93,7 @@ impl<A: Allocator> Model for Machine<A> {
     ghost Value = { Device };
 
     ghost view = { λ m. record {
-      state = record { regs = m.regs; bus = m.board.bus; picture = m.board.picture; cycles = m.cycles; steps = m.steps; guard = m.watch };
+      state = record { regs = m.regs; bus = m.board.bus; picture = m.board.picture; cycles = m.cycles; steps = m.steps; guard = m.guard };
       made = m.made;
     } };
 
@@ -112,7 +112,7 @@ impl<A: Allocator + Copy> Machine<A> {
     {
         let mut machine = Machine::for_copies(alloc)?;
         machine.notes = Vec::with_capacity(alloc, NOTES)?;
-        machine.likely = Some(Watch::new(alloc)?);
+        machine.likely = Some(CodeGuard::new(alloc)?);
         Ok(machine)
     }
 
@@ -128,7 +128,7 @@ impl<A: Allocator + Copy> Machine<A> {
     {
         Ok(Machine {
             board: Board::new(alloc)?,
-            watch: Watch::new(alloc)?,
+            guard: CodeGuard::new(alloc)?,
             notes: Vec::new(alloc),
             likely: None,
             regs: Regs::start(FIRST_ENTRY),
@@ -175,7 +175,7 @@ impl<A: Allocator> Machine<A> {
         ensures marked { self.new.state.picture ≡ after_switch self.old.state.picture }
     {
         self.board.load(image);
-        self.watch.free();
+        self.guard.free();
         self.regs = Regs::start(entry);
         self.cycles = 0;
         self.steps = 0;
@@ -187,7 +187,7 @@ impl<A: Allocator> Machine<A> {
         ensures { self.new ≡ (let s = self.old.state in
             record self.old { state = record s { guard = Some (guard_of_program program.now) } }) }
     {
-        self.watch.set(program);
+        self.guard.set(program);
     }
 
     /// Takes the guard away, if there is one: an instruction may begin anywhere, and code may be stored to. A [`Machine::run`] is
@@ -195,12 +195,12 @@ impl<A: Allocator> Machine<A> {
     pub fn free(&mut self)
         ensures { self.new ≡ (let s = self.old.state in record self.old { state = record s { guard = None } }) }
     {
-        if self.watch.guards() {
+        if self.guard.guards() {
             if let Some(likely) = &mut self.likely {
-                likely.copy_from(&self.watch);
+                likely.copy_from(&self.guard);
             }
         }
-        self.watch.free();
+        self.guard.free();
     }
 
     /// Types `keys`, in order, behind those that wait. Refused exactly where more than 4,096 would wait, and then
@@ -308,7 +308,7 @@ impl<A: Allocator> Machine<A> {
         ensures { self.new ≡ record self.old { state = other.now.state } }
     {
         self.restore(other);
-        self.watch.copy_from(&other.watch);
+        self.guard.copy_from(&other.guard);
     }
 
     /// The byte of RAM at `address` ($0000 to $FFFF), with no effect on any device; none at or above $C000. Apple II
@@ -372,7 +372,7 @@ impl<A: Allocator> Machine<A> {
     fn most_within(&self, limit: u64) -> u64
         ensures { result ≡ steps_left limit self.now.state }
     {
-        limit.min(MOST_STEPS - self.steps)
+        limit.min(MACHINE_MAX_STEPS - self.steps)
     }
 
     // Counts steps that were made.
@@ -404,7 +404,7 @@ impl<A: Allocator> Machine<A> {
         let done = make_steps(
             &mut self.regs,
             self.board.space_mut(),
-            &self.watch,
+            &self.guard,
             most,
             breakpoints,
             observer,
@@ -421,7 +421,7 @@ impl<A: Allocator> Machine<A> {
         let done = make_steps_alone(
             &mut self.regs,
             self.board.space_mut(),
-            &self.watch,
+            &self.guard,
             &self.likely,
             &mut self.notes,
             most,
@@ -435,7 +435,7 @@ impl<A: Allocator> Machine<A> {
         ensures stuck { IfSome (stuck (code_of self.now.state) (world_of_state self.now.state)) (λ cause. result ≡ cause) }
         ensures limit { IfNone (stuck (code_of self.now.state) (world_of_state self.now.state)) (result ≡ Limit) }
     {
-        cause_at(&Live::of(&self.regs), self.board.space(), &self.watch).unwrap_or(Cause::Limit)
+        cause_at(&Live::of(&self.regs), self.board.space(), &self.guard).unwrap_or(Cause::Limit)
     }
 
     /// Makes one step, of an instruction or a service, and answers `None`; or answers the first of [`Cause`] that holds,
@@ -447,8 +447,8 @@ impl<A: Allocator> Machine<A> {
         ensures made { IfNone result (IsStep self.old self.new) }
         ensures stuck { IfSome result (λ _. self.new ≡ self.old) }
     {
-        if self.steps < MOST_STEPS {
-            return match make_one_step(&mut self.regs, self.board.space_mut(), &self.watch) {
+        if self.steps < MACHINE_MAX_STEPS {
+            return match make_one_step(&mut self.regs, self.board.space_mut(), &self.guard) {
                 Ok(cycles) => {
                     self.cycles += u64::from(cycles);
                     self.steps += 1;

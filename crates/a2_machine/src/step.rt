@@ -9,7 +9,7 @@ ghost use Rattle.a2_machine.specs.ByteRun.{bytes};
 ghost use Rattle.a2_machine.specs.Outcome.{IsCallAt, IsOutcome, TellsCall, TellsStep, cost_of, most_cost};
 
 use crate::Cause;
-use crate::watch::Watch;
+use crate::code_guard::CodeGuard;
 use a2_bus::locations::RETURN_ADDRESS;
 use a2_bus::{AddressSpace, Bus};
 use a2_cpu::run::live_step;
@@ -50,17 +50,17 @@ fn outcome_of_call(answer: Served) -> Result<u32, Cause>
 // The service that is to be called at an address above RAM, or the cause that stands before any call.
 #[inline(always)]
 #[tactic(auto, using(crate::proofs::Calls::stuck_above), unfolding(crate::specs::Meaning::stuck_at))]
-fn call_at<C: Allocator>(pc: u16, watch: &Watch<C>) -> Result<Service, Cause>
+fn call_at<C: Allocator>(pc: u16, guard: &CodeGuard<C>) -> Result<Service, Cause>
     requires { ram_end ≤ pc }
-    ensures { IsCallAt watch.now pc result }
+    ensures { IsCallAt guard.now pc result }
 {
     if pc == RETURN_ADDRESS {
         return Err(Cause::Returned);
     }
     match service_at(pc) {
-        Some(service) if watch.blocks(service) => Err(Cause::CodeWrite),
+        Some(service) if guard.blocks(service) => Err(Cause::CodeWrite),
         Some(service) => Ok(service),
-        None if watch.admits(pc) => Err(Cause::Rom),
+        None if guard.admits(pc) => Err(Cause::Rom),
         None => Err(Cause::OffStatement),
     }
 }
@@ -71,16 +71,16 @@ fn call_at<C: Allocator>(pc: u16, watch: &Watch<C>) -> Result<Service, Cause>
 fn make_step_above<A: Allocator, C: Allocator>(
     live: &mut Live,
     space: &mut AddressSpace<A>,
-    watch: &Watch<C>,
+    guard: &CodeGuard<C>,
 ) -> Result<u32, Cause>
     requires { ram_end ≤ live.old.pc }
-    ensures outcome { IsOutcome watch.now (live_registers live.old) space.old (live_registers live.new) space.new result }
+    ensures outcome { IsOutcome guard.now (live_registers live.old) space.old (live_registers live.new) space.new result }
     ensures cost { cost_of result ≤ most_cost }
     ensures cycles { live.new.cycles ≡ live.old.cycles }
 {
     // For the prover alone: a byte is below 256.
     let _a: u8 = live.a;
-    match call_at(live.pc, watch) {
+    match call_at(live.pc, guard) {
         Ok(service) => outcome_of_call(call(service, live, space)),
         Err(cause) => Err(cause),
     }
@@ -93,23 +93,23 @@ fn make_step_above<A: Allocator, C: Allocator>(
 pub fn make_step<A: Allocator, C: Allocator>(
     live: &mut Live,
     space: &mut AddressSpace<A>,
-    watch: &Watch<C>,
+    guard: &CodeGuard<C>,
 ) -> Result<u32, Cause>
-    ensures outcome { IsOutcome watch.now (live_registers live.old) space.old (live_registers live.new) space.new result }
+    ensures outcome { IsOutcome guard.now (live_registers live.old) space.old (live_registers live.new) space.new result }
     ensures cost { cost_of result ≤ most_cost }
     ensures cycles { live.new.cycles ≡ live.old.cycles }
 {
     if live.pc >= RAM_END {
-        return make_step_above(live, space, watch);
+        return make_step_above(live, space, guard);
     }
-    if !watch.admits(live.pc) {
+    if !guard.admits(live.pc) {
         return Err(Cause::OffStatement);
     }
     // For the prover alone: a look at RAM tells how long it is.
     let _ = space.peek(live.pc);
     // (of a copy, so that the caller's registers may stand in those of the host)
     let mut next = *live;
-    let step = live_step(&mut next, space, watch);
+    let step = live_step(&mut next, space, guard);
     *live = next;
     outcome_of(step)
 }
@@ -119,12 +119,12 @@ pub fn make_step<A: Allocator, C: Allocator>(
 fn cause_above<A: Allocator, C: Allocator>(
     live: &Live,
     space: &AddressSpace<A>,
-    watch: &Watch<C>,
+    guard: &CodeGuard<C>,
 ) -> Option<Cause>
     requires { ram_end ≤ live.now.pc }
-    ensures { (before : ℕ) → stuck (bytes watch.now) (world_of (live_registers live.now) space.now before) ≡ result }
+    ensures { (before : ℕ) → stuck (bytes guard.now) (world_of (live_registers live.now) space.now before) ≡ result }
 {
-    match call_at(live.pc, watch) {
+    match call_at(live.pc, guard) {
         Ok(service) => outcome_of_call(refusal(service, live, space)?).err(),
         Err(cause) => Some(cause),
     }
@@ -135,17 +135,17 @@ fn cause_above<A: Allocator, C: Allocator>(
 pub fn cause_at<A: Allocator, C: Allocator>(
     live: &Live,
     space: &AddressSpace<A>,
-    watch: &Watch<C>,
+    guard: &CodeGuard<C>,
 ) -> Option<Cause>
-    ensures { (before : ℕ) → stuck (bytes watch.now) (world_of (live_registers live.now) space.now before) ≡ result }
+    ensures { (before : ℕ) → stuck (bytes guard.now) (world_of (live_registers live.now) space.now before) ≡ result }
 {
     if live.pc >= RAM_END {
-        return cause_above(live, space, watch);
+        return cause_above(live, space, guard);
     }
-    if !watch.admits(live.pc) {
+    if !guard.admits(live.pc) {
         return Some(Cause::OffStatement);
     }
     // For the prover alone: a look at RAM tells how long it is.
     let _ = space.peek(live.pc);
-    outcome_of(live_refusal(live, space, watch)?).err()
+    outcome_of(live_refusal(live, space, guard)?).err()
 }

@@ -6,296 +6,291 @@ E1 TOO LARGE
   more than 65,536 bytes: E1 TOO LARGE
   more than 4,096 lines: LINE 4097 E1 TOO LARGE
   256 times ;: LINE 1 E1 TOO LARGE
-Mend: split the text, or cut the line; a long comment goes on in the next line
-behind a ; of its own.
+Fix: split the text, or shorten the line; continue a long comment on the next
+line, after another ;.
 ~E2
 E2 SYNTAX
      FOO 1
-LINE 1 E2 SYNTAX. The line is not in the grammar. Each line of this table is
-refused so; a comma parts the lines of its mend.
+LINE 1 E2 SYNTAX. The line is not in the grammar. Every line on the left of
+this table is E2; on the right, commas separate lines.
   'LDA #1': ' LDA #1': a line without a label begins with a blank
-  ' LDA#1': ' LDA #1': a blank stands between operation and operand
+  ' LDA#1': ' LDA #1': put a blank between operation and operand
   LOOP: RTS: LOOP RTS
   :LOOP RTS, @LOOP RTS, .LOOP RTS, ]LOOP RTS: LOOP RTS; there are no local
     labels
-  MY.NAME RTS, MY-NAME RTS: MY_NAME RTS: a name has letters, digits and _
-  'A EQU 1': 'ACC EQU 1': 'A' is no name
+  MY.NAME RTS, MY-NAME RTS: MY_NAME RTS: a name consists of letters, digits
+    and _
+  'A EQU 1': 'ACC EQU 1': 'A' is not allowed as a name
   ' EQU 5': 'FIVE EQU 5'
   COUT = $FDED: COUT EQU $FDED
   ' *=$300', ' .org $300': ' ORG $300'
   ' .byte 1', ' DB 1', ' FCB 1', ' DC.B 1', ' !byte 1': ' DFB 1'
   ' .word 1', ' DA 1', ' ADR 1', ' FDB 1': ' DW 1'
-  ' DS 3,0': ' DS 3': always zeros; ' DFB 255,255,255' for others
-  ' HEX C8C9': ' DFB $C8,$C9'
+  ' DS 3,0': ' DS 3' stores zeros; for other bytes write ' DFB 255,255,255'
 More: docs/manual/refusals.md
 ~E3
 E3 TOO MANY NAMES
 1,025 lines N0 EQU 1, N1 EQU 1 and so on: LINE 1025 E3 TOO MANY NAMES.
-Mend: write some of the numbers where they are used, or * with a distance in
-place of a near label.
+Fix: write some of the numbers directly, or write * and a distance instead of
+a nearby label.
 ~E4
 E4 DUPLICATE NAME
     N EQU 1
     N EQU 2
 LINE 2 E4 DUPLICATE NAME.
-Mend: rename one of the two, or delete it. An operation in column 1 without an
-operand is a label, so two lines RTS are a name defined twice: begin them with
-a blank.
+Fix: rename one of the two, or delete it. A word in column 1 is a label, so
+two lines RTS define a name twice: begin them with a blank.
 ~E5
 E5 UNKNOWN NAME
      JSR NOWHERE
 LINE 1 E5 UNKNOWN NAME.
-Mend: define the name by a label or by EQU; look at its spelling, capitals and
-small letters too.
+Fix: define the name with a label or with EQU; check its spelling, upper and
+lower case included.
 ~E6
 E6 NAME DEFINED LATER
      ORG START
     START EQU $300
-LINE 1 E6 NAME DEFINED LATER. In ORG, EQU and DS a name stands for what an
-earlier line gave it, for addresses hang on it.
-Mend: move the definition up.
+LINE 1 E6 NAME DEFINED LATER. In ORG, EQU and DS a name must be defined in an
+earlier line, because addresses depend on it.
+Fix: move the definition up.
 ~E7
 E7 NO SUCH MODE
      JSR #1
 LINE 1 E7 NO SUCH MODE. The mnemonic does not have this form.
-Mend: the forms of each mnemonic stand in instructions.md; JSR takes an
-address without #, STX no ,X, JMP no ,X, INC no A, and (P) alone is for JMP:
-elsewhere (P),Y with Y = 0.
+Fix: use a form that instructions.md lists; JSR takes an address without #,
+STX no ,X, JMP no ,X, INC no A, and only JMP takes (P): elsewhere write (P),Y
+with Y = 0.
 ~E8
 E8 VALUE OUT OF RANGE
      LDA #256
 LINE 1 E8 VALUE OUT OF RANGE.
-Mend: a byte is from 0 to 255. Of an address take the half that is meant:
-<COUT or >COUT. LDA 0-1 is refused so too: an address is 0 to 65,535.
+Fix: a byte is 0 to 255. Of an address, take the half that you mean: <COUT or
+>COUT. LDA 0-1 is E8 too: an address is 0 to 65,535.
 ~E9
 E9 BRANCH TOO FAR
      ORG $300
      BEQ $382
-LINE 2 E9 BRANCH TOO FAR. BEQ $381 is accepted: it is 127 behind the next
+LINE 2 E9 BRANCH TOO FAR. BEQ $381 is accepted: it is 127 bytes after the next
 instruction.
-Mend: branch the other way over a JMP.
+Fix: branch the other way over a JMP.
 ~E10
 E10 OUTSIDE RAM
      ORG $BFFF
      LDA #1
-LINE 2 E10 OUTSIDE RAM. The second of the two bytes would lie at $C000.
-Mend: a lower ORG. RTS at $BFFF is accepted.
+LINE 2 E10 OUTSIDE RAM. The second of the two bytes would be at $C000.
+Fix: use a lower ORG. RTS at $BFFF is accepted.
 ~E11
 E11 OVERLAP
      RTS
      ORG $300
      RTS
-LINE 3 E11 OVERLAP. A byte of the line would lie where an earlier line has
-one.
-Mend: move one of the two parts by its ORG, behind the end of the other;
-remember that a text without ORG begins at $0300.
+LINE 3 E11 OVERLAP. A byte of the line would be where an earlier line has one.
+Fix: change the ORG of one of the two parts, so that it begins after the end
+of the other. A text without ORG begins at $0300.
 ~E12
 E12 NO INSTRUCTION
 The empty text, or ; only a comment: E12 NO INSTRUCTION.
-Mend: write an instruction. On the command line, look whether the file is the
-one that was meant. RTS in column 1 is a label and no instruction: begin the
-line with a blank.
+Fix: write an instruction. Check that the file is the one that you meant. RTS
+in column 1 is a label, not an instruction: begin the line with a blank.
 ~M1
 M1 SYNTAX
 300:GG, 12345, 300:123, 300 301, L. The line has none of the Monitor's forms.
-Mend: 1 to 4 hexadecimal digits in an address, 1 or 2 in a byte, without $;
-one command on a line; an address before L and G; no blank but at the ends,
-behind : and between bytes.
+Fix: write 1 to 4 hexadecimal digits for an address and 1 or 2 for a byte,
+without $; one command per line; an address before L and G; blanks only at the
+ends, after : and between bytes.
 ~M2
 M2 BACKWARD
 30F.300, 400<30F.300M. The range ends below its start.
-Mend: the lower address first. A range of one byte is 300.300.
+Fix: write the lower address first. A range of one byte is 300.300.
 ~M3
 M3 OUTSIDE RAM
-C000, BFFF:1 2, BFFF<300.301M, C000L. A byte that is read or stored would lie
-at or above $C000.
-Mend: a lower address, or fewer bytes. C000G is no M3: any address may be gone
-to, and what is no RAM stops by ROM.
+C000, BFFF:1 2, BFFF<300.301M, C000L. A byte to be read or stored would be at
+or above $C000.
+Fix: use a lower address, or fewer bytes. C000G is not M3: you can go to any
+address, and outside RAM the run stops with ROM.
 ~G1
 G1 SYNTAX
 The smallest script: back
 The line is none of the above, P is neither a name nor $ and digits, or K is
-badly spelt.
-Mend: see the lines; a number has at most ten digits.
+badly spelled.
+Fix: see the lines; a number has at most ten digits.
 ~G2
 G2 UNKNOWN NAME
 The smallest script: break NOPE
 No line of the source defines the name.
-Mend: look at its capitals; use $ and the address.
+Fix: check upper and lower case; use $ and the address.
 ~G3
 G3 TOO FAR
 The smallest script: back 1
-The count would fall below the oldest that is kept, or below 0.
-Mend: go back less.
+The target is before the oldest copy, or before the start.
+Fix: go back less.
 ~G4
 G4 FULL
 The smallest script: 257 breakpoints, or 4,097 keys
-No more fit.
-Mend: clear breakpoints; go back past keys.
+There is no room for more.
+Fix: clear breakpoints; go back past keys.
 ~G5
 G5 TOO MANY STEPS
 The smallest script: step 100000001
-The count and N together are above 100,000,000, also where the program would
+The position and N together are above 100,000,000, even if the program would
 stop before.
-Mend: go on fewer steps, or begin again.
+Fix: make fewer steps, or begin again.
 ~BAD WORDS
 BAD WORDS, status 2
-The words of the command line are none of the forms: run is left out (./a2
-hello.s), an option stands twice or is none (--helps), N is above 100,000,000.
-Mend: the forms stand in README.md, the options in command-line.md.
+The arguments have none of the forms: run is missing (./a2 hello.s), an option
+is repeated or unknown (--helps), N is above 100,000,000.
+Fix: command-line.md has the forms and options.
 
 BAD WORDS, status 2
-A word is not UTF-8, such as the name of a file from an older system.
-Mend: give the source on standard input, ./a2 < F, or rename the file.
+An argument is not UTF-8, such as a file name from an older system.
+Fix: give the source on standard input, ./a2 < F, or rename the file.
 ~BAD KEYS
 BAD KEYS, status 2
-The value of --keys is no spelling of keys, or of more than 4,096.
-Mend: the spelling stands in machine.md.
+The value of --keys does not spell keys, or spells more than 4,096.
+Fix: machine.md has the spelling.
 ~READ FAULT
 READ FAULT, status 4
 A file or standard input cannot be opened or read.
-Any error of a read, or of opening a file, is told so; a read that failed is
-not tried again, and nothing is written. The usual causes:
-  there is no file of this name, or it may not be read: look at the name, from
-    the folder in which the program is called, and at the rights
-  a folder is given in place of a file: name the file in it
-  standard input is closed (<&-): give a text, or a file behind run
-  standard input does not wait, and has nothing yet: another program has set
-    it so: read through a pipe of its own: cat | ./a2
-  a signal interrupted a read, on a system that does not begin such a call
-    again: call again
-A terminal, a pipe or a file that gives a text in pieces is read to its end. A
-disk or a net that gives errors is told so too.
+Reading or opening a file failed. A failed read is not tried again, and
+nothing is printed. The usual causes:
+  there is no such file, or you may not read it: check the name, starting from
+    the current folder, and the permissions
+  the argument is a folder: name the file in it
+  standard input is closed (<&-): give a text, or a file after run
+  standard input is non-blocking and has nothing yet, because another program
+    has set it so: read through a pipe: cat | ./a2
+  a signal interrupted a read, on a system that does not restart the call: run
+    it again
+A terminal or pipe that gives a text in pieces is read to its end. Errors of a
+disk or a network are reported like this too.
 ~WRITE FAULT
 WRITE FAULT, status 4
-Standard output takes no more.
-Any error of a write is told so, and a write that took nothing; it is not
-tried again. A front of the output may have gone out. The usual causes:
-  what reads the output has ended, as 'head' does: none is needed; a reader
-    that takes all of it sees all of it
-  the disk or the quota is full: make room
-  standard output is closed (>&-), or may not be written: look at where it
-    leads
+Standard output cannot be written.
+A write failed, or took nothing. It is not tried again. The first part of the
+output may have been written. The usual causes:
+  the reader of the output has ended, as 'head' does: none is needed
+  the disk or the quota is full: free some space
+  standard output is closed (>&-), or may not be written: check where it leads
   a limit on the size of files (ulimit -f): raise the limit
-  standard output does not wait, and has no room: write through a pipe of its
-    own: ./a2 | cat
-At a limit on the size of files the system sends the signal XFSZ, which ends a
-program that does not ignore it. The launcher ./a2 has it ignored, so there
-the limit is WRITE FAULT and status 4. The program out/a2, called by itself,
-ends by the signal, unless its caller ignores it: (trap '' XFSZ; exec out/a2
-run F).
+  standard output is non-blocking and has no room: write through a pipe: ./a2
+    | cat
+At a limit on the size of files, the system sends the signal XFSZ, which ends
+a program that does not ignore it. ./a2 ignores it, so there the limit is
+WRITE FAULT with status 4. The program file itself ends by the signal, unless
+its caller ignores it: (trap '' XFSZ; exec out/a2 run F).
 ~NO MEMORY
 NO MEMORY, status 5
-A growth of memory was refused.
-Mend: end other programs.
+No memory could be allocated.
+Fix: end other programs.
 ~RETURNED
 STOP RETURNED
-PC is $FF69: the last RTS was done.
+PC is $FF69: the last RTS was executed.
      RTS
-The good end: the last RTS went to $FF69. Nothing is to be mended. A
-subroutine's RTS ends the run where the stack holds no address of a call any
-more: then look for a PLA too many, or for code that runs on into a
-subroutine.
+The normal end: the last RTS went to $FF69. If it came too early, a
+subroutine's RTS found no return address on the stack: look for one PLA too
+many, or for code that runs on into a subroutine.
 ~BRK
 STOP BRK
 The instruction is BRK.
      BRK
-In a guarded run always an end that was meant. In a free run most of RAM that
-nothing was stored in is 0, and so a BRK: PC ran on behind the program; end it
-by RTS. (The cells of text page 1 are $A0 at the start, which is LDY: a
-program that runs on into $0400 comes to its BRK at $0478.)
+In a guarded run this is always an end that you wrote. In a free run, most of
+RAM is 0, which is BRK: the program ran past its end, so end it with RTS.
+(Text page 1 is filled with $A0, which is LDY: a program that runs on into
+$0400 stops at $0478.)
 
-BRK: stops the run by BRK, and nothing else: the 7 cycles of the manual are
-not counted. Flags: none.
+BRK: only stops the run: BRK. The 7 cycles of the manual are not counted.
+Flags: none.
   BRK           implied          00, 7 cycles
 ~LIMIT
 STOP LIMIT
-No other cause, and the limit of steps is reached.
+There is no other cause, and the limit of steps is reached.
     L JMP L
-The steps are used up, 1,000,000 where --limit gives no other number. Give
-more by --limit, or look for the loop without an end: a counter that is stored
-again in the loop, a branch by flags that another instruction set in between,
-a wait for a key at $C000 where none was typed, a routine at a hook that
-changes the X or Y by which its caller counts, or a hook that leads back to
-itself, as $FDED in $36, $37.
+All allowed steps were made: 1,000,000, or the number after --limit. Allow
+more steps, or look for a loop that never ends:
+- a counter that is stored again inside the loop
+- a branch on flags that another instruction has set in between
+- a wait for a key at $C000 when no key is typed
+- a routine at a hook that changes the X or Y of the loop that called it
+- a hook that leads back to itself, such as $FDED in $36 and $37
 ~OFF STATEMENT
 STOP OFF STATEMENT
-Guarded: PC is no service, and no instruction of the source begins there.
+Guarded: PC is not a service, and no instruction of the source begins there.
      NOP
-Guarded runs alone: no instruction of the source begins at PC, and no service
-either. The usual causes:
-  ' NOP': '0301'; end the program by 'RTS'
+Only in guarded runs: no instruction of the source begins at PC, and no
+service either. The usual causes:
+  ' NOP': '0301'; end the program with 'RTS'
   ' NOP', 'RTS': '0301'; begin the line with a blank: 'RTS' in column 1 is a
     label
   ' LDX #$FF', ' TXS', ' RTS': '0001'; leave out 'TXS': a run begins with S =
-    '$FD' and the last return's address behind it; or end by ' JMP $FF69'
+    '$FD' and the last return address above it; or end with ' JMP $FF69'
   ' PHA', ' RTS': '6801'; pull what was pushed before 'RTS'
-  ' JSR $FF3A', ' RTS': 'FF3A'; write what stands in that entry's place: the
-    Monitor's addresses hold nothing but the services
-  ' STA $37', ' JSR $FDED', ' RTS': '00F0'; store both bytes of an address of
-    code in the hook, low byte first
+  ' JSR $FF3A', ' RTS': 'FF3A'; write what replaces that entry: of the
+    Monitor, only the services exist
+  ' STA $37', ' JSR $FDED', ' RTS': '00F0'; store both bytes of a routine's
+    address in the hook, low byte first
   ' LDA #1', ' DFB $2C', ' LDA #2', ' RTS': '0302'; jump around data; code
-    that is hidden in data runs with '--free' alone
+    that is hidden in data runs only with '--free'
 ~CODE WRITE
 STOP CODE WRITE
-Guarded: the service at PC may store where an instruction's byte lies.
+Guarded: the service at PC may store where an instruction's byte is.
 Guarded: the instruction would store or push into an instruction's byte.
      STA $300
-Guarded runs alone: the instruction would store into the bytes of an
-instruction, be it the byte that is there. Store into a DFB or DS of its own,
-or, where the program is to change itself, run it with --free.
+Only in guarded runs: the instruction would store into the bytes of an
+instruction, even if it stores the byte that is already there. Store into a
+DFB or DS of its own. If the program is meant to change itself, run it with
+--free.
      ORG $1FD
      PHA
 A push is a store too: keep code away from $0100-$01FF.
      ORG $400
      JSR $FDED
-So is what a service may do, wherever the cursor is, here COUT1, to which COUT
-leads: move the code away from $24, $25, $28, $29 and $0400-$07FF, and with
-GETLN from $0200-$02FF. Where each service may store stands in services.md.
+A service may also store, wherever the cursor is. Keep code away from $24,
+$25, $28, $29 and $0400-$07FF, and with GETLN from $0200-$02FF. services.md
+says where each service may store.
 ~WINDOW
 STOP WINDOW
-The window, the cursor, or the row or column of a block does not lie as the
-service at PC needs it.
+The window, the cursor, or the row or column of a block is not valid for the
+service at PC.
      STA $21
      JSR $FDED
-The window is no columns wide, since A is 0; PC is COUT1's address. Put $20 to
-$25 right: width $21 at least 1, $20 + $21 at most 40, $22 below $23, that at
-most 24, row $25 below 24, $20 + $24 below 40. A program that uses these
-addresses for data of its own is stopped so as well: take addresses below $20.
+The text window has no columns, because A is 0; PC is the address of COUT1.
+Set $20 to $25 so that the width $21 is at least 1, $20 + $21 at most 40, the
+top $22 below the bottom $23, the bottom at most 24, the row $25 below 24, and
+$20 + $24 below 40. A program that uses these addresses for its own data is
+stopped in the same way: use addresses below $20 instead.
      LDA #48
      JSR $F800
-Blocks have rows from 0 to 47 in A and columns from 0 to 39 in Y; $2C, where
-HLINE ends, is below 40, and $2D, where VLINE ends, below 48.
+Blocks have rows 0 to 47 in A and columns 0 to 39 in Y. $2C, where HLINE ends,
+must be below 40, and $2D, where VLINE ends, below 48.
 ~KEYS
 STOP KEYS
 KEYIN finds no waiting key, or GETLN no RETURN among them.
      JSR $FD0C
-KEYIN, to which RDKEY leads, has no key to take. GETLN stops so where no
-RETURN is among the keys: JSR $FD6A with --keys HI. Give the keys, and \r at
-the end of each line: --keys 'HI\r'.
+KEYIN, which RDKEY calls, has no key to take. GETLN stops in the same way if
+there is no RETURN among the keys, as JSR $FD6A with --keys HI. Give the keys,
+with \r at the end of each line: --keys 'HI\r'.
 ~DECIMAL
 STOP DECIMAL
 ADC or SBC with the flag D set.
      SED
      ADC #0
-There is no decimal arithmetic. Leave SED out, or clear D by CLD before ADC
-and SBC; count.s counts in decimal without it.
+Decimal arithmetic is not modelled. Leave out SED, or clear D with CLD before
+ADC and SBC. count.s counts in decimal without it.
 ~ROM
 STOP ROM
-A byte of the instruction would lie at or above $C000.
+A byte of the instruction would be at or above $C000.
      JMP $C000
-with --free: nothing can be run at or above $C000 but the services, and $FF69
-is the end. In a guarded run this is OFF STATEMENT. Look at the target of the
-last jump or call. An instruction at $BFFE or $BFFF with a byte at $C000 stops
-so too.
+with --free: only the services can be called at or above $C000, and $FF69 is
+the end. In a guarded run this is OFF STATEMENT. Look at the target of the
+last jump or call. An instruction at $BFFE or $BFFF that has a byte at $C000
+also stops like this.
 ~OPCODE
 STOP OPCODE
-The byte at PC is no documented opcode.
+The byte at PC is not a documented opcode.
      NOP
      DFB 2
-with --free: PC came to a byte that is no documented opcode, here the $02
-behind NOP. In a guarded run this is OFF STATEMENT. End the code before its
-data.
+with --free: the byte at PC is not a documented opcode, here the $02 after
+NOP. In a guarded run this is OFF STATEMENT. End the code before its data.
 ~LDA
 LDA: A = M. Flags: N Z.
   LDA #e        immediate        A9, 2 cycles
@@ -306,7 +301,7 @@ LDA: A = M. Flags: N Z.
   LDA e,Y       absolute,Y       B9, 4+ cycles
   LDA (e,X)     (zero page,X)    A1, 6 cycles
   LDA (e),Y     (zero page),Y    B1, 5+ cycles
-+: one cycle more where adding the index comes into another page.
++: one cycle more if adding the index leads into another page.
 ~STA
 STA: M = A. Flags: none.
   STA e         zero page        85, 3 cycles
@@ -317,9 +312,8 @@ STA: M = A. Flags: none.
   STA (e,X)     (zero page,X)    81, 6 cycles
   STA (e),Y     (zero page),Y    91, 6 cycles
 ~ADC
-ADC: A = A + M + C. C is the carry, V is set where the sum of the signed
-numbers is not -128 to 127. With D set it stops the run by DECIMAL. Flags: N V
-Z C.
+ADC: A = A + M + C. C is the carry; V is set if the sum of the signed numbers
+is not -128 to 127. With D set it stops the run: DECIMAL. Flags: N V Z C.
   ADC #e        immediate        69, 2 cycles
   ADC e         zero page        65, 3 cycles
   ADC e,X       zero page,X      75, 4 cycles
@@ -328,12 +322,12 @@ Z C.
   ADC e,Y       absolute,Y       79, 4+ cycles
   ADC (e,X)     (zero page,X)    61, 6 cycles
   ADC (e),Y     (zero page),Y    71, 5+ cycles
-+: one cycle more where adding the index comes into another page.
-An addition begins with CLC, a subtraction with SEC. There is no add or
-subtract without C.
++: one cycle more if adding the index leads into another page.
+Begin an addition with CLC and a subtraction with SEC, because both always use
+C.
 ~SBC
-SBC: A = A - M - (1 - C). C is clear where it borrows; V as with ADC. With D
-set it stops the run by DECIMAL. Flags: N V Z C.
+SBC: A = A - M - (1 - C). C is clear if it borrows; V as for ADC. With D set
+it stops the run: DECIMAL. Flags: N V Z C.
   SBC #e        immediate        E9, 2 cycles
   SBC e         zero page        E5, 3 cycles
   SBC e,X       zero page,X      F5, 4 cycles
@@ -342,9 +336,9 @@ set it stops the run by DECIMAL. Flags: N V Z C.
   SBC e,Y       absolute,Y       F9, 4+ cycles
   SBC (e,X)     (zero page,X)    E1, 6 cycles
   SBC (e),Y     (zero page),Y    F1, 5+ cycles
-+: one cycle more where adding the index comes into another page.
-An addition begins with CLC, a subtraction with SEC. There is no add or
-subtract without C.
++: one cycle more if adding the index leads into another page.
+Begin an addition with CLC and a subtraction with SEC, because both always use
+C.
 ~AND
 AND: A = A AND M, bit by bit. Flags: N Z.
   AND #e        immediate        29, 2 cycles
@@ -355,7 +349,7 @@ AND: A = A AND M, bit by bit. Flags: N Z.
   AND e,Y       absolute,Y       39, 4+ cycles
   AND (e,X)     (zero page,X)    21, 6 cycles
   AND (e),Y     (zero page),Y    31, 5+ cycles
-+: one cycle more where adding the index comes into another page.
++: one cycle more if adding the index leads into another page.
 ~ORA
 ORA: A = A OR M. Flags: N Z.
   ORA #e        immediate        09, 2 cycles
@@ -366,7 +360,7 @@ ORA: A = A OR M. Flags: N Z.
   ORA e,Y       absolute,Y       19, 4+ cycles
   ORA (e,X)     (zero page,X)    01, 6 cycles
   ORA (e),Y     (zero page),Y    11, 5+ cycles
-+: one cycle more where adding the index comes into another page.
++: one cycle more if adding the index leads into another page.
 ~EOR
 EOR: A = A exclusive-or M. Flags: N Z.
   EOR #e        immediate        49, 2 cycles
@@ -377,10 +371,10 @@ EOR: A = A exclusive-or M. Flags: N Z.
   EOR e,Y       absolute,Y       59, 4+ cycles
   EOR (e,X)     (zero page,X)    41, 6 cycles
   EOR (e),Y     (zero page),Y    51, 5+ cycles
-+: one cycle more where adding the index comes into another page.
++: one cycle more if adding the index leads into another page.
 ~CMP
-CMP: compares: the flags are those of A - M, and A stays. C is set where A is
-M or greater. Flags: N Z C.
+CMP: compares: sets the flags of A - M, and keeps A. C is set if A is M or
+greater. Flags: N Z C.
   CMP #e        immediate        C9, 2 cycles
   CMP e         zero page        C5, 3 cycles
   CMP e,X       zero page,X      D5, 4 cycles
@@ -389,7 +383,7 @@ M or greater. Flags: N Z C.
   CMP e,Y       absolute,Y       D9, 4+ cycles
   CMP (e,X)     (zero page,X)    C1, 6 cycles
   CMP (e),Y     (zero page),Y    D1, 5+ cycles
-+: one cycle more where adding the index comes into another page.
++: one cycle more if adding the index leads into another page.
 ~SEC
 SEC: sets C. Flags: C.
   SEC           implied          38, 2 cycles
@@ -409,72 +403,72 @@ SED: sets D. Flags: D.
 CLD: clears D. Flags: D.
   CLD           implied          D8, 2 cycles
 ~CLV
-CLV: clears V; no instruction only sets it. Flags: V.
+CLV: clears V; no instruction only sets V. Flags: V.
   CLV           implied          B8, 2 cycles
 ~BMI
-BMI: branches to e where N is set. Flags: none.
+BMI: branches to e if N is set. Flags: none.
   BMI e         relative         30, 2 cycles
-One cycle more where it branches, and one more again where the target is in
-another page than the next instruction. BLT of other assemblers is BCC, and
+A branch takes one cycle more if it is taken, and another one if its target is
+in another page than the next instruction. BLT of other assemblers is BCC, and
 BGE is BCS.
 ~BPL
-BPL: branches to e where N is clear. Flags: none.
+BPL: branches to e if N is clear. Flags: none.
   BPL e         relative         10, 2 cycles
-One cycle more where it branches, and one more again where the target is in
-another page than the next instruction. BLT of other assemblers is BCC, and
+A branch takes one cycle more if it is taken, and another one if its target is
+in another page than the next instruction. BLT of other assemblers is BCC, and
 BGE is BCS.
 ~BCC
-BCC: branches to e where C is clear; behind a compare: less. Flags: none.
+BCC: branches to e if C is clear; after a compare: less. Flags: none.
   BCC e         relative         90, 2 cycles
-One cycle more where it branches, and one more again where the target is in
-another page than the next instruction. BLT of other assemblers is BCC, and
+A branch takes one cycle more if it is taken, and another one if its target is
+in another page than the next instruction. BLT of other assemblers is BCC, and
 BGE is BCS.
 ~BCS
-BCS: branches to e where C is set; behind a compare: equal or greater. Flags:
+BCS: branches to e if C is set; after a compare: equal or greater. Flags:
 none.
   BCS e         relative         B0, 2 cycles
-One cycle more where it branches, and one more again where the target is in
-another page than the next instruction. BLT of other assemblers is BCC, and
+A branch takes one cycle more if it is taken, and another one if its target is
+in another page than the next instruction. BLT of other assemblers is BCC, and
 BGE is BCS.
 ~BEQ
-BEQ: branches to e where Z is set; behind a compare: equal. Flags: none.
+BEQ: branches to e if Z is set; after a compare: equal. Flags: none.
   BEQ e         relative         F0, 2 cycles
-One cycle more where it branches, and one more again where the target is in
-another page than the next instruction. BLT of other assemblers is BCC, and
+A branch takes one cycle more if it is taken, and another one if its target is
+in another page than the next instruction. BLT of other assemblers is BCC, and
 BGE is BCS.
 ~BNE
-BNE: branches to e where Z is clear; behind a compare: not equal. Flags: none.
+BNE: branches to e if Z is clear; after a compare: not equal. Flags: none.
   BNE e         relative         D0, 2 cycles
-One cycle more where it branches, and one more again where the target is in
-another page than the next instruction. BLT of other assemblers is BCC, and
+A branch takes one cycle more if it is taken, and another one if its target is
+in another page than the next instruction. BLT of other assemblers is BCC, and
 BGE is BCS.
 ~BVS
-BVS: branches to e where V is set. Flags: none.
+BVS: branches to e if V is set. Flags: none.
   BVS e         relative         70, 2 cycles
-One cycle more where it branches, and one more again where the target is in
-another page than the next instruction. BLT of other assemblers is BCC, and
+A branch takes one cycle more if it is taken, and another one if its target is
+in another page than the next instruction. BLT of other assemblers is BCC, and
 BGE is BCS.
 ~BVC
-BVC: branches to e where V is clear. Flags: none.
+BVC: branches to e if V is clear. Flags: none.
   BVC e         relative         50, 2 cycles
-One cycle more where it branches, and one more again where the target is in
-another page than the next instruction. BLT of other assemblers is BCC, and
+A branch takes one cycle more if it is taken, and another one if its target is
+in another page than the next instruction. BLT of other assemblers is BCC, and
 BGE is BCS.
 ~BIT
-BIT: tests M: N and V are its bits 7 and 6, Z is set where A AND M is 0. A
+BIT: tests M: N and V become its bits 7 and 6; Z is set if A AND M is 0. A
 stays. Flags: N V Z.
   BIT e         zero page        24, 3 cycles
   BIT e         absolute         2C, 4 cycles
 ~JMP
-JMP: goes on at the operand. Flags: none.
+JMP: continues at the operand. Flags: none.
   JMP e         absolute         4C, 3 cycles
   JMP (e)       (absolute)       6C, 5 cycles
 ~JSR
-JSR: pushes the address of its own last byte, high byte first, and goes on at
-the operand. Flags: none.
+JSR: pushes the address of its own last byte, high byte first, and continues
+at the operand. Flags: none.
   JSR e         absolute         20, 6 cycles
 ~RTS
-RTS: pulls an address, low byte first, and goes on behind it. Flags: none.
+RTS: pulls an address, low byte first, and continues after it. Flags: none.
   RTS           implied          60, 6 cycles
 ~LDX
 LDX: X = M. Flags: N Z.
@@ -483,7 +477,7 @@ LDX: X = M. Flags: N Z.
   LDX e,Y       zero page,Y      B6, 4 cycles
   LDX e         absolute         AE, 4 cycles
   LDX e,Y       absolute,Y       BE, 4+ cycles
-+: one cycle more where adding the index comes into another page.
++: one cycle more if adding the index leads into another page.
 ~LDY
 LDY: Y = M. Flags: N Z.
   LDY #e        immediate        A0, 2 cycles
@@ -491,7 +485,7 @@ LDY: Y = M. Flags: N Z.
   LDY e,X       zero page,X      B4, 4 cycles
   LDY e         absolute         AC, 4 cycles
   LDY e,X       absolute,X       BC, 4+ cycles
-+: one cycle more where adding the index comes into another page.
++: one cycle more if adding the index leads into another page.
 ~STX
 STX: M = X. Flags: none.
   STX e         zero page        86, 3 cycles
@@ -503,12 +497,12 @@ STY: M = Y. Flags: none.
   STY e,X       zero page,X      94, 4 cycles
   STY e         absolute         8C, 4 cycles
 ~CPX
-CPX: compares X as CMP does A. Flags: N Z C.
+CPX: compares X as CMP compares A. Flags: N Z C.
   CPX #e        immediate        E0, 2 cycles
   CPX e         zero page        E4, 3 cycles
   CPX e         absolute         EC, 4 cycles
 ~CPY
-CPY: compares Y as CMP does A. Flags: N Z C.
+CPY: compares Y as CMP compares A. Flags: N Z C.
   CPY #e        immediate        C0, 2 cycles
   CPY e         zero page        C4, 3 cycles
   CPY e         absolute         CC, 4 cycles
@@ -549,17 +543,17 @@ TXS: S = X. Flags: none.
 TSX: X = S. Flags: N Z.
   TSX           implied          BA, 2 cycles
 ~PHP
-PHP: pushes P, bits 5 and 4 set. Flags: none.
+PHP: pushes P with bits 5 and 4 set. Flags: none.
   PHP           implied          08, 3 cycles
 ~PLP
 PLP: pulls the six flags. Flags: N V D I Z C.
   PLP           implied          28, 4 cycles
 ~RTI
-RTI: pulls the flags, and then the address at which it goes on, low byte
+RTI: pulls the flags, and then the address at which it continues, low byte
 first. Flags: N V D I Z C.
   RTI           implied          40, 6 cycles
 ~LSR
-LSR: shifts right: 0 comes in as bit 7, bit 0 goes to C; half of it. Flags: N
+LSR: shifts right: bit 7 becomes 0, bit 0 goes to C; halves the byte. Flags: N
 Z C.
   LSR A         accumulator      4A, 2 cycles
   LSR e         zero page        46, 5 cycles
@@ -567,7 +561,7 @@ Z C.
   LSR e         absolute         4E, 6 cycles
   LSR e,X       absolute,X       5E, 7 cycles
 ~ASL
-ASL: shifts left: 0 comes in as bit 0, bit 7 goes to C; twice of it. Flags: N
+ASL: shifts left: bit 0 becomes 0, bit 7 goes to C; doubles the byte. Flags: N
 Z C.
   ASL A         accumulator      0A, 2 cycles
   ASL e         zero page        06, 5 cycles
@@ -575,14 +569,14 @@ Z C.
   ASL e         absolute         0E, 6 cycles
   ASL e,X       absolute,X       1E, 7 cycles
 ~ROL
-ROL: shifts left: the old C comes in as bit 0, bit 7 goes to C. Flags: N Z C.
+ROL: shifts left: bit 0 becomes the old C, bit 7 goes to C. Flags: N Z C.
   ROL A         accumulator      2A, 2 cycles
   ROL e         zero page        26, 5 cycles
   ROL e,X       zero page,X      36, 6 cycles
   ROL e         absolute         2E, 6 cycles
   ROL e,X       absolute,X       3E, 7 cycles
 ~ROR
-ROR: shifts right: the old C comes in as bit 7, bit 0 goes to C. Flags: N Z C.
+ROR: shifts right: bit 7 becomes the old C, bit 0 goes to C. Flags: N Z C.
   ROR A         accumulator      6A, 2 cycles
   ROR e         zero page        66, 5 cycles
   ROR e,X       zero page,X      76, 6 cycles
@@ -604,42 +598,42 @@ DEC: M = M - 1; from 0 to $FF. Flags: N Z.
 NOP: nothing. Flags: none.
   NOP           implied          EA, 2 cycles
 ~ORG
-ORG e: the next line's address is e. Bytes: none.
+ORG e: sets the address of the next line. Bytes: none.
      ORG $300
 ~EQU
-NAME EQU e: the name stands for e. Bytes: none.
+NAME EQU e: gives the name this value. Bytes: none.
     COUT EQU $FDED
 ~DFB
-DFB e,e,..: bytes, each 0 to 255. Bytes: one each.
+DFB e,e,..: stores bytes, each 0 to 255. Bytes: one each.
      DFB 1,$C1,'A'
 ~DW
-DW e,e,..: words, each 0 to 65,535, low byte first. Bytes: two each.
+DW e,e,..: stores words, each 0 to 65,535, low byte first. Bytes: two each.
      DW $FDED,768
 ~ASC
-ASC 'text': the ASCII codes. Bytes: one a character.
+ASC 'text': stores the ASCII codes. Bytes: one a character.
      ASC 'HI'
 
-ASC "text": the same with bit 7 set. Bytes: one a character.
+ASC "text": stores the same with bit 7 set. Bytes: one a character.
      ASC "HI"
 ~DS
-DS e: zeros. Bytes: e.
+DS e: stores e zeros. Bytes: e.
      DS 16
 ~COUT,$FDED,FDED
 COUT, $FDED
-Goes in: A: a byte. Comes out: what the hook leads to leaves. Stores: nothing.
-Cycles: 5.
-Puts the byte in A by way of the output hook.
+Goes in: A: a byte. Comes out: what the routine at the hook leaves. Stores:
+nothing. Cycles: 5.
+Prints the byte in A, through the output hook.
      ORG $300
      LDA #"A"
      JSR $FDED
      RTS
-Row 0 is A. A=C1 X=00 Y=00 P=B0 S=FF PC=FF69 STEPS=5 CYCLES=25. The call is
+Row 0 is A. A=C1 X=00 Y=00 P=B0 S=FF PC=FF69 STEPS=5 CYCLES=25. The call takes
 three steps: JSR, COUT and COUT1.
 ~COUT1,$FDF0,FDF0
 COUT1, $FDF0
 Goes in: A: a byte. Comes out: nothing. Stores: the screen, CH, CV, BASL,
 BASH. Cycles: 6.
-Puts the byte in A on the screen, whatever the hook holds.
+Prints the byte in A on the screen, whatever the hook holds.
      ORG $300
      LDA #0
      STA $36
@@ -652,7 +646,7 @@ Row 0 is A. A=C1 X=00 Y=00 P=B0 S=FF PC=FF69 STEPS=7 CYCLES=28.
 CROUT, $FD8E
 Goes in: nothing. Comes out: A = $8D, then as COUT. Stores: nothing. Cycles:
 5.
-Makes A = $8D, a return, and puts it by way of the output hook.
+Sets A to $8D, a return, and prints it through the output hook.
      ORG $300
      LDA #"A"
      JSR $FDED
@@ -665,7 +659,7 @@ Row 0 is A, row 1 is B. A=C2 X=00 Y=00 P=B0 S=FF PC=FF69 STEPS=12 CYCLES=61.
 PRBYTE, $FDDA
 Goes in: A: a byte. Comes out: nothing. Stores: the screen, CH, CV, BASL,
 BASH. Cycles: 6.
-Puts the two hexadecimal digits of A, as capitals with bit 7 set.
+Prints A as two hexadecimal digits, in capitals with bit 7 set.
      ORG $300
      LDA #$A7
      JSR $FDDA
@@ -675,7 +669,7 @@ Row 0 is A7. A=A7 X=00 Y=00 P=B0 S=FF PC=FF69 STEPS=4 CYCLES=20.
 PRHEX, $FDE3
 Goes in: A: a digit in its low four bits. Comes out: nothing. Stores: the
 screen, CH, CV, BASL, BASH. Cycles: 6.
-Puts the one hexadecimal digit of A's low four bits.
+Prints the low four bits of A as one hexadecimal digit.
      ORG $300
      LDA #$A7
      JSR $FDE3
@@ -684,7 +678,8 @@ Row 0 is 7. A=A7 X=00 Y=00 P=B0 S=FF PC=FF69 STEPS=4 CYCLES=20.
 ~SETINV,$FE80,FE80
 SETINV, $FE80
 Goes in: nothing. Comes out: nothing. Stores: INVFLG = $3F. Cycles: 6.
-Makes INVFLG = $3F: characters from $A0 on are put in inverse.
+Sets INVFLG to $3F: characters of $A0 and above are printed inverse from now
+on.
      ORG $300
      JSR $FE80
      LDA #"A"
@@ -695,7 +690,7 @@ X=00 Y=00 P=B0 S=FF PC=FF69 STEPS=7 CYCLES=37.
 ~SETNORM,$FE84,FE84
 SETNORM, $FE84
 Goes in: nothing. Comes out: nothing. Stores: INVFLG = $FF. Cycles: 6.
-Makes INVFLG = $FF, as it is at the start: characters are put as they are.
+Sets INVFLG to $FF, as it is at the start: characters are printed as they are.
      ORG $300
      JSR $FE80
      LDA #"A"
@@ -710,8 +705,8 @@ X=00 Y=00 P=B0 S=FF PC=FF69 STEPS=13 CYCLES=68.
 HOME, $FC58
 Goes in: nothing. Comes out: nothing. Stores: the window's cells, CH, CV,
 BASL, BASH. Cycles: 6.
-Makes the window's cells $A0, and the cursor goes to its top left: CH = 0, CV
-= WNDTOP.
+Fills the window's cells with $A0, and moves the cursor to its top left: CH =
+0, CV = WNDTOP.
      ORG $400
      ASC "OLD"
      ORG $300
@@ -723,10 +718,9 @@ Row 0 is A. A=C1 X=00 Y=00 P=B0 S=FF PC=FF69 STEPS=7 CYCLES=37.
 ~VTAB,$FC22,FC22
 VTAB, $FC22
 Goes in: CV: a row. Comes out: nothing. Stores: BASL, BASH. Cycles: 6.
-Stores in BASL and BASH the address of row CV, column WNDLFT. The services
-here do not need that; a program that stores to the screen does, and so does a
-real COUT behind a store to CV. A is not looked at: the row is stored to CV
-before.
+Stores the address of row CV, column WNDLFT in BASL and BASH. Store the row in
+CV before; A is ignored. The services here do not need this. A program that
+stores to the screen does, and so does a real COUT after a store to CV.
      ORG $300
      LDA #5
      STA $25
@@ -739,8 +733,8 @@ Row 5 is *. A=AA X=00 Y=03 P=B0 S=FF PC=FF69 STEPS=8 CYCLES=33.
 ~CLREOL,$FC9C,FC9C
 CLREOL, $FC9C
 Goes in: nothing. Comes out: nothing. Stores: cells of row CV. Cycles: 6.
-Makes the window's columns CH to WNDWDTH - 1 of row CV $A0; none where CH is
-not below WNDWDTH.
+Fills the window's columns CH to WNDWDTH - 1 of row CV with $A0; none if CH is
+WNDWDTH or more.
      ORG $400
      ASC "HELLO"
      ORG $480
@@ -756,8 +750,8 @@ CYCLES=23.
 CLREOP, $FC42
 Goes in: nothing. Comes out: nothing. Stores: the window's cells from the
 cursor on, BASL, BASH. Cycles: 6.
-Does what CLREOL does, then makes the window's columns of each row from CV + 1
-to WNDBTM - 1 $A0, and stores BASL and BASH.
+Does what CLREOL does, then fills the window's columns of each row from CV + 1
+to WNDBTM - 1 with $A0, and stores BASL and BASH.
      ORG $400
      ASC "HELLO"
      ORG $480
@@ -771,9 +765,9 @@ Row 0 is HE, row 1 is blank. A=02 X=00 Y=00 P=30 S=FF PC=FF69 STEPS=5
 CYCLES=23.
 ~RDKEY,$FD0C,FD0C
 RDKEY, $FD0C
-Goes in: nothing. Comes out: what the hook leads to leaves. Stores: nothing.
-Cycles: 5.
-Takes a key by way of the input hook.
+Goes in: nothing. Comes out: what the routine at the hook leaves. Stores:
+nothing. Cycles: 5.
+Takes a key, through the input hook.
      ORG $300
      JSR $FD0C
      JSR $FDED
@@ -804,22 +798,23 @@ Reads a line of keys to $0200, and shows it.
      RTS
 With ./a2 run f.s --keys 'HI\r' row 0 is *HI. A=00 X=02 Y=00 P=30 S=FF PC=FF69
 STEPS=3 CYCLES=18. STOP RETURNED.
-GETLN puts PROMPT, and then takes keys, each with bit 7 set:
+GETLN prints PROMPT, and then takes keys, each with bit 7 set:
 1. The right arrow ($95) becomes the byte of the cursor's cell. A byte $E0-$FF
 then loses $20, so small letters become capitals.
 2. The byte is stored in the line, which begins at $0200.
-3. $8D ends the line: the cells from the cursor to the window's right edge
-become $A0, a return is put, and X is the line's length, which does not count
-the $8D.
-4. Any other byte is put without the mask. Then
-- $88, the left arrow, takes the last byte of the line back; with none, a
+3. $8D ends the line. The cells from the cursor to the window's right edge
+become $A0, a return is printed, and X is the line's length without the $8D.
+4. Any other byte is printed without the mask. Then
+- $88, the left arrow, removes the last byte of the line; if there is none, a
+  return and PROMPT are printed;
 More: docs/manual/services.md
 ~WAIT,$FCA8,FCA8
 WAIT, $FCA8
 Goes in: A: how long. Comes out: A = 0. Stores: nothing. Cycles: (14 + 27a +
-5a^2) / 2, where a is A before; 167,293 where A is 0.
-Makes A 0 and counts cycles. With the 6 of its JSR, and a from 1 on, they are
-the Reference Manual's formula, (26 + 27a + 5a^2) / 2 microseconds.
+5a^2) / 2, a being A before the call; 167,293 if A is 0.
+Sets A to 0 and counts cycles. Let a be the value in A before. If a is at
+least 1, WAIT with the 6 cycles of its JSR takes (26 + 27a + 5a^2) / 2
+microseconds. That is the Reference Manual's formula.
      ORG $300
      LDA #1
      JSR $FCA8
@@ -829,8 +824,8 @@ for WAIT, 6 for RTS.
 ~SETCOL,$F864,F864
 SETCOL, $F864
 Goes in: A: a colour. Comes out: nothing. Stores: COLOR. Cycles: 6.
-Stores 17 times A's low four bits in COLOR: the same colour for even rows and
-odd ones.
+Stores 17 times A's low four bits in COLOR: the same colour for even and odd
+rows.
      ORG $300
      LDA #$1D
      JSR $F864
@@ -842,7 +837,7 @@ Row 0 is DD. A=DD X=00 Y=00 P=B0 S=FF PC=FF69 STEPS=7 CYCLES=35.
 PLOT, $F800
 Goes in: A: a row of blocks, Y: a column. Comes out: nothing. Stores: one
 block. Cycles: 6.
-Gives the block of row A, column Y the colour of COLOR; the other block of the
+Gives the block of row A, column Y the colour in COLOR. The other block of the
 cell stays.
      ORG $300
      LDA $C050
@@ -859,8 +854,8 @@ PC=FF69 STEPS=11 CYCLES=52.
 HLINE, $F819
 Goes in: A: a row, Y and H2: columns. Comes out: nothing. Stores: blocks of
 the row. Cycles: 6.
-Plots row A from column Y to the column in H2; where H2 is below Y, the block
-at Y alone.
+Plots row A from column Y to the column in H2; if H2 is below Y, only the
+block at Y.
      ORG $300
      LDA $C050
      JSR $F832
@@ -878,8 +873,8 @@ CYCLES=57.
 VLINE, $F828
 Goes in: Y: a column, A and V2: rows. Comes out: nothing. Stores: blocks of
 the column. Cycles: 6.
-Plots column Y from row A to the row in V2; where V2 is below A, the block at
-A alone.
+Plots column Y from row A to the row in V2; if V2 is below A, only the block
+at A.
      ORG $300
      LDA $C050
      JSR $F832
@@ -897,7 +892,7 @@ Row 0 begins with 00000, row 1 begins with 00006, row 3 begins with 00006, row
 SCRN, $F871
 Goes in: A: a row, Y: a column. Comes out: A = the block's colour. Stores:
 nothing. Cycles: 6.
-Answers in A the colour of the block of row A, column Y, 0 to 15.
+Returns in A the colour of the block of row A, column Y, 0 to 15.
      ORG $400
      DFB $D5
      ORG $300
@@ -911,8 +906,7 @@ A=0D X=00 Y=00 P=32 S=FF PC=FF69 STEPS=5 CYCLES=22. The byte $D5 is the colour
 CLRSCR, $F832
 Goes in: nothing. Comes out: nothing. Stores: page 1's cells, COLOR = 0, V2 =
 47. Cycles: 6.
-Makes all blocks black, which is 0 in all cells of page 1, COLOR = 0 and V2 =
-47.
+Makes all blocks black: 0 in all cells of page 1, COLOR = 0 and V2 = 47.
      ORG $300
      JSR $F832
      LDA $C050
@@ -924,11 +918,11 @@ PC=FF69 STEPS=6 CYCLES=28.
 ~WNDLFT,$20,20
 WNDLFT, $20: the window's first column.
 ~WNDWDTH,$21,21
-WNDWDTH, $21: how many columns the window has.
+WNDWDTH, $21: the number of columns of the window.
 ~WNDTOP,$22,22
 WNDTOP, $22: the window's first row.
 ~WNDBTM,$23,23
-WNDBTM, $23: the row behind the window's last.
+WNDBTM, $23: the row after the window's last.
 ~CH,$24,24
 CH, $24: the cursor's column in the window.
 ~CV,$25,25
@@ -946,12 +940,12 @@ high four for odd ones.
 ~INVFLG,$32,32
 INVFLG, $32: the mask of characters: $FF normal, $3F inverse.
 ~PROMPT,$33,33
-PROMPT, $33: the byte that GETLN puts first.
+PROMPT, $33: the byte that GETLN prints first.
 ~CSW,$36,36,$37,37
-CSW, $36, $37: the output hook: where COUT and CROUT go on, low byte first; at
+CSW, $36, $37: the output hook: where COUT and CROUT go, low byte first; at
 the start $FDF0, COUT1.
 ~KSW,$38,38,$39,39
-KSW, $38, $39: the input hook: where RDKEY goes on; at the start $FD1B, KEYIN.
+KSW, $38, $39: the input hook: where RDKEY goes; at the start $FD1B, KEYIN.
 ~$C000,C000
 $C000, any access: a read gives the key; nothing changes.
 ~$C010,C010
@@ -974,8 +968,8 @@ $0800 to $0BFF: text page 2.
 Monitor: store
     *300:11 22 33
     *:44
-A store answers nothing. The next address, at which a line without one stores,
-is the one behind the last byte stored; 300: without bytes makes it $0300; at
+A store answers nothing. A line without an address stores at the next address:
+the one after the last byte stored. 300: without bytes sets it to $0300; at
 first it is $0000.
 ~EXAMINE
 Monitor: examine
@@ -988,10 +982,11 @@ A new line begins at each address that is divisible by 8:
     03FF- 00
     0400- A0 A0 A0 A0 A0 A0 A0 A0
     0408- A0
-An examine makes its start the next address, so a byte that was looked at is
-changed by :. No other line but these two changes the next address.
-Looking has no effect on anything: the bytes are those of RAM, below $C000. In
-a new session the two hooks hold the addresses of COUT1 and KEYIN:
+Examining sets the next address to its start, so you can change a byte that
+you have just looked at with :. No other line except these two changes the
+next address.
+Examining has no effect on anything else; it shows RAM below $C000. In a new
+session the two hooks hold the addresses of COUT1 and KEYIN:
     *36.39
     0036- F0 FD
     0038- 1B FD
@@ -1003,26 +998,26 @@ Monitor: move
     *301<300.303M
     *300.304
     0300- 11 11 11 11 11
-Bytes are copied one by one, upwards. Where the destination begins inside the
-range, the bytes before it are so copied again and again: the second move
-fills $0301 to $0304 with the byte at $0300. To fill $0300 to $03FF with a
-byte: 300:A0, and then 301<300.3FEM.
+Bytes are copied one by one, upwards. If the destination begins inside the
+range, the first bytes are copied again and again: the second move fills $0301
+to $0304 with the byte at $0300. So to fill $0300 to $03FF with a byte, type
+300:A0 and then 301<300.3FEM.
 ~VERIFY
 Monitor: verify
     *310<300.303V
     0301- 11 (22)
     0302- 11 (33)
     0303- 11 (44)
-For each place that differs: the address in the range, its byte, and the byte
-at the destination. Where nothing differs, nothing is answered.
+For each place that differs, the answer has the address in the range, its
+byte, and the byte at the destination. If nothing differs, there is no answer.
 ~LIST
 Monitor: list
     *BFFD:A9 C1 60
     *BFFDL
     BFFD-   A9 C1      LDA   #$C1
     BFFF-   60         RTS
-20 instructions, or those before the first that has a byte at or above $C000.
-A byte that is no documented opcode is listed as ???, alone.
+Lists 20 instructions, or fewer if the next one has a byte at or above $C000.
+A byte that is not a documented opcode is listed as ???.
 ~GO
 Monitor: go
     *BFFDG
@@ -1031,18 +1026,18 @@ Monitor: go
     *BFFDG
     A=C1 X=00 Y=00 P=B0 S=FF PC=FF69 STEPS=4 CYCLES=16
     STOP RETURNED
-The program is called: its last RTS comes back to the Monitor and is told as
-STOP RETURNED. Every run has at most 1,000,000 steps of its own; the other
-causes of a stop stand in stops.md. A, X, Y and P are those that the run
-before left, at first 0; S, $01FE and $01FF are set anew. STEPS and CYCLES
-count on through the session. Any address may be gone to, services too.
+The program is called: its last RTS returns to the Monitor, reported as STOP
+RETURNED. Each run has at most 1,000,000 steps; stops.md has the other causes
+of a stop. A, X, Y and P keep their values from the run before, at first 0; S,
+$01FE and $01FF are set anew. STEPS and CYCLES count on through the session.
+You can go to any address, also to a service.
 
 Debugger: go N
-Makes N steps as step does, but ends after a step that comes to a breakpoint.
+Makes N steps like step, but stops after a step that reaches a breakpoint.
 Answer: the register line, then STOP and the cause, or BREAK.
 ~STEP
 Debugger: step N
-Makes N steps, or fewer where a cause stops them; breakpoints are ignored.
+Makes N steps, or fewer if a cause stops them; breakpoints are ignored.
 Answer: the register line, then STOP and the cause.
 ~BACK
 Debugger: back N
@@ -1052,7 +1047,7 @@ Debugger: break P
 Sets a breakpoint. Answer: nothing.
 ~CLEAR
 Debugger: clear P
-Takes a breakpoint away, if it is there. Answer: nothing.
+Removes a breakpoint, if there is one. Answer: nothing.
 ~TYPE
 Debugger: type K
 Types the keys K. Answer: nothing.

@@ -1,8 +1,8 @@
 -- What is pressed while a program waits for a key. This project's profile.
 use Rattle.std.specs.Prelude.{ℕ, ◌<◌, false, List, [], Some, None}
-use Rattle.a2_strokes.specs.Strokes.{first}
-use Rattle.a2_strokes.specs.declared.strokes.Stroke.{Stroke}
-use Rattle.a2_strokes.specs.declared.strokes.Stroke.TheVariants as stroke
+use Rattle.a2_tty.specs.AppleKeys.{first}
+use Rattle.a2_tty.specs.declared.apple_keys.Stroke.{Stroke}
+use Rattle.a2_tty.specs.declared.apple_keys.Stroke.TheVariants as stroke
 use Rattle.a2_monitor_session.specs.declared.press.Press.{Press}
 use Rattle.a2_monitor_session.specs.declared.press.Press.TheVariants.{Key, Stop, Nothing}
 

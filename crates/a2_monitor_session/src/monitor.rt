@@ -5,10 +5,9 @@ ghost use Rattle.std.specs.Prelude.{IfErr};
 ghost use Rattle.a2_stream.specs.Stream.{SendsOrBreaks};
 ghost use Rattle.a2_asm.specs.Assembled.{Assembled};
 ghost use Rattle.a2_machine.specs.State.{world_of_state};
-ghost use Rattle.a2_talk.specs.Turns.{RepliesTo};
+ghost use Rattle.a2_tty.specs.Turns.{RepliesTo};
 ghost use Rattle.a2_monitor.specs.Replies.{IsReply};
-ghost use Rattle.a2_monitor.specs.Sittings.{IsFreeRun, sitting_of};
-ghost use Rattle.a2_run.specs.Scripts.{start_sitting};
+ghost use Rattle.a2_monitor.specs.Sittings.{IsFreeRun, sitting_of, start_sitting};
 ghost use Rattle.a2_run.specs.Meaning.{IsProgramOf};
 ghost use Rattle.a2_run.specs.Started.{IsStarted, RefusesText};
 ghost use Rattle.a2_monitor_session.specs.Monitors.{IsHelp, IsBegun, IsTurnedDown};
@@ -23,11 +22,11 @@ use a2_asm::Program;
 use a2_bus::Keys;
 use a2_hex::{HexFault, load_lines};
 use a2_machine::{Cause, FIRST_ENTRY, Machine};
-use a2_monitor::{MOST_STEPS, MonFault, Session, called_in};
+use a2_monitor::{MONITOR_MAX_STEPS, MonFault, Session, called_in};
 use a2_run::{RunFault, program_of, started};
 use a2_stream::{Output, WriteFault, put, put_all};
-use a2_talk::Partner;
 use a2_text::capital;
+use a2_tty::Partner;
 use std::alloc::{AllocError, Allocator, Global};
 use std::cell::Cell;
 use std::marker::Model;
@@ -328,7 +327,7 @@ impl<A: Allocator> Monitor<'_, A> {
     {
         let before = standing(&self.session);
         let cause = self.session.call(at);
-        self.follow(&before, MOST_STEPS, cause, WAITS, writer)
+        self.follow(&before, MONITOR_MAX_STEPS, cause, WAITS, writer)
     }
 
     // Types a key at a program that waits, and lets it go on.

@@ -3,7 +3,7 @@
 ghost use Rattle.std.specs.Prelude.{◌≡◌};
 ghost use Rattle.a2_monitor_session.specs.Presses.{pressed, HasCode};
 
-use a2_strokes::{Stroke, first_stroke};
+use a2_tty::{Stroke, first_stroke};
 
 /// The key that ends a line.
 const RETURN: u8 = 0x0D;

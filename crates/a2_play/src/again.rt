@@ -8,7 +8,7 @@ ghost use Rattle.a2_timed_keys.specs.Typed.{keys_at, with_keys};
 ghost use Rattle.a2_play.specs.Played.{machine_after, start, world_with_keys};
 ghost use Rattle.a2_play.specs.Agains.{IsAgain, HasRoom, IsSlower, IsSought};
 
-use crate::player::MOST_STEPS;
+use crate::player::PIECE_MAX_STEPS;
 use a2_asm::Program;
 use a2_bus::Keys;
 use a2_machine::Machine;
@@ -97,7 +97,7 @@ fn run_on<A: Allocator>(machine: &mut Machine<A>, log: &[Typed], end: u64)
     type_due(machine, log, made);
     let until = next_due(log, made, end);
     // The run is made again, so that no cause comes before the limit.
-    let _ = machine.run((until - made).min(MOST_STEPS) as u32);
+    let _ = machine.run((until - made).min(PIECE_MAX_STEPS) as u32);
 }
 
 /// Brings a run made again to a position that it came to.

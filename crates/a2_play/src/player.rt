@@ -20,7 +20,7 @@ const MOST_RUNS: u32 = 100_000;
 const MOST_CYCLES: u64 = 7;
 
 /// The most steps of one run.
-pub(crate) const MOST_STEPS: u64 = 1_000_000;
+pub(crate) const PIECE_MAX_STEPS: u64 = 1_000_000;
 
 /// The service that takes as many cycles as A says.
 const WAIT: u16 = 0xFCA8;
@@ -167,7 +167,7 @@ impl<A: Allocator> Player<A> {
             return 1;
         }
         let left = cycles.saturating_sub(self.machine.cycles());
-        (left.saturating_sub(1) / MOST_CYCLES).min(MOST_STEPS) as u32 + 1
+        (left.saturating_sub(1) / MOST_CYCLES).min(PIECE_MAX_STEPS) as u32 + 1
     }
 
     /// Makes steps until so many cycles were made since the start, or a cause holds: that then. At most 100,000 stretches are
@@ -218,7 +218,7 @@ impl<A: Allocator> Player<A> {
             if made >= steps {
                 break;
             }
-            let ahead = (steps - made).min(MOST_STEPS) as u32;
+            let ahead = (steps - made).min(PIECE_MAX_STEPS) as u32;
             if self.run(ahead).is_some() {
                 break;
             }

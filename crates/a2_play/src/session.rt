@@ -7,13 +7,12 @@ use crate::Clock;
 use crate::pace::{Pace, SECOND, due, second};
 use crate::panel::{Face, Room, State, put_counts, put_panel};
 use crate::player::Player;
-use a2_ansi::{Colours, Shot, put_changes};
 use a2_asm::Program;
 use a2_explain::tell_stop;
 use a2_machine::Cause;
 use a2_run::RunFault;
 use a2_stream::{Input, Output, ToWrite, put};
-use a2_strokes::{Order, Stroke, first_stroke};
+use a2_tty::{Colours, Order, Shot, Stroke, first_stroke, put_changes};
 use std::alloc::Global;
 use std::marker::Model;
 

@@ -11,7 +11,7 @@ use Rattle.a2_page.proofs.Sending.{IsLeft}
 use Rattle.a2_asm.specs.declared.program.Statement.{Statement}
 use Rattle.a2_machine.specs.declared.causes.Cause.{Cause}
 use Rattle.a2_profile.specs.declared.profile.Count.{Count}
-use Rattle.a2_places.specs.Statements.{instruction_on}
+use Rattle.a2_symbols.specs.Statements.{instruction_on}
 use Rattle.a2_profile.specs.Table.{is_never_done}
 use Rattle.a2_text.specs.Json.{escaped}
 use Rattle.a2_profile.specs.Json.{escapes, items, addresses_from, line_object, line_objects, never_numbers, cause_string}

@@ -8,7 +8,7 @@ use Rattle.a2_asm.specs.Values.{Names}
 use Rattle.a2_profile.specs.RoutineTable.{named, name_of}
 use Rattle.a2_asm.specs.declared.program.Statement.{Statement}
 use Rattle.a2_profile.specs.declared.profile.Count.{Count}
-use Rattle.a2_places.specs.Statements.{instruction_on}
+use Rattle.a2_symbols.specs.Statements.{instruction_on}
 use Rattle.a2_profile.specs.Table.{line_row, line_rows, rows_from, never_row, never_rows}
 
 -- the rows from a line on

@@ -21,8 +21,8 @@ use Rattle.a2_machine.specs.State.{Device, MachineState, world_of_state, code_of
 use Rattle.a2_run.specs.Meaning.{code_of_run, start_of_run}
 use Rattle.a2_run.specs.Started.{IsStarted, guard_of_run}
 use Rattle.a2_run.proofs.Runs.{meant}
-use Rattle.a2_routines.specs.declared.routines.Entry.{Entry}
-use Rattle.a2_routines.specs.Routines.{is_jsr, is_call, entry_at, is_within, with_call, entered}
+use Rattle.a2_symbols.specs.declared.routines.Entry.{Entry}
+use Rattle.a2_symbols.specs.Routines.{is_jsr, is_call, entry_at, is_within, with_call, entered}
 use Rattle.a2_profile.specs.declared.walk.Frame.{Frame}
 use Rattle.a2_profile.specs.declared.walk.Totals.{Totals}
 use Rattle.a2_profile.specs.Run.{is_at}

@@ -6,8 +6,8 @@ use Rattle.a2_services.specs.World.{World}
 use Rattle.a2_machine.specs.declared.causes.Cause.{Cause}
 use Rattle.a2_machine.specs.Meaning.{Code, End, IsEnd, world_at}
 use Rattle.a2_run.specs.Meaning.{code_of_run, start_of_run}
-use Rattle.a2_routines.specs.declared.routines.Entry.{Entry}
-use Rattle.a2_routines.specs.Routines.{is_call, entered}
+use Rattle.a2_symbols.specs.declared.routines.Entry.{Entry}
+use Rattle.a2_symbols.specs.Routines.{is_call, entered}
 use Rattle.a2_profile.specs.declared.walk.Totals.{Totals}
 use Rattle.a2_profile.specs.Run.{over_steps, is_at}
 use Rattle.a2_profile.specs.Totals.{itself, totals_at, own_steps_in, own_cycles_in}

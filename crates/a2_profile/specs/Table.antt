@@ -9,7 +9,7 @@ use Rattle.a2_opcode.specs.declared.Mode.TheVariants.{Relative}
 use Rattle.a2_asm.specs.declared.program.Statement.{Statement}
 use Rattle.a2_asm.specs.Assembled.{Assembled}
 use Rattle.a2_asm.specs.Programs.{instr_at}
-use Rattle.a2_places.specs.Statements.{instruction_on}
+use Rattle.a2_symbols.specs.Statements.{instruction_on}
 use Rattle.a2_profile.specs.declared.profile.Count.{Count}
 use Rattle.a2_profile.specs.Counts.{count_at, steps_in, cycles_in}
 

@@ -10,8 +10,8 @@ use crate::addresses::{ByAddress, put_each};
 use crate::table::is_outside;
 use crate::{Profile, RoutineProfile, Totals, name_of};
 use a2_asm::{Program, Statement};
-use a2_places::instruction_on;
 use a2_stream::{Output, WriteFault, put, put_all};
+use a2_symbols::instruction_on;
 use a2_text::{decimal, hex_word};
 use std::alloc::Allocator;
 

@@ -11,8 +11,8 @@ use crate::table::{is_branch, is_never_done, is_outside};
 use crate::{Count, Profile};
 use a2_asm::{Program, Statement};
 use a2_machine::Cause;
-use a2_places::instruction_on;
 use a2_stream::{Output, WriteFault, put, put_all};
+use a2_symbols::instruction_on;
 use a2_text::{decimal, json_escape};
 use std::alloc::Allocator;
 

@@ -22,7 +22,7 @@ const ITSELF: u32 = 0x1_0000;
 const JSR: u8 = 0x20;
 
 /// The most steps of a walk: those of a run with the greatest limit.
-const MOST_STEPS: u64 = 0xFFFF_FFFF;
+const WALK_MAX_STEPS: u64 = 0xFFFF_FFFF;
 
 /// The most routines that are entered and not left, since the stack pointer is lower before each: at 256 for the program itself,
 /// and then at 255 to 0.
@@ -171,7 +171,7 @@ impl<A: Allocator> Walk<A> {
     fn has_room(&self) -> bool
         ensures { result ≡ walks.has_room self.now }
     {
-        self.steps < MOST_STEPS && !self.frames.is_empty()
+        self.steps < WALK_MAX_STEPS && !self.frames.is_empty()
     }
 
     // Counts a step of so many cycles in the innermost routine.

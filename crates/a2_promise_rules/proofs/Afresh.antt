@@ -10,7 +10,7 @@ use Rattle.a2_machine.specs.Meaning.{Code}
 use Rattle.a2_machine.proofs.Walks.{walked}
 use Rattle.a2_theorems.specs.Routines.{entered}
 use Rattle.a2_theorems.proofs.Keeping.{after_stores}
-use Rattle.a2_reads.proofs.Agreeing.{Pages, pages-with_ram, written_back}
+use Rattle.a2_footprint.proofs.Agreeing.{Pages, pages-with_ram, written_back}
 use Rattle.a2_promise_rules.proofs.Leaving.{Leaves, leaves_stores}
 use Rattle.a2_promise_rules.proofs.Meeting.{Whole, Reaches}
 use Rattle.a2_promise_rules.proofs.Proving.{onto, Fits, whole_with, whole_after}

@@ -23,7 +23,7 @@ use Rattle.a2_machine.specs.Meaning.{Code, return_address, service_cause}
 use Rattle.a2_machine.proofs.Walks.{walked}
 use Rattle.a2_theorems.specs.Routines.{word}
 use Rattle.a2_theorems.proofs.Stepping.{serve}
-use Rattle.a2_reads.proofs.Agreeing.{written_back}
+use Rattle.a2_footprint.proofs.Agreeing.{written_back}
 use Rattle.a2_promise_rules.proofs.Leaving.{Leaves}
 use Rattle.a2_promise_rules.proofs.Meeting.{Whole, IsWhole, enter, home, Reaches}
 use Rattle.a2_promise_rules.proofs.Printing.{printed_whole, to_end_whole, home_whole, home_fits, base_whole, base_fits}

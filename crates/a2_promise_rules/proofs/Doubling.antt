@@ -1,4 +1,4 @@
--- The example is proved, as a2-prove proves each.
+-- The example is proved, as `a2lab prove` proves each.
 use Rattle.std.specs.Prelude.{◌≡◌, ◌<◌, true, ℕ, ◌+◌, ◌*◌, ◌%◌, List, [], ◌∷◌, codes, Some, refl}
 use Rattle.std.proofs.Common.{arith, true≢false}
 use Rattle.a2_opcode.specs.declared.Mnemonic.TheVariants.{Asl, Rts}

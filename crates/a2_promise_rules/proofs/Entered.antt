@@ -26,15 +26,15 @@ use Rattle.a2_bus.specs.View.{memory_from}
 use Rattle.a2_bus.proofs.FirstBytes.{ram_byte-from, ram_byte-start}
 use Rattle.a2_effect.specs.Registers.{Registers, registers_at}
 use Rattle.a2_services.specs.World.{World}
-use Rattle.a2_uses.specs.declared.Part.{Part}
-use Rattle.a2_uses.specs.declared.Part.TheVariants.{A as part_a, X as part_x, Y as part_y, N as part_n, V as part_v, D as part_d, I as part_i, Z as part_z, C as part_c}
-use Rattle.a2_reads.specs.Parts.{is_part, held as part_held}
+use Rattle.a2_footprint.specs.declared.Part.{Part}
+use Rattle.a2_footprint.specs.declared.Part.TheVariants.{A as part_a, X as part_x, Y as part_y, N as part_n, V as part_v, D as part_d, I as part_i, Z as part_z, C as part_c}
+use Rattle.a2_footprint.specs.Parts.{is_part, held as part_held}
 use Rattle.a2_theorems.proofs.Texts.{source_of}
 use Rattle.a2_promise.specs.declared.promises.Promise.{Promise}
 use Rattle.a2_promise.specs.Told.{Terms, IsPromise}
 use Rattle.a2_promise.specs.Values.{Moment}
-use Rattle.a2_promise_try.specs.Judging.{all_hold}
-use Rattle.a2_promise_try.specs.Kept.{bytes_of}
+use Rattle.a2_promise_certify.specs.Judging.{all_hold}
+use Rattle.a2_promise_certify.specs.Kept.{bytes_of}
 use Rattle.a2_promise_rules.specs.Promised.{IsEntered}
 use Rattle.a2_promise_rules.specs.Typed.{keys_of}
 use Rattle.a2_promise_rules.proofs.Proving.{eq_yes}

@@ -29,15 +29,15 @@ use Rattle.a2_run.specs.Meaning.{IsProgramOf}
 use Rattle.a2_promise.specs.declared.promises.Clause.{Clause}
 use Rattle.a2_promise.specs.declared.promises.Promise.{Promise}
 use Rattle.a2_promise.specs.declared.promises.Range.{Range}
-use Rattle.a2_uses.specs.declared.Part.{Part}
-use Rattle.a2_uses.specs.declared.Part.TheVariants.{A as part_a, X as part_x, Y as part_y, N as part_n, V as part_v, D as part_d, I as part_i, Z as part_z, C as part_c}
-use Rattle.a2_uses.specs.Reads.{pull_address}
-use Rattle.a2_reads.specs.Calls.{GoesBack}
-use Rattle.a2_reads.specs.Parts.{held as part_held}
+use Rattle.a2_footprint.specs.declared.Part.{Part}
+use Rattle.a2_footprint.specs.declared.Part.TheVariants.{A as part_a, X as part_x, Y as part_y, N as part_n, V as part_v, D as part_d, I as part_i, Z as part_z, C as part_c}
+use Rattle.a2_footprint.specs.InstructionReads.{pull_address}
+use Rattle.a2_footprint.specs.Calls.{GoesBack}
+use Rattle.a2_footprint.specs.Parts.{held as part_held}
 use Rattle.a2_promise.specs.Values.{value_of}
-use Rattle.a2_promise_try.specs.Judging.{all_hold, holds, no_names}
-use Rattle.a2_promise_try.specs.Kept.{is_own, may_change, may_store, moment}
-use Rattle.a2_promise_try.specs.States.{Enters}
+use Rattle.a2_promise_certify.specs.Judging.{all_hold, holds, no_names}
+use Rattle.a2_promise_certify.specs.Kept.{is_own, may_change, may_store, moment}
+use Rattle.a2_promise_certify.specs.States.{Enters}
 use Rattle.a2_theorems.proofs.Texts.{IsAccepted, accepted, entry_of, not_refused, source_of, statements_of}
 use Rattle.a2_promise.specs.Phrases.{Phrase, phrase_of}
 use Rattle.a2_promise.specs.Told.{Terms, IsTold, IsPromise}

@@ -5,7 +5,7 @@ use Rattle.a2_services.specs.World.{World}
 use Rattle.a2_machine.specs.Meaning.{Code}
 use Rattle.a2_machine.proofs.Walks.{walked, Leads}
 use Rattle.a2_theorems.specs.Routines.{HasBytes}
-use Rattle.a2_reads.proofs.Agreeing.{Pages}
+use Rattle.a2_footprint.proofs.Agreeing.{Pages}
 use Rattle.a2_promise_rules.specs.Worlds.{OnlyBytes}
 
 -- a memory whose RAM holds bytes, and whose text pages have 24 rows of 40 cells: what is stored in a cell is read back there

@@ -13,7 +13,7 @@ use Rattle.a2_machine.proofs.Walks.{walked}
 use Rattle.a2_theorems.proofs.Branching.{Flag, flag_of, with_flag, onward}
 use Rattle.a2_theorems.proofs.Places.{along}
 use Rattle.a2_theorems.proofs.Keeping.{after_stores}
-use Rattle.a2_reads.proofs.Agreeing.{pages-with_ram, written_back}
+use Rattle.a2_footprint.proofs.Agreeing.{pages-with_ram, written_back}
 use Rattle.a2_promise_rules.proofs.Meeting.{Whole, IsWhole, enter, Reaches, Back, home, Meets}
 
 -- a part that is computed, and what follows

@@ -15,7 +15,7 @@ use Rattle.a2_promise.specs.declared.expr.Operation.TheVariants as operation
 use Rattle.a2_promise.specs.declared.promises.Clause.{Clause}
 use Rattle.a2_promise.specs.Values.{Moment, held as held_atom, word_in, byte_value, word_value, byte_at, word_at, made, made_of, operated_on, is_zero, chosen, count_of, each_below, sum_below, at_count, value_of}
 use Rattle.a2_promise.specs.Phrases.{Phrase, number, held, bound, old, at, of, pair, choice, each, sum, phrase_of}
-use Rattle.a2_promise_try.specs.Judging.{all_hold, holds, no_names}
+use Rattle.a2_promise_certify.specs.Judging.{all_hold, holds, no_names}
 use Rattle.a2_promise_rules.proofs.Ranges.{both}
 
 -- a moment at the entry

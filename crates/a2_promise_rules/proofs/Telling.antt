@@ -10,8 +10,8 @@ use Rattle.a2_promise.specs.declared.expr.Expr.TheVariants.{Number, Held, Bound,
 use Rattle.a2_promise.specs.declared.expr.Operation.{Operation}
 use Rattle.a2_promise.specs.declared.expr.Operation.TheVariants as operation
 use Rattle.a2_promise.specs.Values.{digit, held as held_atom, operated, operated_on, chosen, count_of, each_below as value_below, at_count, value_of}
-use Rattle.a2_promise_try.specs.Kept.{moment}
-use Rattle.a2_promise_try.specs.Judging.{holds, no_names}
+use Rattle.a2_promise_certify.specs.Kept.{moment}
+use Rattle.a2_promise_certify.specs.Judging.{holds, no_names}
 use Rattle.a2_promise.specs.Phrases.{Phrase, number, held, bound, old, at, of, pair, choice, each, sum, phrase_of}
 use Rattle.a2_promise_rules.specs.Worlds.{OnlyBytes}
 use Rattle.a2_promise_rules.proofs.Saying.{View, minus, view, most, counts, Claim, flag_is, flag, is_flag, is_fact, constant, agree, equal, less, at_most, compared, choose, one_of, each_below, claim, is_equal, compares, tells, unnamed, with_name}

@@ -22,7 +22,7 @@ use Rattle.a2_promise.specs.declared.expr.Function.TheVariants as function
 use Rattle.a2_promise.specs.declared.expr.Operation.{Operation}
 use Rattle.a2_promise.specs.declared.expr.Operation.TheVariants as operation
 use Rattle.a2_promise.specs.Values.{digit, fits, limited, word_in, held as held_atom, byte_value, word_value, byte_at, word_at, bitwise, bit_of, operated, made_of, signed as signed_byte, operated_on, count_of, sum_below, at_count, value_of}
-use Rattle.a2_promise_try.specs.Kept.{bytes_of, moment}
+use Rattle.a2_promise_certify.specs.Kept.{bytes_of, moment}
 use Rattle.a2_promise.specs.Phrases.{Phrase, number, held, bound, old, at, of, pair, choice, each, sum, phrase_of}
 use Rattle.a2_theorems.specs.Routines.{word}
 use Rattle.a2_promise_rules.specs.Worlds.{OnlyBytes}

@@ -12,8 +12,8 @@ use Rattle.a2_run.specs.Meaning.{IsProgramOf, IsRefused}
 use Rattle.a2_promise.specs.declared.promises.Promise.{Promise}
 use Rattle.a2_promise.specs.Grammar.{is_name_among}
 use Rattle.a2_promise.specs.Told.{Terms, IsTold, IsPromise, begins_with, text_behind}
-use Rattle.a2_promise_try.specs.Kept.{IsRequired}
-use Rattle.a2_promise_try.specs.States.{Enters}
+use Rattle.a2_promise_certify.specs.Kept.{IsRequired}
+use Rattle.a2_promise_certify.specs.States.{Enters}
 use Rattle.a2_promise_rules.specs.Typed.{KeepsWithKeys, keys_of, laid_with_keys}
 use Rattle.a2_promise_rules.specs.Worlds.{OnlyBytes}
 

@@ -5,9 +5,9 @@ use Rattle.a2_bus.specs.PowerOn.{start_memory}
 use Rattle.a2_services.specs.World.{World}
 use Rattle.a2_machine.specs.Meaning.{world_at}
 use Rattle.a2_promise.specs.declared.promises.Promise.{Promise}
-use Rattle.a2_promise_try.specs.Entering.{laid}
-use Rattle.a2_promise_try.specs.Kept.{Keeps, code}
-use Rattle.a2_promise_try.specs.States.{Trial}
+use Rattle.a2_promise_certify.specs.Entering.{laid}
+use Rattle.a2_promise_certify.specs.Kept.{Keeps, code}
+use Rattle.a2_promise_certify.specs.States.{Trial}
 
 -- the keys that a promise says are taken: the characters of its texts, one behind another
 abbrev pub keys_of : Promise → List ℕ

@@ -1,4 +1,4 @@
-//! Rules by which it is proved that a routine keeps what it promises in comments: proofs that `./a2-prove` writes are made of
+//! Rules by which it is proved that a routine keeps what it promises in comments: proofs that `./a2lab prove` writes are made of
 //! them. They are definitions and lemmas; the calls do nothing, their contracts are theorems, as examples.
 //!
 //! How it is called is shown in CALLING.md.

@@ -7,9 +7,9 @@ use Rattle.a2_effect.specs.View.{registers_of}
 use Rattle.a2_services.specs.World.{World}
 use Rattle.a2_machine.specs.State.{Device, world_of_state}
 use Rattle.a2_promise_try.specs.Failing.{IsFresh}
-use Rattle.a2_promise_try.specs.States.{with_value}
-use Rattle.a2_promise_try.specs.declared.inputs.Input.{Input}
-use Rattle.a2_promise_try.specs.declared.inputs.Input.TheVariants.{A, X, Y, Carry, Zero, Negative, Overflow, Interrupt, Byte}
+use Rattle.a2_promise_certify.specs.States.{with_value}
+use Rattle.a2_promise_certify.specs.declared.input.Input.{Input}
+use Rattle.a2_promise_certify.specs.declared.input.Input.TheVariants.{A, X, Y, Carry, Zero, Negative, Overflow, Interrupt, Byte}
 
 -- an input that is no byte is one of the registers, whatever memory and cycles are
 only_registers : (input : Input) (value : ℕ) (world : World) → ((a : ℕ) → input ≡ Byte a → ⊥)

@@ -1,14 +1,21 @@
 -- A state in which a routine is tried, as a machine that enters it. This project's own.
-use Rattle.std.specs.Prelude.{◌≡◌, ℕ, List, Option, Some, None, IfSome}
+use Rattle.std.specs.Prelude.{◌≡◌, ℕ, Bool, true, nat_lt, List, Option, Some, None, IfSome}
+use Rattle.a2_bus.specs.Memory.{ram_end}
 use Rattle.a2_services.specs.World.{World}
 use Rattle.a2_machine.specs.Start.{called_at, start_world}
 use Rattle.a2_machine.specs.State.{Device}
-use Rattle.a2_promise_try.specs.declared.inputs.Input.{Input}
-use Rattle.a2_promise_try.specs.States.{with_values}
+use Rattle.a2_promise_certify.specs.declared.input.Input.{Input}
+use Rattle.a2_promise_certify.specs.declared.input.Input.TheVariants.{Byte}
+use Rattle.a2_promise_certify.specs.States.{with_values}
 
 -- what is laid over RAM: each byte of the program, and others, which may be any
 abbrev pub IsFilled : (ℕ → Option ℕ) → (ℕ → Option ℕ) → Type 0
 IsFilled program filled = (a : ℕ) → IfSome (program a) (λ byte. filled a ≡ Some byte)
+
+-- an input is a register, a flag or a byte of RAM
+abbrev pub is_input_in_ram : Input → Bool
+is_input_in_ram (Byte a) = nat_lt a ram_end
+is_input_in_ram _ = true
 
 -- The machine at its start, with the program and bytes that may be any laid over its RAM, and these keys typed, as by a JSR at the
 -- routine of an address; and there these inputs have these values.

@@ -1,6 +1,6 @@
 -- What the Monitor's services print, and what texts of a promise say. This project's profile; docs/manual/services.md, "Putting a byte",
 -- has what becomes of each byte.
-use Rattle.std.specs.Prelude.{ℕ, ◌+◌, ◌-◌, ◌/◌, ◌%◌, ◌==◌, ◌||◌, nat_lt, nat_le, if◌then◌else◌, List, [], ◌∷◌, ◌++◌, map}
+use Rattle.std.specs.Prelude.{◌≡◌, ◌⊎◌, ℕ, ◌+◌, ◌-◌, ◌/◌, ◌%◌, ◌==◌, ◌||◌, nat_lt, nat_le, if◌then◌else◌, List, [], ◌∷◌, ◌++◌, map}
 use Rattle.std.specs.List.{flat_map}
 use Rattle.a2_bus.specs.Memory.{Memory}
 use Rattle.a2_effect.specs.Registers.{Registers}
@@ -13,6 +13,7 @@ use Rattle.a2_services.specs.Bytes.{carriage_return, line_feed, backspace, cance
 use Rattle.a2_services.specs.Put.{prompt_character}
 use Rattle.a2_services.specs.Services.{digit_byte}
 use Rattle.a2_promise.specs.declared.texts.Text.{Text}
+use Rattle.a2_promise.specs.declared.texts.Texts.{Texts}
 
 -- a byte that is put is a character, but for those from $80 to $9F with which nothing is done
 abbrev pub shown : ℕ → List ℕ
@@ -61,3 +62,12 @@ printed_by service registers memory = printed_on (service_row service).on_screen
 -- the bytes that texts say, each text behind the one before: characters with bit 7 set
 abbrev pub bytes_of_texts : List Text → List ℕ
 bytes_of_texts texts = flat_map (λ text. map (λ c. 128 + c % 128) text.characters.items) texts
+
+-- these bytes are printed as a promise says: just those of its texts, where it has any of what is printed
+abbrev pub PrintsSo : Texts → List ℕ → Type 0
+PrintsSo texts printed = (texts.prints.items ≡ []) ⊎ (printed ≡ bytes_of_texts texts.prints.items)
+
+-- a promise says nothing of what is printed and of keys
+pub record HasNoText (texts : Texts) : Type 0 where
+  pub prints : texts.prints.items ≡ []
+  pub takes : texts.takes.items ≡ []

@@ -1,6 +1,6 @@
-//! What the Monitor's services print.
+//! What the Monitor's services print, and what a promise says of it.
 
-ghost use Rattle.std.specs.Prelude.{◌≡◌, ◌+◌, ◌%◌, ◌++◌, map, OnOk, IfOk};
+ghost use Rattle.std.specs.Prelude.{◌≡◌, ◌+◌, ◌%◌, ◌++◌, ◌↔◌, true, map, OnOk, IfOk, IsTrue};
 ghost use Rattle.std.specs.List.{flat_map};
 ghost use Rattle.a2_bus.specs.View.{memory_of};
 ghost use Rattle.a2_effect.specs.View.{registers_of};
@@ -10,7 +10,7 @@ use a2_bus::AddressSpace;
 use a2_bus::locations::PROMPT;
 use a2_cpu::Regs;
 use a2_page::BLANK;
-use a2_promise::Text;
+use a2_promise::{Text, Texts};
 use a2_services::bytes::{BACKSLASH, BACKSPACE, CANCEL, LINE_FEED, RETURN, digit_byte};
 use a2_services::{OnScreen, Service, load, row_of};
 use std::alloc::{AllocError, Global};
@@ -148,11 +148,29 @@ fn push_texts(bytes: &mut Vec<u8>, texts: &[Text]) -> Result<(), AllocError>
     Ok(())
 }
 
-/// The bytes that texts say, each text behind the one before.
-pub(crate) fn bytes_of(alloc: Global, texts: &[Text]) -> Result<Vec<u8>, AllocError>
+// The bytes that texts say, each text behind the one before.
+fn bytes_of(alloc: Global, texts: &[Text]) -> Result<Vec<u8>, AllocError>
     ensures { IfOk result (λ bytes. bytes.items ≡ said.bytes_of_texts texts.now) }
 {
     let mut bytes = Vec::new(alloc);
     push_texts(&mut bytes, texts)?;
     Ok(bytes)
+}
+
+/// Whether a run printed what a promise says: just these bytes, where it says anything of that. Refused only for want of memory.
+pub fn prints_so(alloc: Global, texts: &Texts, printed: &[u8]) -> Result<bool, AllocError>
+    ensures { IfOk result (λ so. (so ≡ true) ↔ said.PrintsSo texts.now printed.now) }
+{
+    if texts.prints.is_empty() {
+        return Ok(true);
+    }
+    let wanted = bytes_of(alloc, texts.prints.as_slice())?;
+    Ok(wanted.as_slice() == printed)
+}
+
+/// Whether a promise says nothing of what is printed and of keys.
+pub(crate) fn has_no_text(texts: &Texts) -> bool
+    ensures { IsTrue result → said.HasNoText texts.now }
+{
+    texts.prints.is_empty() && texts.takes.is_empty()
 }

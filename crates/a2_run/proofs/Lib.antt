@@ -5,8 +5,4 @@ pub mod OneText
 pub mod FreeText
 pub mod EachText
 pub mod Refusing
-pub mod Scripting
 pub mod Lengths
-pub mod Replying
-pub mod DebugScripting
-pub mod OneDebugging

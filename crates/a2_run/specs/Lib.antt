@@ -5,6 +5,3 @@ pub mod Status
 pub mod Started
 pub mod Laws
 pub mod Limits
-pub mod Scripts
-pub mod Replies
-pub mod DebugScripts

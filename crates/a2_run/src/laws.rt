@@ -1,10 +1,8 @@
-//! Laws of what source texts and scripts mean. The calls do nothing: their contracts are the laws.
+//! Laws of what source texts mean. The calls do nothing: their contracts are the laws.
 
 ghost use Rattle.a2_run.specs.Laws.{FreeRunsAreGuardedRuns, OneRefusal, RefusedHasNoProgram, RefusedHasNoRun};
 ghost use Rattle.a2_run.specs.Laws.{RefusedHasNoObjectLines, RefusedOrProgram, OneCause, OneOutput, OneObjectText};
-ghost use Rattle.a2_run.specs.Laws.{EachProgramRuns, EachProgramHasObjectLines, OneScriptRefusal, RefusedScriptHasNoOutput};
-ghost use Rattle.a2_run.specs.Laws.{EachScriptHasOutput, OneScriptOutput, OneDebugRefusal, RefusedDebuggingHasNoOutput};
-ghost use Rattle.a2_run.specs.Laws.{EachDebuggingHasOutput, RefusedOrDebugged, OneDebugOutput};
+ghost use Rattle.a2_run.specs.Laws.{EachProgramRuns, EachProgramHasObjectLines};
 
 /// For every source text, list of keys, step limit and option: where the text's guarded run ends by a cause other than
 /// `CodeWrite` and `OffStatement`, its free run ends by the same cause and writes the same.
@@ -32,22 +30,4 @@ pub fn a_text_means_one_output()
     ensures output { OneOutput }
     ensures written { EachProgramHasObjectLines }
     ensures object_text { OneObjectText }
-{}
-
-/// A script of Monitor lines has one refusal, or one output.
-pub fn a_script_has_one_output()
-    ensures refusal { OneScriptRefusal }
-    ensures refused { RefusedScriptHasNoOutput }
-    ensures each { EachScriptHasOutput }
-    ensures one { OneScriptOutput }
-{}
-
-/// A source with a script of debugger lines has one refusal, the source's or, where that has a program, the script's; or
-/// one output. It never has both, and never neither.
-pub fn a_debugging_script_has_one_output()
-    ensures refusal { OneDebugRefusal }
-    ensures refused { RefusedDebuggingHasNoOutput }
-    ensures each { EachDebuggingHasOutput }
-    ensures either { RefusedOrDebugged }
-    ensures one { OneDebugOutput }
 {}

@@ -8,7 +8,7 @@ ghost use Rattle.a2_run.specs.Limits.{IsStepLimit};
 pub const DEFAULT_STEPS: u32 = 1_000_000;
 
 /// The most steps that a word can ask for.
-pub const MOST_STEPS: u32 = 100_000_000;
+pub const RUN_MAX_STEPS: u32 = 100_000_000;
 
 /// The number of steps that `word` spells, 0 to 100,000,000, in 1 to 9 decimal digits; none where it spells no such
 /// number. This project's profile.
@@ -19,5 +19,5 @@ pub fn step_limit(word: &str) -> Option<u32>
         return None;
     }
     let limit: u32 = word.parse().ok()?;
-    (limit <= MOST_STEPS).then_some(limit)
+    (limit <= RUN_MAX_STEPS).then_some(limit)
 }

@@ -2,16 +2,12 @@
 
 ghost use Rattle.std.specs.Prelude.{◌≡◌, IfOk, IfSome, take};
 ghost use Rattle.a2_stream.specs.Stream.{count_after, TakesAtMost};
-ghost use Rattle.a2_run.specs.Answers.{read_of, Answers, LeavesBehind, OfSource, OfScript, RestsOnTexts, is_read_fault};
+ghost use Rattle.a2_run.specs.Answers.{read_of, Answers, LeavesBehind, OfSource, RestsOnTexts, is_read_fault};
 ghost use Rattle.a2_run.specs.Answers.{is_unread, is_write_fault, NothingSent};
 ghost use Rattle.a2_run.specs.Meaning.{IsRefused, IsRun, AreObjectLines};
-ghost use Rattle.a2_run.specs.DebugScripts.{IsDebugRefusal, IsDebugText, ReadsFail};
-ghost use Rattle.a2_run.specs.Scripts.{IsMonText, IsRefusedScript};
 ghost use Rattle.a2_run.specs.Status.{status_of, fault_status as status_of_fault};
 
-use crate::debugging::debug_script;
 use crate::fault::ReadingFault;
-use crate::scripts::answer_script;
 use crate::sources::{assemble_source, run_source};
 use crate::{Options, RunFault};
 use a2_bus::Keys;
@@ -105,61 +101,6 @@ pub fn asm_text<A: Allocator + Copy, R: Input, W: Output>(
 {
     let text = read_text(alloc, reader)?;
     assemble_source(alloc, text.as_slice(), writer)
-}
-
-/// Answers the Monitor lines of the script that the reader gives: for each `*`, the line, LF, and its answer or its refusal.
-/// Refused where the script is over the limits, where a read or write fails, and for want of memory.
-pub fn mon_text<A: Allocator + Copy, R: Input, W: Output>(
-    alloc: A,
-    reader: &mut R,
-    writer: &mut W,
-) -> Result<(), RunFault>
-    // What is written is the meaning of what is read.
-    ensures meaning { IfSome (R.giver reader.old).bytes (λ input.
-        Answers (OfScript (IsRefusedScript input)) (λ _. IsMonText input) (W.taker writer.old) (W.taker writer.new) result) }
-    // Nothing is read past the 65,537th byte.
-    ensures front { TakesAtMost 65537 (R.giver reader.old) (R.giver reader.new) }
-    // And all is read up to there, but where a read fails, or memory is wanting.
-    ensures through { RestsOnTexts result → LeavesBehind 65537 (R.giver reader.old) (R.giver reader.new) }
-    // Whatever the reader gives, a fault other than of the writer means that nothing was written.
-    ensures silent { NothingSent (W.taker writer.old) (W.taker writer.new) result }
-    // A fault of the reader or writer comes exactly where one of its calls failed.
-    ensures reader { (R.giver reader.new).failures ≡ count_after (is_read_fault result) (R.giver reader.old).failures }
-    ensures writer { (W.taker writer.new).failures ≡ count_after (is_write_fault result) (W.taker writer.old).failures }
-{
-    let text = read_text(alloc, reader)?;
-    answer_script(alloc, text.as_slice(), writer)
-}
-
-/// Debugs the program of the source that the first reader gives, by the debugger lines of the script that the second
-/// gives: for each `>`, the line, LF, and its answer, or its refusal and LF. Both texts are read before anything is
-/// refused. Refused where the source is; where it is not and the script is over the limits of a source; where a read or
-/// write fails; and for want of memory. This project's profile.
-pub fn debug_text<A: Allocator + Copy, R: Input, S: Input, W: Output>(
-    alloc: A,
-    source: &mut R,
-    script: &mut S,
-    writer: &mut W,
-) -> Result<(), RunFault>
-    // What is written is the meaning of what is read.
-    ensures meaning { IfSome (R.giver source.old).bytes (λ text. IfSome (S.giver script.old).bytes (λ lines.
-        Answers (IsDebugRefusal text lines) (λ _. IsDebugText text lines) (W.taker writer.old) (W.taker writer.new) result)) }
-    // Nothing is read past the 65,537th byte of either.
-    ensures fronts { TakesAtMost 65537 (R.giver source.old) (R.giver source.new)
-        × TakesAtMost 65537 (S.giver script.old) (S.giver script.new) }
-    // And all of both is read up to there, but where a read fails, or memory is wanting: so also where the source is refused.
-    ensures through { RestsOnTexts result → LeavesBehind 65537 (R.giver source.old) (R.giver source.new)
-        × LeavesBehind 65537 (S.giver script.old) (S.giver script.new) }
-    // Whatever the readers give, a fault other than of the writer means that nothing was written.
-    ensures silent { NothingSent (W.taker writer.old) (W.taker writer.new) result }
-    // A fault of a reader or of the writer comes exactly where one of its calls failed.
-    ensures readers { ReadsFail (is_read_fault result) (R.giver source.old) (R.giver source.new) (S.giver script.old)
-        (S.giver script.new) }
-    ensures writer { (W.taker writer.new).failures ≡ count_after (is_write_fault result) (W.taker writer.old).failures }
-{
-    let text = read_text(alloc, source)?;
-    let lines = read_text(alloc, script)?;
-    debug_script(alloc, text.as_slice(), lines.as_slice(), writer)
 }
 
 /// The status where a text has no answer: 1 for a refused source or script, 4 for a failed read or write, 5 for want of

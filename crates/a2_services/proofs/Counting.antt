@@ -63,9 +63,6 @@ same_fewer d e h = omega (arith, ap (λ (x : Devices). length x.keys) h)
 pub output_devices : (m : Memory) (w : World) → (back (output m w)).memory.devices ≡ m.devices
 output_devices m w = ap (λ (x : Memory). x.devices) (returned_devices (output m w)) ∙ base_devices m
 
--- a service that leaves a memory with the same devices and returns
-pub left_fewer : (m : Memory) (w : World) → m.devices ≡ w.memory.devices → length (back (with_memory m w)).memory.devices.keys ≤ length w.memory.devices.keys
-left_fewer m w same = same_fewer _ _ (ap (λ (x : Memory). x.devices) (returned_devices (with_memory m w)) ∙ same)
-
-pub output_fewer : (m : Memory) (w : World) → m.devices ≡ w.memory.devices → length (back (output m w)).memory.devices.keys ≤ length w.memory.devices.keys
-output_fewer m w same = left_fewer (with_base_address m) w (base_devices m ∙ same)
+-- a service that leaves a memory and returns
+pub left_devices : (m : Memory) (w : World) → (back (with_memory m w)).memory.devices ≡ m.devices
+left_devices m w = ap (λ (x : Memory). x.devices) (returned_devices (with_memory m w))

@@ -1,5 +1,5 @@
 -- What each service leaves, service by service: it changes no byte out of its reach, and adds no key.
-use Rattle.std.specs.Prelude.{◌≡◌, ◌⊎◌, ℕ, ◌+◌, ◌%◌, ◌<◌, ◌≤◌, List, [], ◌∷◌, Bool, true, false, ◌||◌, length, refl, ◌≢◌, ◌*◌, fold}
+use Rattle.std.specs.Prelude.{◌≡◌, ◌⊎◌, ℕ, ◌+◌, ◌<◌, ◌≤◌, List, [], ◌∷◌, Bool, true, false, ◌||◌, length, refl, ◌≢◌, fold}
 use Rattle.std.proofs.Common.{ap, ◌∙◌, arith, true≢false}
 use Rattle.std.proofs.lemmas.Bool.Decides.{nat_tests}
 use Rattle.a2_text.specs.Bytes.{is_between}
@@ -8,14 +8,15 @@ use Rattle.a2_page.specs.Text.{blocks_of, plotted}
 use Rattle.a2_bus.specs.Memory.{Memory, ram_byte, with_ram}
 use Rattle.a2_bus.proofs.Frame.{ram_byte-with_ram, ram_byte-page1}
 use Rattle.a2_services.specs.declared.rows.Service.{Service}
-use Rattle.a2_services.specs.declared.rows.Service.TheVariants.{Cout, Cout1, Crout, Home, Prbyte, Prhex, Setinv, Setnorm, Vtab, Clreol, Clreop, Rdkey, Keyin, Getln, Wait, Setcol, Plot, Hline, Vline, Scrn, Clrscr}
+use Rattle.a2_services.specs.declared.rows.Service.TheVariants.{Cout, Cout1, Crout, Home, Prbyte, Prhex, Vtab, Clreol, Clreop, Rdkey, Keyin, Getln, Wait, Plot, Hline, Vline, Scrn, Clrscr}
 use Rattle.a2_services.specs.World.{World}
 use Rattle.a2_services.specs.Put.{prompt_character, with_page1, after_put}
-use Rattle.a2_services.specs.Services.{reach, output_reach, Reading, line_read, with_key_taken, back, effect, output, with_memory, with_a, with_x, served, cleared_to_end, cleared_below}
+use Rattle.a2_services.specs.Rows.{service_row}
+use Rattle.a2_services.specs.Services.{is_without, reach, output_reach, Reading, line_read, with_key_taken, back, effect, output, with_memory, with_a, with_x, served, cleared_to_end, cleared_below}
 use Rattle.a2_services.specs.Reading.{reading}
 use Rattle.a2_services.proofs.Lines.{ram_devices, put_devices}
 use Rattle.a2_services.proofs.Reaching.{IsOutside, outside_of, page1-kept, column-kept, row-kept, put-kept, base-kept, line_read-kept, returned-kept, output-kept}
-use Rattle.a2_services.proofs.Counting.{Fewer, fewer_taken, fewer_read, base_devices, returned_devices, same_fewer, output_devices, cleared_devices, left_fewer, output_fewer}
+use Rattle.a2_services.proofs.Counting.{Fewer, fewer_taken, fewer_read, base_devices, returned_devices, same_fewer, output_devices, cleared_devices, left_devices}
 use Rattle.a2_services.proofs.Kept.{IsOffPage, IsOffBase, off_page, off_base, other_than, off_base-kept, off_page-cleared}
 use Rattle.a2_services.specs.Blocks.{painted, painted_across, painted_down, span_of, colour_of, black}
 
@@ -62,10 +63,6 @@ effect-kept Prbyte world b h =
 effect-kept Prhex world b h =
     let o : IsOutside b = outside_of b h in
     grind (arith, output-kept, put-kept)
-effect-kept Setinv world b h =
-    returned-kept (with_memory (with_ram world.memory 0x32 0x3F) world) b ∙ ram_byte-with_ram world.memory 0x32 0x3F b (other_than b 0x32 h)
-effect-kept Setnorm world b h =
-    returned-kept (with_memory (with_ram world.memory 0x32 0xFF) world) b ∙ ram_byte-with_ram world.memory 0x32 0xFF b (other_than b 0x32 h)
 effect-kept Vtab world b h = returned-kept (output world.memory world) b ∙ off_base-kept b (off_base b h) world.memory
 effect-kept Clreol world b h =
     returned-kept (with_memory (cleared_to_end world.memory) world) b ∙ off_page-cleared b (off_page b h) world.memory
@@ -104,10 +101,6 @@ effect-kept Getln world b h =
     away : is_between 0x200 0x2FF b ≡ false → (b < 0x200) ⊎ (0x300 ≤ b)
     away h = grind (arith, nat_tests, h)
 effect-kept Wait world b h = returned-kept (with_a 0 world) b
-effect-kept Setcol world b h =
-    let colours = 17 * (world.registers.a % 16) in
-    returned-kept (with_memory (with_ram world.memory 0x30 colours) world) b
-    ∙ ram_byte-with_ram world.memory 0x30 colours b (other_than b 0x30 h)
 effect-kept Plot world b h =
     let r = world.registers in
     returned-kept (with_memory (painted r.a r.y world.memory) world) b ∙ painted-kept b (off_page b h) r.a r.y world.memory
@@ -126,6 +119,9 @@ effect-kept Scrn world b h =
 effect-kept Clrscr world b h =
     returned-kept (with_memory (with_ram (with_ram (with_page1 black world.memory) 0x30 0) 0x2D 47) world) b
     ∙ cleared-kept black world b (grind (arith, nat_tests, h)) (grind (arith, nat_tests, h)) (grind (arith, nat_tests, h))
+-- one whose row says that it may store at one byte stores it and returns
+effect-kept _ world b h =
+    returned-kept (with_memory (with_ram world.memory _ _) world) b ∙ ram_byte-with_ram world.memory _ _ b (other_than b _ h)
 
 -- a service stores only in its reach
 pub served-kept : (service : Service) (world : World) (b : ℕ) → reach service b ≡ false
@@ -133,21 +129,45 @@ pub served-kept : (service : Service) (world : World) (b : ℕ) → reach servic
 unfolding served
 served-kept service world b h = effect-kept service world b h
 
+-- a service whose row says that it needs no key leaves the devices as they are
+pub effect_devices : (service : Service) (w : World) → is_without (service_row service).needs [] ≡ false
+    → (effect service w).memory.devices ≡ w.memory.devices
+unfolding effect
+effect_devices Cout w keyless = refl
+effect_devices Cout1 w keyless = output_devices (after_put w.registers.a w.memory) w ∙ put_devices w.registers.a w.memory
+effect_devices Crout w keyless = refl
+effect_devices Home w keyless = grind (arith, output_devices, ram_devices)
+effect_devices Prbyte w keyless = grind (arith, output_devices, put_devices)
+effect_devices Prhex w keyless = grind (arith, output_devices, put_devices)
+effect_devices Vtab w keyless = output_devices w.memory w
+effect_devices Clreol w keyless = left_devices (cleared_to_end w.memory) w ∙ cleared_devices w.memory
+effect_devices Clreop w keyless =
+    output_devices (cleared_below (cleared_to_end w.memory)) w ∙ cleared_devices w.memory
+effect_devices Rdkey w keyless = refl
+effect_devices Keyin w bad = absurd (true≢false bad)
+effect_devices Getln w bad = absurd (true≢false bad)
+effect_devices Wait w keyless = ap (λ (x : Memory). x.devices) (returned_devices (with_a 0 w))
+effect_devices Plot w keyless =
+    left_devices (painted w.registers.a w.registers.y w.memory) w ∙ painted_devices w.registers.a w.registers.y w.memory
+effect_devices Hline w keyless =
+    let columns = span_of w.registers.y (ram_byte w.memory 0x2C) in
+    left_devices (painted_across w.registers.a columns w.memory) w
+    ∙ steps_devices (λ column m. painted w.registers.a column m) (λ column m. painted_devices w.registers.a column m) columns w.memory
+effect_devices Vline w keyless =
+    let rows = span_of w.registers.a (ram_byte w.memory 0x2D) in
+    left_devices (painted_down rows w.registers.y w.memory) w
+    ∙ steps_devices (λ row m. painted row w.registers.y m) (λ row m. painted_devices row w.registers.y m) rows w.memory
+effect_devices Scrn w keyless =
+    ap (λ (m : Memory). m.devices) (returned_devices (with_a (byte_in (blocks_of w.memory.page1) w.registers.a w.registers.y) w))
+effect_devices Clrscr w keyless =
+    let page = with_page1 black w.memory in
+    left_devices (with_ram (with_ram page 0x30 0) 0x2D 47) w
+    ∙ ram_devices (with_ram page 0x30 0) 0x2D 47 ∙ ram_devices page 0x30 0
+effect_devices _ w keyless = left_devices (with_ram w.memory _ _) w ∙ ram_devices w.memory _ _
+
 -- what a service leaves has no more keys
 effect_fewer : (service : Service) (w : World) → length (effect service w).memory.devices.keys ≤ length w.memory.devices.keys
 unfolding effect
-effect_fewer Cout w = omega arith
-effect_fewer Cout1 w = same_fewer _ _ (output_devices (after_put w.registers.a w.memory) w ∙ put_devices w.registers.a w.memory)
-effect_fewer Crout w = omega arith
-effect_fewer Home w = grind (arith, output_devices, ram_devices)
-effect_fewer Prbyte w = grind (arith, output_devices, put_devices)
-effect_fewer Prhex w = grind (arith, output_devices, put_devices)
-effect_fewer Setinv w = left_fewer (with_ram w.memory 0x32 0x3F) w (ram_devices w.memory 0x32 0x3F)
-effect_fewer Setnorm w = left_fewer (with_ram w.memory 0x32 0xFF) w (ram_devices w.memory 0x32 0xFF)
-effect_fewer Vtab w = output_fewer w.memory w refl
-effect_fewer Clreol w = left_fewer (cleared_to_end w.memory) w (cleared_devices w.memory)
-effect_fewer Clreop w = output_fewer (cleared_below (cleared_to_end w.memory)) w (cleared_devices w.memory)
-effect_fewer Rdkey w = omega arith
 effect_fewer Keyin w = go w.memory.devices.keys refl
   where
     go : (keys : List ℕ) → w.memory.devices.keys ≡ keys
@@ -170,24 +190,7 @@ effect_fewer Getln w =
       same_fewer _ _ (ap (λ (x : Memory). x.devices) (returned_devices (with_x line.len (output line.memory w))) ∙ base_devices line.memory),
       fewer.is,
     )
-effect_fewer Wait w = same_fewer _ _ (ap (λ (x : Memory). x.devices) (returned_devices (with_a 0 w)))
-effect_fewer Setcol w =
-    let colours = 17 * (w.registers.a % 16) in
-    left_fewer (with_ram w.memory 0x30 colours) w (ram_devices w.memory 0x30 colours)
-effect_fewer Plot w = left_fewer (painted w.registers.a w.registers.y w.memory) w (painted_devices w.registers.a w.registers.y w.memory)
-effect_fewer Hline w =
-    let columns = span_of w.registers.y (ram_byte w.memory 0x2C) in
-    left_fewer (painted_across w.registers.a columns w.memory) w
-    (steps_devices (λ column m. painted w.registers.a column m) (λ column m. painted_devices w.registers.a column m) columns w.memory)
-effect_fewer Vline w =
-    let rows = span_of w.registers.a (ram_byte w.memory 0x2D) in
-    left_fewer (painted_down rows w.registers.y w.memory) w
-    (steps_devices (λ row m. painted row w.registers.y m) (λ row m. painted_devices row w.registers.y m) rows w.memory)
-effect_fewer Scrn w =
-    same_fewer _ _ (ap (λ (m : Memory). m.devices) (returned_devices (with_a (byte_in (blocks_of w.memory.page1) w.registers.a w.registers.y) w)))
-effect_fewer Clrscr w =
-    let page = with_page1 black w.memory in
-    left_fewer (with_ram (with_ram page 0x30 0) 0x2D 47) w (ram_devices (with_ram page 0x30 0) 0x2D 47 ∙ ram_devices page 0x30 0)
+effect_fewer service w = same_fewer _ _ (effect_devices service w refl)
 
 -- a service adds no key
 pub served_fewer : (service : Service) (w : World) → length (served service w).memory.devices.keys ≤ length w.memory.devices.keys

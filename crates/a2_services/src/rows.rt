@@ -279,7 +279,7 @@ fn any_at(address: u16) -> Option<Service>
 
 impl Service {
     /// How many services there are.
-    pub const COUNT: usize = 21;
+    pub const COUNT: usize = services!(all).len();
 
     /// Each service, in the order of their numbers.
     pub const ALL: [Service; Service::COUNT] = services!(all);

@@ -6,7 +6,7 @@ use crate::line::{Asked, Line, behind};
 use crate::rows::{first_row, row_count, row_fits};
 use crate::settings::name_in;
 use a2_opcode::Mnemonic;
-use a2_places::statement_at;
+use a2_symbols::statement_at;
 use a2_text::{decimal, hex_pair, hex_word, is_blank};
 use std::alloc::{AllocError, Allocator};
 

@@ -20,9 +20,9 @@ use Rattle.a2_machine.proofs.Runs.{run-is_end}
 use Rattle.a2_run.specs.Meaning.{IsProgramOf, code_of_run, start_of_run}
 use Rattle.a2_run.specs.Started.{IsStarted, guard_of_run}
 use Rattle.a2_run.proofs.Runs.{meant, sound-of}
-use Rattle.a2_routines.specs.declared.routines.Entry.{Entry}
-use Rattle.a2_routines.specs.Routines.{is_call, entry_at, with_call, entered}
-use Rattle.a2_routines.specs.Routines as routines
+use Rattle.a2_symbols.specs.declared.routines.Entry.{Entry}
+use Rattle.a2_symbols.specs.Routines.{is_call, entry_at, with_call, entered}
+use Rattle.a2_symbols.specs.Routines as routines
 use Rattle.a2_profile.proofs.Going.{EndAlike, end-late, same-world}
 use Rattle.a2_trace.proofs.Going.{IsGone, gone-none, gone-next, step-reached, ended_at}
 use Rattle.a2_profile.proofs.Walking.{map-filter, map-push, entered-before, entered-alike, map-alike}

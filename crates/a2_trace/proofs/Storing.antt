@@ -10,7 +10,7 @@ use Rattle.a2_cpu.specs.BusStep.{refusal_of}
 use Rattle.a2_effect.specs.Registers.{Registers}
 use Rattle.a2_cpu.specs.StepStores.{none_if, stores_at}
 use Rattle.a2_effect.specs.Instruction.{state_of}
-use Rattle.a2_places.specs.declared.places.Span.{Span}
+use Rattle.a2_symbols.specs.declared.places.Span.{Span}
 use Rattle.a2_services.specs.declared.rows.Service.{Service}
 use Rattle.a2_services.specs.Services.{service_at}
 use Rattle.a2_services.specs.World.{World, world_of}

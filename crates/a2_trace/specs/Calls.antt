@@ -16,8 +16,8 @@ use Rattle.a2_machine.specs.declared.causes.Cause.{Cause}
 use Rattle.a2_machine.specs.Meaning.{End, IsEnd, world_at}
 use Rattle.a2_machine.specs.Output.{cause_line}
 use Rattle.a2_run.specs.Meaning.{IsProgramOf, code_of_run, start_of_run}
-use Rattle.a2_routines.specs.declared.routines.Entry.{Entry}
-use Rattle.a2_routines.specs.Routines.{is_call, entry_at, with_call, entered}
+use Rattle.a2_symbols.specs.declared.routines.Entry.{Entry}
+use Rattle.a2_symbols.specs.Routines.{is_call, entry_at, with_call, entered}
 use Rattle.a2_profile.specs.Routines.{begin_of}
 use Rattle.a2_profile.specs.RoutineTable.{name_of}
 use Rattle.a2_trace.specs.declared.calls.Visit.{Visit}

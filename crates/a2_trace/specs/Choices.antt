@@ -4,7 +4,7 @@ use Rattle.std.specs.List.{list_any}
 use Rattle.a2_opcode.specs.Encoding.{fetched}
 use Rattle.a2_bus.specs.Memory.{Memory, peek, memory_access}
 use Rattle.a2_cpu.specs.StepStores.{stores_at}
-use Rattle.a2_places.specs.declared.places.Span.{Span}
+use Rattle.a2_symbols.specs.declared.places.Span.{Span}
 use Rattle.a2_services.specs.Services.{service_at}
 use Rattle.a2_services.specs.World.{World}
 use Rattle.a2_trace.specs.declared.choice.Choice.{Choice}

@@ -5,7 +5,7 @@ use Rattle.a2_text.specs.Digits.{hex_pair, hex_word}
 use Rattle.a2_stream.specs.Stream.{Taker, Sends, Breaks}
 use Rattle.a2_stream.specs.declared.WriteFault.{WriteFault}
 use Rattle.a2_effect.specs.Registers.{Registers, byte_of_flags}
-use Rattle.a2_places.specs.declared.places.Span.{Span}
+use Rattle.a2_symbols.specs.declared.places.Span.{Span}
 use Rattle.a2_services.specs.World.{World}
 use Rattle.a2_machine.specs.declared.causes.Cause.{Cause}
 use Rattle.a2_machine.specs.Meaning.{Code, End, IsEnd}

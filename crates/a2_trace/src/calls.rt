@@ -19,10 +19,10 @@ use a2_asm::{Names, Program, Statement};
 use a2_bus::Keys;
 use a2_machine::{Cause, Machine};
 use a2_profile::name_of;
-use a2_routines::is_call;
 use a2_run::{RunFault, program_of, started};
 use a2_services::service_at;
 use a2_stream::{Output, WriteFault, put_all};
+use a2_symbols::is_call;
 use a2_text::{decimal, hex_word};
 use arrayvec::ArrayVec;
 use std::alloc::Allocator;
@@ -378,7 +378,7 @@ fn draw_run<A: Allocator, B: Allocator, W: Output>(
 /// Assembles and runs a source with these keys waiting, and writes its routines as a tree: a row where a JSR enters one, with its
 /// address and name, and where the JSR stands; and a row where it is left, with the steps and cycles since, those of what it
 /// calls among them; at the end of the run such a row of each that was not left; then the cause line. Which routines there are
-/// [`a2_routines`] says; a service that is called is one. Each row is two blanks further right than that of the routine around
+/// [`a2_symbols::enter`] and [`a2_symbols::leave`] say; a service that is called is one. Each row is two blanks further right than that of the routine around
 /// it, up to 64. `limit` is the most steps, `free` runs without the guard. The cause is that of the run's end. Refused where the
 /// source is, where a write fails, and for want of memory. This project's profile.
 pub fn trace_calls<A: Allocator + Copy, W: Output>(

@@ -11,8 +11,8 @@ ghost use Rattle.a2_trace.specs.Traced.{MakesStep};
 
 use a2_cpu::writes;
 use a2_machine::{Cause, Machine};
-use a2_places::Span;
 use a2_services::service_at;
+use a2_symbols::Span;
 use std::alloc::Allocator;
 
 /// Which steps of a run are shown: those of which all holds.

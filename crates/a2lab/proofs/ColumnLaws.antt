@@ -1,7 +1,7 @@
 -- What holds of a text in columns, of that which is equal to it.
 use Rattle.std.proofs.Common.{◌≡◌, ℕ, List, subst}
 use Rattle.a2_stream.specs.Stream.{Taker, Sends, Breaks}
-use Rattle.a2_desk.specs.Desks.{Files, Saves}
+use Rattle.a2_host.specs.Desks.{Files, Saves}
 use Rattle.a2_fmt.specs.Formatted.{AreAlike, CanBeLaid}
 use Rattle.a2_fmt.specs.Layout.{laid}
 

@@ -1,6 +1,6 @@
 -- What the words of a session ask for, an option at a time.
 use Rattle.std.proofs.Common.{rules, arith, ap, sym, inl, inr, ◌≡◌, ◌∙◌, ◌↔◌, ℕ, List, ◌∷◌, codes, length, Some}
-use Rattle.a2_ansi.specs.declared.colours.Colours.{Colours}
+use Rattle.a2_tty.specs.declared.cells.colours.Colours.{Colours}
 use Rattle.a2_play.specs.declared.pace.Pace.{Pace}
 use Rattle.a2lab.specs.PlayWords.{PlayAsked, AsksPlay, IsPace, AreColours}
 

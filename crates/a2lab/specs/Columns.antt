@@ -1,7 +1,7 @@
 -- A source in columns that goes out, or its name, or that its file takes. This project's profile.
 use Rattle.std.specs.Prelude.{◌≡◌, ◌≢◌, ℕ, Bool, true, false, List, ◌++◌, codes, IfSome, Result, Ok, Err}
 use Rattle.a2_stream.specs.Stream.{Taker, Sends, Breaks}
-use Rattle.a2_desk.specs.Desks.{Files, Saves}
+use Rattle.a2_host.specs.Desks.{Files, Saves}
 use Rattle.a2_fmt.specs.Formatted.{CanBeLaid, IsFormatFault}
 use Rattle.a2_fmt.specs.Layout.{laid}
 use Rattle.a2lab.specs.declared.fmt.FmtFault.{FmtFault}

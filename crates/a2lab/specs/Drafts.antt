@@ -2,7 +2,7 @@
 use Rattle.std.specs.Prelude.{◌≡◌, ℕ, List, IfSome, Result, Ok, Err}
 use Rattle.a2_stream.specs.Stream.{Taker}
 use Rattle.a2_stream.specs.declared.WriteFault.{WriteFault}
-use Rattle.a2_desk.specs.Desks.{Files, Saves}
+use Rattle.a2_host.specs.Desks.{Files, Saves}
 
 -- a draft that took all of its text became the file of this name, or that failed, and no file is another; one that did not was
 -- given up for the same fault. The first argument says which fault a failed write is

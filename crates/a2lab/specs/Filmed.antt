@@ -3,7 +3,7 @@ use Rattle.std.specs.Prelude.{◌≡◌, ℕ, Bool, false, IsTrue, List, IfSome,
 use Rattle.std.specs.List.{list_all}
 use Rattle.a2_hex.specs.Images.{held}
 use Rattle.a2_asm.specs.Assembled.{Assembled}
-use Rattle.a2_desk.specs.Desks.{Files, Saves}
+use Rattle.a2_host.specs.Desks.{Files, Saves}
 use Rattle.a2_machine.specs.ByteRun.{bytes}
 use Rattle.a2_machine.specs.declared.causes.Cause.{Cause}
 use Rattle.a2_machine.specs.State.{Device, world_of_state}
@@ -14,9 +14,8 @@ use Rattle.a2_run.specs.Started.{guard_of_run}
 use Rattle.a2_film.specs.declared.chapters.Chapter.{Chapter}
 use Rattle.a2_film.specs.declared.film.Window.{Window}
 use Rattle.a2_film.specs.Film.{IsFilmFrom, IsFilmOf}
-use Rattle.a2_promise_try.specs.declared.trial.Failure.{Failure}
-use Rattle.a2_promise_try.specs.Certifying.{is_input_in_ram}
-use Rattle.a2_promise_try.specs.Failing.{IsEntry, IsFresh}
+use Rattle.a2_promise_try.specs.declared.verdict.Failure.{Failure}
+use Rattle.a2_promise_try.specs.Failing.{IsEntry, IsFresh, is_input_in_ram}
 
 -- where the texts of the files are known: the file of this name is the film, and each other is as it was; or all files are as
 -- they were, and a source that is refused has its first refusal

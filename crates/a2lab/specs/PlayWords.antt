@@ -2,8 +2,8 @@
 use Rattle.std.specs.Prelude.{◌≡◌, ◌≢◌, ◌⊎◌, ℕ, ◌<◌, ◌≤◌, List, [], ◌∷◌, codes, length, get_or, Option, Some, None}
 use Rattle.std.specs.Option.{option_map}
 use Rattle.std.specs.Str.Parse.{IsNumeral, digits_value}
-use Rattle.a2_ansi.specs.declared.colours.Colours.{Colours}
-use Rattle.a2_ansi.specs.declared.colours.Colours.TheVariants.{Full, Palette, None as NoColours}
+use Rattle.a2_tty.specs.declared.cells.colours.Colours.{Colours}
+use Rattle.a2_tty.specs.declared.cells.colours.Colours.TheVariants.{Full, Palette, None as NoColours}
 use Rattle.a2_play.specs.Paces.{apple}
 use Rattle.a2_play.specs.declared.pace.Pace.{Pace}
 use Rattle.a2_play.specs.declared.pace.Pace.TheVariants.{Cycles, Max}

@@ -1,7 +1,7 @@
 -- Memory behind a run that is written into a file. This project's profile.
 use Rattle.std.specs.Prelude.{◌≡◌, ℕ, Bool, List, IfSome, Result, Ok, Err}
 use Rattle.a2_bus.specs.Memory.{Memory}
-use Rattle.a2_desk.specs.Desks.{Files, Saves}
+use Rattle.a2_host.specs.Desks.{Files, Saves}
 use Rattle.a2_machine.specs.declared.causes.Cause.{Cause}
 use Rattle.a2_run.specs.declared.fault.RunFault.{RunFault}
 use Rattle.a2_run.specs.declared.fault.RunFault.TheVariants.{Source}

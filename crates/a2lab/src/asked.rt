@@ -13,8 +13,8 @@ use crate::table::Word;
 use crate::words::{Order, order_of, refused};
 use a2_asm::Program;
 use a2_options::Found;
-use a2_places::{Span, span_of};
 use a2_run::step_limit;
+use a2_symbols::{Span, span_of};
 use std::alloc::Global;
 
 /// What a word is given.

@@ -5,17 +5,18 @@ ghost use Rattle.std.specs.Prelude.{◌≤◌, IfOk};
 use crate::asked::Given;
 use crate::host::Host;
 use crate::named::{files_in, option_at_end};
-use crate::notes::tell_source_notes;
 use crate::program::{behind, text_of};
 use crate::refusal::Refusal;
 use crate::words::{WordsFault, refused};
-use a2_check::{Format, TellFault, Verdict, put_refusals, verdict_of};
+use a2_asm::Program;
+use a2_check::{Format, TellFault, Verdict, put_refusals, put_warnings, verdict_of, warnings_of};
 use a2_host::Shelf;
 use a2_run::RunFault;
 use a2_stream::{Input, Output, put_all};
-use a2_syntax::Fault;
+use a2_syntax::{Fault, Source};
+use a2_text::cut;
 use bumpalo::Bump;
-use std::alloc::{Allocator, Global};
+use std::alloc::{AllocError, Allocator, Global};
 
 // The format of this name.
 fn format_named(name: &str) -> Result<Format, WordsFault> {
@@ -62,6 +63,21 @@ fn put_headed<A: Allocator + Copy, W: Output>(
     put_refusals(alloc, text.name, text.source, refusals, format, output)
 }
 
+// Prints the warnings of a text that is accepted, by what its lines say and the program that they make.
+fn warn<A: Allocator + Copy, E: Output>(
+    alloc: A,
+    text: Text<'_>,
+    lines: &Source<A>,
+    program: &Program<A>,
+    complaints: &mut E,
+) -> Result<(), AllocError> {
+    let texts = cut(alloc, text.source)?;
+    let warnings = warnings_of(alloc, texts.as_slice(), lines.lines(), program)?;
+    // If this fails, there is no place left to report it.
+    let _ = put_warnings(text.name, texts.as_slice(), warnings.as_slice(), complaints);
+    Ok(())
+}
+
 // Writes all refusals of a text, or tells the notes of one that is accepted. The status is 1 where there is a refusal.
 fn check<W: Output, E: Output>(
     alloc: Global,
@@ -77,7 +93,7 @@ fn check<W: Output, E: Output>(
     match verdict_of(&arena, text.source)? {
         Verdict::Accepted(lines, program) => {
             put_headed(&arena, text, &[], format, output)?;
-            tell_source_notes(&arena, text.name, text.source, &lines, &program, complaints)?;
+            warn(&arena, text, &lines, &program, complaints)?;
             Ok(0)
         }
         Verdict::Refused(refusals) => {

@@ -14,7 +14,7 @@ use a2_debugger::Inspector;
 use a2_debugger_panes::{LEAST_COLUMNS, LEAST_ROWS, Panes, Wall};
 use a2_host::Shelf;
 use a2_options::Found;
-use a2_run::{MOST_STEPS, RunFault};
+use a2_run::{RUN_MAX_STEPS, RunFault};
 use a2_stream::{Input, Output};
 use std::alloc::Global;
 use std::cell::Cell;
@@ -45,7 +45,12 @@ fn asked_in<'a>(found: &[Found<'a>]) -> Result<Asked, Refusal<'a>> {
     };
     for option in found {
         match option.name {
-            "--keep" => asked.kept = number_in("debug", option, LEAST_KEPT, MOST_STEPS)? as usize,
+            "--keep" => asked.kept = number_in(
+                "debug",
+                option,
+                LEAST_KEPT,
+                RUN_MAX_STEPS,
+            )? as usize,
             "--plain" => asked.is_plain = true,
             _ => asked.are_up = true,
         }
@@ -138,8 +143,7 @@ fn debug<'a, S, D, C, R: Input, W: Output, E: Output>(
     let columns = columns_of(given.terminal);
     let wall = wall_of(given.terminal, columns.as_ref());
     if asked.are_up && wall.is_none() {
-        let all =
-            "debug: panes want a terminal of 80 columns of 24 rows or more, begun by a2lab-debug";
+        let all = "debug: panes need a terminal of at least 80 columns and 24 rows";
         return Err(Refusal::Words(all, "", "", ""));
     }
     let lines = lines_in(given.seat.types, columns.as_ref(), wall.is_some());

@@ -2,7 +2,7 @@
 
 ghost use Rattle.a2lab.specs.Drafts.{Settles};
 
-use a2_desk::Desk;
+use a2_host::Desk;
 use a2_stream::WriteFault;
 
 /// Makes `draft` the file `name` of `desk`, where `answer` says that it took all of its text, and gives it up else. The answer is

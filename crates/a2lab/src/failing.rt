@@ -6,85 +6,26 @@ use crate::drafts::settled;
 use crate::host::Host;
 use crate::refusal::tell;
 use a2_asm::Program;
-use a2_desk::Desk;
 use a2_film::{Chapter, Place, film_run};
+use a2_host::Desk;
 use a2_machine::Cause;
-use a2_promise::Promise;
-use a2_promise_try::{Failure, Verdict, machine_at_entry, put_verdict};
+use a2_promise_try::{Failure, FirstFailure, machine_at_entry};
 use a2_run::RunFault;
-use a2_stream::{Output, ToWrite};
-use a2_text::{behind_blanks, cut};
-use std::alloc::{AllocError, Global};
+use a2_stream::Output;
+use std::alloc::Global;
 
-/// A promise that fails: where its routine is entered, in which state, and what is told of it.
-#[derive(Drop)]
-pub struct Fallen {
-    address: u16,
-    failure: Failure,
-    told: Vec<u8>,
-}
-
-// What is told of a verdict.
-fn told_of(
-    alloc: Global,
-    program: &Program<Global>,
-    lines: &[&[u8]],
-    promise: &Promise,
-    verdict: &Verdict,
-) -> Result<Vec<u8>, RunFault> {
-    let mut told = Vec::new(alloc);
-    put_verdict(
-        program,
-        lines,
-        promise,
-        verdict,
-        &mut ToWrite::new(&mut told),
-    )?;
-    Ok(told)
-}
-
-// The promise of a routine at this address that fails, if that is the verdict.
-fn fallen_at(address: u16, verdict: Verdict, told: Vec<u8>) -> Option<Fallen> {
-    match verdict {
-        Verdict::Fails(failure) => Some(Fallen {
-            address,
-            failure,
-            told,
-        }),
-        _other => None,
-    }
-}
-
-/// The promise that a verdict finds to fail in a state; none where it does not.
-pub fn fallen_of(
-    alloc: Global,
-    program: &Program<Global>,
-    lines: &[&[u8]],
-    promise: &Promise,
-    verdict: Verdict,
-) -> Result<Option<Fallen>, RunFault> {
-    let told = told_of(alloc, program, lines, promise, &verdict)?;
-    Ok(fallen_at(promise.address, verdict, told))
-}
-
-// What the film tells: at its start how the routine is entered, and at its end what fails.
-fn chapters_of<'a>(alloc: Global, fallen: &'a Fallen) -> Result<Vec<Chapter<'a>>, AllocError> {
-    let lines = cut(alloc, fallen.told.as_slice())?;
-    let mut chapters = Vec::new(alloc);
-    for (index, line) in lines.iter().enumerate() {
-        if index == 0 {
-            chapters.push(Chapter {
-                place: Place::Step(fallen.failure.steps),
-                text: *line,
-            })?;
-        } else if line.starts_with(b"  entered ") {
-            chapters.push(Chapter {
-                place: Place::Step(0),
-                text: behind_blanks(*line),
-            })?;
-        }
-    }
-    Ok(chapters)
+// What the film tells: at its end what fails, and at its start how the routine is entered.
+fn chapters_of(first: &FirstFailure) -> [Chapter<'_>; 2] {
+    [
+        Chapter {
+            place: Place::Step(first.failure.steps),
+            text: first.claim.as_slice(),
+        },
+        Chapter {
+            place: Place::Step(0),
+            text: first.entered.as_slice(),
+        },
+    ]
 }
 
 /// Writes the film of the run in which a promise of a source fails, from where its routine is entered to where it left or failed,
@@ -114,20 +55,19 @@ pub fn failure_into<D: Desk>(
 }
 
 // Writes the film of a promise that fails.
-fn film_fallen<D: Desk>(
+fn film_failure<D: Desk>(
     alloc: Global,
     source: &[u8],
     program: &Program<Global>,
     title: &[u8],
-    fallen: &Fallen,
+    first: &FirstFailure,
     page: &str,
     desk: &mut D,
 ) -> Result<Cause, RunFault> {
-    let chapters = chapters_of(alloc, fallen)?;
-    let (chapters, failure) = (chapters.as_slice(), &fallen.failure);
-    let address = fallen.address;
+    let chapters = chapters_of(first);
+    let (address, failure) = (first.address, &first.failure);
     failure_into(
-        alloc, source, program, title, chapters, address, failure, page, desk,
+        alloc, source, program, title, &chapters, address, failure, page, desk,
     )
 }
 
@@ -136,7 +76,7 @@ pub fn film_first<S, D: Desk, C, R, W, E: Output>(
     source: &[u8],
     program: &Program<Global>,
     title: &[u8],
-    first: Option<&Fallen>,
+    first: Option<&FirstFailure>,
     page: Option<&str>,
     host: &mut Host<S, D, C, R, W, E>,
 ) -> Result<(), RunFault> {
@@ -144,13 +84,13 @@ pub fn film_first<S, D: Desk, C, R, W, E: Output>(
         return Ok(());
     };
     match first {
-        Some(fallen) => {
-            film_fallen(
+        Some(first) => {
+            film_failure(
                 host.alloc,
                 source,
                 program,
                 title,
-                fallen,
+                first,
                 page,
                 &mut host.desk,
             )?;

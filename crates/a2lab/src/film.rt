@@ -11,9 +11,8 @@ use crate::refusal::{Refusal, tell_form};
 use crate::tools::ended;
 use crate::words::Order;
 use a2_bus::Keys;
-use a2_desk::Desk;
 use a2_film::{Chapter, ScriptFault, Window, chapters_of, film_source};
-use a2_host::Shelf;
+use a2_host::{Desk, Shelf};
 use a2_machine::Cause;
 use a2_options::Found;
 use a2_run::RunFault;
@@ -24,7 +23,7 @@ use std::alloc::Global;
 const FILM_LIMIT: u32 = 100_000;
 
 /// The most steps of a film.
-const MOST_STEPS: u32 = 1_000_000;
+const FILM_MAX_STEPS: u32 = 1_000_000;
 
 /// What the words of a film ask for, beside those of its run.
 #[derive(Clone, Copy, Drop)]
@@ -51,8 +50,8 @@ pub fn film_order<'a>(found: &[Found<'a>]) -> Result<FilmOrder<'a>, Refusal<'a>>
         match option.name {
             "-o" => film.page = Some(option.value),
             "--script" => film.script = Some(option.value),
-            "--from" => film.from = number_in("film", option, 0, a2_run::MOST_STEPS)?,
-            _ => film.steps = Some(number_in("film", option, 0, MOST_STEPS)?),
+            "--from" => film.from = number_in("film", option, 0, a2_run::RUN_MAX_STEPS)?,
+            _ => film.steps = Some(number_in("film", option, 0, FILM_MAX_STEPS)?),
         }
     }
     Ok(film)
@@ -63,7 +62,7 @@ fn window_of(film: &FilmOrder<'_>, limit: Option<u32>) -> Window {
     let from = film.from;
     let left = match limit {
         Some(limit) => limit.saturating_sub(from),
-        None => MOST_STEPS,
+        None => FILM_MAX_STEPS,
     };
     let steps = match (film.steps, limit) {
         (Some(steps), _) => steps.min(left),
@@ -88,7 +87,7 @@ fn film_limit<'a>(words: &[String], limit: u32) -> Result<Option<u32>, Refusal<'
     if !names_limit(words) {
         return Ok(None);
     }
-    if limit <= MOST_STEPS {
+    if limit <= FILM_MAX_STEPS {
         return Ok(Some(limit));
     }
     let all =

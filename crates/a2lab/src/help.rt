@@ -165,7 +165,7 @@ Options of a run, and of the debugger alone, before F:
 
   --tui       panes of source, registers, stack, memory and screen, drawn
               again behind each line, at a terminal of 80 columns of 24
-              rows or more: a2lab-debug --tui F
+              rows or more
   --plain     no answer has lines of F but that of list
   --keep N    keeps at most N copies of the machine, 124 KB each, by which
               the run goes back, 20 and more; without it 540

@@ -83,14 +83,8 @@ fn note_text(kind: NoteKind) -> &'static [u8] {
     }
 }
 
-/// Tells a note of a line of a text with this name and these lines.
-pub fn tell_note<E: Output>(
-    name: &str,
-    line: usize,
-    note: &[u8],
-    lines: &[&[u8]],
-    complaints: &mut E,
-) {
+// Tells a note of a line of a text with this name and these lines.
+fn tell_note<E: Output>(name: &str, line: usize, note: &[u8], lines: &[&[u8]], complaints: &mut E) {
     let shown: &[u8] = match line.checked_sub(1) {
         Some(index) if index < lines.len() => lines[index].trim_ascii(),
         _ => b"",

@@ -5,12 +5,10 @@ ghost use Rattle.std.specs.Prelude.{◌≤◌};
 use crate::play::colours_named;
 use crate::terminal::ended;
 use crate::tools::told;
-use a2_ansi::Colours;
-use a2_edit::{Console, Editor, Typist};
 use a2_run::RunFault;
 use a2_stream::{Input, Output};
-use a2_talk::{Partner, talk};
 use a2_text::number_in;
+use a2_tty::{Colours, Console, Editor, Partner, Typist, talk};
 use std::alloc::Global;
 use std::cell::Cell;
 
@@ -65,7 +63,7 @@ fn terminal_of(word: &str) -> Option<Terminal> {
     })
 }
 
-/// The terminal that words tell of, and words without that: `--raw` and what it is, which stand right behind the first. (a2lab-play
+/// The terminal that words tell of, and words without that: `--raw` and what it is, which stand right behind the first. (`dist/start`
 /// gives them.) The first word says what is done.
 pub fn terminal_in(words: &[String]) -> (Option<Terminal>, &[String]) {
     match words {

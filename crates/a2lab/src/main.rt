@@ -20,7 +20,6 @@ mod import;
 mod lines;
 mod listing;
 mod named;
-mod notes;
 mod options;
 mod play;
 mod profiling;
@@ -39,8 +38,7 @@ mod turning;
 mod typing;
 mod words;
 
-use a2_desk::HostDesk;
-use a2_host::{HostFiles, HostWordsFault, words_of};
+use a2_host::{HostDesk, HostFiles, HostWordsFault, words_of};
 use a2_run::RunFault;
 use a2_stream::{FromRead, Output, ToWrite};
 use clock::HostClock;

@@ -2,7 +2,7 @@
 
 ghost use Rattle.std.specs.Prelude.{◌≡◌, ◌<◌, ◌≤◌, ◌↔◌, Some, map, length, string_bytes, SomeIff, IfSome, IfNone, IfOk, IfErr};
 ghost use Rattle.std.specs.Str.Parse.{digits_value};
-ghost use Rattle.a2_ansi.specs.declared.colours.Colours.{Colours as DeclaredColours};
+ghost use Rattle.a2_tty.specs.declared.cells.colours.Colours.{Colours as DeclaredColours};
 ghost use Rattle.a2_play.specs.declared.pace.Pace.{Pace as DeclaredPace};
 ghost use Rattle.a2lab.specs.PlayWords.{IsPaceNumber, IsPace, AreColours};
 ghost use Rattle.a2lab.specs.PlayWords.{PlayAsked, AsksPlay, AsksNoSession, play_asked_of, no_play_asked};
@@ -15,15 +15,14 @@ use crate::program::{behind, spares_input, text_of};
 use crate::refusal::{Refusal, tell, valueless};
 use crate::tools::ended;
 use crate::turning::debug_here;
-use a2_ansi::Colours;
 use a2_asm::Program;
-use a2_desk::Desk;
 use a2_explain::tell_stop;
-use a2_host::Shelf;
+use a2_host::{Desk, Shelf};
 use a2_machine::{Cause, Machine, write_cause, write_registers};
 use a2_play::{Clock, Leave, Pace, Player, Room, Session, play, put_keys, put_record};
 use a2_run::{RunFault, program_of};
 use a2_stream::{Input, Output, WriteFault, put};
+use a2_tty::Colours;
 use std::alloc::{Allocator, Global};
 
 /// What puts a terminal's other screen up, without a cursor, and what takes it down.
@@ -342,7 +341,7 @@ fn terminal_for<'a>(seat: Seat, terminal: Option<Terminal>) -> Result<Terminal, 
         return Err(Refusal::Words(all, "", "", ""));
     }
     let Some(terminal) = terminal else {
-        let all = "play: the terminal is not set to give each key: start it by a2lab-play F";
+        let all = "play: the terminal is not set up for keys; the command a2lab does that";
         return Err(Refusal::Words(all, "", "", ""));
     };
     let (rows, columns) = (terminal.rows, terminal.columns);

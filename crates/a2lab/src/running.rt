@@ -13,12 +13,11 @@ use crate::typing::{run_typed, strokes_in};
 use crate::words::Order;
 use a2_asm::Program;
 use a2_bus::Keys;
-use a2_desk::Desk;
-use a2_host::Shelf;
+use a2_host::{Desk, Shelf};
 use a2_machine::Cause;
 use a2_memory::{Part, image_source, memory_source};
 use a2_options::Found;
-use a2_run::{MOST_STEPS, Options, RunFault, program_of, run_text, status};
+use a2_run::{Options, RUN_MAX_STEPS, RunFault, program_of, run_text, status};
 use a2_stream::{FromRead, Input, Output};
 use a2_timed_keys::Strokes;
 use a2_trace::{Choice, trace_source};
@@ -67,7 +66,7 @@ fn behind_of<'a>(
                 let (steps, keys) = strokes_in(option.value)?;
                 asked.strokes.add(steps, &keys)?;
             }
-            "--last" => asked.last = Some(number_in("run", option, 0, MOST_STEPS)?),
+            "--last" => asked.last = Some(number_in("run", option, 0, RUN_MAX_STEPS)?),
             _ => {
                 let part = part_in(&program, option)?;
                 if asked.parts.push(part).is_err() {

@@ -14,7 +14,7 @@ use a2_monitor_session::{Annotated, Monitor};
 use a2_run::RunFault;
 use a2_stream::{Input, Output};
 use a2_syntax::Fault;
-use a2_talk::TalkFault;
+use a2_tty::TalkFault;
 use std::alloc::Global;
 use std::cell::Cell;
 

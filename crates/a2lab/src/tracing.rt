@@ -9,7 +9,7 @@ use crate::refusal::Refusal;
 use crate::tools::ended;
 use a2_host::Shelf;
 use a2_options::Found;
-use a2_run::{MOST_STEPS, program_of};
+use a2_run::{RUN_MAX_STEPS, program_of};
 use a2_stream::{Input, Output};
 use a2_trace::{Choice, trace_calls, trace_source};
 use std::alloc::Global;
@@ -23,8 +23,8 @@ fn choice_of<'a>(alloc: Global, source: &[u8], found: &[Found<'a>]) -> Result<Ch
     let program = program_of(alloc, source)?;
     for option in found {
         match option.name {
-            "--from" => choice.from = number_in("trace", option, 0, MOST_STEPS)?,
-            "--last" => choice.last = Some(number_in("trace", option, 0, MOST_STEPS)?),
+            "--from" => choice.from = number_in("trace", option, 0, RUN_MAX_STEPS)?,
+            "--last" => choice.last = Some(number_in("trace", option, 0, RUN_MAX_STEPS)?),
             "--only" => choice.only = Some(span_in("trace: --only ", &program, option)?),
             _ => choice.stores = Some(span_in("trace: --stores ", &program, option)?),
         }

@@ -14,7 +14,7 @@ use a2_stream::{Input, Output, ReadFault};
 use std::alloc::Global;
 
 /// The most steps of a line of the debugger.
-const MOST_STEPS: u32 = 1_000_000;
+const LINE_MAX_STEPS: u32 = 1_000_000;
 
 /// What is told where the debugger does not go.
 const TOO_FAR: &[u8] = b"no debugger behind 100,000,000 steps";
@@ -76,7 +76,7 @@ fn inspector_at<'s>(
     player: &Player,
 ) -> Result<Option<Inspector<'s>>, RunFault> {
     let keys = Keys::new();
-    let mut inspector = Inspector::new(alloc, source, &keys, false, MOST_STEPS, USUALLY_KEPT)?;
+    let mut inspector = Inspector::new(alloc, source, &keys, false, LINE_MAX_STEPS, USUALLY_KEPT)?;
     if bring(&mut inspector, player) {
         Ok(Some(inspector))
     } else {

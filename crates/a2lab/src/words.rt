@@ -7,7 +7,7 @@ use crate::named::is_file;
 use crate::refusal::{Refusal, several, valueless};
 use crate::table::Word;
 use a2_bus::Keys;
-use a2_run::{DEFAULT_STEPS, MOST_STEPS, step_limit};
+use a2_run::{DEFAULT_STEPS, RUN_MAX_STEPS, step_limit};
 
 /// Why words ask for nothing.
 #[derive(Clone, Copy)]
@@ -131,7 +131,7 @@ fn misfit_in<'a>(word: &Word, words: &'a [String]) -> Refusal<'a> {
                     option: "--limit",
                     value: text,
                     least: 0,
-                    most: MOST_STEPS,
+                    most: RUN_MAX_STEPS,
                 };
             }
             Next::Keys | Next::Limit => Next::Word,

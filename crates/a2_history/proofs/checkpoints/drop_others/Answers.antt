@@ -1,6 +1,6 @@
 use Rattle.std.proofs.Common.{rules}
 use Rattle.std.proofs.lemmas.Fn.{All-from_retain}
-use Rattle.a2_spread.specs.Spread.{IsKept}
+use Rattle.a2_history.specs.Spacing.{IsKept}
 use Rattle.a2_history.proofs.Holding.{thins-retained}
 use Rattle.a2_history.proofs.checkpoints.drop_others.Goals as goal
 

@@ -1,6 +1,6 @@
 use Rattle.std.proofs.Common.{sym, subst, ◌≡◌, ◌∙◌, ◌↔◌, ◌-◌, ◌∷◌, length, map, take, drop, Some, string_bytes}
 use Rattle.std.proofs.lemmas.Slice.Eq.{bytes_eq-Decides}
-use Rattle.a2_ansi.specs.declared.colours.Colours.{Colours}
+use Rattle.a2_tty.specs.declared.cells.colours.Colours.{Colours}
 use Rattle.a2_play.specs.declared.pace.Pace.{Pace}
 use Rattle.a2lab.specs.PlayWords.{AsksPlay, play_asked_of, IsPace, AreColours}
 use Rattle.a2lab.proofs.WordLaws.{behind-two}

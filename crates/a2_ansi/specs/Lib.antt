@@ -1,3 +1,0 @@
-pub mod Frames
-pub mod Tiles
-pub mod Written

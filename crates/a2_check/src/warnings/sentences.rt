@@ -1,0 +1,53 @@
+//! Warnings as lines of text.
+
+use crate::warnings::{Warning, WarningKind};
+use a2_stream::{Output, WriteFault, put, put_all};
+use a2_text::decimal;
+
+// What a line does, and what to write instead; the line comes after it.
+fn sentence_of(kind: WarningKind) -> &'static [u8] {
+    match kind {
+        WarningKind::Place =>
+            b"a line with * in column 1 is a comment; ORG behind a blank sets the place: ",
+        WarningKind::Operation =>
+            b"what stands in column 1 is a label; an operation stands behind a blank: ",
+        WarningKind::Unwritten =>
+            b"this reads a byte that no line stores; # before the number makes it the number: ",
+        WarningKind::RunsOut =>
+            b"no instruction stands behind this one; end with RTS, or go on by JMP: ",
+        WarningKind::Circle => b"this jumps to itself, and never ends; RTS ends a run: ",
+        WarningKind::Plain =>
+            b"a character between ' ' shows inverse or flashing; between \" \" it shows as it is: ",
+    }
+}
+
+// Writes a line of a note: a source's name, a line's number, what that line does, and its text.
+fn put_note<W: Output>(
+    name: &str,
+    line: usize,
+    what: &[u8],
+    text: &[u8],
+    writer: &mut W,
+) -> Result<(), WriteFault> {
+    put_all(&[name.as_bytes(), b":"], writer)?;
+    put(decimal(line as u64).as_slice(), writer)?;
+    put_all(&[b": note: ", what, text, b"\n"], writer)
+}
+
+/// Writes `warnings` of a source with this `name` and these lines, `texts`: each as a line with the name, the line's number, what the
+/// line does, what to write instead, and the line itself. Fails if a write does: a front of the text went out then.
+pub fn put_warnings<W: Output>(
+    name: &str,
+    texts: &[&[u8]],
+    warnings: &[Warning],
+    writer: &mut W,
+) -> Result<(), WriteFault> {
+    for warning in warnings.iter() {
+        let text: &[u8] = match texts.get(warning.line.saturating_sub(1)) {
+            Some(text) => text.trim_ascii(),
+            None => b"",
+        };
+        put_note(name, warning.line, sentence_of(warning.kind), text, writer)?;
+    }
+    Ok(())
+}

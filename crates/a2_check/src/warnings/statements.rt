@@ -1,0 +1,188 @@
+//! Warnings of statements, by where they lie.
+
+ghost use Rattle.std.specs.Prelude.{◌≡◌, ◌<◌, ℕ, List, false, length, get_or, IfOk};
+ghost use Rattle.a2_asm.specs.declared.program.Statement.{Statement as Stated};
+ghost use Rattle.a2_check.specs.Warnings as warnings;
+ghost use Rattle.a2_check.specs.Warnings.{MarksBegins};
+
+use crate::warnings::WarningKind;
+use a2_asm::Statement;
+use a2_opcode::{Instr, Mnemonic, Mode};
+use a2_text::{behind_blanks, front_len};
+use std::alloc::{AllocError, Allocator};
+use std::marker::Model;
+
+// How many addresses there are.
+const ADDRESSES: usize = 0x1_0000;
+
+// The outputs of characters. Apple II Reference Manual (1979), its list of Monitor subroutines.
+const COUT: u16 = 0xFDED;
+
+const COUT1: u16 = 0xFDF0;
+
+/// Of each address whether an instruction begins there.
+#[derive(Drop)]
+pub(crate) struct Begins<A: Allocator> {
+    marks: Vec<bool, A>,
+}
+
+impl<A: Allocator> Model for Begins<A> {
+    ghost use Rattle.std.specs.Prelude.{◌≡◌, List, Bool, length};
+
+    ghost Value = { List Bool };
+
+    ghost view = { λ a. a.marks.items };
+
+    ghost invariant = { λ a. length a.marks.items ≡ 65536 };
+}
+
+// No mark for so many addresses.
+fn no_marks<A: Allocator>(alloc: A) -> Result<Vec<bool, A>, AllocError>
+    ensures size { IfOk result (λ marks. length marks.items ≡ 65536) }
+    ensures none { IfOk result (λ marks. (a : ℕ) → get_or marks.items a false ≡ false) }
+{
+    vec![in alloc; false; ADDRESSES]
+}
+
+// Marks the address of each instruction, where none is marked.
+fn mark<A: Allocator>(marks: &mut Vec<bool, A>, statements: &[Statement])
+    requires size { length marks.old.items ≡ 65536 }
+    requires none { (a : ℕ) → get_or marks.old.items a false ≡ false }
+    ensures size { length marks.new.items ≡ 65536 }
+    ensures marked { MarksBegins statements.now marks.new.items }
+{
+    for statement in statements {
+        marks[usize::from(statement.addr)] |= statement.instr.is_some();
+    }
+}
+
+impl<A: Allocator> Begins<A> {
+    /// Where the instructions among statements begin. Refused only for want of memory.
+    pub(crate) fn of(alloc: A, statements: &[Statement]) -> Result<Begins<A>, AllocError>
+        ensures { IfOk result (λ begins. MarksBegins statements.now begins) }
+    {
+        let mut marks = no_marks(alloc)?;
+        mark(&mut marks, statements);
+        Ok(Begins { marks })
+    }
+
+    // Whether an instruction begins at an address.
+    fn has(&self, address: u16) -> bool
+        ensures { result ≡ get_or self.now address false }
+    {
+        self.marks[usize::from(address)]
+    }
+}
+
+// Whether an instruction leads elsewhere than behind it, or may.
+fn leads_away(instr: Instr) -> bool
+    ensures { result ≡ warnings.leads_away instr }
+{
+    let leaves = matches!(
+        instr.mnemonic,
+        Mnemonic::Jmp | Mnemonic::Jsr | Mnemonic::Rts | Mnemonic::Rti | Mnemonic::Brk
+    );
+    leaves || instr.mode == Mode::Relative
+}
+
+// Whether an instruction jumps or branches to its operand's value.
+fn jumps(instr: Instr) -> bool
+    ensures { result ≡ warnings.jumps instr }
+{
+    instr.mode == Mode::Relative || instr.mode == Mode::Absolute && instr.mnemonic == Mnemonic::Jmp
+}
+
+/// What is told of a statement, where these are all at which instructions begin: that none begins behind it, though it goes on
+/// there, or that it jumps to itself.
+pub(crate) fn kind_of<A: Allocator>(
+    begins: &Begins<A>,
+    statement: &Statement,
+) -> Option<WarningKind>
+    ensures { (all : List Stated) → MarksBegins all begins.now → result ≡ warnings.kind_of all statement.now }
+{
+    let instr = statement.instr?;
+    if jumps(instr) && instr.value == statement.addr {
+        return Some(WarningKind::Circle);
+    }
+    let behind = statement.addr.wrapping_add(statement.length);
+    if !leads_away(instr) && !begins.has(behind) {
+        return Some(WarningKind::RunsOut);
+    }
+    None
+}
+
+// What stands behind the first `#` of a line and blanks; nothing where it has none.
+fn behind_number_sign(text: &[u8]) -> &[u8]
+    ensures { result.now ≡ warnings.behind_number_sign text.now }
+{
+    match &text[front_len(text, |c| c != b'#')..] {
+        [_, rest @ ..] => behind_blanks(rest),
+        [] => b"",
+    }
+}
+
+// Whether a text begins with a character of this code between single quotes.
+fn is_quoted(text: &[u8], code: u16) -> bool
+    ensures { result ≡ warnings.is_quoted code text.now }
+{
+    match text {
+        [b'\'', c, ..] => u16::from(*c) == code,
+        _ => false,
+    }
+}
+
+// Whether an instruction, in a line with this text, loads A with a character between single quotes.
+fn loads_plain(text: &[u8], instr: Instr) -> bool
+    ensures { result ≡ warnings.loads_plain text.now instr }
+{
+    instr.mnemonic == Mnemonic::Lda
+        && instr.mode == Mode::Immediate
+        && is_quoted(behind_number_sign(text), instr.value)
+}
+
+// Whether a statement is a load of X or Y.
+fn loads_index(statement: &Statement) -> bool
+    ensures { result ≡ warnings.loads_index statement.now }
+{
+    match statement.instr {
+        Some(instr) => matches!(instr.mnemonic, Mnemonic::Ldx | Mnemonic::Ldy),
+        None => false,
+    }
+}
+
+// Whether a statement puts A on the screen: by an output of characters, or by a store at the first page of text.
+fn puts(statement: &Statement) -> bool
+    ensures { result ≡ warnings.puts statement.now }
+{
+    let Some(instr) = statement.instr else {
+        return false;
+    };
+    match instr.mnemonic {
+        Mnemonic::Jsr => instr.value == COUT || instr.value == COUT1,
+        Mnemonic::Sta => matches!(instr.value, 0x400..=0x7FF),
+        _ => false,
+    }
+}
+
+// Whether the first of statements that is no load of X or Y puts A on the screen.
+fn is_put(behind: &[Statement]) -> bool
+    ensures { result ≡ warnings.is_put behind.now }
+{
+    for statement in behind {
+        if !loads_index(statement) {
+            return puts(statement);
+        }
+    }
+    false
+}
+
+/// Whether a statement, of a line with this text, loads A with a character that has bit 7 clear, and those behind it put it on the
+/// screen.
+pub(crate) fn shows_plain(text: &[u8], statement: &Statement, behind: &[Statement]) -> bool
+    ensures { result ≡ warnings.shows_plain text.now statement.now behind.now }
+{
+    match statement.instr {
+        Some(instr) => loads_plain(text, instr) && is_put(behind),
+        None => false,
+    }
+}

@@ -1,0 +1,5 @@
+use Rattle.a2_footprint.proofs.Whole as theorem
+use Rattle.a2_footprint.proofs.laws.steps_depend_on_reads.Goals as goal
+
+pub returns : goal.returns
+returns c = theorem.steps

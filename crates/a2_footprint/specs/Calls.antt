@@ -1,0 +1,71 @@
+-- A routine that is called from anywhere: its RTS goes back to its caller. This project's own.
+use Rattle.std.specs.Prelude.{◌≡◌, ◌<◌, ◌≤◌, ℕ, suc, ◌+◌, ◌*◌, ◌%◌, Bool, IsTrue, None, Ok}
+use Rattle.a2_opcode.specs.declared.Mnemonic.TheVariants.{Rts}
+use Rattle.a2_bus.specs.Memory.{Memory, ram_byte}
+use Rattle.a2_effect.specs.Registers.{Registers}
+use Rattle.a2_cpu.specs.Stores.{IsNotIn}
+use Rattle.a2_services.specs.World.{World}
+use Rattle.a2_services.specs.Services.{service_at}
+use Rattle.a2_machine.specs.Meaning.{Code, Decoded, stuck, world_at}
+use Rattle.a2_footprint.specs.InstructionReads.{pull_address}
+use Rattle.a2_footprint.specs.Reads.{AgreeOn}
+use Rattle.a2_footprint.specs.declared.Part.{Part}
+use Rattle.a2_footprint.specs.Runs.{RunReads, stores_in, known_behind}
+use Rattle.a2_footprint.specs.Uses.{Near, RunNeeds, parts_behind}
+use Rattle.a2_footprint.specs.Promises.{Promise, IsKnown, Holds, Meets, known_bytes, known_parts, selected}
+
+-- So many steps lead to an RTS with S as at the entry, and none stores at the return address, which need not be known.
+pub record ComesToRts (code : Code) (parts : Part → Bool) (bytes : ℕ → Bool) (start : World) (n : ℕ) : Type 0 where
+  pub reads : RunReads code bytes start n
+  pub needs : RunNeeds code parts start n
+  pub going : stuck code (world_at code start n) ≡ None
+  pub no_service : service_at (world_at code start n).registers.pc ≡ None
+  pub rts : Decoded
+  pub is_rts : rts.row.mnemonic ≡ Rts
+  pub found : (other : Memory) → AgreeOn (known_behind code bytes start n) (world_at code start n).memory other
+      → code.instruction_at other (world_at code start n).registers.pc ≡ Ok rts
+  pub s : (world_at code start n).registers.s ≡ start.registers.s
+  pub low : IsNotIn (pull_address start.registers.s 1) (stores_in code start n)
+  pub high : IsNotIn (pull_address start.registers.s 2) (stores_in code start n)
+
+-- the address behind the JSR that left a return address on the stack
+abbrev pub caller : World → ℕ
+caller world =
+    (ram_byte world.memory (pull_address world.registers.s 1) + 256 * ram_byte world.memory (pull_address world.registers.s 2) + 1) % 65536
+
+-- So many steps and an RTS lead back to the caller, none of which is stuck; the RTS changes nothing but S and PC.
+pub record GoesBack (code : Code) (start : World) (n : ℕ) : Type 0 where
+  pub going : (k : ℕ) → k < suc n → stuck code (world_at code start k) ≡ None
+  pub registers : (world_at code start (suc n)).registers
+      ≡ (let r : Registers = (world_at code start n).registers in record r { s = (start.registers.s + 2) % 256; pc = caller start })
+  pub memory : (world_at code start (suc n)).memory ≡ (world_at code start n).memory
+
+-- a run from another world, which is alike where this one looks, goes back to its own caller
+abbrev pub CallsGoBack : Type 0
+CallsGoBack =
+    (code : Code) (parts : Part → Bool) (bytes : ℕ → Bool) (s t : World) (n : ℕ) → Near parts (AgreeOn bytes) s t
+    → ComesToRts code parts bytes s n → GoesBack code t n
+
+-- A promise about calls: the routine comes to an RTS within the limit, and the postcondition holds there.
+pub record CallPasses (promise : Promise) (limit : ℕ) (start : World) : Type 0 where
+  pub steps : ℕ
+  pub within : steps ≤ limit
+  pub comes : ComesToRts promise.code (known_parts promise) (known_bytes promise) start steps
+  pub shown : IsKnown (known_behind promise.code (known_bytes promise) start steps)
+      (parts_behind promise.code (known_parts promise) start steps) promise.behind
+  pub passed : IsTrue (promise.test (selected promise.before start) (selected promise.behind (world_at promise.code start steps)))
+
+-- the routine goes back to its caller within the limit, the postcondition holds, and each byte stays that it does not store at
+pub record CallKeeps (promise : Promise) (limit : ℕ) (world : World) : Type 0 where
+  pub steps : ℕ
+  pub within : steps ≤ limit
+  pub back : GoesBack promise.code world steps
+  pub passed : IsTrue (promise.test (selected promise.before world) (selected promise.behind (world_at promise.code world steps)))
+  pub rest : (b : ℕ) → IsNotIn b (stores_in promise.code world steps)
+      → ram_byte (world_at promise.code world (suc steps)).memory b ≡ ram_byte world.memory b
+
+-- so a promise holds wherever the routine is called from, with S as it was tried
+abbrev pub CallPromisesHoldEverywhere : Type 0
+CallPromisesHoldEverywhere =
+    (promise : Promise) (limit : ℕ) → Holds promise (CallPasses promise limit) → (world : World) → Meets promise world
+    → CallKeeps promise limit world

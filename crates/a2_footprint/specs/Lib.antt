@@ -1,0 +1,17 @@
+pub mod InstructionReads
+pub mod InstructionParts
+pub mod Few
+pub mod Reads
+pub mod Parts
+pub mod Services
+pub mod Runs
+pub mod Uses
+pub mod Serving
+pub mod Fetches
+pub mod Promises
+pub mod Doubling
+pub mod Calls
+pub mod Boards
+pub mod Counting
+pub mod Stays
+pub mod Turned

@@ -1,0 +1,145 @@
+-- A promise about a routine: it is tried from every state of some bytes and registers, and holds in every world. This
+-- project's own.
+use Rattle.std.specs.Prelude.{◌≡◌, ◌≤◌, ◌<◌, ℕ, Bool, ◌||◌, IsTrue, if◌then◌else◌, List, [], ◌∷◌, map}
+use Rattle.a2_text.specs.Bytes.{is_among}
+use Rattle.a2_page.specs.Grid.{IsGrid}
+use Rattle.a2_bus.specs.Memory.{Memory, ram_byte, with_ram, ram_end}
+use Rattle.a2_effect.specs.Registers.{Registers, registers_at}
+use Rattle.a2_cpu.specs.Stores.{IsNotIn}
+use Rattle.a2_services.specs.World.{World}
+use Rattle.a2_machine.specs.declared.causes.Cause.TheVariants.{Returned}
+use Rattle.a2_machine.specs.Meaning.{Code, IsEnd, return_address, world_at}
+use Rattle.a2_footprint.specs.declared.Part.{Part}
+use Rattle.a2_footprint.specs.declared.Part.TheVariants.{A as part_a, X as part_x, Y as part_y, N as part_n, V as part_v, D as part_d, I as part_i, Z as part_z, C as part_c}
+use Rattle.a2_footprint.specs.Parts.{held, MatchAt}
+use Rattle.a2_footprint.specs.Runs.{RunReads, known_behind, stores_in}
+use Rattle.a2_footprint.specs.Uses.{RunNeeds, parts_behind}
+
+-- addresses of RAM, and registers and flags
+pub record Selection : Type 0 where
+  pub addresses : List ℕ
+  pub parts : Part → Bool
+
+-- what they hold: the bytes, and the registers, with 0 and false for all that is not selected but S and PC
+pub record Selected : Type 0 where
+  pub bytes : List ℕ
+  pub registers : Registers
+
+-- registers with another processor's parts where they are selected
+abbrev pub with_selected : (Part → Bool) → Registers → Registers → Registers
+with_selected selected from to = record to {
+  a = if selected part_a then from.a else to.a;
+  x = if selected part_x then from.x else to.x;
+  y = if selected part_y then from.y else to.y;
+  flags = record {
+    n = if selected part_n then from.flags.n else to.flags.n;
+    v = if selected part_v then from.flags.v else to.flags.v;
+    d = if selected part_d then from.flags.d else to.flags.d;
+    i = if selected part_i then from.flags.i else to.flags.i;
+    z = if selected part_z then from.flags.z else to.flags.z;
+    c = if selected part_c then from.flags.c else to.flags.c;
+  };
+}
+
+abbrev pub selected : Selection → World → Selected
+selected selection world = record {
+  bytes = map (λ a. ram_byte world.memory a) selection.addresses;
+  registers = with_selected selection.parts world.registers (record (registers_at world.registers.pc) { s = world.registers.s });
+}
+
+-- a memory with another's bytes at some addresses
+abbrev pub with_bytes_of : Memory → List ℕ → Memory → Memory
+with_bytes_of other [] memory = memory
+with_bytes_of other (a ∷ rest) memory = with_ram (with_bytes_of other rest memory) a (ram_byte other a)
+
+pub record Promise : Type 0 where
+  pub code : Code
+  -- a world at the routine's entry
+  pub base : World
+  -- what may be anything at the entry, and what has to be as in the base, such as the bytes of code that stands in memory;
+  -- nothing else is looked at before it is set
+  pub inputs : Selection
+  pub fixed : Selection
+  -- the precondition, a test of what these hold at the entry
+  pub before : Selection
+  pub required : Selected → Bool
+  -- the postcondition, a test of that, and of what these hold at the end
+  pub behind : Selection
+  pub test : Selected → Selected → Bool
+
+-- the bytes and parts that a run may look at before it stored or set them
+abbrev pub known_bytes : Promise → ℕ → Bool
+known_bytes promise a = is_among promise.inputs.addresses a || is_among promise.fixed.addresses a
+
+abbrev pub known_parts : Promise → Part → Bool
+known_parts promise part = promise.inputs.parts part || promise.fixed.parts part
+
+-- each byte and part of a selection is known
+pub record IsKnown (byte_known : ℕ → Bool) (part_known : Part → Bool) (selection : Selection) : Type 0 where
+  pub bytes : (a : ℕ) → IsTrue (is_among selection.addresses a) → (a < ram_end) × IsTrue (byte_known a)
+  pub parts : (part : Part) → IsTrue (selection.parts part) → IsTrue (part_known part)
+
+-- the base with the inputs of another world
+abbrev pub with_inputs : Promise → World → World
+with_inputs promise world = let base = promise.base in record base {
+  memory = with_bytes_of world.memory promise.inputs.addresses base.memory;
+  registers = with_selected promise.inputs.parts world.registers base.registers;
+}
+
+-- the inputs are bytes
+pub record AreBytes (promise : Promise) (world : World) : Type 0 where
+  pub bytes : (a : ℕ) → IsTrue (is_among promise.inputs.addresses a) → ram_byte world.memory a < 256
+  pub registers : (world.registers.a < 256) × (world.registers.x < 256) × (world.registers.y < 256)
+
+-- the precondition holds in a world
+abbrev pub IsRequired : Promise → World → Type 0
+IsRequired promise world = IsTrue (promise.required (selected promise.before world))
+
+-- the routine returns within the limit, having looked at nothing unknown, and the postcondition holds
+pub record Passes (promise : Promise) (limit : ℕ) (start : World) : Type 0 where
+  pub steps : ℕ
+  pub within : steps ≤ limit
+  pub reads : RunReads promise.code (known_bytes promise) start steps
+  pub needs : RunNeeds promise.code (known_parts promise) start steps
+  pub home : (world_at promise.code start steps).registers.pc ≡ return_address
+  pub shown : IsKnown (known_behind promise.code (known_bytes promise) start steps)
+      (parts_behind promise.code (known_parts promise) start steps) promise.behind
+  pub passed : IsTrue (promise.test (selected promise.before start) (selected promise.behind (world_at promise.code start steps)))
+
+-- a promise holds: the base passes with all inputs that meet the precondition
+pub record Holds (promise : Promise) (Pass : World → Type 0) : Type 0 where
+  pub pages : IsGrid promise.base.memory.page1 × IsGrid promise.base.memory.page2
+  pub shown : IsKnown (known_bytes promise) (known_parts promise) promise.before
+  pub every : (inputs : World) → AreBytes promise inputs → IsRequired promise (with_inputs promise inputs)
+      → Pass (with_inputs promise inputs)
+
+-- a world at the routine's entry: as the base where that is fixed, whatever else is in its memory and registers
+pub record Meets (promise : Promise) (world : World) : Type 0 where
+  pub inputs : AreBytes promise world
+  pub required : IsRequired promise world
+  pub registers : MatchAt promise.fixed.parts promise.base.registers world.registers
+  pub bytes : (a : ℕ) → IsTrue (is_among promise.fixed.addresses a) → ram_byte world.memory a ≡ ram_byte promise.base.memory a
+  pub devices : world.memory.devices ≡ promise.base.memory.devices
+  pub pages : IsGrid world.memory.page1 × IsGrid world.memory.page2
+  pub cycles : world.cycles ≡ promise.base.cycles
+
+-- the routine returns within the limit, the postcondition holds, and each byte stays that it does not store at
+pub record Keeps (promise : Promise) (limit : ℕ) (world : World) : Type 0 where
+  pub steps : ℕ
+  pub within : steps ≤ limit
+  pub ends : IsEnd promise.code world limit (record { world = world_at promise.code world steps; steps = steps; cause = Returned })
+  pub passed : IsTrue (promise.test (selected promise.before world) (selected promise.behind (world_at promise.code world steps)))
+  pub rest : (b : ℕ) → IsNotIn b (stores_in promise.code world steps)
+      → ram_byte (world_at promise.code world steps).memory b ≡ ram_byte world.memory b
+
+abbrev pub PromisesHoldEverywhere : Type 0
+PromisesHoldEverywhere =
+    (promise : Promise) (limit : ℕ) → Holds promise (Passes promise limit) → (world : World) → Meets promise world → Keeps promise limit world
+
+-- the tries of a promise differ in their inputs alone: there are as many as these have states
+abbrev pub TriesDependOnInputs : Type 0
+TriesDependOnInputs =
+    (promise : Promise) (one other : World)
+    → ((a : ℕ) → IsTrue (is_among promise.inputs.addresses a) → ram_byte one.memory a ≡ ram_byte other.memory a)
+    → ((part : Part) → IsTrue (promise.inputs.parts part) → held part one.registers ≡ held part other.registers)
+    → with_inputs promise one ≡ with_inputs promise other

@@ -1,0 +1,26 @@
+-- Registers that no step looks at or sets. This project's own.
+use Rattle.std.specs.Prelude.{◌≡◌, ℕ, Bool, true, false, not, IsTrue}
+use Rattle.a2_services.specs.World.{World}
+use Rattle.a2_machine.specs.Meaning.{Code, world_at}
+use Rattle.a2_footprint.specs.declared.Part.{Part}
+use Rattle.a2_footprint.specs.declared.Part.TheVariants.{A as part_a, X as part_x, Y as part_y}
+use Rattle.a2_footprint.specs.Reads.{AgreeOn}
+use Rattle.a2_footprint.specs.Parts.{held}
+use Rattle.a2_footprint.specs.Runs.{RunReads}
+use Rattle.a2_footprint.specs.Uses.{Near, RunNeeds, parts_behind}
+
+-- a part is A, X or Y
+abbrev pub is_register : Part → Bool
+is_register part_a = true
+is_register part_x = true
+is_register part_y = true
+is_register _ = false
+
+-- Steps from two worlds, of which the first looks at nothing unknown: a register that is not known behind them, so that none of them
+-- looks at it or sets it, holds in the second what it held before.
+abbrev pub UnknownRegistersStay : Type 0
+UnknownRegistersStay =
+    (code : Code) (parts : Part → Bool) (bytes : ℕ → Bool) (s t : World) (n : ℕ) → Near parts (AgreeOn bytes) s t
+    → RunReads code bytes s n → RunNeeds code parts s n
+    → (part : Part) → IsTrue (is_register part) → IsTrue (not (parts_behind code parts s n part))
+    → held part (world_at code t n).registers ≡ held part t.registers

@@ -1,0 +1,165 @@
+//! The bytes that an instruction reads.
+
+ghost use Rattle.std.specs.Prelude.{◌≡◌, ◌<◌};
+ghost use Rattle.a2_effect.specs.Operands.{IsPointer};
+ghost use Rattle.a2_effect.specs.Place.{place_of, zero_page_word};
+ghost use Rattle.a2_effect.specs.Effect.{effect_of};
+ghost use Rattle.a2_effect.specs.View.{registers_of};
+ghost use Rattle.a2_footprint.specs.InstructionReads.{effect_reads, jump_reads, place_reads, pointer_reads, pull_address as pulled_at};
+ghost use Rattle.a2_footprint.specs.Few.{addresses_for};
+
+use a2_bus::Bus;
+use a2_cpu::Regs;
+use a2_opcode::{Instr, Mnemonic, Mode};
+use arrayvec::ArrayVec;
+
+/// The addresses that an instruction reads, beside those of its own bytes, in order.
+#[derive(Drop)]
+pub struct BytesRead {
+    /// The two of page 0 that hold its operand's address, where it is indirect and indexed.
+    pub pointer: ArrayVec<u16, 3>,
+    /// That of its operand, of what it pulls, or of the pointer that JMP goes by.
+    pub operand: ArrayVec<u16, 3>,
+}
+
+// Three addresses at most.
+#[derive(Clone, Copy)]
+enum Few {
+    None,
+    One(u16),
+    Two(u16, u16),
+    Three(u16, u16, u16),
+}
+
+// The same as a list.
+fn listed(few: Few) -> ArrayVec<u16, 3>
+    ensures { result.items ≡ addresses_for few }
+{
+    let mut addresses = ArrayVec::new();
+    match few {
+        Few::None => {}
+        Few::One(address) => addresses.push(address),
+        Few::Two(first, second) => {
+            addresses.push(first);
+            addresses.push(second);
+        }
+        Few::Three(first, second, third) => {
+            addresses.push(first);
+            addresses.push(second);
+            addresses.push(third);
+        }
+    }
+    addresses
+}
+
+// The addresses in page 0 that hold the operand's address.
+fn pointer_of(mode: Mode, value: u16, regs: &Regs) -> Few
+    requires { IsPointer mode value }
+    ensures { addresses_for result ≡ pointer_reads mode value (registers_of regs.now) }
+{
+    match mode {
+        Mode::IndexedIndirect => {
+            let at = value.wrapping_add(u16::from(regs.x)) % 256;
+            Few::Two(at, (at + 1) % 256)
+        }
+        Mode::IndirectIndexed => Few::Two(value, (value + 1) % 256),
+        _ => Few::None,
+    }
+}
+
+// The word at an address of page 0, with wrap in the page.
+fn low_word<B: Bus>(bus: &B, address: u16) -> u16
+    requires { address < 256 }
+    ensures { result ≡ zero_page_word B.access (B.state bus.now) address }
+{
+    let low = bus.peek(address).unwrap_or(0);
+    let high = bus.peek((address + 1) % 256).unwrap_or(0);
+    u16::from(low) + 256 * u16::from(high)
+}
+
+// The operand's address.
+fn operand_at<B: Bus>(mode: Mode, value: u16, regs: &Regs, bus: &B) -> Few
+    requires { IsPointer mode value }
+    ensures { addresses_for result ≡ place_reads (place_of B.access (B.state bus.now) (registers_of regs.now) mode value) }
+{
+    let (x, y) = (u16::from(regs.x), u16::from(regs.y));
+    match mode {
+        Mode::Implied | Mode::Accumulator | Mode::Immediate | Mode::Indirect => Few::None,
+        Mode::ZeroPage | Mode::Absolute | Mode::Relative => Few::One(value),
+        Mode::ZeroPageX => Few::One(value.wrapping_add(x) % 256),
+        Mode::ZeroPageY => Few::One(value.wrapping_add(y) % 256),
+        Mode::AbsoluteX => Few::One(value.wrapping_add(x)),
+        Mode::AbsoluteY => Few::One(value.wrapping_add(y)),
+        Mode::IndexedIndirect => Few::One(low_word(bus, value.wrapping_add(x) % 256)),
+        Mode::IndirectIndexed => Few::One(low_word(bus, value).wrapping_add(y)),
+    }
+}
+
+// The addresses of a pointer that JMP goes by.
+fn jump_at<B: Bus>(mode: Mode, value: u16, regs: &Regs, bus: &B) -> Few
+    ensures { addresses_for result ≡ jump_reads (place_of B.access (B.state bus.now) (registers_of regs.now) mode value) }
+{
+    match mode {
+        Mode::Indirect => Few::Two(value, 256 * (value / 256) + (value % 256 + 1) % 256),
+        _ => Few::None,
+    }
+}
+
+/// The address of the byte that a pull reads, the first, second or third by `count`, where S is `s` before the first of them: so many
+/// above S, from $0100 to $01FF, for behind $FF comes $00. PLA and PLP pull once, RTS twice, RTI three times. MCS6500 Programming
+/// Manual, chapter 8.
+pub fn pull_address(s: u8, count: u8) -> u16
+    ensures { result ≡ pulled_at s count }
+{
+    256 + u16::from(s.wrapping_add(count))
+}
+
+// The addresses that a mnemonic reads, by its operand.
+#[tactic(auto, unfolding(a2_effect::specs::Effect::effect_of))]
+fn effect_at<B: Bus>(instr: Instr, regs: &Regs, bus: &B) -> Few
+    requires { IsPointer instr.mode instr.value }
+    ensures { addresses_for result ≡ effect_reads (effect_of instr.mnemonic)
+        (place_of B.access (B.state bus.now) (registers_of regs.now) instr.mode instr.value) (registers_of regs.now).s }
+{
+    let s = regs.s;
+    match instr.mnemonic {
+        Mnemonic::Adc
+        | Mnemonic::And
+        | Mnemonic::Asl
+        | Mnemonic::Bit
+        | Mnemonic::Cmp
+        | Mnemonic::Cpx
+        | Mnemonic::Cpy
+        | Mnemonic::Dec
+        | Mnemonic::Eor
+        | Mnemonic::Inc
+        | Mnemonic::Lda
+        | Mnemonic::Ldx
+        | Mnemonic::Ldy
+        | Mnemonic::Lsr
+        | Mnemonic::Ora
+        | Mnemonic::Rol
+        | Mnemonic::Ror
+        | Mnemonic::Sbc => operand_at(instr.mode, instr.value, regs, bus),
+        Mnemonic::Jmp => jump_at(instr.mode, instr.value, regs, bus),
+        Mnemonic::Pla | Mnemonic::Plp => Few::One(pull_address(s, 1)),
+        Mnemonic::Rts => Few::Two(pull_address(s, 1), pull_address(s, 2)),
+        Mnemonic::Rti => Few::Three(pull_address(s, 1), pull_address(s, 2), pull_address(s, 3)),
+        _ => Few::None,
+    }
+}
+
+/// The addresses that an instruction would read with these registers and this bus, beside those of its own bytes, wherever it
+/// stands. The value of an instruction by a pointer of page 0 and Y is below 256. Nothing changes, and no device sees an
+/// access. MCS6500 Programming Manual, chapters 4 to 9.
+pub fn reads<B: Bus>(instr: Instr, regs: &Regs, bus: &B) -> BytesRead
+    requires { IsPointer instr.mode instr.value }
+    ensures pointer { result.pointer.items ≡ pointer_reads instr.mode instr.value (registers_of regs.now) }
+    ensures operand { result.operand.items ≡ effect_reads (effect_of instr.mnemonic)
+        (place_of B.access (B.state bus.now) (registers_of regs.now) instr.mode instr.value) (registers_of regs.now).s }
+{
+    BytesRead {
+        pointer: listed(pointer_of(instr.mode, instr.value, regs)),
+        operand: listed(effect_at(instr, regs, bus)),
+    }
+}

@@ -1,0 +1,32 @@
+//! What an instruction and a run look at: the bytes that they read, and the registers and flags. Laws say that nothing else matters.
+//!
+//! How it is called is shown in CALLING.md.
+#![tactic(auto)]
+
+mod bytes;
+mod laws;
+mod parts;
+
+pub use bytes::{BytesRead, pull_address, reads};
+pub use laws::{
+    boards_read_as_their_memory, call_promises_hold_everywhere, calls_go_back, doubling_holds,
+    fetches_depend_on_reads, instructions_depend_on_reads, promises_hold_everywhere,
+    runs_depend_on_reads, runs_depend_on_uses, runs_off_stack_alike, runs_turn_alike,
+    services_depend_on_uses, services_keep_the_rest, states_are_counted, steps_by_bytes_read,
+    steps_depend_on_reads, tries_depend_on_inputs, unknown_registers_stay,
+};
+pub use parts::{mode_needs, needs, sets};
+
+/// A register or a flag. S and PC are none of these: each instruction looks at PC, and the stack is looked at by S.
+#[derive(Clone, Copy, PartialEq, Eq, Debug)]
+pub enum Part {
+    A,
+    X,
+    Y,
+    N,
+    V,
+    D,
+    I,
+    Z,
+    C,
+}

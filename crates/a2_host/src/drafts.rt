@@ -1,0 +1,150 @@
+//! Files that are written whole or not at all. A draft is a file of its own beside the one that it is to be, and takes its place by a new
+//! name.
+
+ghost use Rattle.std.specs.Prelude.{◌≡◌, None};
+ghost use Rattle.a2_host.specs.Desks.{Files, Begins, Finishes};
+
+use a2_stream::{Output, WriteFault};
+use std::fs::File;
+use std::io::{BufWriter, Write};
+use std::os::unix::fs::MetadataExt;
+use std::{fs, str};
+
+/// Where files are written whole or not at all.
+pub trait Desk {
+    type Draft: Output + Drop;
+
+    /// The texts of the files by their names, where they are known.
+    ghost files: { Self → Files };
+
+    /// Begins a text for the file of this name, which stays as it is, if there is one. Refused where none can be begun beside
+    /// it, and where the name is that of something else than a file.
+    fn begin(&mut self, name: &str) -> Result<Self::Draft, WriteFault>
+        ensures { Begins Self.Draft.taker (files self.old) (files self.new) result };
+
+    /// Makes what `draft` took the file of this name. Where that fails the file stays as it is.
+    fn finish(&mut self, name: &str, draft: Self::Draft) -> Result<(), WriteFault>
+        ensures { Finishes name.now (Self.Draft.taker draft) (files self.old) (files self.new) result };
+
+    /// Gives `draft` up: all files stay as they are.
+    fn give_up(&mut self, draft: Self::Draft)
+        ensures { files self.new ≡ files self.old };
+
+    /// Whether two names are those of one file, as far as can be told.
+    fn are_one(&self, name: &str, other: &str) -> bool;
+}
+
+// How many names are tried for a draft.
+const NAMES: u32 = 100;
+
+/// The files of the system.
+#[derive(Drop)]
+pub struct HostDesk<'a> {
+    rt: &'a HostRuntime,
+}
+
+impl<'a> HostDesk<'a> {
+    /// The files that `rt` reaches. What they hold is not known.
+    pub fn new(rt: &'a HostRuntime) -> HostDesk<'a>
+        ensures { ⟦<HostDesk<'a> as Desk>⟧.files result ≡ None }
+    {
+        HostDesk { rt }
+    }
+}
+
+/// A draft: a file that is to take the place of another.
+#[derive(Drop)]
+pub struct HostDraft {
+    lines: BufWriter<File>,
+    name: String,
+    failed: u64,
+}
+
+impl Output for HostDraft {
+    ghost taker = { λ draft. record { bytes = None; failures = draft.failed } };
+
+    fn write(&mut self, piece: &[u8]) -> Result<usize, WriteFault> {
+        let taken = self.lines.write(piece).map_err(|_| WriteFault);
+        let is_failed = match &taken {
+            Ok(count) => *count == 0 && !piece.is_empty(),
+            Err(_) => true,
+        };
+        if is_failed {
+            self.failed = self.failed.saturating_add(1);
+        }
+        taken
+    }
+}
+
+// Whether something of this name is there that is no file.
+fn is_no_file(rt: &HostRuntime, name: &str) -> bool {
+    match fs::metadata(rt, name) {
+        Ok(found) => !found.is_file(),
+        Err(_) => false,
+    }
+}
+
+// A new file beside that of this name, and its own name.
+fn beside(rt: &HostRuntime, name: &str) -> Result<(String, File), WriteFault> {
+    for number in 0..NAMES {
+        let Ok(other) = format!(in rt.alloc(); "{name}.{number}.part") else {
+            return Err(WriteFault);
+        };
+        if let Ok(file) = File::create_new(rt, other.as_str()) {
+            return Ok((other, file));
+        }
+    }
+    Err(WriteFault)
+}
+
+// Lets go of what stands in the buffer: dropped as it is, it would be written.
+fn let_go(lines: BufWriter<File>) {
+    let _ = lines.into_parts();
+}
+
+impl Desk for HostDesk<'_> {
+    type Draft = HostDraft;
+
+    ghost files = { λ _. None };
+
+    fn begin(&mut self, name: &str) -> Result<HostDraft, WriteFault> {
+        if is_no_file(self.rt, name) {
+            return Err(WriteFault);
+        }
+        let (name, file) = beside(self.rt, name)?;
+        match BufWriter::new(self.rt.alloc(), file) {
+            Ok(lines) => Ok(HostDraft {
+                lines,
+                name,
+                failed: 0,
+            }),
+            Err(_) => {
+                let _ = fs::remove_file(self.rt, name.as_str());
+                Err(WriteFault)
+            }
+        }
+    }
+
+    fn finish(&mut self, name: &str, draft: HostDraft) -> Result<(), WriteFault> {
+        let mut lines = draft.lines;
+        let is_written = lines.flush().is_ok();
+        let_go(lines);
+        if is_written && fs::rename(self.rt, draft.name.as_str(), name).is_ok() {
+            return Ok(());
+        }
+        let _ = fs::remove_file(self.rt, draft.name.as_str());
+        Err(WriteFault)
+    }
+
+    fn give_up(&mut self, draft: HostDraft) {
+        let_go(draft.lines);
+        let _ = fs::remove_file(self.rt, draft.name.as_str());
+    }
+
+    fn are_one(&self, name: &str, other: &str) -> bool {
+        match (fs::metadata(self.rt, name), fs::metadata(self.rt, other)) {
+            (Ok(one), Ok(two)) => one.dev() == two.dev() && one.ino() == two.ino(),
+            _ => false,
+        }
+    }
+}

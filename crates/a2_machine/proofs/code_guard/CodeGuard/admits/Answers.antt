@@ -1,0 +1,11 @@
+use Rattle.std.proofs.Common.{ap, ◌∙◌, arith}
+use Rattle.std.proofs.lemmas.List.{get_or_read}
+use Rattle.a2_machine.specs.Marks.{begins_by}
+use Rattle.a2_machine.proofs.CodeGuarding.{admits-is}
+use Rattle.a2_machine.proofs.code_guard.CodeGuard.admits.Goals as goal
+
+pub returns : goal.returns
+returns g c = rw (← c.self.view_is)
+    (c.has_begin.ensures
+    ∙ ap begins_by (get_or_read c.self.inside.marks.items c.args.address _ (omega (arith, c.self.invariant.marks_are.size, c.ranges.address.fits))
+    c.index.ensures 0) ∙ admits-is _ _ _ _ c.self.invariant (omega (arith, c.ranges.address.fits)))

@@ -1,7 +1,0 @@
-use Rattle.a2_machine.proofs.Watching.{admitted-ends}
-use Rattle.a2_machine.proofs.watch.Watch.end.Goals as goal
-
-pub returns : goal.returns
-returns g c =
-    rw (← c.self.view_is)
-    (admitted-ends c.self.inside.on c.self.inside.marks.items c.self.inside.marked c.self.invariant)

@@ -1,7 +1,0 @@
-use Rattle.a2_machine.proofs.Watching.{plain-marks}
-use Rattle.a2_machine.proofs.watch.Watch.marks.Goals as goal
-
-pub returns : goal.returns
-returns g c =
-    rw (← c.self.view_is, c.as_slice.ensures.value)
-    (plain-marks c.self.inside.on c.self.inside.marks.items c.self.inside.marked c.self.invariant)

@@ -1,6 +1,0 @@
-use Rattle.std.proofs.Common.{◌≡◌, drop}
-use Rattle.a2_notes.specs.Notes.{is_put}
-use Rattle.a2_notes.proofs.statements.is_put.Given as goal
-
-abbrev pub invariant-loop-statement : goal.invariant-loop-statement
-invariant-loop-statement l = is_put (drop l.statement-index l.behind) ≡ is_put l.behind

@@ -1,0 +1,12 @@
+pub mod Judging
+pub mod States
+pub mod Kept
+pub mod Everywhere
+pub mod Walking
+pub mod Screen
+pub mod But
+pub mod Returning
+pub mod Looking
+pub mod Certifying
+pub mod Entering
+pub mod Settling

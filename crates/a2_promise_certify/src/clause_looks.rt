@@ -1,0 +1,158 @@
+//! Whether all that clauses look at is known.
+
+ghost use Rattle.std.specs.Prelude.{◌≡◌, ℕ, pos, IsTrue, slice_set};
+ghost use Rattle.a2_promise.specs.Looks.{KnowsMade, Knows, IsBelow};
+ghost use Rattle.a2_promise.specs.Values.{moment_of, count_of};
+ghost use Rattle.a2_promise_certify.specs.Kept.{knows_atom as is_atom_known, LookAtKnown};
+ghost use Rattle.a2_promise_certify.specs.Walking.{knows_part};
+ghost use Rattle.a2_promise_certify.specs.Looking.{known_of};
+
+use crate::allowed::is_in_stack;
+use crate::clauses::{NO_NAMES, holds};
+use crate::known_parts::KnownParts;
+use crate::marks::is_known;
+use a2_footprint::Part;
+use a2_promise::{Atom, Bounds, Clause, Expr, Function, Sight, value};
+use std::alloc::Global;
+
+/// What promises see of a state, and what is known of that: bytes of RAM, by their marks at the entry and those of what was stored
+/// since, and registers and flags.
+#[derive(Clone, Copy)]
+pub(crate) struct View<'k, 's> {
+    pub sight: Sight<'s, Global>,
+    pub known: &'k [bool],
+    pub stored: &'k [bool],
+    pub parts: KnownParts,
+}
+
+// Whether what an atom is is known; cycles and steps always are, and S never: a routine may be entered with any.
+fn is_atom(view: &View, atom: Atom) -> bool
+    ensures { result ≡ is_atom_known (knows_part view.now.parts) atom }
+{
+    match atom {
+        Atom::A => view.parts.has(Part::A),
+        Atom::X => view.parts.has(Part::X),
+        Atom::Y => view.parts.has(Part::Y),
+        Atom::Carry => view.parts.has(Part::C),
+        Atom::Zero => view.parts.has(Part::Z),
+        Atom::Negative => view.parts.has(Part::N),
+        Atom::Overflow => view.parts.has(Part::V),
+        Atom::Decimal => view.parts.has(Part::D),
+        Atom::Interrupt => view.parts.has(Part::I),
+        Atom::S => false,
+        Atom::Cycles | Atom::Steps => true,
+    }
+}
+
+// Whether what an address holds is known; of the stack's page none is, since it lies elsewhere there with another S.
+fn is_seen(view: &View, address: u16) -> bool
+    ensures { result ≡ (known_of view.now).bytes address }
+{
+    !is_in_stack(address) && is_known(view.known, view.stored, address)
+}
+
+// Whether what a function of this number looks at is known.
+fn is_made(view: &View, function: Function, number: Option<i64>) -> bool
+    ensures { IsTrue result → KnowsMade function (known_of view.now) number }
+{
+    let Some(number @ 0..65536) = number else {
+        return true;
+    };
+    let address = number as u16;
+    match function {
+        Function::Byte => is_seen(view, address),
+        Function::Word => is_seen(view, address) && is_seen(view, address.wrapping_add(1)),
+        Function::Signed | Function::Abs => true,
+    }
+}
+
+// The same numbers of names, but this one.
+fn with_bound(names: Bounds, name: u8, number: i64) -> Bounds
+    ensures { result ≡ slice_set names name number }
+{
+    let mut names = names;
+    let place = usize::from(name);
+    if place < names.len() {
+        names[place] = number;
+    }
+    names
+}
+
+// Whether all is known that an expression looks at where a name counts the numbers below one, if they are counted.
+#[cycle(looks)]
+fn is_each_known<'k, 's>(
+    name: u8,
+    count: Option<i64>,
+    body: &Expr,
+    entry: &View<'k, 's>,
+    exit: &View<'k, 's>,
+    names: Bounds,
+) -> bool
+    ensures { IsTrue result → (k : ℕ) → IsBelow k (count_of count) → Knows body.now (known_of entry.now) (known_of exit.now)
+        (moment_of entry.now.sight) (moment_of exit.now.sight) (slice_set names name (pos k)) }
+{
+    let Some(count @ 0..65536) = count else {
+        return true;
+    };
+    for number in 0..count {
+        if !is_looked_at(body, entry, exit, with_bound(names, name, number)) {
+            return false;
+        }
+    }
+    true
+}
+
+// Whether all that an expression looks at is known, where these are the numbers that names stand for.
+#[cycle(looks)]
+fn is_looked_at<'k, 's>(
+    expr: &Expr,
+    entry: &View<'k, 's>,
+    exit: &View<'k, 's>,
+    names: Bounds,
+) -> bool
+    ensures { IsTrue result → Knows expr.now (known_of entry.now) (known_of exit.now)
+        (moment_of entry.now.sight) (moment_of exit.now.sight) names }
+{
+    match expr {
+        Expr::Number(_) | Expr::Bound(_) | Expr::At(_, _) => true,
+        Expr::Held(atom) => is_atom(exit, *atom),
+        Expr::Old(of) => is_looked_at(of, entry, entry, names),
+        Expr::Of(function, of) => {
+            is_looked_at(of, entry, exit, names)
+                && is_made(exit, *function, value(of, &entry.sight, &exit.sight, names))
+        }
+        Expr::Pair(_, left, right) => {
+            is_looked_at(left, entry, exit, names) && is_looked_at(right, entry, exit, names)
+        }
+        Expr::Choice(by, yes, no) => {
+            is_looked_at(by, entry, exit, names)
+                && match value(by, &entry.sight, &exit.sight, names) {
+                    None => true,
+                    chosen if holds(chosen) => is_looked_at(yes, entry, exit, names),
+                    Some(_) => is_looked_at(no, entry, exit, names),
+                }
+        }
+        Expr::Each(name, count, body) | Expr::Sum(name, count, body) => {
+            let number = value(count, &entry.sight, &exit.sight, names);
+            is_looked_at(count, entry, exit, names)
+                && is_each_known(*name, number, body, entry, exit, names)
+        }
+    }
+}
+
+/// Whether all that clauses look at is known, of a state where a routine is entered and one that it leaves.
+pub(crate) fn look_at_known<'k, 's>(
+    clauses: &[Clause],
+    entry: &View<'k, 's>,
+    exit: &View<'k, 's>,
+) -> bool
+    ensures { IsTrue result → LookAtKnown clauses.now (known_of entry.now) (known_of exit.now)
+        (moment_of entry.now.sight) (moment_of exit.now.sight) }
+{
+    for clause in clauses {
+        if !is_looked_at(&clause.expr, entry, exit, NO_NAMES) {
+            return false;
+        }
+    }
+    true
+}

@@ -1,0 +1,57 @@
+//! Whether clauses of a promise hold of a state where a routine is entered and one that it leaves.
+
+ghost use Rattle.std.specs.Prelude.{◌≡◌, length};
+ghost use Rattle.a2_bus.specs.Memory.{ram_end};
+ghost use Rattle.a2_bus.specs.View.{memory_of};
+ghost use Rattle.a2_effect.specs.View.{registers_of};
+ghost use Rattle.a2_promise.specs.Values.{moment_of};
+ghost use Rattle.a2_promise_certify.specs.Judging as judging;
+ghost use Rattle.a2_promise_certify.specs.Kept.{bytes_of as ram_bytes_of};
+
+use a2_bus::{AddressSpace, Bus};
+use a2_cpu::Regs;
+use a2_promise::{Bounds, Clause, Sight, value};
+use std::alloc::Global;
+
+/// The numbers of names outside of what counts them: no name stands for a number there.
+pub const NO_NAMES: Bounds = [0; 4];
+
+/// Whether a fact holds that has this value: it has one, and that is not 0.
+pub(crate) fn holds(value: Option<i64>) -> bool
+    ensures { result ≡ judging.holds value }
+{
+    match value {
+        Some(number) => !(number <= 0 && 0 <= number),
+        None => false,
+    }
+}
+
+/// Whether all clauses hold of a state where a routine is entered and one that it leaves.
+pub fn all_hold(clauses: &[Clause], entry: &Sight<Global>, exit: &Sight<Global>) -> bool
+    ensures { result ≡ judging.all_hold clauses.now (moment_of entry.now) (moment_of exit.now) }
+{
+    clauses
+        .iter()
+        .all(|clause| holds(value(&clause.expr, entry, exit, NO_NAMES)))
+}
+
+/// What promises see of registers and RAM, so many cycles and steps after the entry.
+pub fn sight_of<'a>(
+    regs: &Regs,
+    space: &'a AddressSpace<Global>,
+    cycles: u32,
+    steps: u32,
+) -> Sight<'a, Global>
+    ensures moment { moment_of result
+        ≡ record { registers = registers_of regs.now; bytes = ram_bytes_of (memory_of space.now); cycles = cycles; steps = steps } }
+    ensures size { length space.now.bytes ≡ ram_end }
+{
+    // For the prover, which learns from it how long RAM is.
+    let _first = space.peek(0);
+    Sight {
+        regs: *regs,
+        space,
+        cycles,
+        steps,
+    }
+}

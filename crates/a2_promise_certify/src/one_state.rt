@@ -1,0 +1,202 @@
+//! Whether a promise is kept in one state, where neither the routine nor the promise looks at anything that is not known.
+
+ghost use Rattle.std.specs.Prelude.{◌≡◌, ◌⊎◌, false, [], length, IsTrue, IfSome};
+ghost use Rattle.a2_bus.specs.Memory.{ram_end};
+ghost use Rattle.a2_bus.specs.View.{memory_of};
+ghost use Rattle.a2_effect.specs.View.{registers_of};
+ghost use Rattle.a2_services.specs.World.{world_of};
+ghost use Rattle.a2_machine.specs.Meaning.{next};
+ghost use Rattle.a2_promise.specs.Values.{moment_of};
+ghost use Rattle.a2_promise_certify.specs.But.{IsBut};
+ghost use Rattle.a2_promise_certify.specs.Kept.{bytes_of, code, IsKept};
+ghost use Rattle.a2_promise_certify.specs.States.{has_byte};
+ghost use Rattle.a2_promise_certify.specs.Walking.{is_set, knows_part};
+ghost use Rattle.a2_promise_certify.specs.Certifying.{AreRegistersKept, IsEntered, IsReady, IsStateTried, start_of};
+
+use crate::clause_looks::{View, look_at_known};
+use crate::clauses::{all_hold, sight_of};
+use crate::entry_states::{put_back_inputs, put_state};
+use crate::input::Input;
+use crate::known_parts::KnownParts;
+use crate::stored::Stored;
+use crate::walk::{Walk, walk_home};
+use a2_bus::{AddressSpace, Bus};
+use a2_cpu::run::guarded_step;
+use a2_cpu::{GuardedStep, NoProtection, Regs};
+use a2_footprint::Part;
+use a2_promise::{Changes, Promise};
+use std::alloc::Global;
+
+/// How a promise is tried: the states in which its routine is entered, and what is known in each of them.
+#[derive(Clone, Copy)]
+pub struct Setup<'a> {
+    /// The bytes of RAM that are known at the entry, by marks from address 0 on, and the registers and flags.
+    pub known: &'a [bool],
+    pub parts: KnownParts,
+    pub promise: &'a Promise<'a>,
+    /// The steps that are enough, with the RTS.
+    pub most: u32,
+    /// RAM as the program and settled bytes are laid, and the inputs that are given each of their values.
+    pub base: &'a AddressSpace<Global>,
+    pub inputs: &'a [Input],
+}
+
+// What promises see of the state before a routine, and what is known of it.
+fn view_of_entry<'k, 's>(
+    setup: &Setup<'k>,
+    regs: &Regs,
+    before: &'s AddressSpace<Global>,
+) -> View<'k, 's>
+    ensures known { result.known.now ≡ setup.now.known.now }
+    ensures stored { result.stored.now ≡ [] }
+    ensures parts { result.parts ≡ setup.now.parts }
+    ensures moment { moment_of result.sight
+        ≡ record { registers = registers_of regs.now; bytes = bytes_of (memory_of before.now); cycles = 0; steps = 0 } }
+    ensures size { length before.now.bytes ≡ ram_end }
+{
+    View {
+        sight: sight_of(regs, before, 0, 0),
+        known: setup.known,
+        stored: &[],
+        parts: setup.parts,
+    }
+}
+
+/// Makes this the state of a number, before and on its way; false where an input is a byte that is not in RAM.
+pub(crate) fn enter(
+    setup: &Setup,
+    number: u64,
+    before: &mut AddressSpace<Global>,
+    walk: &mut Walk,
+    stored: &Stored,
+) -> bool
+    requires { IsReady setup.now.base.now setup.now.inputs.now before.old walk.old.space stored.now }
+    ensures entered { IsTrue result → IsEntered (start_of setup.now number) setup.now.parts before.new walk.new stored.now }
+    ensures rest { IsBut (has_byte setup.now.inputs.now) before.new setup.now.base.now }
+{
+    let mut regs = Regs::start(setup.promise.address);
+    if !put_state(setup.inputs, number, &mut regs, before) {
+        return false;
+    }
+    put_back_inputs(setup.inputs, &mut walk.space, before);
+    walk.regs = regs;
+    walk.parts = setup.parts;
+    walk.cycles = 0;
+    true
+}
+
+// Whether a register that may not be other than before is not known behind a routine, or was known and is the same.
+fn is_register_kept(
+    part: Part,
+    may: bool,
+    parts: &KnownParts,
+    parts_behind: &KnownParts,
+    before: u8,
+    behind: u8,
+) -> bool
+    ensures { IsTrue result → may ≡ false
+        → (knows_part parts_behind.now part ≡ false) ⊎ (IsTrue (knows_part parts.now part) × (behind ≡ before)) }
+{
+    may || !parts_behind.has(part) || parts.has(part) && before == behind
+}
+
+// Whether it is so of each.
+fn are_registers_kept(
+    changes: &Changes,
+    parts: &KnownParts,
+    parts_behind: &KnownParts,
+    before: &Regs,
+    behind: &Regs,
+) -> bool
+    ensures { IsTrue result → AreRegistersKept changes.now parts.now parts_behind.now
+        (registers_of before.now) (registers_of behind.now) }
+{
+    if !is_register_kept(Part::A, changes.a, parts, parts_behind, before.a, behind.a)
+        || !is_register_kept(Part::X, changes.x, parts, parts_behind, before.x, behind.x)
+    {
+        return false;
+    }
+    is_register_kept(Part::Y, changes.y, parts, parts_behind, before.y, behind.y)
+}
+
+// Makes a step, and answers the cycles since the entry; none where it is not made, or PC is not in RAM.
+fn step_out(walk: &mut Walk) -> Option<u32>
+    ensures made { IfSome result (λ cycles. world_of (registers_of walk.new.regs) walk.new.space cycles
+        ≡ next code (world_of (registers_of walk.old.regs) walk.old.space walk.old.cycles)) }
+    ensures parts { walk.new.parts ≡ walk.old.parts }
+{
+    let _opcode = walk.space.peek(walk.regs.pc)?;
+    let GuardedStep::Next(cycles) = guarded_step(&mut walk.regs, &mut walk.space, &NoProtection)
+    else {
+        return None;
+    };
+    walk.cycles = walk.cycles.checked_add(cycles)?;
+    Some(walk.cycles)
+}
+
+// Whether a promise is kept of the state before a routine, which is as it requires.
+fn is_kept(
+    setup: &Setup,
+    before: &AddressSpace<Global>,
+    walk: &mut Walk,
+    stored: &mut Stored,
+) -> bool
+    requires { IsEntered (world_of (registers_of walk.old.regs) walk.old.space 0) setup.now.parts before.now
+        walk.old stored.old }
+    ensures kept { IsTrue result → IsKept (is_set setup.now.known.now)
+        (knows_part setup.now.parts) setup.now.promise.now setup.now.most
+        (world_of (registers_of walk.old.regs) walk.old.space 0) }
+    ensures rest { IsTrue result → walk.new.space.devices ≡ before.now.devices
+        → IsBut (is_set stored.new) walk.new.space before.now }
+{
+    let changes = &setup.promise.changes;
+    let regs = walk.regs;
+    let Some(steps) = walk_home(walk, setup.known, stored, changes, setup.most) else {
+        return false;
+    };
+    if !are_registers_kept(changes, &setup.parts, &walk.parts, &regs, &walk.regs) {
+        return false;
+    }
+    let Some(cycles) = step_out(walk) else {
+        return false;
+    };
+    let entry = view_of_entry(setup, &regs, before);
+    let exit = View {
+        sight: sight_of(&walk.regs, &walk.space, cycles, steps + 1),
+        known: setup.known,
+        stored: stored.marks(),
+        parts: walk.parts,
+    };
+    let promised = setup.promise.promised.as_slice();
+    look_at_known(promised, &entry, &exit) && all_hold(promised, &entry.sight, &exit.sight)
+}
+
+/// Whether a promise is kept in the state before a routine, where S is $FD and no cycle and no store is counted, if that is as
+/// the promise requires: neither the routine nor the promise looks at what is not known, the routine comes to the RTS of its own
+/// within the steps that are enough, and stores only at what `changes` names or in the stack below its return address, what is
+/// promised holds behind the RTS, and a register that `changes` does not name is not set, or was known and is the same. False
+/// says nothing: also where a service needs a key, or a byte is stored at that is put back. Behind it each byte of RAM is as
+/// before that is not marked as stored at.
+pub fn is_tried(
+    setup: &Setup,
+    before: &AddressSpace<Global>,
+    walk: &mut Walk,
+    stored: &mut Stored,
+) -> bool
+    requires { IsEntered (world_of (registers_of walk.old.regs) walk.old.space 0) setup.now.parts before.now
+        walk.old stored.old }
+    ensures tried { IsTrue result → IsStateTried setup.now.known.now setup.now.parts setup.now.promise.now setup.now.most
+        (world_of (registers_of walk.old.regs) walk.old.space 0) }
+    ensures rest { IsTrue result → walk.new.space.devices ≡ before.now.devices
+        → IsBut (is_set stored.new) walk.new.space before.now }
+{
+    let entry = view_of_entry(setup, &walk.regs, before);
+    let wanted = setup.promise.wanted.as_slice();
+    if !look_at_known(wanted, &entry, &entry) {
+        return false;
+    }
+    if !all_hold(wanted, &entry.sight, &entry.sight) {
+        return true;
+    }
+    is_kept(setup, before, walk, stored)
+}

@@ -1,0 +1,147 @@
+//! Bytes that are settled by what a promise requires: an equation says what they are.
+
+ghost use Rattle.std.specs.Prelude.{◌≡◌, pos, Some, slice_get, IfOk, IfSome, IsTrue};
+ghost use Rattle.a2_promise.specs.Values.{Moment, made, operated_on, value_of};
+ghost use Rattle.a2_promise.specs.declared.expr.Expr.TheVariants.{Number};
+ghost use Rattle.a2_promise.specs.declared.expr.Operation.TheVariants.{Equal};
+ghost use Rattle.a2_promise_certify.specs.But.{IsBut};
+ghost use Rattle.a2_promise_certify.specs.Judging.{holds, no_names};
+ghost use Rattle.a2_promise_certify.specs.Settling.{AreBytes, AreSettled, ClausesSettle, IsLaid, Settles};
+ghost use Rattle.a2_promise_certify.specs.States.{is_byte};
+
+use crate::input::{Input, is_named};
+use a2_bus::{AddressSpace, Bus};
+use a2_hex::RAM_END;
+use a2_promise::{Clause, Expr, Function, Operation};
+use std::alloc::{AllocError, Global};
+
+/// The number that an expression is as it stands; none of any other expression.
+pub fn number_of(expr: &Expr) -> Option<i64>
+    ensures { IfSome result (λ number. expr.now ≡ Number number) }
+{
+    match expr {
+        Expr::Number(number) => Some(*number),
+        _ => None,
+    }
+}
+
+// The byte at an address where a function of a place is a number; of a word, whose low byte is an input.
+fn settled_of(
+    among: &[Input],
+    function: Function,
+    place: i64,
+    number: i64,
+    address: u16,
+) -> Option<u8>
+    ensures { IfSome result (λ byte. (m : Moment) → AreBytes among.now m.bytes → made function m.bytes place ≡ Some number
+        → slice_get m.bytes address ≡ Some byte) }
+{
+    if number < 0 || 65535 < number || place < 0 || 65535 < place {
+        return None;
+    }
+    let (number, place) = (number as u16, place as u16);
+    match function {
+        Function::Byte if place == address && number < 256 => Some((number % 256) as u8),
+        Function::Word if place == address && is_named(among, place) => Some((number % 256) as u8),
+        Function::Word if place.wrapping_add(1) == address && is_named(among, place) => {
+            Some((number / 256) as u8)
+        }
+        _ => None,
+    }
+}
+
+// The byte at an address where what stands at the left is the number at the right.
+fn settled_between(among: &[Input], left: &Expr, right: &Expr, address: u16) -> Option<u8>
+    ensures { IfSome result (Settles (λ m. holds (operated_on Equal (value_of left.now m m no_names)
+        (value_of right.now m m no_names)))
+        among.now address) }
+{
+    let number = number_of(right)?;
+    let Expr::Of(function, of) = left else {
+        return None;
+    };
+    settled_of(among, *function, number_of(of)?, number, address)
+}
+
+// The byte at an address where an expression holds, that is an equation, or holds where an equation does.
+fn settled_by(among: &[Input], expr: &Expr, address: u16) -> Option<u8>
+    ensures { IfSome result (Settles (λ m. holds (value_of expr.now m m no_names)) among.now address) }
+{
+    match expr {
+        Expr::Pair(Operation::Equal, left, right) => {
+            match settled_between(among, left, right, address) {
+                Some(byte) => Some(byte),
+                None => settled_between(among, right, left, address),
+            }
+        }
+        // So both of two are written that have to hold.
+        Expr::Choice(by, one, other) => {
+            if number_of(other)? != 0 {
+                return None;
+            }
+            match settled_by(among, by, address) {
+                Some(byte) => Some(byte),
+                None => settled_by(among, one, address),
+            }
+        }
+        _ => None,
+    }
+}
+
+/// The byte at an address in every state in which clauses hold, as an equation among them says; none where none does. In these
+/// states a byte that is one of the inputs `among` is below 256.
+pub fn settled_byte(among: &[Input], clauses: &[Clause], address: u16) -> Option<u8>
+    ensures { IfSome result (ClausesSettle clauses.now among.now address) }
+{
+    let [clause, rest @ ..] = clauses else {
+        return None;
+    };
+    match settled_by(among, &clause.expr, address) {
+        Some(byte) => Some(byte),
+        None => settled_byte(among, rest, address),
+    }
+}
+
+// Lays the byte that an input is over RAM, if clauses settle it.
+fn lay_settled(
+    among: &[Input],
+    clauses: &[Clause],
+    input: Input,
+    space: &mut AddressSpace<Global>,
+) -> bool
+    ensures laid { IsTrue result → IsLaid clauses.now among.now input space.new }
+    ensures rest { IsBut (λ a. is_byte a input) space.new space.old }
+{
+    let Input::Byte(address) = input else {
+        return false;
+    };
+    if address >= RAM_END {
+        return false;
+    }
+    let Some(byte) = settled_byte(among, clauses, address) else {
+        return false;
+    };
+    space.write(address, byte);
+    true
+}
+
+/// Lays the bytes over RAM that clauses settle of inputs; the other inputs, which are free.
+pub(crate) fn settle(
+    alloc: Global,
+    among: &[Input],
+    clauses: &[Clause],
+    inputs: &[Input],
+    space: &mut AddressSpace<Global>,
+) -> Result<Vec<Input>, AllocError>
+    ensures { IfOk result (λ free. AreSettled clauses.now among.now inputs.now free.items space.old space.new) }
+{
+    let [input, rest @ ..] = inputs else {
+        return Ok(Vec::new(alloc));
+    };
+    let mut free = settle(alloc, among, clauses, rest, space)?;
+    if lay_settled(among, clauses, *input, space) {
+        return Ok(free);
+    }
+    free.push(*input)?;
+    Ok(free)
+}

@@ -1,5 +1,0 @@
-use Rattle.std.proofs.Common.{length}
-use Rattle.a2_promise_try.proofs.certain.+put_state.Given as goal
-
-abbrev pub decreases-put_state : goal.decreases-put_state
-decreases-put_state l = length l.inputs.now

@@ -1,8 +1,0 @@
-use Rattle.std.specs.Prelude.{◌∷◌, []}
-use Rattle.std.specs.List.{flat_map}
-use Rattle.a2_page.specs.Cells.{numbers_from}
-use Rattle.a2_promise_try.specs.Walking.{AreMarked}
-use Rattle.a2_promise_try.proofs.places.mark_cells.Given as goal
-
-abbrev pub invariant-loop-step : goal.invariant-loop-step
-invariant-loop-step l = AreMarked l.fn.stored l.stored l.changes (flat_map (λ a. a ∷ []) (numbers_from l.first l.step))

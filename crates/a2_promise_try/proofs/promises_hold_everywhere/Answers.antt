@@ -1,5 +1,0 @@
-use Rattle.a2_promise_try.proofs.Everywhere as theorem
-use Rattle.a2_promise_try.proofs.promises_hold_everywhere.Goals as goal
-
-pub returns : goal.returns
-returns c = theorem.everywhere c.values_depend_on_looks.ensures

@@ -1,7 +1,0 @@
-use Rattle.std.proofs.Common.{IsTrue}
-use Rattle.a2_promise_try.specs.Walking.{known_now}
-use Rattle.a2_promise_try.proofs.Ranges.{HoldsBelow}
-use Rattle.a2_promise_try.proofs.services.are_cells_known.Given as goal
-
-abbrev pub invariant-loop-address : goal.invariant-loop-address
-invariant-loop-address l = HoldsBelow (λ a. IsTrue (known_now l.known l.stored a)) l.first l.address

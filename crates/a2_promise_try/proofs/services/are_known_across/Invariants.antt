@@ -1,8 +1,0 @@
-use Rattle.std.proofs.Common.{IsTrue}
-use Rattle.a2_reads.specs.Services.{block_cell}
-use Rattle.a2_promise_try.specs.Walking.{known_now}
-use Rattle.a2_promise_try.proofs.Ranges.{HoldsBelow}
-use Rattle.a2_promise_try.proofs.services.are_known_across.Given as goal
-
-abbrev pub invariant-loop-column : goal.invariant-loop-column
-invariant-loop-column l = HoldsBelow (λ column. IsTrue (known_now l.known l.stored (block_cell l.row column))) l.first l.column

@@ -1,5 +1,0 @@
-use Rattle.std.proofs.Common.{length}
-use Rattle.a2_promise_try.proofs.settled.+settle.Given as goal
-
-abbrev pub decreases-settle : goal.decreases-settle
-decreases-settle l = length l.inputs.now

@@ -1,0 +1,166 @@
+//! What of a promise a run did not keep.
+
+use crate::exit::{Exit, TrialRun};
+use crate::printing::prints_so;
+use crate::trial_machine::TrialMachine;
+use a2_bus::Bus;
+use a2_cpu::Regs;
+use a2_promise::{Changes, Clause, Expr, Operation, Promise, Sight, Text, Visit, value_in};
+use a2_promise_certify::{Input, NO_NAMES, is_own_stack, may_change, number_of, sight_of};
+use std::alloc::{AllocError, Global};
+
+/// Why what a line says is not so.
+#[derive(Clone, Copy)]
+pub enum Unmet {
+    /// The fact does not hold; and what stands at the left and the right of what decides it, where it compares.
+    Fact(Option<(i64, i64)>),
+    /// It has no value.
+    NoValue,
+    /// The measure is below 0.
+    BelowZero(i64),
+    /// It is not less than before where the run comes back: what it was, and what it is.
+    NotLess(i64, i64),
+}
+
+/// What of a promise does not hold.
+#[derive(Clone, Copy)]
+pub enum Broken {
+    /// The routine leaves so, and does not return.
+    Left(Exit),
+    /// What this line says is not so, behind the routine or where a run comes to its label.
+    Line(usize, Unmet),
+    /// It prints otherwise than the text of this index says.
+    Prints(usize),
+    /// Keys are left that were typed.
+    Keys,
+    /// A register that does not stand behind `changes`, its byte before, and behind.
+    Register(Input, u8, u8),
+    /// A byte that does not.
+    Byte(u16, u8, u8),
+}
+
+// What a fact compares that decides it: of two that both have to hold the first that does not.
+fn sides(
+    expr: &Expr,
+    entry: &Sight<Global>,
+    exit: &Sight<Global>,
+    visits: &[Visit<Global>],
+) -> Option<(i64, i64)> {
+    match expr {
+        Expr::Pair(Operation::Equal | Operation::Less | Operation::AtMost, left, right) => {
+            let left = value_in(left, entry, exit, visits, NO_NAMES)?;
+            Some((left, value_in(right, entry, exit, visits, NO_NAMES)?))
+        }
+        Expr::Choice(by, one, other) => {
+            if value_in(by, entry, exit, visits, NO_NAMES)? != 0 {
+                sides(one, entry, exit, visits)
+            } else if number_of(other).is_some() {
+                sides(by, entry, exit, visits)
+            } else {
+                sides(other, entry, exit, visits)
+            }
+        }
+        _ => None,
+    }
+}
+
+/// The first of clauses that does not hold.
+pub(crate) fn broken_line(
+    clauses: &[Clause],
+    entry: &Sight<Global>,
+    exit: &Sight<Global>,
+    visits: &[Visit<Global>],
+) -> Option<Broken> {
+    for clause in clauses {
+        let unmet = match value_in(&clause.expr, entry, exit, visits, NO_NAMES) {
+            None => Unmet::NoValue,
+            Some(0) => Unmet::Fact(sides(&clause.expr, entry, exit, visits)),
+            Some(_) => continue,
+        };
+        return Some(Broken::Line(clause.line, unmet));
+    }
+    None
+}
+
+// A register that is other than before, and may not be.
+fn broken_register(changes: &Changes, before: &Regs, behind: &Regs) -> Option<Broken> {
+    let registers = [
+        (Input::A, changes.a, before.a, behind.a),
+        (Input::X, changes.x, before.x, behind.x),
+        (Input::Y, changes.y, before.y, behind.y),
+    ];
+    for (register, may, before, behind) in registers {
+        if !may && before != behind {
+            return Some(Broken::Register(register, before, behind));
+        }
+    }
+    None
+}
+
+// A byte that is other than before, and may not be.
+fn broken_byte(changes: &Changes, machine: &TrialMachine) -> Option<Broken> {
+    for address in machine.stored.places() {
+        let address = *address;
+        if is_own_stack(address) || may_change(changes, address) {
+            continue;
+        }
+        if let (Some(before), Some(now)) = (machine.before.peek(address), machine.now.peek(address))
+            && before != now
+        {
+            return Some(Broken::Byte(address, before, now));
+        }
+    }
+    None
+}
+
+// The index of the first text that is not printed behind those before it; of the last, where more is printed.
+fn unprinted(texts: &[Text], printed: &[u8]) -> usize {
+    let mut rest = printed;
+    for (index, text) in texts.iter().enumerate() {
+        for character in &text.characters {
+            match rest {
+                [byte, behind @ ..] if *byte == 128 + *character % 128 => rest = behind,
+                _ => return index,
+            }
+        }
+    }
+    texts.len().saturating_sub(1)
+}
+
+// What a promise says of texts and is not so.
+fn broken_text(promise: &Promise, machine: &TrialMachine) -> Result<Option<Broken>, AllocError> {
+    let printed = machine.printed.as_slice();
+    if !prints_so(machine.alloc, &promise.texts, printed)? {
+        let index = unprinted(promise.texts.prints.as_slice(), printed);
+        return Ok(Some(Broken::Prints(index)));
+    }
+    if machine.now.waiting().is_empty() {
+        Ok(None)
+    } else {
+        Ok(Some(Broken::Keys))
+    }
+}
+
+/// What of a promise does not hold of a run from these registers that ended so.
+pub(crate) fn broken_by(
+    promise: &Promise,
+    machine: &TrialMachine,
+    regs: Regs,
+    run: &TrialRun,
+) -> Result<Option<Broken>, AllocError> {
+    if !matches!(run.exit, Exit::Returned) {
+        return Ok(Some(Broken::Left(run.exit)));
+    }
+    let entry = sight_of(&regs, &machine.before, 0, 0);
+    let behind = sight_of(&run.regs, &machine.now, run.cycles, run.steps);
+    if let Some(broken) = broken_line(promise.promised.as_slice(), &entry, &behind, &[]) {
+        return Ok(Some(broken));
+    }
+    if let Some(broken) = broken_text(promise, machine)? {
+        return Ok(Some(broken));
+    }
+    if let Some(broken) = broken_register(&promise.changes, &regs, &run.regs) {
+        return Ok(Some(broken));
+    }
+    Ok(broken_byte(&promise.changes, machine))
+}

@@ -1,0 +1,278 @@
+//! What is told of a state in which a promise does not hold.
+
+use crate::broken::{Broken, Unmet};
+use crate::exit::{Exit, TracedStep};
+use crate::verdict::Failure;
+use crate::wording::{put_address, put_input, put_line, put_number, put_signed, put_text};
+use a2_asm::Program;
+use a2_cpu::Regs;
+use a2_hex::RAM_END;
+use a2_promise::{Clause, Promise, Text};
+use a2_promise_certify::Input;
+use a2_stream::{Output, WriteFault, put_all};
+use a2_text::{behind_blanks, hex_pair, hex_word};
+use std::alloc::Global;
+
+// The address that is told of how a routine leaves.
+fn address_of(exit: Exit) -> Option<u16> {
+    match exit {
+        Exit::Elsewhere(to) | Exit::Above(to) => Some(to),
+        Exit::Window(service) | Exit::Keys(service) => Some(service),
+        Exit::Code(at) | Exit::Device(at) | Exit::Read(at) => Some(at),
+        Exit::Returned | Exit::Stack | Exit::Brk | Exit::Decimal | Exit::Endless => None,
+    }
+}
+
+// What is told of how a routine leaves: before its address, and behind it.
+fn told_around(exit: Exit) -> (&'static str, &'static str) {
+    match exit {
+        Exit::Returned => ("it returns", ""),
+        Exit::Stack => ("it returns with another S than its caller left it", ""),
+        Exit::Elsewhere(_) => ("it goes to ", ", where no instruction of the source begins"),
+        Exit::Above(_) => ("it goes to ", ", above RAM, where no service is"),
+        Exit::Window(_) => (
+            "window, cursor or block lie otherwise than the service at ",
+            " needs: require what is left open",
+        ),
+        Exit::Keys(_) => ("the service at ", " waits for a key, and none is typed"),
+        Exit::Code(_) => ("it would store at ", ", where its own code stands"),
+        Exit::Device(_) => ("it would store at ", ", above RAM"),
+        Exit::Read(_) => (
+            "it would read ",
+            ", above RAM: what stands there is no part of a state",
+        ),
+        Exit::Brk => ("it comes to BRK", ""),
+        Exit::Decimal => ("it comes to ADC or SBC with D set", ""),
+        Exit::Endless => ("it does not return within 1,000,000 steps", ""),
+    }
+}
+
+// Writes how a routine leaves.
+fn put_exit<W: Output>(exit: Exit, output: &mut W) -> Result<(), WriteFault> {
+    let (before, behind) = told_around(exit);
+    match address_of(exit) {
+        Some(address) => put_address(before.as_bytes(), address, output)?,
+        None => put_all(&[before.as_bytes()], output)?,
+    }
+    put_all(&[behind.as_bytes()], output)
+}
+
+// Writes what has changed and may not.
+fn put_change<W: Output>(
+    input: Input,
+    before: u8,
+    behind: u8,
+    output: &mut W,
+) -> Result<(), WriteFault> {
+    put_input(b"", input, output)?;
+    let words = b" does not stand behind changes, and is ";
+    put_number(words, u64::from(behind), b", before ", output)?;
+    put_number(b"", u64::from(before), b"", output)
+}
+
+// What a comparison that decides compares.
+fn put_sides<W: Output>(sides: Option<(i64, i64)>, output: &mut W) -> Result<(), WriteFault> {
+    let Some((left, right)) = sides else {
+        return Ok(());
+    };
+    put_signed(b"  compared are ", left, output)?;
+    put_signed(b" and ", right, output)?;
+    put_all(&[b"\n"], output)
+}
+
+// The text of the clause of a line, of several.
+fn text_in<'a>(clauses: &[Clause<'a>], line: usize) -> Option<&'a [u8]> {
+    for clause in clauses {
+        if clause.line == line {
+            return Some(clause.text);
+        }
+    }
+    None
+}
+
+// What a line of a promise says.
+fn said_at<'a>(promise: &Promise<'a>, line: usize) -> &'a [u8] {
+    if let Some(text) = text_in(promise.promised.as_slice(), line) {
+        return text;
+    }
+    for within in &promise.within {
+        if let Some(text) = text_in(within.invariants.as_slice(), line) {
+            return text;
+        }
+        if let Some(text) = text_in(within.measures.as_slice(), line) {
+            return text;
+        }
+    }
+    b""
+}
+
+// Writes in one line what a line of a promise says that is not so.
+fn put_line_claim<W: Output>(
+    promise: &Promise,
+    line: usize,
+    unmet: Unmet,
+    output: &mut W,
+) -> Result<(), WriteFault> {
+    if let Unmet::NoValue = unmet {
+        put_all(&[b"no value is there of "], output)?;
+    }
+    put_line(line, said_at(promise, line), output)
+}
+
+// Writes in one line which text is not printed.
+fn put_text_claim<W: Output>(
+    texts: &[Text],
+    index: usize,
+    output: &mut W,
+) -> Result<(), WriteFault> {
+    let Some(text) = texts.get(index) else {
+        return Ok(());
+    };
+    put_number(b"line ", text.line as u64, b": prints ", output)?;
+    put_all(&[text.written], output)
+}
+
+/// Writes in one line, without its end, what of a promise does not hold: `FAILS: ` and what it is.
+pub(crate) fn put_claim<W: Output>(
+    promise: &Promise,
+    failure: &Failure,
+    output: &mut W,
+) -> Result<(), WriteFault> {
+    put_all(&[b"FAILS: "], output)?;
+    match failure.broken {
+        Broken::Left(exit) => put_exit(exit, output),
+        Broken::Line(line, unmet) => put_line_claim(promise, line, unmet, output),
+        Broken::Prints(index) => put_text_claim(promise.texts.prints.as_slice(), index, output),
+        Broken::Keys => {
+            put_all(&[b"it leaves keys that were typed: "], output)?;
+            put_text(failure.told.as_slice(), output)
+        }
+        Broken::Register(register, before, behind) => {
+            put_change(register, before, behind, output)
+        }
+        Broken::Byte(address, before, behind) => {
+            put_change(Input::Byte(address), before, behind, output)
+        }
+    }
+}
+
+// Writes why what a line says is not so, in a line of its own.
+fn put_reason<W: Output>(unmet: Unmet, output: &mut W) -> Result<(), WriteFault> {
+    match unmet {
+        Unmet::NoValue => Ok(()),
+        Unmet::Fact(sides) => put_sides(sides, output),
+        Unmet::BelowZero(number) => {
+            put_signed(b"  it is below 0: ", number, output)?;
+            put_all(&[b"\n"], output)
+        }
+        Unmet::NotLess(before, number) => {
+            put_signed(b"  it does not get less: it is ", number, output)?;
+            put_signed(b", before ", before, output)?;
+            put_all(&[b"\n"], output)
+        }
+    }
+}
+
+// Writes the lines below a claim that say more of it.
+fn put_details<W: Output>(failure: &Failure, output: &mut W) -> Result<(), WriteFault> {
+    match failure.broken {
+        Broken::Line(_, unmet) => put_reason(unmet, output),
+        Broken::Prints(_) => {
+            put_all(&[b"  it printed "], output)?;
+            put_text(failure.told.as_slice(), output)?;
+            put_all(&[b"\n"], output)
+        }
+        Broken::Left(_) | Broken::Keys | Broken::Register(_, _, _) | Broken::Byte(_, _, _) => {
+            Ok(())
+        }
+    }
+}
+
+/// Writes in one line, without its end, the state in which a routine is entered: what its promise names, and of the rest what is
+/// not 0.
+pub(crate) fn put_entry_state<W: Output>(
+    failure: &Failure,
+    output: &mut W,
+) -> Result<(), WriteFault> {
+    let mut is_any = false;
+    put_all(&[b"entered with"], output)?;
+    for (index, input) in failure.inputs.iter().enumerate() {
+        let value = failure.values.as_slice().get(index).copied().unwrap_or(0);
+        if index < failure.named || value != 0 {
+            put_input(b" ", *input, output)?;
+            put_number(b"=", u64::from(value), b"", output)?;
+            is_any = true;
+        }
+    }
+    let rest: &[u8] = if is_any {
+        b", and 0 in other registers and flags"
+    } else {
+        b" 0 in all registers and flags"
+    };
+    put_all(&[rest], output)
+}
+
+/// The number of the line of the instruction at an address; 0 where there is none.
+pub(crate) fn line_at(program: &Program<Global>, address: u16) -> usize {
+    for statement in program.statements() {
+        if statement.addr == address && statement.instr.is_some() {
+            return usize::from(statement.line);
+        }
+    }
+    0
+}
+
+// The text of the line of a number, without the blanks before it.
+fn text_of<'a>(lines: &[&'a [u8]], number: usize) -> &'a [u8] {
+    match lines.get(number.saturating_sub(1)) {
+        Some(line) => behind_blanks(*line),
+        None => b"",
+    }
+}
+
+// Writes registers, and the carry.
+fn put_registers<W: Output>(regs: Regs, output: &mut W) -> Result<(), WriteFault> {
+    let (a, x, y) = (hex_pair(regs.a), hex_pair(regs.x), hex_pair(regs.y));
+    put_all(&[b"  A=", &a, b" X=", &x, b" Y=", &y], output)?;
+    let carry: &[u8] = if regs.p.carry() { b" C=1  " } else { b" C=0  " };
+    put_all(&[carry], output)
+}
+
+// Writes a step: the registers behind it, its line, and what stands there.
+fn put_step<W: Output>(
+    program: &Program<Global>,
+    lines: &[&[u8]],
+    step: &TracedStep,
+    output: &mut W,
+) -> Result<(), WriteFault> {
+    put_registers(step.regs, output)?;
+    if step.address >= RAM_END {
+        return put_all(
+            &[b"the service at $", &hex_word(step.address), b"\n"],
+            output,
+        );
+    }
+    let number = line_at(program, step.address);
+    put_line(number, text_of(lines, number), output)?;
+    put_all(&[b"\n"], output)
+}
+
+/// Writes what is told of a state in which a promise does not hold, for a source with these lines.
+pub(crate) fn put_failure<W: Output>(
+    program: &Program<Global>,
+    lines: &[&[u8]],
+    promise: &Promise,
+    failure: &Failure,
+    output: &mut W,
+) -> Result<(), WriteFault> {
+    put_claim(promise, failure, output)?;
+    put_all(&[b"\n"], output)?;
+    put_details(failure, output)?;
+    put_all(&[b"  "], output)?;
+    put_entry_state(failure, output)?;
+    put_all(&[b"\n  the last steps:\n"], output)?;
+    for step in &failure.last {
+        put_step(program, lines, step, output)?;
+    }
+    Ok(())
+}

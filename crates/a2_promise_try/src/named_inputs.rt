@@ -1,0 +1,222 @@
+//! What a promise names at the entry of its routine.
+
+use a2_asm::Program;
+use a2_hex::RAM_END;
+use a2_opcode::Mode;
+use a2_promise::{Atom, Changes, Clause, Expr, Function, Promise};
+use a2_promise_certify::{Input, may_change, number_of, settled_byte};
+use std::alloc::{AllocError, Global};
+
+// The registers and flags that a state has.
+const REGISTERS: [Input; 8] = [
+    Input::A,
+    Input::X,
+    Input::Y,
+    Input::Carry,
+    Input::Zero,
+    Input::Negative,
+    Input::Overflow,
+    Input::Interrupt,
+];
+
+/// The inputs of a promise: those that it names, those that its routine looks at beside them, and behind them the registers and
+/// flags that are neither.
+#[derive(Drop)]
+pub(crate) struct Inputs {
+    pub all: Vec<Input>,
+    /// How many it names.
+    pub named: usize,
+    /// How many it names or its routine looks at.
+    varied: usize,
+    /// The byte of each that what it requires settles.
+    pub settled: Vec<Option<u8>>,
+    /// How many states those have that are varied and not settled; 2^64 - 1 stands for more.
+    pub states: u64,
+}
+
+impl Inputs {
+    /// Those that it names or its routine looks at.
+    pub fn varied(&self) -> &[Input] {
+        self.all.as_slice().get(..self.varied).unwrap_or(&[])
+    }
+}
+
+/// Adds an input, unless it is among them.
+pub(crate) fn add(inputs: &mut Vec<Input>, input: Input) -> Result<(), AllocError> {
+    for known in inputs.as_slice() {
+        if *known == input {
+            return Ok(());
+        }
+    }
+    Ok(inputs.push(input)?)
+}
+
+// The input that an atom is; those that are none are S, D and the counts.
+fn input_of(atom: Atom) -> Option<Input> {
+    match atom {
+        Atom::A => Some(Input::A),
+        Atom::X => Some(Input::X),
+        Atom::Y => Some(Input::Y),
+        Atom::Carry => Some(Input::Carry),
+        Atom::Zero => Some(Input::Zero),
+        Atom::Negative => Some(Input::Negative),
+        Atom::Overflow => Some(Input::Overflow),
+        Atom::Interrupt => Some(Input::Interrupt),
+        Atom::S | Atom::Decimal | Atom::Cycles | Atom::Steps => None,
+    }
+}
+
+// Whether an input is behind the routine what it was at its entry.
+fn is_kept(changes: &Changes, input: Input) -> bool {
+    match input {
+        Input::A => !changes.a,
+        Input::X => !changes.x,
+        Input::Y => !changes.y,
+        Input::Byte(address) => !may_change(changes, address),
+        _ => false,
+    }
+}
+
+/// What a promise names: inputs, and the values that are tried first, as bounds, the bytes of its numbers, and the numbers of its
+/// program with their neighbours.
+#[derive(Drop)]
+pub(crate) struct Named {
+    pub inputs: Vec<Input>,
+    pub corners: Vec<u8>,
+}
+
+// Adds the bytes of a number, the low one first, where it is one of two bytes.
+fn add_corners(named: &mut Named, number: i64) -> Result<(), AllocError> {
+    if 0 <= number && number < 65536 {
+        named.corners.push((number % 256) as u8)?;
+        named.corners.push((number / 256) as u8)?;
+    }
+    Ok(())
+}
+
+// Adds an input that an expression names; of a state behind the routine only one that it does not change.
+fn add_named(named: &mut Named, input: Input, behind: Option<&Changes>) -> Result<(), AllocError> {
+    match behind {
+        Some(changes) if !is_kept(changes, input) => Ok(()),
+        _ => add(&mut named.inputs, input),
+    }
+}
+
+// Adds so many bytes from an address on.
+fn add_bytes(
+    named: &mut Named,
+    address: i64,
+    count: u8,
+    behind: Option<&Changes>,
+) -> Result<(), AllocError> {
+    for further in 0..count {
+        let place = address.saturating_add(i64::from(further));
+        if 0 <= place && place < i64::from(RAM_END) {
+            add_named(named, Input::Byte(place as u16), behind)?;
+        }
+    }
+    Ok(())
+}
+
+// Adds what an expression names, of the entry, or of a state behind the routine with these changes.
+fn search_in(named: &mut Named, expr: &Expr, behind: Option<&Changes>) -> Result<(), AllocError> {
+    match expr {
+        Expr::Number(number) => add_corners(named, *number),
+        // What was at a label is no part of a promise's own clauses.
+        Expr::Bound(_) | Expr::At(_, _) => Ok(()),
+        Expr::Held(atom) => match input_of(*atom) {
+            Some(input) => add_named(named, input, behind),
+            None => Ok(()),
+        },
+        Expr::Old(within) => search_in(named, within, None),
+        Expr::Of(function, of) => match (function, number_of(of)) {
+            (Function::Byte, Some(address)) => add_bytes(named, address, 1, behind),
+            (Function::Word, Some(address)) => add_bytes(named, address, 2, behind),
+            _ => search_in(named, of, behind),
+        },
+        Expr::Pair(_, left, right) | Expr::Each(_, left, right) | Expr::Sum(_, left, right) => {
+            search_in(named, left, behind)?;
+            search_in(named, right, behind)
+        }
+        Expr::Choice(by, one, other) => {
+            search_in(named, by, behind)?;
+            search_in(named, one, behind)?;
+            search_in(named, other, behind)
+        }
+    }
+}
+
+// Adds the numbers of a program, with their neighbours.
+fn add_program(corners: &mut Vec<u8>, program: &Program<Global>) -> Result<(), AllocError> {
+    for statement in program.statements() {
+        if let Some(instr) = statement.instr
+            && instr.mode == Mode::Immediate
+        {
+            let number = (instr.value % 256) as u8;
+            let around = [number, number.wrapping_add(1), number.wrapping_sub(1)];
+            corners.extend_from_slice(&around)?;
+        }
+    }
+    Ok(())
+}
+
+/// What a promise of a program names.
+pub(crate) fn named_by(
+    alloc: Global,
+    program: &Program<Global>,
+    promise: &Promise,
+) -> Result<Named, AllocError> {
+    let mut named = Named {
+        inputs: Vec::new(alloc),
+        corners: Vec::from_slice(alloc, &[0u8, 1, 127, 128, 254, 255])?,
+    };
+    for clause in promise.wanted.as_slice() {
+        search_in(&mut named, &clause.expr, None)?;
+    }
+    for clause in promise.promised.as_slice() {
+        search_in(&mut named, &clause.expr, Some(&promise.changes))?;
+    }
+    add_program(&mut named.corners, program)?;
+    Ok(named)
+}
+
+/// The byte that an input is in every state in which clauses hold; none where they do not settle it.
+pub(crate) fn settled_value(among: &[Input], clauses: &[Clause], input: Input) -> Option<u8> {
+    match input {
+        Input::Byte(address) => settled_byte(among, clauses, address),
+        _ => None,
+    }
+}
+
+/// The inputs of a promise that names these, and whose routine looks at these.
+pub(crate) fn inputs_of(
+    alloc: Global,
+    promise: &Promise,
+    named: &[Input],
+    looked: &[Input],
+) -> Result<Inputs, AllocError> {
+    let mut all = Vec::from_slice(alloc, named)?;
+    for input in looked {
+        add(&mut all, *input)?;
+    }
+    let varied = all.len();
+    for register in REGISTERS {
+        add(&mut all, register)?;
+    }
+    let mut settled = Vec::new(alloc);
+    let mut states: u64 = 1;
+    for (index, input) in all.iter().enumerate() {
+        let byte = settled_value(all.as_slice(), promise.wanted.as_slice(), *input);
+        if index < varied && byte.is_none() {
+            states = states.saturating_mul(input.values());
+        }
+        settled.push(byte)?;
+    }
+    Ok(Inputs {
+        all,
+        named: named.len(),
+        varied,
+        settled,
+        states,
+    })
+}

@@ -1,0 +1,55 @@
+//! What is reported of promises of a source's own run.
+
+use a2_stream::{Output, WriteFault, put_all};
+use a2_tests::{Asked, Line, Verdict};
+use a2_text::decimal;
+use std::alloc::Global;
+
+// Writes why a line says nothing of a run.
+fn put_unknown<W: Output>(asked: &Asked, output: &mut W) -> Result<(), WriteFault> {
+    let number = decimal(asked.number as u64);
+    put_all(
+        &[
+            b"the run: REFUSED: line ",
+            number.as_slice(),
+            b": no line of a run has this form (class.md has them)\n",
+        ],
+        output,
+    )
+}
+
+/// Writes of each line that says nothing of a run that it is refused; whether all say something.
+pub(crate) fn are_known<W: Output>(run: &[Asked], output: &mut W) -> Result<bool, WriteFault> {
+    let mut known = true;
+    for asked in run {
+        if let Line::Unknown = asked.line {
+            known = false;
+            put_unknown(asked, output)?;
+        }
+    }
+    Ok(known)
+}
+
+// Writes what a run missed: the line that asks for it, and what is so instead.
+fn put_missed<W: Output>(line: usize, told: &[u8], output: &mut W) -> Result<(), WriteFault> {
+    let number = decimal(line as u64);
+    put_all(
+        &[b"FAILS: line ", number.as_slice(), b": ", told, b"\n"],
+        output,
+    )
+}
+
+/// Writes what is found of a run that the lines of a case ask for.
+pub(crate) fn put_run<W: Output>(
+    name: &[u8],
+    verdict: &Verdict<Global>,
+    output: &mut W,
+) -> Result<(), WriteFault> {
+    let blank: &[u8] = if name.is_empty() { b"" } else { b" " };
+    put_all(&[b"the run", blank, name, b": "], output)?;
+    match verdict {
+        Verdict::Passed => put_all(&[b"held\n"], output),
+        Verdict::Missed(line, told) => put_missed(*line, told.as_slice(), output),
+        Verdict::NotCalled => put_all(&[b"FAILS: its routine can't be called\n"], output),
+    }
+}

@@ -1,0 +1,112 @@
+//! Numbers, addresses, inputs and texts as reports write them.
+
+use a2_promise_certify::Input;
+use a2_stream::{Output, WriteFault, put_all};
+use a2_text::{decimal, hex_pair, hex_word};
+
+/// Writes a number between words.
+pub(crate) fn put_number<W: Output>(
+    before: &[u8],
+    number: u64,
+    behind: &[u8],
+    output: &mut W,
+) -> Result<(), WriteFault> {
+    put_all(&[before, decimal(number).as_slice(), behind], output)
+}
+
+/// Writes a number between words, with a comma before each three digits.
+pub(crate) fn put_grouped<W: Output>(
+    before: &[u8],
+    number: u64,
+    behind: &[u8],
+    output: &mut W,
+) -> Result<(), WriteFault> {
+    put_all(&[before], output)?;
+    let digits = decimal(number);
+    let count = digits.len();
+    for (index, digit) in digits.as_slice().iter().enumerate() {
+        let left = count.saturating_sub(index);
+        if index > 0 && left % 3 == 0 {
+            put_all(&[b","], output)?;
+        }
+        put_all(&[&[*digit]], output)?;
+    }
+    put_all(&[behind], output)
+}
+
+/// Writes words, and a number behind them that may be below 0.
+pub(crate) fn put_signed<W: Output>(
+    words: &[u8],
+    number: i64,
+    output: &mut W,
+) -> Result<(), WriteFault> {
+    let sign: &[u8] = if number < 0 { b"-" } else { b"" };
+    let digits = decimal(number.unsigned_abs());
+    put_all(&[words, sign, digits.as_slice()], output)
+}
+
+/// Writes words, and an address behind them: in page 0 with two digits.
+pub(crate) fn put_address<W: Output>(
+    words: &[u8],
+    address: u16,
+    output: &mut W,
+) -> Result<(), WriteFault> {
+    if address < 256 {
+        put_all(&[words, b"$", &hex_pair((address % 256) as u8)], output)
+    } else {
+        put_all(&[words, b"$", &hex_word(address)], output)
+    }
+}
+
+/// Writes words, and behind them what an input is called.
+pub(crate) fn put_input<W: Output>(
+    words: &[u8],
+    input: Input,
+    output: &mut W,
+) -> Result<(), WriteFault> {
+    let name: &[u8] = match input {
+        Input::A => b"A",
+        Input::X => b"X",
+        Input::Y => b"Y",
+        Input::Carry => b"C",
+        Input::Zero => b"Z",
+        Input::Negative => b"N",
+        Input::Overflow => b"V",
+        Input::Interrupt => b"I",
+        Input::Byte(address) => return put_address(words, address, output),
+    };
+    put_all(&[words, name], output)
+}
+
+/// Writes the number of a line and a text that stands in it.
+pub(crate) fn put_line<W: Output>(
+    line: usize,
+    text: &[u8],
+    output: &mut W,
+) -> Result<(), WriteFault> {
+    put_number(b"line ", line as u64, b": ", output)?;
+    put_all(&[text], output)
+}
+
+// Writes a byte of a text as it is spelt, or its number in brackets.
+fn put_spelt<W: Output>(byte: u8, output: &mut W) -> Result<(), WriteFault> {
+    let spelt: &[u8] = match byte {
+        0x8D => b"\\r",
+        0x88 => b"\\b",
+        0x95 => b"\\f",
+        0x98 => b"\\x",
+        0xDC => b"\\\\",
+        0xA0..=0xFE => return put_all(&[&[byte % 128]], output),
+        _ => return put_all(&[b"[$", &hex_pair(byte), b"]"], output),
+    };
+    put_all(&[spelt], output)
+}
+
+/// Writes a text between quotes.
+pub(crate) fn put_text<W: Output>(text: &[u8], output: &mut W) -> Result<(), WriteFault> {
+    put_all(&[b"\""], output)?;
+    for byte in text {
+        put_spelt(*byte, output)?;
+    }
+    put_all(&[b"\""], output)
+}

@@ -1,0 +1,5 @@
+mod Reading
+mod Replying
+mod Scripting
+mod DebugScripting
+mod OneDebugging

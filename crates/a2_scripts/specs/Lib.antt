@@ -1,0 +1,4 @@
+pub mod Replies
+pub mod Scripts
+pub mod DebugScripts
+pub mod Laws

@@ -1,0 +1,44 @@
+//! The lines of a script, one after another.
+
+ghost use Rattle.std.specs.Prelude.{ℕ, List, map};
+ghost use Rattle.a2_scripts.specs.Replies.{AnswersEach, RepliesTo, RepliesToAll};
+
+use a2_stream::{Output, WriteFault, put_all};
+
+/// Whoever answers the lines of a script: a session of the Monitor, or a debugger.
+pub trait Answering {
+    /// What contracts see of it.
+    ghost State: { Type 0 };
+
+    ghost state: { Self → State };
+
+    /// Which text a line has in a state, and which state it leaves.
+    ghost meets: { List ℕ → State → List ℕ → State → Type 0 };
+
+    /// What holds of each state in which a line is answered.
+    ghost Holds: { State → Type 0 };
+
+    /// Does what a line says, and writes its answer, or the text of its refusal. Refused where a write fails: a front of that
+    /// went out then.
+    fn answer<W: Output>(&mut self, line: &[u8], writer: &mut W) -> Result<(), WriteFault>
+        ensures { RepliesTo meets line.now (state self.old) (state self.new) (W.taker writer.old) (W.taker writer.new) result };
+}
+
+/// Writes each line, behind `mark`, and its answer. Refused where a write fails: a front of that went out then.
+pub fn answer_all<S: Answering, W: Output>(
+    answering: &mut S,
+    mark: &[u8],
+    lines: &[&[u8]],
+    writer: &mut W,
+) -> Result<(), WriteFault>
+    requires each { AnswersEach S.meets S.Holds }
+    requires begun { S.Holds (S.state answering.old) }
+    ensures { RepliesToAll S.meets mark.now (map (λ x. x.now) lines.now) (S.state answering.old)
+        (W.taker writer.old) (W.taker writer.new) result }
+{
+    for line in lines {
+        put_all(&[mark, line, b"\n"], writer)?;
+        answering.answer(line, writer)?;
+    }
+    Ok(())
+}

@@ -1,5 +1,0 @@
-use Rattle.a2_spread.proofs.Counting.{no-more}
-use Rattle.a2_spread.proofs.laws.no_more_are_kept.Goals as goal
-
-pub returns : goal.returns
-returns c = no-more

@@ -1,3 +1,0 @@
-pub mod Spread
-pub mod Places
-pub mod Laws

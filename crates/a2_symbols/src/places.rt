@@ -1,0 +1,138 @@
+//! Addresses, one or from one up to another.
+
+ghost use Rattle.std.specs.Prelude.{◌≡◌, ◌∷◌, ◌≤◌, Some, true, length, take, drop};
+ghost use Rattle.a2_syntax.specs.Names.{is_name as is_name_of};
+ghost use Rattle.a2_asm.specs.Values.{name_value};
+ghost use Rattle.a2_symbols.specs.Places as place;
+
+use crate::statements::instruction_on;
+use a2_asm::{Program, Statement};
+use a2_syntax::is_name;
+use a2_text::{front_len, number_in};
+use std::alloc::Allocator;
+
+/// The addresses from one up to another, both among them.
+#[derive(Clone, Copy, Debug, Default, PartialEq, Eq, Drop)]
+pub struct Span {
+    pub first: u16,
+    /// Not below the first, where [`span_of`] gives it.
+    pub last: u16,
+}
+
+// The value of a name of the program.
+fn value_of<A: Allocator>(program: &Program<A>, name: &[u8]) -> Option<u16>
+    requires { is_name_of name.now ≡ true }
+    ensures { result ≡ name_value program.now.names name.now }
+{
+    match std::str::from_utf8(name) {
+        Ok(name) => program.name(name),
+        Err(_) => unreachable!(),
+    }
+}
+
+// The address of the instruction on a line.
+fn address_on(statements: &[Statement], number: u16) -> Option<u16>
+    ensures { result ≡ place.address_on statements.now number }
+{
+    match instruction_on(statements, usize::from(number)) {
+        Some(statement) => Some(statement.addr),
+        None => None,
+    }
+}
+
+/// The number that a word says: `$` and 1 to 4 hexadecimal digits, or 1 to 5 decimal ones, up to 65,535. This
+/// project's profile.
+#[tactic(auto, unfolding(crate::specs::Places::number_of))]
+pub fn number_of(word: &[u8]) -> Option<u16>
+    ensures { result ≡ place.number_of word.now }
+{
+    match word {
+        [] => None,
+        [b'$', digits @ ..] => number_in(16, 4, digits),
+        _ => number_in(10, 5, word),
+    }
+}
+
+// What stands before the first of a sign, and from it on.
+fn split_at_sign(word: &[u8], sign: u8) -> (&[u8], &[u8])
+    ensures front { result.0.now ≡ take (place.front_of sign word.now) word.now }
+    ensures behind { result.1.now ≡ drop (place.front_of sign word.now) word.now }
+{
+    word.split_at(front_len(word, |c| c != sign))
+}
+
+// The number of a line: decimal digits, alone or with a colon behind them.
+#[tactic(auto, unfolding(crate::specs::Places::line_of))]
+fn line_of(word: &[u8]) -> Option<u16>
+    ensures { result ≡ place.line_of word.now }
+{
+    let (digits, behind) = split_at_sign(word, b':');
+    match behind {
+        [] | [_] => number_in(10, 5, digits),
+        _ => None,
+    }
+}
+
+// The address that a word says which moves by nothing.
+#[tactic(auto, unfolding(crate::specs::Places::base_of))]
+fn base_of<A: Allocator>(program: &Program<A>, word: &[u8]) -> Option<u16>
+    ensures { result ≡ place.base_of program.now word.now }
+{
+    match word {
+        [b'$', digits @ ..] => number_in(16, 4, digits),
+        [b'0'..=b'9', ..] => address_on(program.statements(), line_of(word)?),
+        _ if is_name(word) => value_of(program, word),
+        _ => None,
+    }
+}
+
+// The address so many further as a text says behind its first byte; this one, where the text is empty.
+fn moved(base: Option<u16>, behind: &[u8]) -> Option<u16>
+    ensures { result ≡ place.moved behind.now base }
+{
+    match behind {
+        [] => base,
+        [_, count @ ..] => {
+            let address = base?;
+            address.checked_add(number_of(count)?)
+        }
+    }
+}
+
+/// The address that a word says: `$` and 1 to 4 hexadecimal digits; the decimal number of a line, from 1, with `:` behind it or not, where
+/// an instruction stands on it; or a name that a line of the program defines. Behind each may stand `+` and a number, which is added; none
+/// where the sum is above 65,535. This project's profile.
+#[tactic(auto, unfolding(crate::specs::Places::place_of))]
+pub fn place_of<A: Allocator>(program: &Program<A>, word: &[u8]) -> Option<u16>
+    ensures { result ≡ place.place_of program.now word.now }
+{
+    let (front, behind) = split_at_sign(word, b'+');
+    moved(base_of(program, front), behind)
+}
+
+// The addresses from one to another.
+fn spanned(first: Option<u16>, last: Option<u16>) -> Option<Span>
+    ensures { result ≡ place.spanned first last }
+{
+    let (first, last) = (first?, last?);
+    if first <= last {
+        Some(Span { first, last })
+    } else {
+        None
+    }
+}
+
+/// The addresses from one to another that a word says: one place, or two with `..` between, the second not below the first.
+/// This project's profile.
+#[tactic(auto, unfolding(crate::specs::Places::span_of))]
+pub fn span_of<A: Allocator>(program: &Program<A>, word: &[u8]) -> Option<Span>
+    ensures { result ≡ place.span_of program.now word.now }
+{
+    let (front, behind) = split_at_sign(word, b'.');
+    let first = place_of(program, front);
+    match behind {
+        [] => spanned(first, first),
+        [_, b'.', last @ ..] => spanned(first, place_of(program, last)),
+        _ => None,
+    }
+}

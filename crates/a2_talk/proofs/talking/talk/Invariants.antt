@@ -1,8 +1,0 @@
-use Rattle.a2_talk.specs.Turns.{MeetsOr}
-use Rattle.a2_talk.proofs.Answering.{SoFar}
-use Rattle.a2_talk.proofs.talking.talk.Given as goal
-
--- the lines so far were answered
-abbrev pub invariant-loop : goal.invariant-loop
-invariant-loop g l =
-    SoFar (MeetsOr g.P.Partner.meets) l.prompt l.fn.partner l.partner (g.R.Input.giver l.fn.reader) (g.R.Input.giver l.reader) (g.W.Output.taker l.fn.writer) (g.W.Output.taker l.writer)

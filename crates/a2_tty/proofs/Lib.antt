@@ -1,0 +1,4 @@
+pub mod Answering
+pub mod Numbered
+pub mod Lists
+pub mod Pieces

@@ -1,0 +1,11 @@
+pub mod AppleKeys
+pub mod Drawn
+pub mod EditorKeys
+pub mod Editors
+pub mod Frames
+pub mod Hearing
+pub mod Histories
+pub mod Lines
+pub mod Tiles
+pub mod Turns
+pub mod Written

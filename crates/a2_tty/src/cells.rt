@@ -1,0 +1,13 @@
+//! Cells on an ANSI terminal, of the Apple's screen or of a whole terminal: those that changed, each at its place.
+
+mod changes;
+mod colours;
+mod frame;
+mod shot;
+mod tiles;
+
+pub use changes::Size;
+pub use colours::{Colours, put_tile};
+pub use frame::{Frame, MOST_COLUMNS, MOST_ROWS, put_frame};
+pub use shot::{Shot, put_changes};
+pub use tiles::{Tile, tile_of};

@@ -1,0 +1,10 @@
+//! Sessions at a terminal: each line that is read is answered before the next.
+
+mod fault;
+mod hearing;
+mod partner;
+mod talking;
+
+pub use fault::TalkFault;
+pub use partner::Partner;
+pub use talking::talk;
