@@ -1,4 +1,4 @@
--- What a command is with one more subcommand.
+-- The structure of a command with one more subcommand.
 use Rattle.std.specs.Prelude.{◌||◌}
 use Rattle.std.proofs.Common.{ap, ap₂, ◌∙◌}
 use Rattle.clap.specs.Words.{App, AddsSubcommand, with_subcommand}

@@ -1,4 +1,4 @@
--- Where loose keys stand in a list of words.
+-- Where loose keys occur in a list of arguments.
 use Rattle.std.specs.Prelude.{◌≡◌, ℕ, ◌+◌, ◌-◌, ◌<◌, ◌≤◌, List, Some, IsTrue, codes, length, map, nat_eq, option_map, slice_get, slice_index_or, unwrap_or}
 use Rattle.std.specs.List.{starts_with}
 use Rattle.std.proofs.Common.{ap, arith, inl, inr, refl, subst, sym, ◌∙◌}
@@ -8,7 +8,7 @@ use Rattle.std.proofs.lemmas.Option.{slice_get-map, slice_get_read, slice_get_wi
 use Rattle.clap.specs.Words.{Text}
 use Rattle.a2.specs.Words.{AreLooseKeys, HasLooseKeys}
 
--- the text of a word of the list
+-- the text of one argument in the list
 text_at : {A : Type 0} (f : A → Text) (words : List A) (i : ℕ) (x : A) → i < length words → x ≡ slice_index_or words i x
     → slice_get (map f words) i ≡ Some (f x)
 text_at f words i x within is = slice_get-map f words i ∙ ap (option_map f) (slice_get_read words (length words) i x refl within is)

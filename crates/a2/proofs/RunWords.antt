@@ -1,4 +1,4 @@
--- Why words ask for nothing.
+-- Why arguments are rejected.
 use Rattle.std.specs.Prelude.{◌≡◌, ℕ, List, Option, Some, None, codes, get_or, option_map, unwrap_or}
 use Rattle.std.proofs.Common.{ap, ap₂, arith, inl, inr, subst, sym, ◌∙◌}
 use Rattle.clap.specs.Words.{Row, Text, subcommand_rows_of}
@@ -11,18 +11,18 @@ use Rattle.a2.specs.Words.{HasLooseKeys, IsRefusal, IsRefusalOf, IsTaken, IsWhol
 some_is_none : {A : Type 0} (a : A) → Some a ≡ None → ⊥
 some_is_none a e = let P : Option _ → Type 0 = λ o. elim o as (λ _. Type 0) [ Some _ ↦ Unit {0} | None ↦ ⊥ ] in subst P e tt
 
--- the name of a subcommand by its first byte
+-- the first byte of a subcommand's name, which is enough to tell the subcommands apart
 abbrev first_byte : Text → ℕ
 first_byte text = get_or text 0 0
 
--- whole words of `run`
+-- valid arguments of `run`
 whole_run : (words : List Text) (name : Text) (values : List Row) → name ≡ codes "run" → IsWhole words name values → IsWholeRun words values
 whole_run words name values is (inl whole) = let bad : 114 ≡ 97 = ap first_byte (sym is ∙ whole.0) in absurd (omega (arith, bad))
 whole_run words name values is (inr (inl whole)) = let bad : 114 ≡ 109 = ap first_byte (sym is ∙ whole.0) in absurd (omega (arith, bad))
 whole_run words name values is (inr (inr (inl whole))) = let bad : 114 ≡ 100 = ap first_byte (sym is ∙ whole.0) in absurd (omega (arith, bad))
 whole_run words name values is (inr (inr (inr whole))) = whole.1
 
--- words of `run` that are not loose are refused for what `run` refuses
+-- arguments of `run` without loose keys are rejected for the reason that `run` has
 pub refused_run : (words : List Text) (name : Text) (values : List Row) (fault : WordsFault) → name ≡ codes "run" → (HasLooseKeys words → ⊥)
     → RefusesRun values fault → IsRefusalOf words name values fault
 refused_run words name values Words named loose refuses =
@@ -31,7 +31,7 @@ refused_run words name values Keys named loose refuses =
     (named, record { file = refuses.0; most = refuses.1.0; limit = refuses.1.1; keys = loose }, refuses.2)
 refused_run words name values Memory named loose refuses = absurd refuses
 
--- a refusal of the words that `clap` found is one of all words
+-- if the values that `clap` found are rejected, the arguments are
 some_same : {A : Type 0} (a b : A) → Some a ≡ Some b → a ≡ b
 some_same a b same = ap (λ o. unwrap_or o a) same
 
@@ -44,7 +44,7 @@ refused_words words name values taken Words refusal = λ name' values' taken'.
 refused_words words name values taken Keys refusal = (name, values, taken, refusal)
 refused_words words name values taken Memory refusal = tt
 
--- a subcommand by its name and its values, which are read apart
+-- a subcommand's name and its values, which the code reads separately
 pair_of : {A B C : Type 0} (f : A → B × C) (o : Option A) (n : B) (r : C) → Some r ≡ option_map (λ p. p.1) (option_map f o)
     → Some n ≡ option_map (λ a. (f a).0) o → option_map f o ≡ Some (n, r)
 pair_of f None n r second first = absurd (some_is_none n first)

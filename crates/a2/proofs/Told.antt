@@ -1,4 +1,4 @@
--- What is told goes with the status.
+-- What is reported belongs to the exit status.
 use Rattle.std.specs.Prelude.{Bool, true, false, if◌then◌else◌, codes}
 use Rattle.std.proofs.Common.{◌≡◌, ◌⊎◌, ℕ, Result, Ok, Err, refl, sym, subst, arith, inl, inr}
 use Rattle.a2_stream.specs.Stream.{Giver, Taker}
@@ -19,7 +19,7 @@ use Rattle.a2.specs.Program.{Does}
 use Rattle.a2.specs.Telling.{IsToldBy, TellsFault}
 use Rattle.a2.specs.Words.{done_status}
 
--- by each status
+-- the report for each status
 
 by_0 : (told told' : Taker) → told' ≡ told → IsToldBy 0 told told'
 by_0 told told' same = record {
@@ -66,7 +66,7 @@ by_5 told told' line = record {
   memory = λ _. line;
 }
 
--- by that of a refusal, of a fault, of a cause, of an answer
+-- the report for the status of a source error, of an error, of a cause, and of an answer
 
 told_refusal : (told told' : Taker) (fault : Fault) → TellsLine told told' (fault_text fault) → IsToldBy (refusal_status fault) told told'
 told_refusal told told' (refusal.TooLarge n) line = by_1 told told' (Source (refusal.TooLarge n)) refl line
@@ -105,7 +105,7 @@ told_run : (told told' : Taker) (answer : Result Cause RunFault) → TellsFault 
 told_run told told' (Ok cause) same = told_cause told told' cause same
 told_run told told' (Err fault) line = told_fault told told' fault line
 
--- and by that of what was done
+-- the report for the status of an order
 pub told_of_order : {R : Type 0} (giver : R → Giver) (order : Order) (shelf shelf' : Shelved) (input input' : Giver)
     (old new told told' : Taker) (status : ℕ) → Does giver order shelf shelf' input input' old new told told' status → IsToldBy status told told'
 told_of_order giver (Asm source) shelf shelf' input input' old new told told' status does =

@@ -1,4 +1,4 @@
--- What the program does: with a text that an input gives, with files, with words. This project's profile.
+-- What the program does with a text from an input, with files, and with arguments. This project's profile.
 use Rattle.std.specs.Prelude.{◌≡◌, ◌⊎◌, ℕ, ◌≤◌, List, [], Result, Err, IfSome, MatchOption, MatchResult, true}
 use Rattle.a2_stream.specs.Stream.{Giver, Taker, Sends, TakesAtMost, count_after}
 use Rattle.a2_machine.specs.declared.causes.Cause.{Cause}
@@ -19,10 +19,10 @@ use Rattle.a2.specs.declared.words.WordsFault.{WordsFault}
 use Rattle.a2.specs.Telling.{TellsFault}
 use Rattle.a2.specs.Words.{done_status, status_of_words, text_of_words}
 
--- the text that an input gave was answered: what went out and the answer are those of its meaning, where the text has some
--- refusals or gives some values with their outputs; nothing was read past its 65,537th byte, and all up to there, but where a
--- read failed or there was no memory; a fault other than of the output means that nothing went out; and a fault of the input or
--- of the output comes exactly where one of its calls failed
+-- The text that an input gave was processed. The output and the answer are those of its meaning: the text either has an error,
+-- or gives a value with its output. At most 65,537 bytes were read, and all bytes up to there unless a read failed or there was
+-- not enough memory. An error other than a failed write means that nothing was written. A read error or a write error is
+-- answered exactly if such a call failed.
 pub record AnswersInput {T : Type 0} (refuses : List ℕ → RunFault → Type 0) (gives : List ℕ → T → List ℕ → Type 0)
     (input left : Giver) (old new : Taker) (answer : Result T RunFault) : Type 0 where
   pub meaning : IfSome input.bytes (λ text. Answers (refuses text) (gives text) old new answer)
@@ -32,8 +32,8 @@ pub record AnswersInput {T : Type 0} (refuses : List ℕ → RunFault → Type 0
   pub reader : left.failures ≡ count_after (is_read_fault answer) input.failures
   pub writer : new.failures ≡ count_after (is_write_fault answer) old.failures
 
--- a source was run with these keys, this limit and these options; its object lines were written; a script's Monitor lines were
--- answered
+-- a source was run with these keys, this limit and these options; its object lines were written; the Monitor lines of a script
+-- were answered
 abbrev pub RunsInput : List ℕ → ℕ → Options → Giver → Giver → Taker → Taker → Result Cause RunFault → Type 0
 RunsInput keys limit options = AnswersInput (λ text. OfSource (IsRefused text)) (λ text. IsRun text keys limit options)
 
@@ -43,7 +43,7 @@ AssemblesInput = AnswersInput (λ text. OfSource (IsRefused text)) (λ text _. A
 abbrev pub AnswersLines : Giver → Giver → Taker → Taker → Result (Unit {0}) RunFault → Type 0
 AnswersLines = AnswersInput (λ text. OfScript (IsRefusedScript text)) (λ text _. IsMonText text)
 
--- the source that one input gave was debugged by the lines of another
+-- the source from one input was debugged with the commands from another
 pub record DebugsInputs (source source' script script' : Giver) (old new : Taker) (answer : Result (Unit {0}) RunFault) : Type 0 where
   pub meaning : IfSome source.bytes (λ text. IfSome script.bytes (λ lines.
       Answers (IsDebugRefusal text lines) (λ _. IsDebugText text lines) old new answer))
@@ -53,17 +53,19 @@ pub record DebugsInputs (source source' script script' : Giver) (old new : Taker
   pub readers : ReadsFail (is_read_fault answer) source source' script script'
   pub writer : new.failures ≡ count_after (is_write_fault answer) old.failures
 
--- a file did not open: that is a read fault, and nothing was written
+-- a file could not be opened: that is a read error, and nothing was written
 abbrev pub IsUnopened : {T : Type 0} → Taker → Taker → Result T RunFault → Type 0
 IsUnopened old new answer = (answer ≡ Err Read) × (new ≡ old)
 
--- the file of this name was opened, by one call, and what its reader gave was answered so; or it did not open
+-- the file with this name was opened, by one call, and the text of its reader was processed by the given relation; or it could
+-- not be opened
 abbrev pub AnswersFile : {R T : Type 0} → (R → Giver) → (Giver → Giver → Taker → Taker → Result T RunFault → Type 0) → List ℕ
     → Shelved → Shelved → Taker → Taker → Result T RunFault → Type 0
 AnswersFile {R} giver AnswersIt name shelf shelf' old new answer = (opened : Result R RunFault) × Opens giver name shelf shelf' opened
     × MatchResult opened (λ reader. (left : R) × AnswersIt (giver reader) (giver left) old new answer) (λ _. IsUnopened old new answer)
 
--- the file of a source was opened, and then that of a script, and the source was debugged by the script; or one did not open
+-- the file of a source was opened, then that of a script, and the source was debugged with the script; or one could not be
+-- opened
 abbrev pub DebugsFiles : {R : Type 0} → (R → Giver) → List ℕ → List ℕ → Shelved → Shelved → Taker → Taker
     → Result (Unit {0}) RunFault → Type 0
 DebugsFiles {R} giver source script shelf shelf' old new answer = (between : Shelved) × (opened : Result R RunFault)
@@ -72,13 +74,13 @@ DebugsFiles {R} giver source script shelf shelf' old new answer = (between : She
     (left : R) × DebugsInputs (giver reader) (giver left) lines lines' before after answer) script between shelf' old new answer)
     (λ _. (shelf' ≡ between) × IsUnopened old new answer)
 
--- the source of a run: a file's, or that of the standard input, and then no file was opened
+-- the source of a run: a file, or the standard input if none is named, and then no file was opened
 abbrev pub RunsSource : {R : Type 0} → (R → Giver) → RunOrder → Shelved → Shelved → Giver → Giver → Taker → Taker → Result Cause RunFault → Type 0
 RunsSource giver order shelf shelf' input input' old new answer = MatchOption order.source
     ((shelf' ≡ shelf) × RunsInput order.keys order.limit order.options input input' old new answer)
     (λ name. AnswersFile giver (RunsInput order.keys order.limit order.options) name.now shelf shelf' old new answer)
 
--- what was done for an order; the fault of its answer, if it has one, was told; and the status is that of the answer
+-- what was done for an order: the error of its answer, if there is one, was reported, and the status is that of the answer
 abbrev pub Does : {R : Type 0} → (R → Giver) → Order → Shelved → Shelved → Giver → Giver → Taker → Taker → Taker → Taker → ℕ → Type 0
 Does giver (Asm source) shelf shelf' input input' old new told told' status = (answer : Result (Unit {0}) RunFault)
     × (status ≡ done_status answer) × TellsFault answer told told' × AnswersFile giver AssemblesInput source.now shelf shelf' old new answer
@@ -89,15 +91,15 @@ Does giver (Debug source script) shelf shelf' input input' old new told told' st
 Does giver (Run order) shelf shelf' input input' old new told told' status = (answer : Result Cause RunFault)
     × (status ≡ status_of answer) × TellsFault answer told told' × RunsSource giver order shelf shelf' input input' old new answer
 
--- words that ask for nothing: no file was opened, nothing was written, their fault was told, and the status is its own
+-- rejected arguments: no file was opened, nothing was written, the error was reported, and the status is the one of this error
 pub record Refuses (fault : WordsFault) (shelf shelf' : Shelved) (old new told told' : Taker) (status : ℕ) : Type 0 where
   pub unopened : shelf' ≡ shelf
   pub unsent : new ≡ old
   pub line : TellsLine told told' (text_of_words fault)
   pub status_is : status ≡ status_of_words fault
 
--- What a status says of the output: by 1, 2 or 5 nothing went out; by 0 or 3 no write failed; by 4 a write failed, or nothing
--- went out
+-- What an exit status says about the output: with 1, 2 or 5 nothing was written; with 0 or 3 no write failed; with 4 a write
+-- failed, or nothing was written.
 pub record Tells (status : ℕ) (old new : Taker) : Type 0 where
   pub few : status ≤ 5
   pub refused : status ≡ 1 ⊎ status ≡ 2 ⊎ status ≡ 5 → Sends old new []

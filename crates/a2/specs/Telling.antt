@@ -1,4 +1,4 @@
--- What is told to standard error. This project's profile.
+-- What is reported to standard error. This project's profile.
 use Rattle.std.specs.Prelude.{◌≡◌, ◌⊎◌, ℕ, codes, Result, Ok, Err}
 use Rattle.a2_stream.specs.Stream.{Taker}
 use Rattle.a2_run.specs.declared.fault.RunFault.{RunFault}
@@ -6,13 +6,13 @@ use Rattle.a2_run.specs.Status.{fault_status}
 use Rattle.a2_run.specs.Texts.{run_fault_text}
 use Rattle.a2_host.specs.Complaints.{TellsLine}
 
--- a fault is told by a line of its text; and of an answer that has none nothing is told
+-- an error is reported by a line with its text; without an error nothing is reported
 abbrev pub TellsFault : {T : Type 0} → Result T RunFault → Taker → Taker → Type 0
 TellsFault (Ok _) told told' = told' ≡ told
 TellsFault (Err fault) told told' = TellsLine told told' (run_fault_text fault)
 
--- What a status says of what was told: by 0 and 3 nothing was; by 1 the text of a refusal; by 2 that words or keys are bad;
--- by 4 that a read or a write failed; by 5 that there was no memory
+-- What an exit status says about the report: with 0 and 3 nothing was reported; with 1 an error of the source; with 2 that
+-- arguments or keys are bad; with 4 that a read or a write failed; with 5 that there was not enough memory.
 pub record IsToldBy (status : ℕ) (told told' : Taker) : Type 0 where
   pub silent : status ≡ 0 ⊎ status ≡ 3 → told' ≡ told
   pub refused : status ≡ 1 → (fault : RunFault) × (fault_status fault ≡ 1) × TellsLine told told' (run_fault_text fault)

@@ -1,4 +1,4 @@
--- The words of the command line, what they ask for, and which are refused. This project's profile.
+-- The arguments of the command line: what they ask for, and which are rejected. This project's profile.
 use Rattle.std.specs.Prelude.{◌≡◌, ◌≢◌, ◌⊎◌, ℕ, ◌+◌, ◌<◌, ◌≤◌, Bool, true, false, List, [], codes, length, Option, Some, None, option_map, Result, Ok, Err, IfOk, IfErr, IsTrue, nat_eq, slice_get}
 use Rattle.std.specs.List.{starts_with}
 use Rattle.std.specs.Str.Parse.{digits_value}
@@ -17,14 +17,14 @@ use Rattle.a2.specs.declared.words.WordsFault.{WordsFault}
 use Rattle.a2.specs.declared.words.WordsFault.TheVariants.{Words, Keys, Memory}
 use Rattle.a2.specs.Grammar.{grammar}
 
--- the most steps: without the option the usual ones, with it the number that its word spells, and bad words where it spells none
+-- the step limit: the default without the option; with it, the number that its value spells, or bad arguments if it spells none
 abbrev pub SaysLimit : Option (List ℕ) → Result ℕ WordsFault → Type 0
 SaysLimit None (Ok limit) = limit ≡ default_steps
 SaysLimit None (Err fault) = ⊥
 SaysLimit (Some word) (Ok limit) = IsStepLimit word × (limit ≡ digits_value 10 word)
 SaysLimit (Some word) (Err fault) = ¬ (IsStepLimit word) × (fault ≡ Words)
 
--- the keys that wait: without the option none, with it those that its text spells, and bad keys where it spells none or
+-- the keys that are waiting: none without the option; with it, those that its value spells, or bad keys if it spells none or
 -- more than fit
 abbrev pub SaysKeys : Option (List ℕ) → Result (List ℕ) WordsFault → Type 0
 SaysKeys None (Ok keys) = keys ≡ []
@@ -32,17 +32,17 @@ SaysKeys None (Err fault) = ⊥
 SaysKeys (Some text) (Ok keys) = SpellsKeys text keys × (length keys ≤ 4096)
 SaysKeys (Some text) (Err fault) = ((keys : List ℕ) → SpellsKeys text keys → 4096 < length keys) × (fault ≡ Keys)
 
--- a flag is on where its value is true, and off where that is false or there is none
+-- a flag is on if its value is true, and off if its value is false or missing
 pub record IsFlag (value : Option (List ℕ)) (flag : Bool) : Type 0 where
   pub on : value ≡ Some (codes "true") → flag ≡ true
   pub off : value ≡ Some (codes "false") → flag ≡ false
   pub absent : value ≡ None → flag ≡ false
 
--- a word is `--keys`, and the one behind it begins with `-`
+-- an argument is `--keys`, and the next one begins with `-`
 abbrev pub AreLooseKeys : Text → Text → Type 0
 AreLooseKeys option value = (option ≡ codes "--keys") × IsTrue (starts_with nat_eq value (codes "-"))
 
--- two such words stand somewhere
+-- two such arguments occur, one after the other
 pub record HasLooseKeys (words : List Text) : Type 0 where
   pub at : ℕ
   pub option : Text
@@ -51,32 +51,32 @@ pub record HasLooseKeys (words : List Text) : Type 0 where
   pub value_is : slice_get words (at + 1) ≡ Some value
   pub are : AreLooseKeys option value
 
--- a word that has to stand does
+-- a required argument is given
 abbrev pub Stands : Text → List Row → Type 0
 Stands name values = first_of name values ≢ None
 
--- the words of `run` are whole: a file, a limit where the option stands, and no loose keys
+-- the arguments of `run` are valid: a file, a valid limit if the option is given, and no loose keys
 pub record IsWholeRun (words : List Text) (values : List Row) : Type 0 where
   pub file : Stands (codes "file") values
   pub most : ℕ
   pub limit : SaysLimit (first_of (codes "limit") values) (Ok most)
   pub keys : ¬ (HasLooseKeys words)
 
--- the words behind a subcommand's name are whole, whatever the keys
+-- the arguments after a subcommand's name are valid, apart from the keys
 abbrev pub IsWhole : List Text → Text → List Row → Type 0
 IsWhole words name values = ((name ≡ codes "asm") × Stands (codes "file") values)
     ⊎ ((name ≡ codes "mon") × Stands (codes "file") values)
     ⊎ ((name ≡ codes "debug") × Stands (codes "file") values × Stands (codes "script") values)
     ⊎ ((name ≡ codes "run") × IsWholeRun words values)
 
--- the words of `run` are refused: they name no file; or a limit that is none; or else keys that are none
+-- the arguments of `run` are rejected: no file is named, or the limit is not valid, or otherwise the keys are not valid
 abbrev pub RefusesRun : List Row → WordsFault → Type 0
 RefusesRun values Words = (Stands (codes "file") values → (most : ℕ) → SaysLimit (first_of (codes "limit") values) (Ok most) → ⊥)
 RefusesRun values Keys = Stands (codes "file") values × ((most : ℕ) × SaysLimit (first_of (codes "limit") values) (Ok most))
     × SaysKeys (first_of (codes "keys") values) (Err Keys)
 RefusesRun values Memory = ⊥
 
--- what whole words of `run` ask for
+-- what valid arguments of `run` ask for
 pub record IsRunOrder (values : List Row) (order : RunOrder) : Type 0 where
   pub named : order.source ≢ None
   pub file : option_map (λ name. name.now) order.source ≡ first_of (codes "file") values
@@ -85,7 +85,7 @@ pub record IsRunOrder (values : List Row) (order : RunOrder) : Type 0 where
   pub free : IsFlag (one_of (codes "free") values) order.options.free
   pub attr : IsFlag (one_of (codes "attr") values) order.options.attr
 
--- what the words behind a subcommand's name ask for
+-- what the arguments after a subcommand's name ask for
 abbrev pub IsOrderOf : List Text → Text → List Row → Order → Type 0
 IsOrderOf words name values (Asm source) = (name ≡ codes "asm") × (first_of (codes "file") values ≡ Some source.now)
 IsOrderOf words name values (Mon script) = (name ≡ codes "mon") × (first_of (codes "file") values ≡ Some script.now)
@@ -93,29 +93,29 @@ IsOrderOf words name values (Debug source script) =
     (name ≡ codes "debug") × (first_of (codes "file") values ≡ Some source.now) × (first_of (codes "script") values ≡ Some script.now)
 IsOrderOf words name values (Run order) = (name ≡ codes "run") × ¬ (HasLooseKeys words) × IsRunOrder values order
 
--- why they ask for nothing: they are not whole; or they are, of `run`, but the keys are none; or there was no memory
+-- why they are rejected: they are not valid; or they are valid, for `run`, but the keys are not; or there was not enough memory
 abbrev pub IsRefusalOf : List Text → Text → List Row → WordsFault → Type 0
 IsRefusalOf words name values Words = ¬ (IsWhole words name values)
 IsRefusalOf words name values Keys =
     (name ≡ codes "run") × IsWholeRun words values × SaysKeys (first_of (codes "keys") values) (Err Keys)
 IsRefusalOf words name values Memory = Unit {0}
 
--- `clap` takes the words, and finds this subcommand and these values of its words
+-- `clap` accepts the arguments, and finds this subcommand and these values
 pub record IsTaken (words : List Text) (name : Text) (values : List Row) : Type 0 where
   pub clean : fault_of grammar words ≡ []
   pub found : subcommand_of grammar words ≡ Some (name, values)
 
--- what the words ask for
+-- what the arguments ask for
 abbrev pub IsOrder : List Text → Order → Type 0
 IsOrder words order = (name : Text) × (values : List Row) × IsTaken words name values × IsOrderOf words name values order
 
--- why they ask for nothing; words that `clap` does not take are bad ones
+-- why they are rejected; arguments that `clap` does not accept are bad arguments
 abbrev pub IsRefusal : List Text → WordsFault → Type 0
 IsRefusal words Words = (name : Text) (values : List Row) → IsTaken words name values → IsRefusalOf words name values Words
 IsRefusal words Keys = (name : Text) × (values : List Row) × IsTaken words name values × IsRefusalOf words name values Keys
 IsRefusal words Memory = Unit {0}
 
--- no order but that of no words leaves the file to the standard input
+-- every order names a file, except a run of the standard input
 abbrev pub NamesFile : Order → Type 0
 NamesFile (Run order) = order.source ≢ None
 NamesFile _ = Unit {0}
@@ -124,34 +124,34 @@ NamesFile _ = Unit {0}
 abbrev pub plain : Options
 plain = record { free = false; attr = false }
 
--- what is done without words: the standard input is run
+-- what is done without arguments: the standard input is run
 abbrev pub plain_run : RunOrder
 plain_run = record { source = None; keys = []; limit = default_steps; options = plain }
 
--- what words ask for, of which the first is the program's name
+-- what arguments ask for; the first of them is the program's name
 pub record Asks (words : List Text) (asked : Result Order WordsFault) : Type 0 where
   pub without : length words ≤ 1 → asked ≡ Ok (Run plain_run)
   pub order : 1 < length words → IfOk asked (IsOrder words)
   pub refusal : 1 < length words → IfErr asked (IsRefusal words)
 
--- the fault of words that the host didn't give: those that are no text are bad ones
+-- the error of arguments that the host could not give: those that are not text are bad arguments
 abbrev pub of_host : HostWordsFault → WordsFault
 of_host host.NotText = Words
 of_host host.Memory = Memory
 
--- what is told of words that ask for nothing
+-- the text that is reported for rejected arguments
 abbrev pub text_of_words : WordsFault → List ℕ
 text_of_words Words = codes "BAD WORDS"
 text_of_words Keys = codes "BAD KEYS"
 text_of_words Memory = codes "NO MEMORY"
 
--- and the status
+-- the exit status for rejected arguments
 abbrev pub status_of_words : WordsFault → ℕ
 status_of_words Words = 2
 status_of_words Keys = 2
 status_of_words Memory = 5
 
--- the status of an answer that has no cause of a stop
+-- the exit status of an answer that is not a run
 abbrev pub done_status : Result (Unit {0}) RunFault → ℕ
 done_status (Ok _) = 0
 done_status (Err fault) = fault_status fault

@@ -1,4 +1,4 @@
-//! Texts in, texts out: the program `a2`, which assembles and runs sources.
+//! The program `a2`: assembles and runs sources, and answers Monitor and debugger scripts.
 #![tactic(auto)]
 
 mod program;

@@ -1,4 +1,4 @@
-//! What the program does, over any files and streams.
+//! What the program does, with any files and streams.
 
 ghost use Rattle.std.specs.Prelude.{◌≡◌, ◌≢◌, ◌⊎◌, ◌<◌, ◌≤◌, [], Result, Ok, Err, IfErr, IsErr, IsOk, MatchResult, length, map};
 ghost use Rattle.std.specs.Prelude.{string_bytes};
@@ -24,13 +24,13 @@ use a2_scripts::{debug_text, mon_text};
 use a2_stream::{Input, Output, put};
 use std::alloc::Global;
 
-/// Tells why words ask for nothing, by a line to `complaints`, and gives the status: 2 for bad words and bad keys, 5 for want
-/// of memory. Where a write fails, a front of the line went out.
+/// Reports bad arguments by a line to `complaints`, and returns the exit status: 2 for bad arguments and bad keys, 5 if there
+/// is not enough memory. If a write fails, only the first part of the line was written.
 pub fn refuse_words<E: Output>(fault: WordsFault, complaints: &mut E) -> u8
     ensures line { TellsLine (E.taker complaints.old) (E.taker complaints.new) (text_of_words fault) }
     ensures status { result ≡ status_of_words fault }
 {
-    // Where this fails there is no place left to tell it.
+    // If this fails, there is nowhere left to report it.
     let _ = put(fault.line().as_bytes(), complaints);
     match fault {
         WordsFault::Words | WordsFault::Keys => 2,
@@ -38,7 +38,7 @@ pub fn refuse_words<E: Output>(fault: WordsFault, complaints: &mut E) -> u8
     }
 }
 
-// Opens a file; one that cannot be opened is a failed read.
+// Opens a file. A file that cannot be opened is reported as a failed read.
 fn opened<S: Shelf>(shelf: &mut S, name: &str) -> Result<S::Reader, RunFault>
     ensures opens { Opens S.Reader.giver name.now (S.shelved shelf.old) (S.shelved shelf.new) result }
     ensures fault { IfErr result (λ fault. fault ≡ Read) }
@@ -46,7 +46,7 @@ fn opened<S: Shelf>(shelf: &mut S, name: &str) -> Result<S::Reader, RunFault>
     shelf.open(name).map_err(|_| RunFault::Read)
 }
 
-// Runs what an input gives, as an order says.
+// Runs the text that an input gives, with the keys, limit and options of an order.
 fn run_input<R: Input, W: Output>(
     alloc: Global,
     input: &mut R,
@@ -66,7 +66,7 @@ fn run_input<R: Input, W: Output>(
     )
 }
 
-// Runs a file, or the standard input.
+// Runs a file or the standard input.
 fn run_file<S: Shelf, R: Input, W: Output>(
     alloc: Global,
     shelf: &mut S,
@@ -86,7 +86,7 @@ fn run_file<S: Shelf, R: Input, W: Output>(
     run_input(alloc, &mut reader, order, output)
 }
 
-// Writes the object lines of a file.
+// Writes the object lines of a source file.
 fn assemble_file<S: Shelf, W: Output>(
     alloc: Global,
     shelf: &mut S,
@@ -116,7 +116,7 @@ fn answer_file<S: Shelf, W: Output>(
     mon_text(alloc, &mut script, output)
 }
 
-// Debugs the source of a file by the lines of another; both are opened before either is read.
+// Debugs the source in one file with the commands in another. Both files are opened before either is read.
 fn debug_files<S: Shelf, W: Output>(
     alloc: Global,
     shelf: &mut S,
@@ -133,7 +133,7 @@ fn debug_files<S: Shelf, W: Output>(
     debug_text(alloc, &mut source, &mut script, output)
 }
 
-// Tells the fault of an answer, if it has one.
+// Reports the error of an answer, if it has one.
 fn tell_fault<T, E: Output>(answer: &Result<T, RunFault>, complaints: &mut E)
     ensures silent { IsOk answer.now → complaints.new ≡ complaints.old }
     ensures told { TellsFault answer.now (E.taker complaints.old) (E.taker complaints.new) }
@@ -143,7 +143,7 @@ fn tell_fault<T, E: Output>(answer: &Result<T, RunFault>, complaints: &mut E)
     }
 }
 
-// Tells the fault of an answer, if it has one; and the status.
+// Reports the error of an answer, if it has one, and returns the exit status.
 fn tell_done<E: Output>(answer: &Result<(), RunFault>, complaints: &mut E) -> u8
     ensures status { result ≡ done_status answer.now }
     ensures silent { result ≡ 0 ⊎ result ≡ 3 → complaints.new ≡ complaints.old }
@@ -156,7 +156,7 @@ fn tell_done<E: Output>(answer: &Result<(), RunFault>, complaints: &mut E) -> u8
     }
 }
 
-// Tells the fault of a run, if it has one; and the status.
+// Reports the error of a run, if it has one, and returns the exit status.
 fn tell_run<E: Output>(answer: &Result<Cause, RunFault>, complaints: &mut E) -> u8
     ensures status { result ≡ status_of answer.now }
     ensures silent { result ≡ 0 ⊎ result ≡ 3 → complaints.new ≡ complaints.old }
@@ -166,7 +166,7 @@ fn tell_run<E: Output>(answer: &Result<Cause, RunFault>, complaints: &mut E) -> 
     status(answer)
 }
 
-// Does what is asked for, tells a fault, and gives the status.
+// Does what the arguments ask for, reports an error, and returns the exit status.
 fn follow<S: Shelf, R: Input, W: Output, E: Output>(
     alloc: Global,
     order: &Order,
@@ -197,10 +197,10 @@ fn follow<S: Shelf, R: Input, W: Output, E: Output>(
     }
 }
 
-/// Does what `words` ask for, and answers the exit status, 0 to 5. The first word is the program's name; without
-/// another the text that `input` gives is run. Files are opened in `shelf`, and what is asked for goes to `output`. A
-/// fault, of the words, the source, a read, a write or memory, is told to `complaints` by a line of its text. This project's
-/// profile.
+/// Does what the arguments `words` ask for, and returns the exit status, 0 to 5. The first argument is the program's name;
+/// without other arguments the text that `input` gives is run. Files are opened in `shelf`, and results are written to
+/// `output`. An error in the arguments, the source, a read, a write or memory is reported to `complaints` by one line. This
+/// project's profile.
 pub fn obey<S: Shelf, R: Input, W: Output, E: Output>(
     alloc: Global,
     words: &[String],
@@ -209,24 +209,25 @@ pub fn obey<S: Shelf, R: Input, W: Output, E: Output>(
     output: &mut W,
     complaints: &mut E,
 ) -> u8
-    // What the words ask for is done, over the files that they name, and a fault is told; or the words are refused.
+    // What the arguments ask for is done, with the files that they name, and an error is reported; or the arguments are
+    // rejected.
     ensures done { (asked : Result Asked Refusal) × Asks (map string_bytes words.now) asked × MatchResult asked
         (λ order. Does S.Reader.giver order (S.shelved shelf.old) (S.shelved shelf.new)
         (R.giver input.old) (R.giver input.new) (W.taker output.old) (W.taker output.new)
         (E.taker complaints.old) (E.taker complaints.new) result)
         (λ fault. Refuses fault (S.shelved shelf.old) (S.shelved shelf.new)
         (W.taker output.old) (W.taker output.new) (E.taker complaints.old) (E.taker complaints.new) result) }
-    // Without words the input is run, guarded, with no keys and at most the usual steps.
+    // Without arguments the input is run in the guarded machine, with no keys and at most the default number of steps.
     ensures plain { length words.now ≤ 1 → (answer : Result Stop Fault) × (result ≡ status_of answer)
         × TellsFault answer (E.taker complaints.old) (E.taker complaints.new)
         × RunsInput [] default_steps plain (R.giver input.old) (R.giver input.new) (W.taker output.old) (W.taker output.new) answer }
-    // Whatever the words: at most 5; by 1, 2 or 5 nothing went out, by 0 or 3 no write failed, and by 4 one did, or nothing went
-    // out.
+    // For all arguments the status is at most 5. With 1, 2 or 5 nothing was written. With 0 or 3 no write failed. With 4 a
+    // write failed, or nothing was written.
     ensures output { Tells result (W.taker output.old) (W.taker output.new) }
-    // By 0 and 3 nothing is told, and by another status a line is, of a text that goes with the status.
+    // With 0 and 3 nothing is reported. With any other status one line is reported, with a text that belongs to the status.
     ensures silent { result ≡ 0 ⊎ result ≡ 3 → complaints.new ≡ complaints.old }
     ensures told { IsToldBy result (E.taker complaints.old) (E.taker complaints.new) }
-    // With a word behind the name the input is not read.
+    // If there is an argument after the name, the input is not read.
     ensures unread { 1 < length words.now → input.new ≡ input.old }
 {
     match order_of(alloc, words) {

@@ -1,4 +1,4 @@
-//! The words of the command line.
+//! The arguments of the command line.
 
 ghost use Rattle.std.specs.Prelude.{◌≡◌, ◌≢◌, ◌⊎◌, ◌<◌, ◌≤◌, ◌∷◌, ◌++◌, ◌↔◌, [], None, Some, Ok, IfErr, IfOk, IsTrue, codes};
 ghost use Rattle.std.specs.Prelude.{true, length, map, option_map, string_bytes};
@@ -16,44 +16,44 @@ use clap::error::ErrorKind;
 use clap::{Arg, ArgAction, ArgMatches, Command};
 use std::alloc::{AllocError, Global};
 
-/// What the words of `run` ask for.
+/// What the arguments of `run` ask for.
 #[derive(Drop)]
 pub struct RunOrder<'a> {
-    /// The file, or none for the standard input.
+    /// The file, or `None` for the standard input.
     pub source: Option<&'a str>,
-    /// The keys that wait at the start.
+    /// The keys that are waiting at the start.
     pub keys: Keys,
-    /// The most steps, 0 to 100,000,000.
+    /// The maximum number of steps, 0 to 100,000,000.
     pub limit: u32,
     pub options: Options,
 }
 
-/// What the words ask for.
+/// What the arguments ask for.
 #[derive(Drop)]
 pub enum Order<'a> {
-    /// Writes the object lines of a file.
+    /// Writes the object lines of a source file.
     Asm { source: &'a str },
     /// Answers the Monitor lines of a file.
     Mon { script: &'a str },
-    /// Debugs the source of a file by the lines of another.
+    /// Debugs the source in one file with the commands in another.
     Debug { source: &'a str, script: &'a str },
-    /// Runs a file, or the standard input.
+    /// Runs a file or the standard input.
     Run(RunOrder<'a>),
 }
 
-/// Why words ask for nothing.
+/// Why arguments are rejected.
 #[derive(Clone, Copy, Debug, PartialEq, Eq)]
 pub enum WordsFault {
-    /// The words are no form of the command line.
+    /// The arguments are not a valid command line.
     Words,
-    /// The keys are badly spelt, or too many.
+    /// The keys are not written correctly, or there are too many.
     Keys,
-    /// A growth of memory was refused.
+    /// There is not enough memory.
     Memory,
 }
 
 impl WordsFault {
-    /// The line that tells it.
+    /// Returns the line that reports the error.
     pub fn line(self) -> &'static str
         ensures { result.now ≡ text_of_words self ++ codes "\n" }
     {
@@ -88,7 +88,7 @@ impl From<HostWordsFault> for WordsFault {
     }
 }
 
-// A word that has to stand.
+// A required argument.
 fn needed<'a>(alloc: Global, name: &'a str) -> Arg<'a>
     ensures { HasRule result (needed_rule name.entry.now) }
 {
@@ -102,14 +102,14 @@ fn valued<'a>(alloc: Global, name: &'a str) -> Arg<'a>
     Arg::new(alloc, name).long(name).action(ArgAction::Set)
 }
 
-// An option without one.
+// An option without a value.
 fn flag<'a>(alloc: Global, name: &'a str) -> Arg<'a>
     ensures { HasRule result (flag_rule name.entry.now) }
 {
     Arg::new(alloc, name).long(name).action(ArgAction::SetTrue)
 }
 
-// A subcommand without help.
+// A subcommand without a help option.
 fn named<'a>(alloc: Global, name: &'a str) -> Command<'a>
     ensures { IsCommand name.entry.now [] result }
 {
@@ -123,7 +123,7 @@ fn with_file<'a>(alloc: Global, name: &'a str) -> Result<Command<'a>, AllocError
     named(alloc, name).arg(needed(alloc, "file"))
 }
 
-// The words after `run`.
+// The subcommand `run` with its arguments.
 fn run_command<'a>(alloc: Global) -> Result<Command<'a>, AllocError>
     ensures { IfOk result (IsCommand (codes "run") run_rules) }
 {
@@ -134,14 +134,14 @@ fn run_command<'a>(alloc: Global) -> Result<Command<'a>, AllocError>
         .arg(flag(alloc, "attr"))
 }
 
-// The words after `debug`.
+// The subcommand `debug` with its arguments.
 fn debug_command<'a>(alloc: Global) -> Result<Command<'a>, AllocError>
     ensures { IfOk result (IsCommand (codes "debug") (needed_rule (codes "file") ∷ needed_rule (codes "script") ∷ [])) }
 {
     with_file(alloc, "debug")?.arg(needed(alloc, "script"))
 }
 
-// The program's name alone.
+// The program's name without subcommands.
 fn bare_command<'a>(alloc: Global) -> Command<'a>
     ensures { IsApp result (record { top = record grammar.top { is_leaf = true }; subs = [] }) }
 {
@@ -150,7 +150,7 @@ fn bare_command<'a>(alloc: Global) -> Command<'a>
         .subcommand_required(true)
 }
 
-// All that the program understands.
+// The whole command line.
 fn command<'a>(alloc: Global) -> Result<Command<'a>, AllocError>
     ensures { IfOk result (λ command. IsApp command grammar) }
 {
@@ -161,7 +161,7 @@ fn command<'a>(alloc: Global) -> Result<Command<'a>, AllocError>
         .subcommand(run_command(alloc)?)
 }
 
-// The matches of the words.
+// Returns the values that `clap` finds in the arguments.
 fn matches_of<'a>(alloc: Global, words: &'a [String]) -> Result<ArgMatches<'a>, WordsFault>
     ensures clean { IfOk result (λ found. fault_of grammar (map string_bytes words.entry.now) ≡ []) }
     ensures found { IfOk result (λ found. subcommand_rows_of found ≡ subcommand_of grammar (map string_bytes words.entry.now)) }
@@ -177,7 +177,7 @@ fn matches_of<'a>(alloc: Global, words: &'a [String]) -> Result<ArgMatches<'a>, 
     }
 }
 
-// A word that has to stand, as it was written.
+// Returns the value of a required argument as written.
 fn word_of<'a>(found: &ArgMatches<'a>, name: &str) -> Result<&'a str, WordsFault>
     ensures found { IfOk result (λ word. first_of name.now (rows_of (found_of found.now)) ≡ Some word.now) }
     ensures missing { IfErr result (λ fault. (first_of name.now (rows_of (found_of found.now)) ≡ None) × (fault ≡ Words)) }
@@ -185,7 +185,7 @@ fn word_of<'a>(found: &ArgMatches<'a>, name: &str) -> Result<&'a str, WordsFault
     found.get_str(name).ok_or(WordsFault::Words)
 }
 
-// Whether a word is `--keys`, and the one behind it begins with `-`.
+// Whether an argument is `--keys` and the next one begins with `-`.
 fn are_loose_keys(option: &str, value: &str) -> bool
     ensures { IsTrue result ↔ AreLooseKeys option.now value.now }
 {
@@ -195,7 +195,7 @@ fn are_loose_keys(option: &str, value: &str) -> bool
     }
 }
 
-// Whether keys that begin with `-` are given as a word of their own, where they may stand behind `=` alone.
+// Whether keys that begin with `-` are given as a separate argument. Such keys are only allowed after `--keys=`.
 fn has_loose_keys(words: &[String]) -> bool
     ensures { IsTrue result ↔ HasLooseKeys (map string_bytes words.now) }
 {
@@ -207,7 +207,7 @@ fn has_loose_keys(words: &[String]) -> bool
     false
 }
 
-// The most steps of a run. `word` is what stands behind `--limit`, where that is given.
+// Returns the step limit of a run. `word` is the value of `--limit`, if it is given.
 fn limit_given(word: Option<&str>) -> Result<u32, WordsFault>
     ensures { SaysLimit (option_map (λ word. word.now) word.entry) result }
 {
@@ -217,7 +217,7 @@ fn limit_given(word: Option<&str>) -> Result<u32, WordsFault>
     }
 }
 
-// The keys that wait. `text` is what stands behind `--keys`, where that is given.
+// Returns the keys that are waiting at the start. `text` is the value of `--keys`, if it is given.
 fn keys_given(text: Option<&str>) -> Result<Keys, WordsFault>
     ensures { SaysKeys (option_map (λ text. text.now) text.entry) result }
 {
@@ -227,21 +227,21 @@ fn keys_given(text: Option<&str>) -> Result<Keys, WordsFault>
     }
 }
 
-// The most steps that the words of `run` allow.
+// Returns the step limit from the arguments of `run`.
 fn limit_in(found: &ArgMatches) -> Result<u32, WordsFault>
     ensures { SaysLimit (first_of (codes "limit") (rows_of (found_of found.now))) result }
 {
     limit_given(found.get_str("limit"))
 }
 
-// The keys that they have wait.
+// Returns the waiting keys from the arguments of `run`.
 fn keys_in(found: &ArgMatches) -> Result<Keys, WordsFault>
     ensures { SaysKeys (first_of (codes "keys") (rows_of (found_of found.now))) result }
 {
     keys_given(found.get_str("keys"))
 }
 
-// Their options.
+// Returns the options from the arguments of `run`.
 fn options_in(found: &ArgMatches) -> Options
     ensures free { IsFlag (one_of (codes "free") (rows_of (found_of found.now))) result.free }
     ensures attr { IsFlag (one_of (codes "attr") (rows_of (found_of found.now))) result.attr }
@@ -252,7 +252,7 @@ fn options_in(found: &ArgMatches) -> Options
     }
 }
 
-// What the words of `run` ask for; bad keys are told last.
+// Returns what the arguments of `run` ask for. Bad keys are reported only if nothing else is wrong.
 fn run_order<'a>(found: &ArgMatches<'a>) -> Result<RunOrder<'a>, WordsFault>
     ensures order { IfOk result (IsRunOrder (rows_of (found_of found.now))) }
     ensures refused { IfErr result (RefusesRun (rows_of (found_of found.now))) }
@@ -268,7 +268,7 @@ fn run_order<'a>(found: &ArgMatches<'a>) -> Result<RunOrder<'a>, WordsFault>
     })
 }
 
-// What the program does without words.
+// Returns what the program does without arguments.
 fn plain_order<'a>() -> RunOrder<'a>
     ensures { result ≡ plain_run }
 {
@@ -283,7 +283,7 @@ fn plain_order<'a>() -> RunOrder<'a>
     }
 }
 
-// What a subcommand's words ask for.
+// Returns what the arguments of a subcommand ask for.
 fn inner_order<'a>(
     words: &[String],
     name: &str,
@@ -308,8 +308,8 @@ fn inner_order<'a>(
     }
 }
 
-/// What `words` ask for. The first is the program's name, and is not looked at. Refused are words that are no form of
-/// the command line, keys that are badly spelt, and want of memory. This project's profile.
+/// Returns what the arguments `words` ask for. The first is the program's name and is ignored. Fails if the arguments are not a
+/// valid command line, if the keys are not written correctly, or if there is not enough memory. This project's profile.
 pub fn order_of<'a>(alloc: Global, words: &'a [String]) -> Result<Order<'a>, WordsFault>
     ensures { Asks (map string_bytes words.entry.now) result }
 {

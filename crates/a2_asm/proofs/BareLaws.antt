@@ -1,4 +1,4 @@
--- What is made of lines is what is made of the same lines without their allocator.
+-- Lines and the same lines without their allocator have the same results.
 use Rattle.std.specs.Prelude.{◌≡◌, ℕ, ◌+◌, List, [], ◌∷◌, ◌++◌, length, map, Option, Some}
 use Rattle.std.proofs.Common.{refl, sym, ap, ◌∙◌, subst}
 use Rattle.std.proofs.lemmas.List.{length-map, map-append}
@@ -70,7 +70,7 @@ instruction-bare _ = refl
 abbrev pub bare_row : {A : Type 0} → Row A → Row NoAllocator
 bare_row row = record { line = bare_line row.line; place = row.place; next = row.next; label = row.label }
 
--- the row of a line at an address, behind lines that define these names
+-- the row of a line at an address, given the names that earlier lines define
 abbrev row_at : {A : Type 0} → Names → ℕ → ℕ → Line A → Row A
 row_at earlier n here line = record {
   line = line;
@@ -100,7 +100,7 @@ rows-bare lines = rows_behind-bare [] lines
 pub names-bare : {A : Type 0} (rows : List (Row A)) → names (map bare_row rows) ≡ names rows
 names-bare rows = flat_map-map _ _ rows
 
--- a check that refuses what it refuses without allocators
+-- a check that finds the same errors with and without allocators
 first_behind-map : {X Y : Type 0} (v : X → Y) (f : List Y → Y → Option Fault) (g : List X → X → Option Fault)
     → ((before : List X) (x : X) → f (map v before) (v x) ≡ g before x)
     → (before xs : List X) → first_behind f (map v before) (map v xs) ≡ first_behind g before xs
@@ -128,11 +128,11 @@ entry-bare : {A : Type 0} (rows : List (Row A)) → first_instruction (map bare_
 entry-bare [] = refl
 entry-bare (row ∷ more) = simp (instruction-bare, entry-bare more)
 
--- the bare lines are refused as the lines are
+-- the bare lines have the same errors as the lines
 pub refusal-bare : {A : Type 0} (lines : List (Line A)) → layout_refusal (bare lines) ≡ layout_refusal lines
 refusal-bare lines = simp (labels-bare, rows-bare, names-bare, placed-bare, laid-bare, entry-bare)
 
--- a program of the lines is one of the bare lines
+-- a program of the lines is a program of the bare lines
 pub program-bare : {A : Type 0} (lines : List (Line A)) (p : Assembled) → IsMade lines p → IsMade (bare lines) p
 program-bare lines p is = record {
   accepted = refusal-bare lines ∙ is.accepted;
@@ -142,7 +142,7 @@ program-bare lines p is = record {
   begins = simp (rows-bare, entry-bare) is.begins;
 }
 
--- what is found of the lines, of their source
+-- a result for the lines is a result for their source
 pub refused-by : {A : Type 0} (lines : List (Line A)) (source : List BareLine) (fault : Fault) → bare lines ≡ source → layout_refusal lines ≡ Some fault → IsLayoutRefusal source fault
 refused-by lines source fault is h = refused-of source fault (ap layout_refusal (sym is) ∙ refusal-bare lines ∙ h)
 

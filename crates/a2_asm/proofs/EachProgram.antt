@@ -1,4 +1,4 @@
--- Lines that are not refused are a program.
+-- Lines without an error form a program.
 use Rattle.std.specs.Prelude.{◌≡◌, ℕ, zero, suc, ◌+◌, ◌≤◌, true, List, [], ◌∷◌, length, Option, Some, None, is_some}
 use Rattle.std.proofs.Common.{refl, sym, ap, ◌∙◌, arith}
 use Rattle.std.proofs.lemmas.Bool.Decides.{nat_tests}
@@ -16,7 +16,7 @@ use Rattle.a2_asm.specs.Programs.{IsProgram}
 use Rattle.a2_asm.proofs.MadeLaws.{program-of, refused-of}
 use Rattle.a2_asm.proofs.PassedLaws.{accepted-parts}
 
--- the cells of a map below an end
+-- the cells of a map below an end address
 abbrev cells_of : (ℕ → Option ℕ) → ℕ → Cells
 cells_of map zero = []
 cells_of map (suc n) = map 0 ∷ cells_of (λ a. map (a + 1)) n
@@ -27,7 +27,7 @@ held-cells map (suc n) none zero = refl
 held-cells map (suc n) none (suc a) =
     held-cells (λ b. map (b + 1)) n (λ b le. none (b + 1) (omega (arith, le))) a ∙ ap map (let e : a + 1 ≡ suc a = omega arith in e)
 
--- behind these addresses rows hold nothing
+-- the rows hold nothing from this address on
 abbrev end_of_bytes : {A : Type 0} → Names → List (Row A) → ℕ
 end_of_bytes all [] = 0
 end_of_bytes all (row ∷ more) = row.place.address + length (bytes_of all row.place row.line.body) + end_of_bytes all more
@@ -40,7 +40,7 @@ some-of : (o : Option ℕ) → is_some o ≡ true → (n : ℕ) × (o ≡ Some n
 some-of (Some n) e = (n, refl)
 some-of None e = cc
 
--- lines that are not refused are a program
+-- lines without an error form a program
 pub program-of-source : {A : Type 0} (source : List (Line A)) → layout_refusal source ≡ None → (p : Assembled) × IsProgram source p
 program-of-source source e =
     let all = names (source_rows source) in
@@ -61,7 +61,7 @@ program-of-source source e =
       }),
     )
 
--- lines that have no refusal are a program
+-- lines that have no error form a program
 pub refused-or-program : {A : Type 0} (source : List (Line A)) → ((fault : Fault) → IsLayoutRefusal source fault → ⊥) → (p : Assembled) × IsProgram source p
 refused-or-program source unrefused = by (layout_refusal source) refl
   where

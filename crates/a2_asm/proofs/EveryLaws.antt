@@ -1,4 +1,4 @@
--- What each line is refused for, as far as the lines were looked at.
+-- The errors of the lines examined so far.
 use Rattle.std.proofs.Common.{◌≡◌, ℕ, ◌+◌, ◌<◌, List, [], ◌∷◌, ◌++◌, length, get_or, take, drop, map, refl, ap, ◌∙◌, Option, arith}
 use Rattle.std.specs.List.{cons_option}
 use Rattle.std.proofs.lemmas.List.{length-map, map-append}
@@ -16,7 +16,7 @@ use Rattle.a2_asm.specs.Every.{each_behind, with_label, labels, refuse_words, re
 use Rattle.a2_asm.proofs.Steps.{read}
 use Rattle.a2_asm.proofs.BareLaws.{bare_row, known-bare, number-bare, operand_refusal-bare, placed-bare, rows-bare, names-bare}
 
--- one line more, by what it is refused for
+-- one more line, and its error
 pub each-more : {X : Type 0} (check : List X → X → Option Fault) (xs : List X) (i : ℕ) (x : X) (o : Option Fault) (told all : List Fault) → i < length xs → x ≡ get_or xs i x
     → check (take i xs) x ≡ o → told ++ each_behind check (take i xs) (drop i xs) ≡ all → told ++ cons_option o (each_behind check (take (i + 1) xs) (drop (i + 1) xs)) ≡ all
 each-more check xs i x o told all lt e is h = grind (arith, read)
@@ -45,6 +45,6 @@ by_values-bare : {A : Type 0} (all : Names) (rows : List (Row A)) → by_values 
 by_values-bare all [] = refl
 by_values-bare all (row ∷ rows) = simp (operand_refusal-bare, by_values-bare all rows)
 
--- what each line is refused for, of a source that these lines are of
+-- the error of each line, for a source that has these lines
 pub each-of : {A : Type 0} (lines : List (Line A)) (source : List BareLine) → bare lines ≡ source → each_refusal lines (source_rows lines) ≡ each_refusal source (source_rows source)
 each-of lines source e = rw (← e) (simp (rows-bare, names-bare, placed-bare, by_names-bare, by_values-bare))

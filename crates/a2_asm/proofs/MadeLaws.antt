@@ -1,4 +1,4 @@
--- A program by the places that the first pass finds, and by any layout: there is one.
+-- The program from the places that the first pass finds equals the program from any layout: there is only one.
 use Rattle.std.specs.Prelude.{◌≡◌, ℕ, List, [], Some, None}
 use Rattle.std.proofs.Common.{arith, sym, ap, ◌∙◌}
 use Rattle.a2_hex.specs.Images.{held}
@@ -12,7 +12,7 @@ use Rattle.a2_asm.specs.Pass.{source_rows, layout_refusal}
 use Rattle.a2_asm.specs.Programs.{IsProgram, AreAlike}
 use Rattle.a2_asm.proofs.RowLaws.{rows-fit, one-layout}
 
--- the program that the first pass's places make
+-- the program made with the places of the first pass
 pub record IsMade {A : Type 0} (source : List (Line A)) (p : Assembled) : Type 0 where
   pub accepted : layout_refusal source ≡ None
   pub named : p.names ≡ names (source_rows source)
@@ -20,7 +20,7 @@ pub record IsMade {A : Type 0} (source : List (Line A)) (p : Assembled) : Type 0
   pub stated : p.statements ≡ statements_of (names (source_rows source)) (source_rows source)
   pub begins : first_instruction (source_rows source) ≡ Some p.entry
 
--- what both passes find makes a program
+-- the results of both passes form a program
 pub made-by : {A : Type 0} (source : List (Line A)) (p : Assembled)
     → first_behind refuse_names [] source ≡ None → first_behind (refuse_place (names (source_rows source))) [] (source_rows source) ≡ None
     → first_behind (refuse_bytes p.names) [] (source_rows source) ≡ None → p.names ≡ names (source_rows source) → ((a : ℕ) → held p.image a ≡ image p.names (source_rows source) a)
@@ -62,15 +62,15 @@ refusal-of source fault (layout, is, e) =
 pub refused-of : {A : Type 0} (source : List (Line A)) (fault : Fault) → layout_refusal source ≡ Some fault → IsLayoutRefusal source fault
 refused-of source fault e = (source_rows source, rows-fit source, e)
 
--- lines have one first refusal at most
+-- lines have at most one first error
 pub one-layout_refusal : {A : Type 0} (source : List (Line A)) (fault other : Fault) → IsLayoutRefusal source fault → IsLayoutRefusal source other → fault ≡ other
 one-layout_refusal source fault other a b = cc (refusal-of source fault a, refusal-of source other b)
 
--- and no program where they have one
+-- lines that have an error have no program
 pub refused-no-program : {A : Type 0} (source : List (Line A)) (fault : Fault) (p : Assembled) → IsLayoutRefusal source fault → IsProgram source p → ⊥
 refused-no-program source fault p a b = cc (refusal-of source fault a, (made-of source p b).accepted)
 
--- and one program at most, but for how its image is kept
+-- lines have at most one program, except for how its image is kept
 pub programs-alike : {A : Type 0} (source : List (Line A)) (p q : Assembled) → IsProgram source p → IsProgram source q → AreAlike p q
 programs-alike source p q a b =
     let x = made-of source p a in

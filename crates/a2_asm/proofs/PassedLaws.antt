@@ -1,4 +1,4 @@
--- What is known of the rows of lines that are not refused.
+-- What is known of the rows of lines without an error.
 use Rattle.std.proofs.Common.{◌≡◌, ℕ, ◌+◌, ◌*◌, ◌<◌, ◌≤◌, false, true, List, [], ◌∷◌, ◌++◌, length, get_or, take, drop, map, refl, sym, ap, ◌∙◌, subst, Some, None, is_some, arith}
 use Rattle.std.specs.List.{flat_map}
 use Rattle.std.proofs.lemmas.Bool.{not-false}
@@ -39,12 +39,12 @@ words-length : {X : Type 0} (f : X → ℕ) (xs : List X) → length (flat_map (
 words-length f [] = refl
 words-length f (x ∷ xs) = omega (arith, words-length f xs)
 
--- an instruction that is not refused has its bytes
+-- an instruction without an error has its bytes
 pub instr-encoded : {A : Type 0} (all earlier : Names) (place : Place) (m : Mnemonic) (o : Operand A) → has_mode m place.mode ≡ true → place.mode ≡ mode_of earlier place.address m o
     → refuse_operand all place (Instr m o) ≡ None → encoded (instr_of all place m o) place.address ≡ Some (bytes_of all place (Instr m o))
 instr-encoded all earlier place m o has form later = grind (arith, operand-refused all earlier place m o has form)
 
--- what a line in its place keeps that the first pass does not refuse
+-- what holds of a line at its place if the first pass finds no error in it
 pub record Keeps {A : Type 0} (all : Names) (before : List (Row A)) (row : Row A) : Type 0 where
   pub now : refuse_body all (names before) row.place row.line.body ≡ None
   pub has_row : lacks_row row.place row.line.body ≡ false
@@ -82,7 +82,7 @@ seated lines places i line are lt e placed =
     subst (Seated lines i) (ap (λ place. record row { place = place }) (sym (ap (λ ps. place_at ps i) are ∙ cut.3)))
     (record { taken = cut.1; dropped = cut.2; keeps = kept })
 
--- a line that is not refused has as many bytes as its place
+-- a line without an error has as many bytes as its place says
 pub bytes-length : {A : Type 0} (all earlier : Names) (place : Place) (body : Body A) → lacks_row place body ≡ false → place.mode ≡ mode_in earlier place.address body
     → place.length ≡ size earlier place.address body → refuse_operand all place body ≡ None → length (bytes_of all place body) ≡ place.length
 bytes-length all earlier place (Instr m o) has form long later =
@@ -99,7 +99,7 @@ pub bytes-room : {A : Type 0} (all whole : Names) (before : List (Row A)) (row :
 bytes-room all whole before row bytes k later is lt =
     omega (arith, ap length is, bytes-length all (names before) row.place row.line.body k.has_row k.placed.mode k.placed.size later, place-room row.place k.inside)
 
--- and what passes both passes
+-- what holds of a line if neither pass finds an error in it
 pub record Passed {A : Type 0} (all : Names) (before : List (Row A)) (row : Row A) : Type 0 where
   pub keeps : Keeps all before row
   pub later : refuse_operand all row.place row.line.body ≡ None
@@ -110,7 +110,7 @@ laid : {A : Type 0} (all : Names) (before : List (Row A)) (row : Row A) → refu
     → (refuse_operand all row.place row.line.body ≡ None) × (meets (image all before) row.place.address (bytes_of all row.place row.line.body) ≡ false)
 laid all before row h = grind arith
 
--- the parts of a source's refusal
+-- the parts of a source's error
 pub accepted-parts : {A : Type 0} (source : List (Line A)) → layout_refusal source ≡ None
     → (first_behind (refuse_place (names (source_rows source))) [] (source_rows source) ≡ None) × (is_some (first_instruction (source_rows source)) ≡ true)
     × (first_behind (refuse_bytes (names (source_rows source))) [] (source_rows source) ≡ None)
@@ -125,7 +125,7 @@ passed-is source before after row e split =
     let l = laid all before row (at-split (refuse_bytes all) [] before after row (subst (λ rows. first_behind (refuse_bytes all) [] rows ≡ None) split ok.2)) in
     record { keeps = k; later = l.0; free = l.1; long = bytes-length all (names before) row.place row.line.body k.has_row k.placed.mode k.placed.size l.0 }
 
--- rows that are not refused hold nothing at or above $C000
+-- rows without errors hold nothing at or above $C000
 pub none-outside : {A : Type 0} (source : List (Line A)) (before after : List (Row A)) (a : ℕ) → layout_refusal source ≡ None → source_rows source ≡ before ++ after → 49152 ≤ a
     → image (names (source_rows source)) after a ≡ None
 none-outside source before [] a e split le = refl

@@ -1,4 +1,4 @@
--- What a run rests on: what the bytes say, where statements begin, and where code lies.
+-- What running a program relies on: the contents of the bytes, and the addresses of statements and code.
 use Rattle.std.proofs.Common.{◌≡◌, ℕ, zero, suc, ◌+◌, ◌-◌, ◌<◌, ◌≤◌, Bool, true, false, cond, List, [], ◌∷◌, length, get_or, ◌++◌, slice_get, refl, sym, ap, ◌∙◌, subst, ◌⊎◌, inl, inr, ⊎_elim, Some, None, arith, Contains}
 use Rattle.std.specs.List.{find}
 use Rattle.std.specs.Option.{option_map_or}
@@ -29,7 +29,7 @@ use Rattle.a2_asm.proofs.LayingLaws.{meets-free, row-held}
 use Rattle.a2_asm.proofs.BytesLaws.{operand-most, greatest-word}
 use Rattle.a2_asm.proofs.PassedLaws.{Passed, passed-is, instr-encoded, place-room, length-some, none-outside}
 
--- a statement is of a row
+-- a statement comes from a row
 record Comes {A : Type 0} (all : Names) (rows : List (Row A)) (s : Statement) : Type 0 where
   before : List (Row A)
   row : Row A
@@ -51,7 +51,7 @@ comes all (row ∷ more) s h =
     record { before = row ∷ f.before; row = f.row; after = f.after; split = ap (λ rows. row ∷ rows) f.split; is = f.is })
     (Contains-append_cases (statement_of all row.place row.line.body) (statements_of all more) s h)
 
--- two rows of one list are one, or one stands before the other
+-- two rows of one list are the same, or one is before the other
 meeting : {X : Type 0} (xs ys : List X) (x y : X) (after more : List X) → xs ++ x ∷ after ≡ ys ++ y ∷ more
     → (x ≡ y) ⊎ ((mid : List X) × (ys ≡ xs ++ x ∷ mid)) ⊎ ((mid : List X) × (xs ≡ ys ++ y ∷ mid))
 meeting [] [] x y after more e = inl cc
@@ -66,7 +66,7 @@ meeting (z ∷ xs) (w ∷ ys) x y after more e =
       | inr (inr (mid, is)) ↦ inr (inr (mid, cc))
     ]
 
--- the first that passes a test, where all that pass are the same
+-- the first statement that passes a test, if all that pass are equal
 find-one : (p : Statement → Bool) (all : List Statement) (s : Statement) → Contains all s → p s ≡ true → ((t : Statement) → Contains all t → p t ≡ true → t ≡ s) → find p all ≡ Some s
 find-one p [] s (j, lt, e) h only = absurd (omega (arith, lt))
 find-one p (x ∷ xs) s among h only = by (p x) refl among (λ k. find-one p xs s k h (λ t (k, lt, g) q. only t (suc k, omega (arith, lt), g) q))
@@ -76,7 +76,7 @@ find-one p (x ∷ xs) s among h only = by (p x) refl among (λ k. find-one p xs 
     by false e (zero, lt, f) rest = absurd (false≢true (sym e ∙ ap p f ∙ h))
     by false e (suc j, lt, f) rest = ap (λ b. cond b (Some x) (find p xs)) e ∙ rest (j, omega (arith, lt), f)
 
--- an instruction of a line that is not refused
+-- the instruction of a line without an error
 coded : {A : Type 0} (all earlier : Names) (place : Place) (body : Body A) (i : Instr) → lacks_row place body ≡ false → place.mode ≡ mode_in earlier place.address body
     → refuse_operand all place body ≡ None → instr_in all place body ≡ Some i
     → (encoded i place.address ≡ Some (bytes_of all place body)) × (i.value < 65536) × (size earlier place.address body ≡ length_of i.mode)
@@ -114,7 +114,7 @@ module _ {A : Type 0} (source : List (Line A)) (p : Assembled) (is : IsMade sour
   abbrev bytes : Row A → List ℕ
   bytes row = bytes_of all row.place row.line.body
 
-  -- a statement's row
+  -- the row of a statement
   record Fits (s : Statement) : Type 0 where
     from : Comes all (source_rows source) s
     passed : Passed all from.before from.row
@@ -127,7 +127,7 @@ module _ {A : Type 0} (source : List (Line A)) (p : Assembled) (is : IsMade sour
       let k = passed-is source f.before f.after f.row is.accepted f.split in
       record { from = f; passed = k; at = ap (λ x. x.addr) f.is; long = ap (λ x. x.length) f.is ∙ sym k.long }
 
-  -- its bytes are held, below $C000
+  -- the image holds its bytes, below $C000
   held-at : (s : Statement) (f : Fits s) (a : ℕ) → Holds s a → held p.image a ≡ Some (get_or (bytes f.from.row) (a - s.addr) 0)
   held-at s f a h =
       is.laid a ∙ ap (λ rows. image all rows a) f.from.split
@@ -136,7 +136,7 @@ module _ {A : Type 0} (source : List (Line A)) (p : Assembled) (is : IsMade sour
   room : (s : Statement) → Fits s → 0 < s.length → s.addr + s.length ≤ 49152
   room s f lt = omega (arith, f.at, f.long, f.passed.long, place-room f.from.row.place f.passed.keeps.inside)
 
-  -- an instruction's bytes
+  -- the bytes of an instruction
   code : (s : Statement) (f : Fits s) (i : Instr) → s.instr ≡ Some i → (encoded i s.addr ≡ Some (bytes f.from.row)) × (i.value < 65536) × (s.length ≡ length_of i.mode)
   code s f i of-s =
       let k = f.passed in
@@ -168,7 +168,7 @@ module _ {A : Type 0} (source : List (Line A)) (p : Assembled) (is : IsMade sour
       fetched-back i s.addr (bytes f.from.row) (omega (arith, below, e.2, length-some i.mode)) e.1 e.0 peek
       (shows-below peek s.addr (bytes f.from.row) (omega (arith, below, f.long)) shown)
 
-  -- a row holds no byte where an earlier one does
+  -- a row has no byte at an address where an earlier row has one
   clash : (before mid : List (Row A)) (row other : Row A) (a : ℕ) → Passed all before row → Passed all (before ++ row ∷ mid) other
       → row.place.address ≤ a → a < row.place.address + length (bytes row) → other.place.address ≤ a → a < other.place.address + length (bytes other) → ⊥
   clash before mid row other a k l from below other_from other_below =
@@ -213,6 +213,6 @@ module _ {A : Type 0} (source : List (Line A)) (p : Assembled) (is : IsMade sour
     outside = λ a le. is.laid a ∙ none-outside source [] (source_rows source) a is.accepted refl le;
   }
 
--- the same of a program by any layout
+-- the same for a program by any layout
 pub program-sound : {A : Type 0} (source : List (Line A)) (p : Assembled) → IsProgram source p → IsSound p
 program-sound source p is = made-sound source p (made-of source p is)

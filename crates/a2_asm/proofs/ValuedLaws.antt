@@ -1,4 +1,4 @@
--- Where nothing is refused, what lines say has values.
+-- If there is no error, everything in the lines has a value.
 use Rattle.std.specs.Prelude.{◌≡◌, false, List, ◌∷◌, ◌++◌, None, IfSome}
 use Rattle.std.proofs.Common.{arith, subst}
 use Rattle.std.proofs.lemmas.Bool.{not-false}

@@ -1,5 +1,6 @@
--- Every refusal of a source that is known at once: the first, and those of other lines. Where each line may lie in its place,
--- those are of values; else they are of names and forms, which hang on no place and no value. This project's profile.
+-- All errors of a source that can be known at once: the first one, and those of other lines. If the layout has no
+-- error, these are errors in values. Otherwise they are errors in names and forms, which depend on no address and no
+-- value. This project's profile.
 use Rattle.std.specs.Prelude.{◌≡◌, ◌⊎◌, ℕ, ◌+◌, ◌==◌, not, List, [], ◌∷◌, ◌++◌, length, fold, filter, filter_map, Option, None, is_some, if◌then◌else◌}
 use Rattle.std.specs.List.{list_all, cons_option}
 use Rattle.std.specs.Option.{option_map_or}
@@ -20,12 +21,12 @@ use Rattle.a2_asm.specs.Layout.{Row, IsLayout, defined_by, names}
 use Rattle.a2_asm.specs.Programs.{IsProgram}
 use Rattle.a2_asm.specs.Refusals.{first_behind, is_taken, refuse_place, refuse_operand, IsLayoutRefusal}
 
--- what a check that sees what stands before each element refuses in a list
+-- the errors that a check finds in a list, if the check also sees the elements before each one
 abbrev pub each_behind : {X : Type 0} → (List X → X → Option Fault) → List X → List X → List Fault
 each_behind check before [] = []
 each_behind check before (x ∷ xs) = cons_option (check before x) (each_behind check (before ++ x ∷ []) xs)
 
--- names with a label more, where it is not among them; what it stands for is not asked
+-- adds a label to the names if it is not among them; its value does not matter
 abbrev pub with_label : Names → Option (List ℕ) → Names
 with_label earlier label = if is_taken earlier label then earlier else earlier ++ defined_by label 0
 
@@ -33,20 +34,20 @@ with_label earlier label = if is_taken earlier label then earlier else earlier +
 abbrev pub labels : {A : Type 0} → List (Line A) → Names
 labels lines = fold (λ earlier line. with_label earlier line.label) [] lines
 
--- a name that is defined nowhere
+-- a name that no line defines
 abbrev pub refuse_name : {A : Type 0} → Names → ℕ → Expr A → Option Fault
 refuse_name all number e = refuse_if (not (is_known all e)) (faults.Unknown number)
 
--- in ORG, EQU and DS: that, and a name that no earlier line defines
+-- in ORG, EQU and DS: the same, and a name that no earlier line defines
 abbrev pub refuse_early : {A : Type 0} → Names → Names → ℕ → Expr A → Option Fault
 refuse_early all earlier number e =
     refuse_name all number e otherwise refuse_if (not (is_known earlier e)) (faults.Forward number)
 
--- in DFB and DW: a name that is defined nowhere
+-- in DFB and DW: a name that no line defines
 abbrev pub refuse_unknown : {A : Type 0} → Names → ℕ → List (Expr A) → Option Fault
 refuse_unknown all number es = refuse_if (not (list_all (is_known all) es)) (faults.Unknown number)
 
--- what the form of a line's body, which hangs on no place, and its names are refused for
+-- the error in the form of a line's body, or in its names; neither depends on an address
 abbrev pub refuse_words : {A : Type 0} → Names → Names → ℕ → Body A → Option Fault
 refuse_words all earlier number (Instr m operand) =
     refuse_if (not (has_mode m (mode_of earlier 0 m operand))) (faults.NoMode number) otherwise
@@ -58,38 +59,38 @@ refuse_words all earlier number (Dfb es) = refuse_unknown all number es
 refuse_words all earlier number (Dw es) = refuse_unknown all number es
 refuse_words all earlier number body = None
 
--- what the label, the names and the form of a line are refused for, behind the lines that define earlier names
+-- the error in a line's label, names or form, given the names that earlier lines define
 abbrev pub refuse_names_in : {A : Type 0} → Names → Names → ℕ → Line A → Option Fault
 refuse_names_in all earlier number line =
     refuse_if (is_taken earlier line.label) (faults.Duplicate number) otherwise refuse_words all earlier number line.body
 
--- the same of a line behind these
+-- the same for a line after the given lines
 abbrev pub refuse_by_names : {A : Type 0} → Names → List (Line A) → Line A → Option Fault
 refuse_by_names all before line = refuse_names_in all (labels before) (length before + 1) line
 
--- of each line what its names and its form are refused for
+-- for each line that has one, the error in its names or its form
 abbrev pub by_names : {A : Type 0} → List (Line A) → List Fault
 by_names source = each_behind (refuse_by_names (labels source)) [] source
 
--- of each line in its place what its values are refused for
+-- for each line at its place that has one, the error in its values
 abbrev pub by_values : {A : Type 0} → Names → List (Row A) → List Fault
 by_values all rows = filter_map (λ row. refuse_operand all row.place row.line.body) rows
 
--- what each line is refused for
+-- the error of each line that has one
 abbrev pub each_refusal : {A : Type 0} → List (Line A) → List (Row A) → List Fault
 each_refusal source rows =
     if is_some (first_behind (refuse_place (names rows)) [] rows) then by_names source else by_values (names rows) rows
 
--- a refusal, and those of other lines
+-- an error, followed by those of other lines
 abbrev pub first_and_others : Fault → List Fault → List Fault
 first_and_others first told = first ∷ filter (λ fault. not (fault_line fault == fault_line first)) told
 
--- all that is told of lines that are refused
+-- all errors reported for lines that have one
 abbrev pub AreOfRefused : List BareLine → List Fault → Type 0
 AreOfRefused source told =
     (first : Fault) × (layout : List (Row NoAllocator))
     × IsLayoutRefusal source first × IsLayout source layout × (told ≡ first_and_others first (each_refusal source layout))
 
--- all that is told of the layout of lines: nothing where they make a program
+-- all errors reported for the layout of lines; an empty list if they form a program
 abbrev pub AreLayoutRefusals : List BareLine → List Fault → Type 0
 AreLayoutRefusals source told = ((told ≡ []) × (program : Assembled) × IsProgram source program) ⊎ AreOfRefused source told

@@ -1,4 +1,5 @@
--- The layout as the first pass finds it, row behind row. No public clause cites this file: they speak of any layout.
+-- The layout as the first pass computes it, row after row. No public clause cites this file; public clauses refer to
+-- any layout.
 use Rattle.std.specs.Prelude.{ℕ, ◌+◌, List, [], ◌∷◌, ◌++◌, length, Option}
 use Rattle.a2_syntax.specs.declared.fault.Fault.{Fault}
 use Rattle.a2_syntax.specs.declared.source.Body.{Body}
@@ -8,11 +9,11 @@ use Rattle.a2_asm.specs.Values.{Names}
 use Rattle.a2_asm.specs.Layout.{Row, mode_in, size, next_of, label_of, names, end_of}
 use Rattle.a2_asm.specs.Refusals.{refusal_in}
 
--- the place of a line behind lines that define these names
+-- the place of a line, given the names that earlier lines define
 abbrev pub place_behind : {A : Type 0} → Names → ℕ → ℕ → Body A → Place
 place_behind earlier number here body = record { number = number; address = here; length = size earlier here body; mode = mode_in earlier here body }
 
--- the row of a line that lies behind these rows
+-- the row of a line that follows these rows
 abbrev pub row_behind : {A : Type 0} → List (Row A) → Line A → Row A
 row_behind before line = record {
   line = line;
@@ -21,15 +22,15 @@ row_behind before line = record {
   label = label_of (names before) (end_of before) line.body;
 }
 
--- the rows of lines behind these rows
+-- the rows of lines that follow these rows
 abbrev pub rows_behind : {A : Type 0} → List (Row A) → List (Line A) → List (Row A)
 rows_behind before [] = []
 rows_behind before (line ∷ lines) = row_behind before line ∷ rows_behind (before ++ row_behind before line ∷ []) lines
 
--- the lines of a source in their places
+-- the lines of a source at their places
 abbrev pub source_rows : {A : Type 0} → List (Line A) → List (Row A)
 source_rows source = rows_behind [] source
 
--- the first refusal of the lines of a source in these rows
+-- the first error of the lines of a source with these rows
 abbrev pub layout_refusal : {A : Type 0} → List (Line A) → Option Fault
 layout_refusal source = refusal_in source (source_rows source)

@@ -1,4 +1,4 @@
--- What the assembler makes of a source, and what holds of every program. This project's profile.
+-- The program of a source, and what holds of every program. This project's profile.
 use Rattle.std.specs.Prelude.{◌≡◌, ℕ, ◌+◌, ◌<◌, ◌≤◌, Bool, ◌&&◌, ◌==◌, nat_lt, nat_le, IsTrue, List, find, Option, Some, None, is_some, Contains}
 use Rattle.std.specs.List.{list_any}
 use Rattle.std.specs.Option.{option_map_or}
@@ -14,7 +14,7 @@ use Rattle.a2_asm.specs.Layout.{Row as PlacedLine, IsLayout, names}
 use Rattle.a2_asm.specs.Bytes.{image, statements_of, first_instruction}
 use Rattle.a2_asm.specs.Refusals.{refusal_in}
 
--- an instruction that begins at an address
+-- whether a statement is an instruction that begins at this address
 abbrev pub begins_at : ℕ → Statement → Bool
 begins_at a s = s.addr == a && is_some s.instr
 
@@ -22,15 +22,15 @@ begins_at a s = s.addr == a && is_some s.instr
 abbrev pub instr_at : List Statement → ℕ → Option Instr
 instr_at all a = option_map_or (λ s. s.instr) (find (begins_at a) all) None
 
--- an instruction with a byte at an address
+-- whether a statement is an instruction that has a byte at this address
 abbrev pub covers : ℕ → Statement → Bool
 covers a s = is_some s.instr && nat_le s.addr a && nat_lt a (s.addr + s.length)
 
--- an address of an instruction's byte
+-- whether an address holds a byte of an instruction
 abbrev pub is_code : List Statement → ℕ → Bool
 is_code all a = list_any (covers a) all
 
--- the program of a source that is not refused
+-- the program of a source without errors
 pub record IsProgram {A : Type 0} (source : List (Line A)) (p : Assembled) : Type 0 where
   pub layout : List (PlacedLine A)
   pub is_layout : IsLayout source layout
@@ -40,25 +40,25 @@ pub record IsProgram {A : Type 0} (source : List (Line A)) (p : Assembled) : Typ
   pub stated : p.statements ≡ statements_of (names layout) layout
   pub begins : first_instruction layout ≡ Some p.entry
 
--- a memory shows the bytes of code as they were laid
+-- a memory that holds the bytes of code as they were laid
 abbrev pub ShowsCode : Assembled → (ℕ → Option ℕ) → Type 0
 ShowsCode p byte_at = (a : ℕ) → IsTrue (is_code p.statements a) → byte_at a ≡ held p.image a
 
--- where a memory shows the bytes of code, the processor finds at each instruction statement's address the statement's
--- instruction, by its row of the table
+-- if memory holds the bytes of code, decoding at the address of each instruction statement gives that instruction, by
+-- its row of the table
 abbrev pub StatementsDecode : Assembled → Type 0
 StatementsDecode p =
     (byte_at : ℕ → Option ℕ) → ShowsCode p byte_at →
     (s : Statement) (i : Instr) → Contains p.statements s → s.instr ≡ Some i →
     (found : Row) × (row i.mnemonic i.mode ≡ Some found) × (fetched byte_at s.addr ≡ instruction found i.value)
 
--- each instruction statement is the one that begins at its address, which is the first of its bytes' addresses
+-- each instruction statement is the one that begins at its address, which is the first address of its bytes
 abbrev pub StatementsBegin : Assembled → Type 0
 StatementsBegin p =
     (s : Statement) (i : Instr) → Contains p.statements s → s.instr ≡ Some i →
     (instr_at p.statements s.addr ≡ Some i) × IsTrue (is_code p.statements s.addr) × (s.length ≡ length_of i.mode)
 
--- a byte of a statement lies at an address
+-- a statement has a byte at this address
 abbrev pub Holds : Statement → ℕ → Type 0
 Holds s a = (s.addr ≤ a) × (a < s.addr + s.length)
 
@@ -79,11 +79,11 @@ CodeIsHeld p = (a : ℕ) → IsTrue (is_code p.statements a) → (byte : ℕ) ×
 abbrev pub EntryBegins : Assembled → Type 0
 EntryBegins p = (i : Instr) × (instr_at p.statements p.entry ≡ Some i)
 
--- nothing is held behind RAM
+-- the image has no byte past the end of RAM
 abbrev pub ImageInRam : Assembled → Type 0
 ImageInRam p = (a : ℕ) → ram_end ≤ a → held p.image a ≡ None
 
--- what holds of every program, of whatever source; a run and a debugger rest on it
+-- what holds of the program of any source; running and debugging rely on it
 pub record IsSound (p : Assembled) : Type 0 where
   pub decodes : StatementsDecode p
   pub begins : StatementsBegin p
@@ -93,7 +93,7 @@ pub record IsSound (p : Assembled) : Type 0 where
   pub enters : EntryBegins p
   pub outside : ImageInRam p
 
--- the same names, statements and entry, and the same byte or none at each address
+-- the same names, statements and entry, and at each address the same byte or none
 pub record AreAlike (p q : Assembled) : Type 0 where
   pub names_are : p.names ≡ q.names
   pub statements_are : p.statements ≡ q.statements

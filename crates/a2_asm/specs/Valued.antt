@@ -1,4 +1,4 @@
--- That what accepted lines say has values: none that stands in for a missing one is used. This project's profile.
+-- Accepted lines have values: no default for a missing value is ever used. This project's profile.
 use Rattle.std.specs.Prelude.{◌≡◌, ℕ, true, List, ◌∷◌, ◌++◌, Some, None, IfSome, is_some}
 use Rattle.std.specs.List.{list_all}
 use Rattle.a2_opcode.specs.Encoding.{encoded}
@@ -14,15 +14,16 @@ use Rattle.a2_asm.specs.Layout.{Row, IsLayout, names}
 use Rattle.a2_asm.specs.Bytes.{instr_of}
 use Rattle.a2_asm.specs.Refusals.{refusal_in}
 
--- each name of an expression is known, and its value is from 0 to a greatest one
+-- every name of an expression is known, and its value is from 0 to the given maximum
 abbrev pub HasValue : {A : Type 0} → Names → ℕ → ℕ → Expr A → Type 0
 HasValue known most here e = (is_known known e ≡ true) × (is_some (value_within known most here e) ≡ true)
 
--- and so of each of some expressions
+-- the same for each expression of a list
 abbrev pub HaveValues : {A : Type 0} → Names → ℕ → ℕ → List (Expr A) → Type 0
 HaveValues known most here es = (list_all (is_known known) es ≡ true) × (list_all (λ e. is_some (value_within known most here e)) es ≡ true)
 
--- what a line says has values: in ORG, EQU and DS by the names of earlier lines, else by all; and an instruction has bytes
+-- a line has all its values: in ORG, EQU and DS by the names of earlier lines, otherwise by all names; an instruction
+-- has bytes
 abbrev pub HasItsValues : {A : Type 0} → Names → Names → Place → Body A → Type 0
 HasItsValues all earlier place (Instr m operand) =
     IfSome (expr_of operand) (HasValue all (greatest place.mode) place.address)
@@ -34,7 +35,7 @@ HasItsValues all earlier place (Dfb es) = HaveValues all 255 place.address es
 HasItsValues all earlier place (Dw es) = HaveValues all 65535 place.address es
 HasItsValues all earlier place body = Unit {0}
 
--- where nothing is refused in the layout of lines, each line has its values
+-- if the layout of some lines has no error, each line has its values
 abbrev pub AcceptedHaveTheirValues : Type 0
 AcceptedHaveTheirValues =
     (source : List BareLine) (layout before after : List (Row NoAllocator)) (row : Row NoAllocator)

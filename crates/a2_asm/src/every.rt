@@ -1,4 +1,4 @@
-//! Every refusal of a source that is known at once.
+//! All errors of a source that can be known at once.
 
 ghost use Rattle.std.specs.Prelude.{◌≡◌, ◌≢◌, ◌≤◌, ◌==◌, [], false, not, None, length, map, IfOk, OnOk};
 ghost use Rattle.a2_syntax.specs.Texts.{fault_line};
@@ -21,7 +21,7 @@ use a2_syntax::{Body, Fault, Line, Source};
 use indexmap::IndexMap;
 use std::alloc::{AllocError, Allocator};
 
-/// A refusal, but want of memory by itself.
+/// Returns the given error, or `AllocError` if it is `Memory`.
 pub fn refused(fault: Fault) -> Result<Fault, AllocError>
     ensures same { IfOk result (λ refusal. refusal ≡ fault) }
     ensures source { IfOk result (λ _. fault ≢ Fault.Memory) }
@@ -32,7 +32,7 @@ pub fn refused(fault: Fault) -> Result<Fault, AllocError>
     }
 }
 
-// Adds the label of a line, if there is one that is not among the names.
+// Adds the label of a line to the names, if the line has one that is not yet among them.
 fn add_label<A: Allocator + Copy>(
     alloc: A,
     known: &mut Names<A>,
@@ -46,7 +46,7 @@ fn add_label<A: Allocator + Copy>(
     define(alloc, known, line, 0).or(Err(AllocError))
 }
 
-// The labels of lines.
+// Returns the labels of the lines.
 fn labels<A: Allocator + Copy>(alloc: A, lines: &[Line<A>]) -> Result<Names<A>, AllocError>
     ensures { IfOk result (λ known. entries known ≡ every.labels lines.now) }
 {
@@ -57,7 +57,7 @@ fn labels<A: Allocator + Copy>(alloc: A, lines: &[Line<A>]) -> Result<Names<A>, 
     Ok(known)
 }
 
-// Why a line is refused, by its label, its form and the names in it.
+// Returns the error in a line's label, its form or its names, if there is one.
 fn refuse_names_in<A: Allocator>(
     all: &Names<A>,
     earlier: &Names<A>,
@@ -87,7 +87,7 @@ fn refuse_names_in<A: Allocator>(
     }
 }
 
-// Of each line why it is refused, by its label, its form and the names in it.
+// Returns, for each line that has one, the error in its label, its form or its names.
 fn by_names<A: Allocator + Copy>(alloc: A, lines: &[Line<A>]) -> Result<Vec<Fault, A>, AllocError>
     requires { length lines.now ≤ 4096 }
     ensures { IfOk result (λ faults. faults.items ≡ every.by_names lines.now) }
@@ -106,7 +106,7 @@ fn by_names<A: Allocator + Copy>(alloc: A, lines: &[Line<A>]) -> Result<Vec<Faul
     Ok(faults)
 }
 
-// Of each line in its place why one of its values is refused.
+// Returns, for each line that has one, the error in its values. The lines are at their places.
 fn by_values<A: Allocator + Copy>(
     alloc: A,
     lines: &[Line<A>],
@@ -128,7 +128,7 @@ fn by_values<A: Allocator + Copy>(
     Ok(faults)
 }
 
-// What each line is refused for.
+// Returns the error of each line that has one.
 fn each_refusal<A: Allocator + Copy>(
     alloc: A,
     lines: &[Line<A>],
@@ -145,7 +145,7 @@ fn each_refusal<A: Allocator + Copy>(
     }
 }
 
-// A refusal, and those of other lines.
+// Returns an error, followed by the errors of other lines.
 fn first_and_others<A: Allocator>(
     alloc: A,
     first: Fault,
@@ -163,11 +163,19 @@ fn first_and_others<A: Allocator>(
     Ok(faults)
 }
 
-/// The refusals of a source that are known at once; none where it makes a program. The first is that of `assemble`, and behind
-/// it stand those of other lines, in their order. Where each line may lie in its place, these are of values: a name that is
-/// defined nowhere, a value out of range, a branch that goes too far. Else they are of names and forms, which hang on no place:
-/// a label of an earlier line, in ORG, EQU or DS a name that no earlier line defines, a name that is defined nowhere, a form
-/// that the table lacks. Refused only for want of memory. This project's profile.
+/// Returns all errors of a source that can be known at once, or an empty list if the source assembles. The first
+/// error is the one that `assemble` returns. The errors of other lines follow in line order.
+///
+/// If the layout has no error, these are errors in values: a name that no line defines, a value out of range, a
+/// branch target that is too far away. Otherwise they are errors in names and forms, which do not depend on
+/// addresses:
+///
+/// - an earlier line with the same label
+/// - a name in ORG, EQU or DS that no earlier line defines
+/// - a name that no line defines
+/// - a form that the instruction table lacks
+///
+/// Fails only if memory runs out. This project's profile.
 pub fn refusals<A: Allocator + Copy>(
     alloc: A,
     source: &Source<A>,

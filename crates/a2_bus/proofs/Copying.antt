@@ -1,4 +1,4 @@
--- Bytes copied piece by piece.
+-- Bytes that are copied piece by piece.
 use Rattle.std.specs.Prelude.{◌≡◌, ℕ, ◌+◌, ◌≤◌, List, length, take, drop}
 use Rattle.std.proofs.Common.{ap, ◌∙◌, arith}
 use Rattle.std.proofs.Math.Seq.{take-add}
@@ -6,7 +6,7 @@ use Rattle.std.proofs.lemmas.List.{length-take-le, length-drop}
 use Rattle.std.proofs.lemmas.Slice.{take-put_mid}
 use borrow.Rule.Slice.PartMut.{put_mid}
 
--- a piece more, behind those that are copied
+-- one more piece is copied, after those already copied
 pub piece_copied : (ram other cells : List ℕ) (start : ℕ) → start + 3072 ≤ length ram → start + 3072 ≤ length other
     → cells ≡ take 3072 (drop start other) → take start ram ≡ take start other
     → take (start + 3072) (put_mid start 3072 ram cells) ≡ take (start + 3072) other

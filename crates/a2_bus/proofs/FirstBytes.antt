@@ -1,4 +1,4 @@
--- The byte at an address of the memory that bytes and devices stand for, and of the memory at the start.
+-- The byte at an address, in the memory that bytes and devices represent and in the memory at the start.
 use Rattle.std.specs.Prelude.{◌≡◌, ℕ, ◌<◌, List, Option, Some, None}
 use Rattle.std.proofs.Common.{ap, ◌∙◌, refl}
 use Rattle.a2_page.specs.declared.Page.{Page}
@@ -13,7 +13,7 @@ use Rattle.a2_bus.specs.View.{memory_from}
 use Rattle.a2_bus.specs.PowerOn.{first_devices, loaded_byte, start_memory}
 use Rattle.a2_bus.proofs.Frame.{byte_of}
 
--- a memory made from a function shows it
+-- a memory made from a function has the bytes of that function
 pub ram_byte-from : (byte_at : ℕ → ℕ) (devices : Devices) (a : ℕ) → ram_byte (memory_from byte_at devices) a ≡ byte_at a
 unfolding ram_byte
 ram_byte-from byte_at devices a = go (cell_at a) refl
@@ -28,7 +28,7 @@ ram_byte-from byte_at devices a = go (cell_at a) refl
         in_page cell.page cell.row cell.column stands.row_ok stands.column_ok ∙ ap byte_at stands.address_is
     go None is = ap (λ f. elim f [ Some cell ↦ 0 | None ↦ byte_at a ]) is
 
--- at the start it is the image's byte, or the first value where the image has none
+-- at the start it is the byte of the image, or the first value if the image has none
 pub ram_byte-start : (image : ℕ → Option ℕ) (keys : List ℕ) (a : ℕ) → ram_byte (start_memory image keys) a ≡ loaded_byte image a
 unfolding start_memory
 ram_byte-start image keys a = ram_byte-from (loaded_byte image) (first_devices keys) a

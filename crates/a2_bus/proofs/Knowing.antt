@@ -1,4 +1,4 @@
--- A board's bytes and devices tell the memory that it holds.
+-- A board's bytes and devices determine the memory that it holds.
 use Rattle.std.proofs.Common.{sym, ◌∙◌}
 use Rattle.a2_page.specs.declared.Page.TheVariants.{One, Two}
 use Rattle.a2_bus.specs.View.{EachBoardHasOneMemory}

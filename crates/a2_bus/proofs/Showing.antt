@@ -1,4 +1,4 @@
--- What a view of a board's memory shows is what the memory does.
+-- A view of a board's memory shows what the memory shows.
 use Rattle.std.specs.Prelude.{◌≡◌}
 use Rattle.a2_page.specs.declared.View.{View}
 use Rattle.a2_page.specs.Picture.{page_grid, shown_by, shown_page, picture}

@@ -1,4 +1,4 @@
--- What contracts see of a board: its bus, and the picture that it keeps of the screen. This project's profile.
+-- What contracts see of a board: its bus, and the copy that it keeps of the screen. This project's profile.
 use Rattle.std.specs.Prelude.{ℕ, Bool, if◌then◌else◌}
 use Rattle.a2_text.specs.Bytes.{is_between}
 use Rattle.a2_page.specs.Grid.{Grid}
@@ -16,11 +16,11 @@ pub record BoardState : Type 0 where
 abbrev pub page_shown : BusState → Grid
 page_shown bus = let memory = memory_of bus in shown_page memory.devices.switches memory.page1 memory.page2
 
--- a row may have changed since it was last printed: it has a mark, or the kept row is not that of the shown page
+-- a row may have changed since it was last printed: it has a mark, or the kept row differs from that of the shown page
 abbrev pub IsMarked : BusState → KeptPicture → ℕ → Type 0
 IsMarked bus picture row = IsStale picture (page_shown bus) row
 
--- the address of a display switch: they stand in a row
+-- the address is that of a display switch; the switches have consecutive addresses
 abbrev pub is_switch : ℕ → Bool
 is_switch address = is_between at.txtclr at.hires address
 

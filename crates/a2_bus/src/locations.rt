@@ -1,7 +1,7 @@
-//! Locations by the manual's names. Apple II Reference Manual (1979): the keyboard and the switches on pages 6, 12 and 79, the
-//! text window and the Monitor's special locations.
+//! Memory locations under the names of the manual. Apple II Reference Manual (1979): the keyboard and the switches on
+//! pages 6, 12 and 79, the text window, and the Monitor's special locations.
 
-/// The keyboard: a read gives the first waiting key with bit 7 set, or else the last key taken.
+/// The keyboard: a read gives the first waiting key with bit 7 set, or the last key taken if none waits.
 pub const KBD: u16 = 0xC000;
 
 /// The keyboard's strobe: an access takes the first waiting key.
@@ -13,7 +13,7 @@ pub const TXTCLR: u16 = 0xC050;
 /// The switch to text.
 pub const TXTSET: u16 = 0xC051;
 
-/// The switch to graphics, or text, alone.
+/// The switch to a full screen of graphics or text.
 pub const MIXCLR: u16 = 0xC052;
 
 /// The switch to graphics with four rows of text.
@@ -40,7 +40,7 @@ pub const WNDWDTH: u16 = 0x21;
 /// The window's first row.
 pub const WNDTOP: u16 = 0x22;
 
-/// The row behind the window's last.
+/// The row after the window's last.
 pub const WNDBTM: u16 = 0x23;
 
 /// The cursor's column in the window.
@@ -61,30 +61,30 @@ pub const H2: u16 = 0x2C;
 /// The row at which VLINE's column of blocks ends.
 pub const V2: u16 = 0x2D;
 
-/// The colour that blocks take: in its low half for rows above, in its high half for rows below.
+/// The colour in which blocks are plotted: the low half is for upper blocks, the high half for lower blocks.
 pub const COLOR: u16 = 0x30;
 
-/// The mask of characters that are put.
+/// The mask that is applied to characters before they are stored on the screen.
 pub const INVFLG: u16 = 0x32;
 
-/// The byte that GETLN puts first.
+/// The byte that GETLN prints first.
 pub const PROMPT: u16 = 0x33;
 
-/// The output hook: the address, low byte first, at which COUT and CROUT go on.
+/// The output hook: the address, low byte first, to which COUT and CROUT jump.
 pub const CSW: u16 = 0x36;
 
-/// The input hook: the address, low byte first, at which RDKEY goes on.
+/// The input hook: the address, low byte first, to which RDKEY jumps.
 pub const KSW: u16 = 0x38;
 
-/// Where the output hook leads at the start: the service that puts a byte.
+/// The address in the output hook at the start: the service that prints a byte.
 pub const COUT1: u16 = 0xFDF0;
 
-/// Where the input hook leads at the start: the service that takes a key.
+/// The address in the input hook at the start: the service that takes a key.
 pub const KEYIN: u16 = 0xFD1B;
 
-/// Where at the start a last RTS pulls its address from, and the address behind it: the top of the stack. This project's
-/// profile.
+/// At the start, the last RTS pulls its return address from this location and the next one, the top of the stack. This
+/// project's profile.
 pub const LAST_RETURN: u16 = 0x01FE;
 
-/// Where that RTS goes. This project's profile.
+/// The address to which that RTS returns. This project's profile.
 pub const RETURN_ADDRESS: u16 = 0xFF69;

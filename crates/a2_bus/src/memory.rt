@@ -12,27 +12,27 @@ use a2_hex::RAM_END;
 /// RAM by itself: the bytes at $0000 to $BFFF.
 pub type Ram = [u8; RAM_END as usize];
 
-/// A memory as instructions load and store its bytes.
+/// A memory whose bytes instructions load and store.
 pub trait Memory {
     /// What contracts see of a memory.
     ghost Seen: { Type 0 };
 
-    /// That of this one.
+    /// What they see of this one.
     ghost seen: { Self → Seen };
 
-    /// What its loads and stores answer and leave.
+    /// What its loads return, and the state that its loads and stores leave.
     ghost access: { Access Seen };
 
     /// The addresses that it has.
     ghost Has: { ℕ → Type 0 };
 
-    /// The byte at `address`, one that it has. A device may change by that.
+    /// Loads the byte at `address`, which must be an address that it has. The load may change a device.
     fn load(&mut self, address: u16) -> u8
         requires { Has address }
         ensures value { result ≡ access.byte_at (seen self.old) address }
         ensures left { seen self.new ≡ access.after_read (seen self.old) address };
 
-    /// Stores `byte` at `address`, one that it has. A device may change by that.
+    /// Stores `byte` at `address`, which must be an address that it has. The store may change a device.
     fn store(&mut self, address: u16, byte: u8)
         requires { Has address }
         ensures { seen self.new ≡ access.after_write (seen self.old) address byte };
@@ -64,7 +64,7 @@ impl<B: Bus> Memory for B {
     ghost stack = { λ s low. tt };
 }
 
-/// RAM has those of its bytes, and no device.
+/// RAM has only the addresses of its bytes, and no devices.
 impl Memory for Ram {
     ghost Seen = { List ℕ };
 

@@ -1,5 +1,5 @@
-//! What the processor reads and writes: RAM, a keyboard and display switches. Apple II Reference Manual (1979), the memory map
-//! and pages 6, 12 and 79.
+//! What the processor reads and writes: RAM, a keyboard and display switches. Apple II Reference Manual (1979), the
+//! memory map and pages 6, 12 and 79.
 
 ghost use Rattle.std.specs.Prelude.{◌≡◌, ◌<◌, ◌≤◌, ◌++◌, ◌∷◌, [], ◌+◌, ◌%◌, ℕ, length, All, IfOk, IsOk, OnErr, OnOk, ◌↔◌, List, None, slice_index, slice_range, replicate, unwrap_or, true, false};
 ghost use Rattle.a2_bus.specs.Devices.{Devices, keyboard_byte, key_taken, device_byte, after_access, keys_typed, switched};
@@ -22,10 +22,10 @@ use arrayvec::ArrayVec;
 use std::alloc::{AllocError, Allocator, Global};
 use std::marker::Model;
 
-// How many bytes of RAM are copied at once.
+// How many bytes of RAM are copied at a time.
 const PIECE: usize = 3072;
 
-// Text of page 1.
+// Text mode, page 1.
 const FIRST_SWITCHES: Switches = Switches {
     text: true,
     mixed: false,
@@ -33,9 +33,9 @@ const FIRST_SWITCHES: Switches = Switches {
     hires: false,
 };
 
-/// The machine's 48K of RAM from address 0 on, its keyboard at $C000 and $C010, and its display switches at $C050 to $C057;
-/// any other address gives 0 and takes nothing. Contracts see the bytes of RAM, the switches, the keys not yet taken (0 to
-/// 127 each, 4,096 at most) and the last key taken.
+/// The machine's 48K of RAM from address 0, its keyboard at $C000 and $C010, and its display switches at $C050 to
+/// $C057. At any other address a read gives 0 and a write has no effect. Contracts see the bytes of RAM, the switches,
+/// the waiting keys (at most 4,096, each from 0 to 127) and the last key taken.
 pub struct AddressSpace<A: Allocator = Global> {
     ram: Vec<u8, A>,
     keys: ArrayVec<u8, 4096>,
@@ -43,7 +43,7 @@ pub struct AddressSpace<A: Allocator = Global> {
     switches: Switches,
 }
 
-// Not derived, for the prover alone: it follows this as one call, and a derived one field by field.
+// Not derived, because the prover sees this drop as one call, and a derived one as a call for each field.
 impl<A: Allocator> Drop for AddressSpace<A> {
     fn drop(self) {
         let AddressSpace {
@@ -75,9 +75,9 @@ impl<A: Allocator> AddressSpace<A> {
     ghost use Rattle.a2_bus.specs.contracts.space.AddressSpace.{the_row};
     ghost use Rattle.a2_bus.specs.Lending.{with_bytes};
 
-    /// The machine at its start, with nothing loaded and its RAM in memory of `alloc`: page 1 blank, the window the whole
-    /// screen, the cursor at its top left, text of page 1 and no keys. This project's profile. Refused only for want of
-    /// memory.
+    /// Returns the machine at its start, with nothing loaded, and with its RAM in memory of `alloc`. Page 1 is blank,
+    /// the window is the whole screen, the cursor is at its top left, the screen shows the text of page 1, and no key
+    /// waits. This project's profile. Fails only if memory runs out.
     pub fn new(alloc: A) -> Result<AddressSpace<A>, AllocError>
         ensures memory { IfOk result (λ b. memory_of b ≡ start_memory (λ _. None) []) }
         ensures bytes { IfOk result (λ b. (a : ℕ) → a < ram_end → slice_index b.bytes a ≡ first_byte a) }
@@ -94,8 +94,9 @@ impl<A: Allocator> AddressSpace<A> {
         })
     }
 
-    /// Makes this the machine at its start, whatever it was, with `image` laid over its RAM: at each address the image's
-    /// byte, or the start's where it has none. No key waits and none was taken. This project's profile.
+    /// Resets this to the machine at its start, whatever its state was, with `image` laid over its RAM. Each address
+    /// holds the image's byte, or the byte of the start if the image has none. No key waits, and none was taken before.
+    /// This project's profile.
     pub fn load<C: Allocator>(&mut self, image: &Image<C>)
         ensures memory { memory_of self.new ≡ start_memory (held image.now) [] }
         ensures bytes { (a : ℕ) → a < ram_end → slice_index self.new.bytes a ≡ unwrap_or (held image.now a) (first_byte a) }
@@ -108,7 +109,7 @@ impl<A: Allocator> AddressSpace<A> {
         self.switches = FIRST_SWITCHES;
     }
 
-    /// The keys not yet taken, 4,096 at most and each from 0 to 127, the next one first.
+    /// Returns the keys that are still waiting, the next one first: at most 4,096, each from 0 to 127.
     pub fn waiting(&self) -> &[u8]
         ensures keys { result.now ≡ self.now.devices.keys }
         ensures codes { All (λ k. k < 128) self.now.devices.keys }
@@ -117,7 +118,7 @@ impl<A: Allocator> AddressSpace<A> {
         self.keys.as_slice()
     }
 
-    /// Types `keys`, in order, behind those that wait. Refused exactly where more than 4,096 would wait, and then nothing
+    /// Types `keys`, in order, after those that wait. Fails exactly if more than 4,096 would wait, and then nothing
     /// changes. This project's profile.
     pub fn type_keys(&mut self, keys: &Keys) -> Result<(), KeysFull>
         ensures room { IsOk result ↔ (length self.old.devices.keys + length keys.now ≤ 4096) }
@@ -128,8 +129,9 @@ impl<A: Allocator> AddressSpace<A> {
         typed.map_err(|_| KeysFull)
     }
 
-    /// The byte that a read of the keyboard at $C000 gives: the first waiting key with bit 7 set, 128 to 255, or else the last
-    /// key taken, 0 before any. Nothing changes. Apple II Reference Manual (1979), page 6.
+    /// Returns the byte that a read of the keyboard at $C000 gives: the first waiting key with bit 7 set, 128 to 255.
+    /// If no key waits, it is the last key taken, or 0 if none was taken yet. Nothing changes. Apple II Reference
+    /// Manual (1979), page 6.
     #[inline(always)]
     pub fn keyboard(&self) -> u8
         ensures { result ≡ keyboard_byte self.now.devices }
@@ -140,8 +142,8 @@ impl<A: Allocator> AddressSpace<A> {
         }
     }
 
-    /// Takes the first waiting key, as an access of the keyboard's strobe at $C010 does; where none waits nothing changes. Apple II
-    /// Reference Manual (1979), page 6.
+    /// Takes the first waiting key, as an access to the keyboard's strobe at $C010 does. If no key waits, nothing
+    /// changes. Apple II Reference Manual (1979), page 6.
     pub fn take_key(&mut self)
         ensures { self.new ≡ record self.old { devices = key_taken self.old.devices } }
     {
@@ -150,20 +152,21 @@ impl<A: Allocator> AddressSpace<A> {
         }
     }
 
-    /// Makes this space equal to `other` in all that contracts see of it: RAM, keys, the last key taken and switches.
+    /// Makes this space equal to `other` in everything that contracts see of it: RAM, keys, the last key taken and
+    /// switches.
     pub fn copy_from<C: Allocator>(&mut self, other: &AddressSpace<C>)
         ensures { self.new ≡ other.now }
     {
         copy_ram(self.ram.as_mut_slice(), other.ram.as_slice());
         self.keys.truncate(0);
-        // No more keys wait there than there is room for here, so the call does not refuse.
+        // `other` has at most as many waiting keys as there is room for here, so the call does not fail.
         let _ = self.keys.try_extend_from_slice(other.keys.as_slice());
         self.last_key = other.last_key;
         self.switches = other.switches;
     }
 
-    /// Moves `count` bytes of RAM, those from the address `from` on, to `to` and on; no other byte changes. Both ranges
-    /// lie below $C000, and may overlap.
+    /// Copies `count` bytes of RAM, starting at address `from`, to the addresses that start at `to`. No other byte
+    /// changes. Both ranges are below $C000, and may overlap.
     pub fn move_bytes(&mut self, from: u16, to: u16, count: u16)
         requires from { from + count ≤ ram_end }
         requires to { to + count ≤ ram_end }
@@ -177,8 +180,7 @@ impl<A: Allocator> AddressSpace<A> {
         self.ram.copy_within(first..end, usize::from(to));
     }
 
-    /// Makes `count` bytes of RAM, those from `address` on, all of them `byte`; no other byte changes. The range lies
-    /// below $C000.
+    /// Sets `count` bytes of RAM, starting at `address`, to `byte`. No other byte changes. The range is below $C000.
     pub fn fill_bytes(&mut self, address: u16, count: u16, byte: u8)
         requires { address + count ≤ ram_end }
         ensures filled { self.new ≡ record self.old { bytes = with_part self.old.bytes address (replicate count byte) } }
@@ -189,7 +191,7 @@ impl<A: Allocator> AddressSpace<A> {
         self.ram[first..end].fill(byte);
     }
 
-    /// RAM, the 49,152 bytes from address 0 on.
+    /// Returns RAM, the 49,152 bytes that start at address 0.
     pub fn ram(&self) -> &[u8]
         ensures bytes { result.now ≡ self.now.bytes }
         ensures size { length self.now.bytes ≡ ram_end }
@@ -197,7 +199,7 @@ impl<A: Allocator> AddressSpace<A> {
         self.ram.as_slice()
     }
 
-    /// The same, for a caller that reads and stores there alone.
+    /// Returns the same bytes, for a caller that reads and stores only in RAM.
     pub fn ram_mut(&mut self) -> &mut [u8]
         ensures* writes_back { sem 𝓛 (follows (the_row A.row A.Allocator) (Array byte 0)
             self.entry.ghost_name result.ghost_name (with_bytes self.old)) }
@@ -207,8 +209,8 @@ impl<A: Allocator> AddressSpace<A> {
         self.ram.as_mut_slice()
     }
 
-    /// What a screen shows now: the bytes of both text pages, those between the cells too, and the switches. Apple II
-    /// Reference Manual (1979), pages 12 to 20.
+    /// Returns what a screen shows now: all bytes of both text pages, including those that are not cells, and the
+    /// switches. Apple II Reference Manual (1979), pages 12 to 20.
     pub fn view(&self) -> View<'_>
         ensures bytes1 { result.page1.now ≡ slice_range self.now.bytes 0x0400 0x0800 }
         ensures bytes2 { result.page2.now ≡ slice_range self.now.bytes 0x0800 0x0C00 }
@@ -223,7 +225,7 @@ impl<A: Allocator> AddressSpace<A> {
         }
     }
 
-    // What any access of an address above RAM does.
+    // The effect of any access to an address above RAM.
     #[cold]
     #[inline(never)]
     fn touch(&mut self, address: u16)
@@ -256,8 +258,8 @@ impl<A: Allocator> AddressSpace<A> {
     }
 }
 
-// Makes RAM the bytes of another. Piece by piece: a C library moves large pieces in a way that is slower where both ends
-// stand in a cache near by.
+// Copies other RAM into this one, piece by piece. A C library moves a large piece in a way that is slower if both ends
+// are already in a nearby cache.
 fn copy_ram(ram: &mut [u8], other: &[u8])
     requires ram { length ram.old ≡ ram_end }
     requires other { length other.now ≡ ram_end }
@@ -270,7 +272,7 @@ fn copy_ram(ram: &mut [u8], other: &[u8])
     }
 }
 
-// The 1,024 bytes from an address on.
+// Returns the 1,024 bytes that start at an address.
 fn page_at(ram: &[u8], start: usize) -> &[u8; 1024]
     requires { start + 1024 ≤ length ram.now }
     ensures { result.now ≡ slice_range ram.now start (start + 1024) }

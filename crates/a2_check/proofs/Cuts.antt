@@ -1,4 +1,4 @@
--- The lines of a text hold no line feed, and a line and its end are a text of one line.
+-- The lines of a text contain no line feed, and a line with its end is a text of one line.
 use Rattle.std.proofs.Common.{◌≡◌, ◌≢◌, ℕ, ◌-◌, ◌≤◌, Bool, true, false, eqb, ltb, cond, List, [], ◌∷◌, ◌++◌, length, map, take, get_or, Bor, None, refl, sym, ap, ◌∙◌, subst, inl, inr, arith, length-append}
 use Rattle.std.specs.List.{All, slice_split, onto_first}
 use Rattle.std.specs.Str.Lines.{strip_carriage_return}
@@ -18,7 +18,7 @@ use Rattle.a2_syntax.proofs.OneReading.{refused-none}
 abbrev is_feed : ℕ → Bool
 is_feed c = eqb c 10
 
--- without a line feed
+-- a text without a line feed
 abbrev pub IsWhole : List ℕ → Type 0
 IsWhole line = All (λ c. c ≢ 10) line
 
@@ -65,7 +65,7 @@ unmapped (x ∷ xs) h =
     All-cons (λ (y : Bor (List ℕ)). IsWhole y.now) x xs (All-head IsWhole x.now (map (λ y. y.now) xs) h)
     (unmapped xs (All-tail IsWhole x.now (map (λ y. y.now) xs) h))
 
--- no line that was cut has a line feed
+-- no line of a text contains a line feed
 pub cut-whole : (text : List ℕ) (found : List (Bor (List ℕ))) → map (λ x. x.now) found ≡ lines text → All (λ x. IsWhole x.now) found
 cut-whole text found e = unmapped found (All-same IsWhole _ _ e (lines-whole text))
 
@@ -74,7 +74,7 @@ unended line =
     let count : length (line ++ 13 ∷ []) - 1 ≡ length line = omega (arith, length_push line 13) in
     rw (count, get_or-append_seam line 13 [] 0, take-append_seam line (13 ∷ [])) refl
 
--- a line behind which its end stands
+-- a line followed by its end
 pub one-line : (line text : List ℕ) → text ≡ line ++ 13 ∷ 10 ∷ [] → IsWhole line → lines text ≡ line ∷ []
 one-line line text e whole =
     let ready : All (λ c. is_feed c ≡ false) (line ++ 13 ∷ []) =
@@ -94,13 +94,13 @@ first-read : (line : List ℕ) (source : List BareLine) → AreLines (line ∷ [
 first-read line [] h = absurd h
 first-read line (read ∷ more) h = (read, h.0)
 
--- the line is in the grammar where the text is
+-- the line is in the grammar if the text of this one line is
 pub read-line : (line text : List ℕ) (source : List BareLine) → text ≡ line ++ 13 ∷ 10 ∷ [] → IsWhole line → IsSource text source → (read : BareLine) × IsLine line read
 read-line line text source e whole is =
     let P : List (List ℕ) → Type 0 = λ texts. AreLines texts source in
     first-read line source (subst P (one-line line text e whole) is.1)
 
--- and is not where the text is refused
+-- and it is not in the grammar if that text has an error
 pub unread-line : (line text : List ℕ) (fault : Fault) → text ≡ line ++ 13 ∷ 10 ∷ [] → IsWhole line → length line ≤ 255 → IsTextRefusal text fault → (read : BareLine) → IsLine line read → ⊥
 unread-line line text fault e whole short refused read is =
     let P : List (List ℕ) → Type 0 = λ texts. AreLines texts (read ∷ []) in

@@ -1,4 +1,4 @@
--- Marks none of which is set.
+-- A list of marks of which none is set.
 use Rattle.std.specs.Prelude.{get_or, replicate}
 use Rattle.std.proofs.Common.{◌≡◌, ◌⊎◌, inl, inr, ℕ, ◌<◌, ◌≤◌, false, arith}
 use Rattle.std.proofs.lemmas.List.{get_or-replicate, get_or_past, length-replicate}
@@ -6,7 +6,7 @@ use Rattle.std.proofs.lemmas.List.{get_or-replicate, get_or_past, length-replica
 low-or-high : (a n : ℕ) → (a < n) ⊎ (n ≤ a)
 low-or-high a n = grind arith
 
--- none is set among such marks, nor behind them
+-- no mark is set, at any index inside or after the list
 pub none-marked : (n a : ℕ) → get_or (replicate n false) a false ≡ false
 none-marked n a = elim (low-or-high a n) [
   | inl low ↦ get_or-replicate n a false false low

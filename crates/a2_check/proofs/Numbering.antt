@@ -1,4 +1,4 @@
--- The numbers of the lines that are not in the grammar, as far as the lines were looked at.
+-- The numbers of the lines that are not in the grammar, for the lines checked so far.
 use Rattle.std.proofs.Common.{◌≡◌, ℕ, ◌+◌, ◌-◌, ◌<◌, ◌≤◌, List, [], ◌∷◌, ◌++◌, length, map, get_or, Bor, sym, subst, inl, inr, arith, ◌⊎◌}
 use Rattle.std.specs.List.{All, Contains}
 use Rattle.std.specs.List.Sorted.{IsStrictlyIncreasing}
@@ -10,7 +10,7 @@ use Rattle.a2_syntax.specs.Bare.{BareLine}
 use Rattle.a2_syntax.specs.Grammar.{IsLine}
 use Rattle.a2_check.specs.Unread.{IsNumber, IsRead, IsUnread, AreUnread}
 
--- the numbers among the first so many lines
+-- the numbers among the first `n` lines
 pub record AreUnreadTo (texts : List (List ℕ)) (i : ℕ) (numbers : List ℕ) : Type 0 where
   pub in_order : IsStrictlyIncreasing numbers
   pub low : All (λ n. n ≤ i) numbers
@@ -25,7 +25,7 @@ none-to texts = record {
   others = λ n h is. absurd (omega (arith, h, is.0));
 }
 
--- a line that is in the grammar
+-- the step for a line that is in the grammar
 pub read-to : (texts : List (List ℕ)) (i : ℕ) (numbers : List ℕ) → AreUnreadTo texts i numbers → IsRead texts (i + 1) → AreUnreadTo texts (i + 1) numbers
 read-to texts i numbers a read = record {
   in_order = a.in_order;
@@ -52,7 +52,7 @@ kept : (texts : List (List ℕ)) (numbers : List ℕ) (m n : ℕ) → Contains n
 kept texts numbers m n (inl h) = inl (Contains-append_left numbers (m ∷ []) n h)
 kept texts numbers m n (inr h) = inr h
 
--- a line that is not
+-- the step for a line that is not
 pub unread-to : (texts : List (List ℕ)) (i : ℕ) (numbers : List ℕ) → AreUnreadTo texts i numbers → IsUnread texts (i + 1) → AreUnreadTo texts (i + 1) (numbers ++ (i + 1) ∷ [])
 unread-to texts i numbers a unread = record {
   in_order = rising numbers i a.in_order a.low;
@@ -74,7 +74,7 @@ all-unread texts i numbers a end = record {
 abbrev pub now : List (Bor (List ℕ)) → List (List ℕ)
 now = map (λ x. x.now)
 
--- the line at an index, where the lines are borrowed
+-- the line at an index of a list of borrowed lines
 at : (texts : List (Bor (List ℕ))) (i : ℕ) (d : Bor (List ℕ)) → i < length texts → get_or (now texts) (i + 1 - 1) [] ≡ (get_or texts i d).now
 at texts i d low =
     let index : i + 1 - 1 ≡ i = omega arith in

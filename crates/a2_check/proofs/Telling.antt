@@ -1,4 +1,4 @@
--- Where a text is refused by its grammar, a line of it is not in the grammar.
+-- If a text has a syntax error, one of its lines is not in the grammar.
 use Rattle.std.proofs.Common.{◌≡◌, ℕ, suc, ◌+◌, ◌-◌, ◌<◌, List, [], ◌∷◌, ◌++◌, length, map, get_or, Bor, Some, None, sym, ap, ◌∙◌, subst, inl, inr, arith, length-append}
 use Rattle.std.proofs.Math.Seq.{get_or-append_seam}
 use Rattle.a2_text.specs.Lines.{lines}
@@ -14,7 +14,7 @@ use Rattle.a2_asm.proofs.MadeLaws.{refused-no-program}
 use Rattle.a2_check.specs.Unread.{AreUnread}
 use Rattle.a2_check.specs.Refusals.{AreOfText}
 
--- the first line that is not read has its number among them
+-- the number of the first line outside the grammar is among the numbers
 first-among : (texts : List (List ℕ)) (n : ℕ) (numbers : List ℕ) → FirstUnread texts n → AreUnread texts numbers → 0 < length numbers
 first-among texts n numbers (before, text, after, whole, number, read, fails) all =
     let count : length texts ≡ length before + suc (length after) = ap length whole ∙ length-append before (text ∷ after) in
@@ -34,7 +34,7 @@ of-grammar text texts faults e fits (fault, inr (_, n, is, first)) (numbers, sho
     let among = subst P e all in
     inr (fits, (numbers, shown, first-among (lines text) n numbers first among, among))
 
--- something is told of lines that are refused
+-- at least one error is reported for lines that do not parse
 pub told-some : (source : List BareLine) (fault : Fault) (told : List Fault) → IsLayoutRefusal source fault → AreLayoutRefusals source told → 0 < length told
 told-some source fault told refused (inl (none, program, is)) = absurd (refused-no-program source fault program refused is)
 told-some source fault told refused (inr (first, layout, _, _, e)) = omega (arith, ap length e)

@@ -1,5 +1,5 @@
--- The refusals of a text: none where it is accepted; else that of its size alone; else each line that is not in the grammar;
--- else what is told of its layout. This project's profile.
+-- The errors of a text. There are none if it is accepted. Otherwise they are the error of its size alone; otherwise an error
+-- for each line that is not in the grammar; otherwise the errors of its layout. This project's profile.
 use Rattle.std.specs.Prelude.{◌≡◌, ◌⊎◌, ℕ, ◌<◌, List, [], ◌∷◌, length, map, Some, None}
 use Rattle.a2_text.specs.Lines.{lines}
 use Rattle.a2_syntax.specs.Bare.{BareLine}
@@ -13,7 +13,7 @@ use Rattle.a2_check.specs.Unread.{AreUnread}
 use Rattle.a2_check.specs.declared.verdict.Verdict.{Verdict}
 use Rattle.a2_check.specs.declared.verdict.Verdict.TheVariants.{Accepted, Refused}
 
--- lines that are not in the grammar, all of them
+-- errors for all lines that are not in the grammar, at least one
 abbrev pub AreOfGrammar : List (List ℕ) → List Fault → Type 0
 AreOfGrammar texts faults = (numbers : List ℕ) × (faults ≡ map Syntax numbers) × (0 < length numbers) × AreUnread texts numbers
 
@@ -23,11 +23,11 @@ AreOfText text faults =
     ((fault : Fault) × (faults ≡ fault ∷ []) × (size_refusal text ≡ Some fault)) ⊎
     ((size_refusal text ≡ None) × AreOfGrammar (lines text) faults)
 
--- all that is told of a text
+-- all errors that are reported for a text
 abbrev pub AreRefusals : List ℕ → List Fault → Type 0
 AreRefusals text faults = AreOfText text faults ⊎ ((source : List BareLine) × IsSource text source × AreLayoutRefusals source faults)
 
--- what a text is found to be: lines that make a program; or refused, once at least
+-- the result of checking a text: lines that make a program, or at least one error
 abbrev pub IsVerdict : {A : Type 0} → List ℕ → Verdict A → Type 0
 IsVerdict text (Accepted source program) = IsSource text source × IsProgram source program
 IsVerdict text (Refused faults) = AreRefusals text faults.items × (0 < length faults.items)

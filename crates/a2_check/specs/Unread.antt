@@ -9,15 +9,15 @@ use Rattle.a2_syntax.specs.Grammar.{IsLine}
 abbrev pub IsNumber : List (List ℕ) → ℕ → Type 0
 IsNumber texts n = (0 < n) × (n ≤ length texts)
 
--- the line of this number is in the grammar
+-- the line with this number is in the grammar
 abbrev pub IsRead : List (List ℕ) → ℕ → Type 0
 IsRead texts n = (line : BareLine) × IsLine (get_or texts (n - 1) []) line
 
--- it is not
+-- the line with this number is not in the grammar
 abbrev pub IsUnread : List (List ℕ) → ℕ → Type 0
 IsUnread texts n = IsNumber texts n × (IsRead texts n → ⊥)
 
--- the numbers of all lines that are not in the grammar, in their order
+-- the numbers of all lines that are not in the grammar, in order
 pub record AreUnread (texts : List (List ℕ)) (numbers : List ℕ) : Type 0 where
   pub in_order : IsStrictlyIncreasing numbers
   pub unread : All (IsUnread texts) numbers

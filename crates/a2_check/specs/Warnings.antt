@@ -1,4 +1,4 @@
--- What is accepted, and may be meant otherwise. This project's profile.
+-- Lines that assemble but may not do what their author meant. This project's profile.
 use Rattle.std.specs.Prelude.{◌≡◌, ℕ, ◌+◌, ◌%◌, ◌<◌, ◌==◌, nat_le, nat_lt, Bool, true, false, ◌&&◌, ◌||◌, not, List, ◌∷◌, drop, find, get_or, Option, Some, None, if◌then◌else◌}
 use Rattle.std.specs.List.{list_any, prefix_len}
 use Rattle.std.specs.Option.{option_map_or}
@@ -23,7 +23,7 @@ begins_number c = c == sign "$" || is_digit c
 abbrev pub equals_number : List ℕ → Bool
 equals_number text = get_or text 0 0 == sign "=" && begins_number (get_or (behind_blanks (drop 1 text)) 0 0)
 
--- `*` in column 1, and `=` and a number behind it: that is a comment
+-- `*` in column 1, then `=` and a number: the line is a comment
 abbrev pub sets_no_place : List ℕ → Bool
 sets_no_place line = get_or line 0 0 == sign "*" && equals_number (behind_blanks (drop 1 line))
 
@@ -39,7 +39,7 @@ abbrev pub is_jump : Mnemonic → Bool
 is_jump Jmp = true
 is_jump mnemonic = false
 
--- an operation behind which the next one is not done, or not at once
+-- a mnemonic after which the next instruction in memory is not executed, or not at once
 abbrev pub leaves : Mnemonic → Bool
 leaves Jmp = true
 leaves Jsr = true
@@ -48,11 +48,11 @@ leaves Rti = true
 leaves Brk = true
 leaves mnemonic = false
 
--- an instruction leads elsewhere than behind it, or may
+-- an instruction continues, or may continue, somewhere other than at the next instruction
 abbrev pub leads_away : Instr → Bool
 leads_away i = leaves i.mnemonic || is_relative i.mode
 
--- an instruction jumps or branches to its operand's value
+-- an instruction jumps or branches to the value of its operand
 abbrev pub jumps : Instr → Bool
 jumps i = is_relative i.mode || (is_absolute i.mode && is_jump i.mnemonic)
 
@@ -60,11 +60,11 @@ jumps i = is_relative i.mode || (is_absolute i.mode && is_jump i.mnemonic)
 abbrev pub begins : List Statement → ℕ → Bool
 begins statements a = list_any (begins_at a) statements
 
--- the marks of all addresses at which instructions begin
+-- the marks of all addresses where an instruction begins
 abbrev pub MarksBegins : List Statement → List Bool → Type 0
 MarksBegins statements marks = (a : ℕ) → a < 65536 → get_or marks a false ≡ begins statements a
 
--- an instruction that jumps to itself; or one that goes on to where none begins
+-- an instruction that jumps to itself, or that continues where no instruction begins
 abbrev pub kind_of_instr : List Statement → Statement → Instr → Option WarningKind
 kind_of_instr statements s i =
     if jumps i && i.value == s.addr then Some Circle
@@ -74,7 +74,7 @@ abbrev pub kind_of_option : List Statement → Statement → Option Instr → Op
 kind_of_option statements s None = None
 kind_of_option statements s (Some i) = kind_of_instr statements s i
 
--- what is told of a statement among all
+-- the warning for one statement of a program
 abbrev pub kind_of : List Statement → Statement → Option WarningKind
 kind_of statements s = kind_of_option statements s s.instr
 
@@ -86,16 +86,16 @@ abbrev pub is_immediate : Mode → Bool
 is_immediate Immediate = true
 is_immediate mode = false
 
--- what stands behind the first `#` and blanks
+-- the text after the first `#` and blanks
 abbrev pub behind_number_sign : List ℕ → List ℕ
 behind_number_sign text = behind_blanks (drop 1 (drop (prefix_len (λ c. not (c == sign "#")) text) text))
 
--- a character of this code between single quotes
+-- a single quote and the character with this code
 abbrev pub is_quoted : ℕ → List ℕ → Bool
 is_quoted code (quote ∷ c ∷ more) = quote == sign "'" && c == code
 is_quoted code text = false
 
--- LDA of a character between single quotes, which has bit 7 clear
+-- LDA of a character in single quotes, which has bit 7 clear
 abbrev pub loads_plain : List ℕ → Instr → Bool
 loads_plain text i = is_lda i.mnemonic && is_immediate i.mode && is_quoted i.value (behind_number_sign text)
 
@@ -104,11 +104,11 @@ is_load_of_index Ldx = true
 is_load_of_index Ldy = true
 is_load_of_index mnemonic = false
 
--- a load of X or Y
+-- LDX or LDY
 abbrev pub loads_index : Statement → Bool
 loads_index s = option_map_or (λ i. is_load_of_index i.mnemonic) s.instr false
 
--- A goes to the screen: JSR to COUT, $FDED, or COUT1, $FDF0; STA in the first page of text, $0400 to $07FF
+-- A is written to the screen: by JSR to COUT, $FDED, or COUT1, $FDF0, or by STA in text page 1, $0400 to $07FF
 abbrev pub puts_by : Mnemonic → ℕ → Bool
 puts_by Jsr value = value == 65005 || value == 65008
 puts_by Sta value = nat_le 1024 value && nat_lt value 2048
@@ -117,10 +117,11 @@ puts_by mnemonic value = false
 abbrev pub puts : Statement → Bool
 puts s = option_map_or (λ i. puts_by i.mnemonic i.value) s.instr false
 
--- the first statement that is no load of X or Y does so
+-- the first statement that is not LDX or LDY writes A to the screen
 abbrev pub is_put : List Statement → Bool
 is_put behind = option_map_or puts (find (λ s. not (loads_index s)) behind) false
 
--- a statement, of a line with this text, loads A with a character that has bit 7 clear, and those behind it put it on the screen
+-- a statement, in a line with this text, loads A with a character with bit 7 clear, and the statements after it write A to the
+-- screen
 abbrev pub shows_plain : List ℕ → Statement → List Statement → Bool
 shows_plain text s behind = option_map_or (loads_plain text) s.instr false && is_put behind

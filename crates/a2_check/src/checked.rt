@@ -1,4 +1,4 @@
-//! A source that is refused, and what is told of its refusals.
+//! A source with errors, and the message for each error.
 
 use crate::finding::finding;
 use crate::layout::Place;
@@ -9,20 +9,20 @@ use a2_asm::Program;
 use a2_syntax::{Fault, Line};
 use std::alloc::{AllocError, Allocator};
 
-/// A source that is refused.
+/// A source with errors.
 #[derive(Drop)]
 pub(crate) struct Checked<'a, A: Allocator> {
     pub name: &'a str,
     pub source: &'a [u8],
-    /// Its lines as they were written.
+    /// Its lines as written.
     pub texts: &'a [&'a [u8]],
-    /// What they say, where all of them are in the grammar; else none.
+    /// The parsed lines if every line is in the grammar; otherwise none.
     pub lines: &'a [Line<A>],
-    /// The program of the source with refused values as words, where that is accepted.
+    /// The program of the source with each out-of-range value replaced by a word, if that assembles.
     pub values: Option<&'a Program<A>>,
 }
 
-// What is told of a text that is too large.
+// Returns the message for a text that is too large.
 fn too_large<'a>(line: u16) -> Telling<'a> {
     let (what, mend): (Sentence, Sentence) = match line {
         0 => (b"the text has more than 65536 bytes", b"split it"),
@@ -35,7 +35,7 @@ fn too_large<'a>(line: u16) -> Telling<'a> {
     Telling::new(0, 1, what, mend)
 }
 
-/// The line of a number, counted from 1, of these; empty where there is none.
+/// Returns the line with this number, counted from 1, or an empty line if there is none.
 pub(crate) fn line_at<'a>(texts: &[&'a [u8]], number: u16) -> &'a [u8] {
     texts
         .get(usize::from(number).wrapping_sub(1))
@@ -43,14 +43,14 @@ pub(crate) fn line_at<'a>(texts: &[&'a [u8]], number: u16) -> &'a [u8] {
         .unwrap_or(b"")
 }
 
-// What is told of a line of a text that is not in the grammar.
+// Returns the message for a line that is not in the grammar.
 fn not_a_line<'a>(text: &'a [u8], source: &[u8], number: u16) -> Telling<'a> {
     let whole = if number == 1 { source } else { b"" };
     Telling::of_finding(finding(text, whole), parts_of(text))
 }
 
 impl<'a, A: Allocator + Copy> Checked<'a, A> {
-    /// What is told of a refusal.
+    /// Returns the message for an error.
     pub(crate) fn telling(&'a self, alloc: A, fault: Fault) -> Result<Telling<'a>, AllocError> {
         match fault {
             Fault::TooLarge(line) => Ok(too_large(line)),

@@ -1,14 +1,15 @@
-//! Words of other assemblers.
+//! Words of other assemblers, and what to write instead.
 
 use crate::line::is_among;
 
-/// What stands here for a word of another assembler, in front of the operand; or, where that is no operation, what is to be done.
+/// What to write in front of the operand instead of another assembler's word; or, if that is not an operation, what to do.
 #[derive(Clone, Copy)]
 pub(crate) struct Elsewhere {
     pub here: &'static [u8],
 }
 
-// Words that do the same in other assemblers, in capitals with blanks between them, and what does it here.
+// Words of other assemblers, in capitals with blanks between them. All words of one entry mean the same; the second text is
+// what to write in this assembler.
 static ELSEWHERE: [(&[u8], &[u8]); 24] = [
     (b".ORG .OR *= * !ORG", b" ORG "),
     (b"= := .EQ .EQU EPZ .SET", b" EQU "),
@@ -67,18 +68,18 @@ static ELSEWHERE: [(&[u8], &[u8]); 24] = [
 ];
 
 impl Elsewhere {
-    /// Whether the operand goes behind what stands here as it is.
+    /// Whether the operand is kept unchanged after the replacement.
     pub(crate) fn keeps_operand(self) -> bool {
         self.here.ends_with(b" ")
     }
 
-    /// Whether the operand is a number of bytes, behind which another assembler may want their value.
+    /// Whether the operand is a number of bytes. In another assembler a fill value may follow it.
     pub(crate) fn is_room(self) -> bool {
         self.here.starts_with(b" DS ")
     }
 }
 
-/// What a word does in another assembler, if it is known to do something.
+/// Returns what to write instead of another assembler's word, or `None` if the word is not known.
 pub(crate) fn known_elsewhere(word: &[u8]) -> Option<Elsewhere> {
     for (words, here) in &ELSEWHERE {
         if is_among(word, words) {

@@ -1,4 +1,4 @@
-//! The mistake in a line that is not in the grammar.
+//! Finds the mistake in a line that is not in the grammar.
 
 use crate::elsewhere::known_elsewhere;
 use crate::line::{Parts, before, hex_and_rest, is_among, parts_of};
@@ -10,17 +10,17 @@ use a2_text::front_len;
 
 const DIRECTIVES: &[u8] = b"ORG EQU DFB DW ASC DS";
 
-/// Whether a word is an operation of the language.
+/// Whether a word is an operation: a mnemonic or a directive.
 pub(crate) fn is_operation(word: &[u8]) -> bool {
     is_among(word, DIRECTIVES) || Mnemonic::named(word).is_some()
 }
 
-// A mistake that a word shows, where the word begins.
+// A mistake found at a word, and the index where the word begins.
 fn found<'a>(mistake: Mistake, at: usize, word: &'a [u8]) -> Option<Finding<'a>> {
     Some(Finding { mistake, at, word })
 }
 
-// What is wrong with the form of a whole text, of which this is the first line.
+// Finds what is wrong with the encoding of a whole text, given from its first line on.
 fn in_text(source: &[u8]) -> Option<Mistake> {
     if source.starts_with(b"\xEF\xBB\xBF") {
         Some(Mistake::ByteOrderMark)
@@ -33,19 +33,19 @@ fn in_text(source: &[u8]) -> Option<Mistake> {
     }
 }
 
-// Whether a text begins as one in UTF-16 does: by the mark of either order, or by a character with a byte of 0.
+// Whether a text looks like UTF-16: it begins with a byte-order mark, or one of its first two bytes is 0.
 fn is_wide(source: &[u8]) -> bool {
     source.starts_with(b"\xFF\xFE")
         || source.starts_with(b"\xFE\xFF")
         || matches!(source, [0, ..] | [_, 0, ..])
 }
 
-// Whether bytes are a curly quote in UTF-8.
+// Whether bytes begin with a curly quote in UTF-8.
 fn is_curly(bytes: &[u8]) -> bool {
     matches!(bytes, [0xE2, 0x80, 0x98 | 0x99 | 0x9C | 0x9D, ..])
 }
 
-// A byte that is no ASCII, outside a comment.
+// Finds a byte that is not ASCII, outside a comment.
 fn in_bytes<'a>(text: &'a [u8], parts: &Parts<'a>) -> Option<Finding<'a>> {
     let end = parts.operand_at.saturating_add(parts.operand.len());
     let at = front_len(text, |c| c < 128);
@@ -62,13 +62,13 @@ fn in_bytes<'a>(text: &'a [u8], parts: &Parts<'a>) -> Option<Finding<'a>> {
     found(mistake, at, word)
 }
 
-// Whether a word is a hexadecimal address with a mark behind it.
+// Whether a word is a hexadecimal address followed by `:` or `-`.
 fn is_address(word: &[u8]) -> bool {
     let (address, rest) = hex_and_rest(word);
     !address.is_empty() && matches!(rest, [b':' | b'-'])
 }
 
-// A word that begins with a digit, in column 1 or behind blanks.
+// Finds the mistake in a word that begins with a digit, in column 1 or after blanks.
 fn in_number<'a>(at: usize, word: &'a [u8]) -> Option<Finding<'a>> {
     let (address, rest) = hex_and_rest(word);
     match rest {
@@ -81,12 +81,12 @@ fn in_number<'a>(at: usize, word: &'a [u8]) -> Option<Finding<'a>> {
     }
 }
 
-// Whether a word begins a comment of another assembler.
+// Whether a word begins a comment in another assembler.
 fn is_comment(word: &[u8]) -> bool {
     matches!(word, [b'/', b'/' | b'*', ..] | [b'#', ..])
 }
 
-// What stands right behind a mnemonic at the front of a word; nothing where none stands there.
+// Returns what directly follows a mnemonic at the front of a word, or nothing if the word does not begin with one.
 fn behind_mnemonic(word: &[u8]) -> &[u8] {
     let (name, rest) = word.split_at(word.len().min(3));
     if Mnemonic::named(name).is_some() {
@@ -96,7 +96,7 @@ fn behind_mnemonic(word: &[u8]) -> &[u8] {
     }
 }
 
-// Whether a word is an operation with its operand right behind it.
+// Whether a word is a mnemonic with its operand attached, without a blank.
 fn is_glued(word: &[u8]) -> bool {
     matches!(
         behind_mnemonic(word),
@@ -104,12 +104,12 @@ fn is_glued(word: &[u8]) -> bool {
     )
 }
 
-// Whether a word is a mnemonic with a mark that forces a form.
+// Whether a word is a mnemonic with a suffix that forces an addressing mode, such as `.W`.
 fn is_forced(word: &[u8]) -> bool {
     matches!(behind_mnemonic(word), [b'.', _])
 }
 
-// What is wrong with what stands in column 1.
+// Finds the mistake in the word in column 1.
 fn in_label<'a>(parts: &Parts<'a>) -> Option<Finding<'a>> {
     let word = parts.label;
     if word.is_empty() || is_name(word) && !is_operation(word) {
@@ -121,7 +121,7 @@ fn in_label<'a>(parts: &Parts<'a>) -> Option<Finding<'a>> {
     found(of_label(word), 0, word)
 }
 
-// What is wrong with a word that stands in column 1 and begins with no digit.
+// Returns the mistake in a word in column 1 that does not begin with a digit.
 fn of_label(word: &[u8]) -> Mistake {
     if is_address(word) && word.len() >= 4 && !word.ends_with(b":") {
         return Mistake::Listing;
@@ -135,7 +135,7 @@ fn of_label(word: &[u8]) -> Mistake {
     }
 }
 
-// What is wrong with a word that is no name.
+// Returns the mistake in a word that is not a valid name.
 fn in_name(word: &[u8]) -> Mistake {
     match word {
         _ if is_comment(word) => Mistake::Comment,
@@ -147,7 +147,8 @@ fn in_name(word: &[u8]) -> Mistake {
     }
 }
 
-// The mnemonic that differs from a word by one letter left out, put in or exchanged, if there is one.
+// Returns a mnemonic that the word becomes by exchanging two neighbouring letters or leaving out its last letter, or `None` if
+// there is none.
 fn near_mnemonic(word: &[u8]) -> Option<&'static str> {
     for opcode in 0..=255u8 {
         if let Some(row) = row_of(opcode) {
@@ -160,7 +161,7 @@ fn near_mnemonic(word: &[u8]) -> Option<&'static str> {
     None
 }
 
-// Whether a word is three letters in another order of two of them, or with a letter behind them.
+// Whether a word is the name with two neighbouring letters exchanged, or with one more letter at its end.
 fn is_near(word: &[u8], name: &[u8]) -> bool {
     match word {
         [a, b, c] => {
@@ -171,7 +172,7 @@ fn is_near(word: &[u8], name: &[u8]) -> bool {
     }
 }
 
-// What is wrong with a word that is like no form of another assembler's operation.
+// Returns the mistake in a word that no other check recognizes: a misspelt mnemonic, or no operation at all.
 fn near_or_none(word: &[u8]) -> Mistake {
     match near_mnemonic(word) {
         Some(name) => Mistake::NearMnemonic(name),
@@ -179,7 +180,7 @@ fn near_or_none(word: &[u8]) -> Mistake {
     }
 }
 
-// What is wrong with a word that is no operation and begins with no digit.
+// Returns the mistake in a word that is not an operation and does not begin with a digit.
 fn of_operation(word: &[u8]) -> Mistake {
     if word.starts_with(b"*=") {
         Mistake::StarOrigin
@@ -196,7 +197,7 @@ fn of_operation(word: &[u8]) -> Mistake {
     }
 }
 
-// What is wrong with what stands in the place of an operation, and is none.
+// Finds the mistake in a word in the operation field that is not an operation.
 fn in_operation<'a>(parts: &Parts<'a>) -> Option<Finding<'a>> {
     let (word, at) = (parts.operation, parts.operation_at);
     if let Some(other) = known_elsewhere(word) {
@@ -208,7 +209,7 @@ fn in_operation<'a>(parts: &Parts<'a>) -> Option<Finding<'a>> {
     found(of_operation(word), at, word)
 }
 
-// What is wrong with the operand of an operation.
+// Finds the mistake in the operand of an operation.
 fn in_operand<'a>(parts: &Parts<'a>) -> Option<Finding<'a>> {
     let (operation, operand) = (parts.operation, parts.operand);
     if operation.eq_ignore_ascii_case(b"EQU") && parts.label.is_empty() {
@@ -231,7 +232,7 @@ fn in_operand<'a>(parts: &Parts<'a>) -> Option<Finding<'a>> {
     found(mistake, parts.operand_at.saturating_add(at), word)
 }
 
-// What is wrong with an operand in which each word may stand where it stands: which mistake, where it begins, and how long it is.
+// Returns the mistake in an operand whose words are all in valid places: the mistake, where it begins, and its length.
 fn in_whole(operation: &[u8], operand: &[u8]) -> (Mistake, usize, usize) {
     let first = before(operand, b',').len();
     if first < operand.len() && is_among(operation, b"ORG EQU DS") {
@@ -241,7 +242,7 @@ fn in_whole(operation: &[u8], operand: &[u8]) -> (Mistake, usize, usize) {
     }
 }
 
-// The first mistake of a line by its parts.
+// Finds the first mistake in a line, given its parts.
 fn in_parts<'a>(text: &'a [u8], parts: &Parts<'a>) -> Option<Finding<'a>> {
     let of_bytes = in_bytes(text, parts);
     if of_bytes.is_some() {
@@ -263,8 +264,8 @@ fn in_parts<'a>(text: &'a [u8], parts: &Parts<'a>) -> Option<Finding<'a>> {
     in_operand(parts)
 }
 
-/// What is wrong with a line that is not in the grammar. `source` is the whole text where the line is its first one, and else
-/// empty.
+/// Returns the mistake in a line that is not in the grammar. `source` is the whole text if this is its first line, and
+/// otherwise empty.
 pub(crate) fn finding<'a>(text: &'a [u8], source: &[u8]) -> Finding<'a> {
     if let Some(mistake) = in_text(source) {
         let (front, _) = text.split_at(text.len().min(3));

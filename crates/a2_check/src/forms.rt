@@ -1,9 +1,9 @@
-//! The forms of an instruction.
+//! The operand forms of each mnemonic.
 
 use a2_opcode::{Mnemonic, Mode, row_for};
 use a2_stream::{Output, WriteFault, put_all};
 
-// The forms of operands: the modes that are written so, and how one is written behind a mnemonic.
+// The operand forms: the addressing modes that share a spelling, and that spelling as it follows a mnemonic.
 static FORMS: [(&[Mode], &[u8]); 9] = [
     (&[Mode::Implied], b""),
     (&[Mode::Accumulator], b" A"),
@@ -16,7 +16,7 @@ static FORMS: [(&[Mode], &[u8]); 9] = [
     (&[Mode::Indirect], b" (e)"),
 ];
 
-// Whether a mnemonic has one of these modes.
+// Whether a mnemonic has at least one of these addressing modes.
 fn has_one(mnemonic: Mnemonic, modes: &[Mode]) -> bool {
     for mode in modes {
         if row_for(mnemonic, *mode).is_some() {
@@ -26,7 +26,7 @@ fn has_one(mnemonic: Mnemonic, modes: &[Mode]) -> bool {
     false
 }
 
-/// Writes the forms that a mnemonic has, with commas between them.
+/// Writes the operand forms that a mnemonic has, with commas between them.
 pub(crate) fn put_forms<W: Output>(mnemonic: Mnemonic, writer: &mut W) -> Result<(), WriteFault> {
     let mut front: &[u8] = b"";
     for (modes, text) in &FORMS {

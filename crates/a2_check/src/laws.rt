@@ -1,4 +1,4 @@
-//! A law of the refusals that are told.
+//! A law about the errors that are reported.
 
 ghost use Rattle.std.specs.Prelude.{◌⊎◌, ◌∷◌, List, ℕ};
 ghost use Rattle.a2_syntax.specs.Bare.{BareLine};
@@ -7,8 +7,8 @@ ghost use Rattle.a2_syntax.specs.declared.fault.Fault.{Fault};
 ghost use Rattle.a2_asm.specs.Refusals.{IsLayoutRefusal};
 ghost use Rattle.a2_check.specs.Refusals.{AreRefusals};
 
-/// A law, and no code: the first of the refusals that are told of a text is the one that refuses it, of its size or grammar, or
-/// of the layout of its lines.
+/// A law without code: the first reported error of a text is the error for which the assembler rejects it. It is an error of
+/// its size, its grammar or the layout of its lines.
 pub fn the_first_is_the_texts_refusal()
     ensures { (text : List ℕ) (fault : Fault) (more : List Fault) → AreRefusals text (fault ∷ more)
         → IsTextRefusal text fault ⊎ ((source : List BareLine) × IsSource text source × IsLayoutRefusal source fault) }

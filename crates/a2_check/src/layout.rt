@@ -1,4 +1,4 @@
-//! What is told of a refusal of a source whose lines are all in the grammar.
+//! Messages for the layout errors of a source whose lines are all in the grammar.
 
 use crate::checked::Checked;
 use crate::line::{Parts, number_of, parts_of};
@@ -10,30 +10,29 @@ use crate::told::Telling;
 use a2_syntax::{Body, Fault, Operand};
 use std::alloc::{AllocError, Allocator};
 
-/// A line of a source.
+/// A line of a source with errors.
 #[derive(Drop)]
 pub(crate) struct Place<'a, A: Allocator> {
     source: &'a Checked<'a, A>,
-    // The index of the line.
     index: usize,
-    // Its parts.
+    // The parts of the line as written.
     parts: Parts<'a>,
-    // What it says.
+    // The parsed line.
     body: &'a Body<A>,
 }
 
 impl<'a> Parts<'a> {
-    // Told at the label.
+    // A message that points at the label.
     fn at_label(self, what: Sentence, mend: Sentence) -> Telling<'a> {
         Telling::new(0, self.label.len(), what, mend).with_word(self.label)
     }
 
-    // Told at the operation.
+    // A message that points at the operation.
     fn at_operation(self, what: Sentence, mend: Sentence) -> Telling<'a> {
         Telling::new(self.operation_at, self.operation.len(), what, mend)
     }
 
-    // Told at the operand, or at the operation where there is none.
+    // A message that points at the operand, or at the operation if there is no operand.
     fn at_operand(self, what: Sentence, mend: Sentence) -> Telling<'a> {
         if self.operand.is_empty() {
             self.at_operation(what, mend)
@@ -42,7 +41,7 @@ impl<'a> Parts<'a> {
         }
     }
 
-    // Told at a name of the operand.
+    // A message that points at a name in the operand.
     fn at_name(self, name: &'a [u8], what: Sentence, mend: Sentence) -> Telling<'a> {
         let at = self.operand_at.saturating_add(word_at(self.operand, name));
         Telling::new(at, name.len(), what, mend).with_word(name)
@@ -50,7 +49,7 @@ impl<'a> Parts<'a> {
 }
 
 impl<'a, A: Allocator + Copy> Place<'a, A> {
-    /// The line of a number, counted from 1, where the source has it.
+    /// Returns the line with this number, counted from 1, or `None` if the source does not have it.
     pub(crate) fn of(source: &'a Checked<'a, A>, number: u16) -> Option<Place<'a, A>> {
         let index = usize::from(number).wrapping_sub(1);
         match (source.texts.get(index), source.lines.get(index)) {
@@ -64,7 +63,7 @@ impl<'a, A: Allocator + Copy> Place<'a, A> {
         }
     }
 
-    // A label of an earlier line.
+    // The label is already defined in an earlier line.
     fn duplicate(&self) -> Telling<'a> {
         let first = line_of(self.source.lines, self.parts.label).unwrap_or(0);
         let mend =
@@ -74,7 +73,7 @@ impl<'a, A: Allocator + Copy> Place<'a, A> {
             .with_number(number_of(first))
     }
 
-    // A name that no line defines.
+    // The line uses a name that no line defines.
     fn unknown(&self, alloc: A) -> Result<Telling<'a>, AllocError> {
         let Some(name) = missing(self.source.lines, self.body) else {
             return Ok(
@@ -95,7 +94,7 @@ impl<'a, A: Allocator + Copy> Place<'a, A> {
         })
     }
 
-    // A name that a later line defines.
+    // The line needs the value of a name that is only defined in a later line.
     fn forward(&self) -> Telling<'a> {
         let lines = self.source.lines;
         let (earlier, _) = lines.split_at(self.index.min(lines.len()));
@@ -107,7 +106,7 @@ impl<'a, A: Allocator + Copy> Place<'a, A> {
             .with_number(number_of(line))
     }
 
-    // The address of the line and its value, where that is known.
+    // Returns the address of the line and its value if they are known.
     fn value(&self) -> Option<(u16, u16)> {
         match (self.source.values, self.body) {
             (Some(program), Body::Instr(_, _)) => word_of_line(program, self.index),
@@ -115,7 +114,7 @@ impl<'a, A: Allocator + Copy> Place<'a, A> {
         }
     }
 
-    // A value out of range.
+    // The value is out of range.
     fn range(&self) -> Telling<'a> {
         let (most, mend) = limits(self.body);
         let (number, what): (u16, Sentence) = match self.value() {
@@ -128,7 +127,7 @@ impl<'a, A: Allocator + Copy> Place<'a, A> {
             .with_number(number)
     }
 
-    // A branch that goes too far.
+    // The branch target is too far away.
     fn branch(&self) -> Telling<'a> {
         let (number, what) = match self.value() {
             Some((address, target)) => distance(address.wrapping_add(2), target),
@@ -142,7 +141,7 @@ impl<'a, A: Allocator + Copy> Place<'a, A> {
             .with_number(number)
     }
 
-    // A byte where an earlier statement has one.
+    // The line places a byte at an address where an earlier line has one.
     fn overlap(&self, alloc: A) -> Result<Telling<'a>, AllocError> {
         let line = in_the_way(alloc, self.source.texts, self.index, self.parts.label)?;
         let what: Sentence = if line.is_some() {
@@ -156,7 +155,7 @@ impl<'a, A: Allocator + Copy> Place<'a, A> {
         Ok(told.with_number(line.unwrap_or(0)))
     }
 
-    // A form that there is not.
+    // The mnemonic does not have this addressing mode.
     fn no_mode(&self) -> Telling<'a> {
         match self.body {
             Body::Instr(mnemonic, _) => Telling {
@@ -170,7 +169,7 @@ impl<'a, A: Allocator + Copy> Place<'a, A> {
         }
     }
 
-    /// What is told of a refusal of this line by the layout.
+    /// Returns the message for a layout error in this line.
     pub(crate) fn telling(&self, alloc: A, fault: Fault) -> Result<Telling<'a>, AllocError> {
         match fault {
             Fault::TooManyNames(_) => Ok(
@@ -196,7 +195,7 @@ impl<'a, A: Allocator + Copy> Place<'a, A> {
     }
 }
 
-// How far a target is from the next instruction, modulo 65,536, and what is wrong with that.
+// Returns the distance from the next instruction to a target, modulo 65,536, and the sentence that reports it.
 fn distance(next: u16, target: u16) -> (u16, Sentence) {
     let behind = target.wrapping_sub(next);
     if behind < 0x8000 {
@@ -212,7 +211,7 @@ fn distance(next: u16, target: u16) -> (u16, Sentence) {
     }
 }
 
-// The range of the values in a line, and how a value comes into it.
+// Returns the range of the values in a line, and how to fix a value outside it.
 fn limits<A: Allocator>(body: &Body<A>) -> (Sentence, Sentence) {
     match body {
         Body::Instr(_, Operand::Immediate(_)) | Body::Dfb(_) => (

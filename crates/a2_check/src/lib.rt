@@ -1,6 +1,7 @@
-//! Every refusal of a source, and warnings of one that is accepted: which they are, and what is told of each.
 //!
-//! How it is called is shown in CALLING.md.
+//! Finds the errors of a source, or its warnings if it has none, and prints a message for each.
+//!
+//! CALLING.md shows how to call it.
 #![tactic(auto)]
 
 mod checked;

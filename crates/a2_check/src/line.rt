@@ -1,26 +1,26 @@
-//! The parts of a line, as they were meant: of a line that is in the grammar and of one that is not.
+//! Splits a line into the parts that its author meant, whether or not the line is in the grammar.
 
 ghost use Rattle.std.specs.Prelude.{◌≤◌, length};
 
 use a2_text::{behind_blanks, first_word, front_len, is_blank};
 
-/// The parts of a line. Places count from 0.
+/// The parts of a line. Indexes count from 0.
 #[derive(Clone, Copy)]
 pub(crate) struct Parts<'a> {
-    /// What begins in column 1, up to a blank or a comment.
+    /// The text from column 1 up to a blank or a comment.
     pub label: &'a [u8],
-    /// The word behind it.
+    /// The word after the label.
     pub operation: &'a [u8],
-    /// Where that begins.
+    /// The index where the operation begins.
     pub operation_at: usize,
-    /// What stands behind the operation, without a comment and without blanks at its end.
+    /// The text after the operation, without a comment and trailing blanks.
     pub operand: &'a [u8],
-    /// Where that begins.
+    /// The index where the operand begins.
     pub operand_at: usize,
 }
 
 impl<'a> Parts<'a> {
-    /// The expression of the operand, as it was written.
+    /// Returns the expression of the operand as written.
     pub(crate) fn expression(self) -> &'a [u8] {
         let rest = match self.operand {
             [b'#' | b'(', rest @ ..] => rest,
@@ -30,7 +30,7 @@ impl<'a> Parts<'a> {
     }
 }
 
-// How long the operand at the front of a text is: up to a `;` outside quotes, without blanks at its end.
+// Returns the length of the operand at the front of a text. It ends before a `;` outside quotes; trailing blanks are left out.
 fn operand_len(text: &[u8]) -> usize
     ensures { result ≤ length text.now }
 {
@@ -48,7 +48,7 @@ fn operand_len(text: &[u8]) -> usize
     end
 }
 
-// The quote that is open behind a character.
+// Returns the quote that is open after a character.
 fn quote_behind(open: Option<u8>, c: u8) -> Option<u8> {
     match open {
         None if c == b'"' || c == b'\'' => Some(c),
@@ -57,19 +57,19 @@ fn quote_behind(open: Option<u8>, c: u8) -> Option<u8> {
     }
 }
 
-/// How many bytes at the front of a text are among those of a set; or are none of them, where `inside` is false.
+/// Returns how many bytes at the front of a text are in a set, or, if `inside` is false, how many are not.
 pub(crate) fn run_len(text: &[u8], set: &[u8], inside: bool) -> usize
     ensures { result ≤ length text.now }
 {
     front_len(text, |c| set.contains(&c) == inside)
 }
 
-// A word at the front of a text, up to a blank or a comment, and what stands behind it.
+// Splits a text after its first word, which ends at a blank or a comment.
 fn word_and_rest(text: &[u8]) -> (&[u8], &[u8]) {
     text.split_at(run_len(text, b" \t;", false))
 }
 
-/// The parts of a line.
+/// Splits a line into its parts.
 pub(crate) fn parts_of(text: &[u8]) -> Parts<'_> {
     let (label, rest) = word_and_rest(text);
     let here = behind_blanks(rest);
@@ -84,18 +84,18 @@ pub(crate) fn parts_of(text: &[u8]) -> Parts<'_> {
     }
 }
 
-/// What stands in a text in front of the first such byte: all of it, where it has none.
+/// Returns the text before the first such byte, or the whole text if the byte does not occur.
 pub(crate) fn before(text: &[u8], byte: u8) -> &[u8] {
     let (front, _) = text.split_at(run_len(text, &[byte], false));
     front
 }
 
-/// The hexadecimal digits at the front of a text, and what stands behind them.
+/// Splits a text after the hexadecimal digits at its front.
 pub(crate) fn hex_and_rest(text: &[u8]) -> (&[u8], &[u8]) {
     text.split_at(run_len(text, b"0123456789ABCDEFabcdef", true))
 }
 
-/// Whether a word is one of these, in either case; blanks stand between them.
+/// Whether a word is one of `words`, in upper or lower case. The words are separated by blanks.
 pub(crate) fn is_among(word: &[u8], words: &[u8]) -> bool {
     let mut rest = words;
     while let Some((first, behind)) = first_word(rest) {
@@ -107,7 +107,7 @@ pub(crate) fn is_among(word: &[u8], words: &[u8]) -> bool {
     false
 }
 
-/// The number of the line at an index; there are at most 4,096.
+/// Returns the number of the line at an index. A source has at most 4,096 lines.
 pub(crate) fn number_of(index: usize) -> u16 {
     u16::try_from(index).unwrap_or(0).saturating_add(1)
 }

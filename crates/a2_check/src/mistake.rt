@@ -1,12 +1,12 @@
-//! The kinds of mistake that a line which is not in the grammar may show, and what is told of each.
+//! The kinds of mistake in a line that is not in the grammar, and the message for each.
 
 use crate::elsewhere::Elsewhere;
 use crate::line::{Parts, before};
 
-/// A sentence, with marks where words of a line stand in it.
+/// A sentence with placeholders (`@`, `~`, `#`) for words and numbers of the line.
 pub(crate) type Sentence = &'static [u8];
 
-/// What is wrong with a line.
+/// A kind of mistake in a line.
 #[derive(Clone, Copy)]
 pub(crate) enum Mistake {
     ByteOrderMark,
@@ -58,7 +58,7 @@ pub(crate) enum Mistake {
     Unclear,
 }
 
-/// A mistake, where it stands in its line, counted from 0, and the word that shows it.
+/// A mistake, the index in its line where it begins, counted from 0, and the word that contains it.
 #[derive(Clone, Copy)]
 pub(crate) struct Finding<'a> {
     pub mistake: Mistake,
@@ -66,7 +66,7 @@ pub(crate) struct Finding<'a> {
     pub word: &'a [u8],
 }
 
-// What stands behind a word's first bytes, of a number of another spelling.
+// Returns the digits of a hexadecimal number written as `0x..` or `..h`.
 fn digits_of(word: &[u8]) -> &[u8] {
     match word {
         [b'0', b'x' | b'X', digits @ ..] => digits,
@@ -75,7 +75,7 @@ fn digits_of(word: &[u8]) -> &[u8] {
     }
 }
 
-// A local label's name without its mark.
+// Returns the name of a local label without its mark.
 fn unmarked(word: &[u8]) -> &[u8] {
     let word = word.strip_suffix(b":").unwrap_or(word);
     match word {
@@ -84,7 +84,7 @@ fn unmarked(word: &[u8]) -> &[u8] {
     }
 }
 
-// The name in front of a form that is forced, or the name behind its mark.
+// Returns the name before a suffix that forces an addressing mode, or after such a prefix.
 fn unforced(word: &[u8]) -> &[u8] {
     match word {
         [b'!' | b':', name @ ..] => name,
@@ -94,7 +94,8 @@ fn unforced(word: &[u8]) -> &[u8] {
 }
 
 impl Mistake {
-    /// What is wrong, in a sentence behind which the word and its line are shown; `@` stands for `shown`'s word.
+    /// Returns the sentence that says what is wrong. The word and its line are shown after it; `@` stands for the word that
+    /// `shown` returns.
     pub(crate) fn what(self) -> Sentence {
         match self {
             Mistake::ByteOrderMark => b"the text begins with a byte-order mark",
@@ -146,7 +147,7 @@ impl Mistake {
         }
     }
 
-    /// The word that stands for `@` in what is wrong.
+    /// Returns the word for `@` in the sentence that says what is wrong.
     pub(crate) fn shown<'a>(self, parts: Parts<'a>, word: &'a [u8]) -> &'a [u8] {
         match self {
             Mistake::NoOperand | Mistake::SecondOperand => parts.operation,
@@ -154,7 +155,8 @@ impl Mistake {
         }
     }
 
-    /// The mend, in words; `@` stands for `first` and `~` for `second`.
+    /// Returns the sentence that says how to fix it. `@` stands for the word that `first` returns, and `~` for that of
+    /// `second`.
     pub(crate) fn mend(self, parts: Parts) -> Sentence {
         match self {
             Mistake::ByteOrderMark => b"save the text without a byte-order mark",
@@ -202,7 +204,7 @@ impl Mistake {
         }
     }
 
-    /// The word that stands for `@` in the mend.
+    /// Returns the word for `@` in the fix.
     pub(crate) fn first<'a>(self, parts: Parts<'a>, word: &'a [u8]) -> &'a [u8] {
         match self {
             Mistake::OtherInFirstColumn(other) | Mistake::Other(other) => other.here,
@@ -217,7 +219,7 @@ impl Mistake {
         }
     }
 
-    /// The word that stands for `~` in the mend.
+    /// Returns the word for `~` in the fix.
     pub(crate) fn second<'a>(self, parts: Parts<'a>) -> &'a [u8] {
         match self {
             Mistake::OtherInFirstColumn(other) => behind_first(other, parts),
@@ -229,7 +231,8 @@ impl Mistake {
     }
 }
 
-// The operand, where it goes behind what another assembler's word is here; of room its length alone.
+// Returns the operand if it is kept after the replacement of another assembler's word. For reserved space only the length is
+// kept.
 fn kept<'a>(other: Elsewhere, parts: Parts<'a>) -> &'a [u8] {
     if other.is_room() {
         before(parts.operand, b',')
@@ -240,7 +243,7 @@ fn kept<'a>(other: Elsewhere, parts: Parts<'a>) -> &'a [u8] {
     }
 }
 
-// What stands behind `*=`.
+// Returns the address after `*=`.
 fn unstarred(word: &[u8]) -> &[u8] {
     match word {
         [b'*', b'=', address @ ..] => address,
@@ -248,7 +251,7 @@ fn unstarred(word: &[u8]) -> &[u8] {
     }
 }
 
-// The same where that word stands in column 1, so that the operand stands where an operation does.
+// The same for a word in column 1: there the operand is in the operation field.
 fn behind_first<'a>(other: Elsewhere, parts: Parts<'a>) -> &'a [u8] {
     if other.keeps_operand() {
         parts.operation
@@ -257,7 +260,7 @@ fn behind_first<'a>(other: Elsewhere, parts: Parts<'a>) -> &'a [u8] {
     }
 }
 
-// An address without the mark behind it.
+// Returns an address without the mark at its end.
 fn unended(word: &[u8]) -> &[u8] {
     match word {
         [address @ .., b':' | b'-'] => address,
@@ -265,7 +268,7 @@ fn unended(word: &[u8]) -> &[u8] {
     }
 }
 
-// The mend of an operation in column 1, with the word behind it, where there is one.
+// Returns the fix for an operation in column 1, which includes the next word if there is one.
 fn moved(behind: &[u8]) -> Sentence {
     if behind.is_empty() {
         b"write a blank in front:  @"

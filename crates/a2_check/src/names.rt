@@ -1,12 +1,12 @@
-//! The names of a source: where they are defined, where they are used, and which one is near.
+//! The names of a source: where they are defined, where they are used, and which one is most similar to another.
 
 use crate::line::hex_and_rest;
 use a2_syntax::{Body, Expr, Line, Term};
 use std::alloc::{AllocError, Allocator};
 use strsim::generic_levenshtein;
 
-// How far a name is from another: 0 where capitals and small letters alone differ, and else 1 more than the number of letters
-// that are put in, left out or changed.
+// Returns how different two names are: 0 if they differ only in upper and lower case, otherwise 1 more than the number of
+// letters inserted, left out or changed.
 fn distance<A: Allocator + Copy>(alloc: A, name: &[u8], other: &[u8]) -> Result<usize, AllocError> {
     if name.eq_ignore_ascii_case(other) {
         return Ok(0);
@@ -14,7 +14,7 @@ fn distance<A: Allocator + Copy>(alloc: A, name: &[u8], other: &[u8]) -> Result<
     Ok(generic_levenshtein(alloc, name, other)?.saturating_add(1))
 }
 
-/// The index of the first of these lines that has a label.
+/// Returns the index of the first of these lines with this label, or `None` if there is none.
 pub(crate) fn line_of<A: Allocator>(lines: &[Line<A>], label: &[u8]) -> Option<usize> {
     for (i, line) in lines.iter().enumerate() {
         if let Some(found) = &line.label {
@@ -26,7 +26,7 @@ pub(crate) fn line_of<A: Allocator>(lines: &[Line<A>], label: &[u8]) -> Option<u
     None
 }
 
-// The first name of an expression that none of these lines has as its label.
+// Returns the first name in an expression that is not a label of these lines.
 fn missing_in<'a, A: Allocator>(lines: &[Line<A>], e: &'a Expr<A>) -> Option<&'a [u8]> {
     for signed in e.terms.get() {
         if let Term::Named(name) = &signed.term {
@@ -39,7 +39,7 @@ fn missing_in<'a, A: Allocator>(lines: &[Line<A>], e: &'a Expr<A>) -> Option<&'a
     None
 }
 
-// The same of expressions.
+// Does the same for several expressions.
 fn missing_among<'a, A: Allocator>(lines: &[Line<A>], es: &'a [Expr<A>]) -> Option<&'a [u8]> {
     for e in es {
         let name = missing_in(lines, e);
@@ -50,7 +50,7 @@ fn missing_among<'a, A: Allocator>(lines: &[Line<A>], es: &'a [Expr<A>]) -> Opti
     None
 }
 
-/// The first name in what a line says that none of these lines has as its label.
+/// Returns the first name in a line that is not a label of these lines.
 pub(crate) fn missing<'a, A: Allocator>(lines: &[Line<A>], body: &'a Body<A>) -> Option<&'a [u8]> {
     match body {
         Body::Empty | Body::Asc(_) => None,
@@ -60,8 +60,8 @@ pub(crate) fn missing<'a, A: Allocator>(lines: &[Line<A>], body: &'a Body<A>) ->
     }
 }
 
-/// The label of these lines that is nearest to a name that is none, where at most two letters differ, and fewer than it has; else
-/// an empty one.
+/// Returns the label that is most similar to an undefined name, or an empty one if none is similar enough. At most two letters
+/// may differ, and fewer than the name has.
 pub(crate) fn nearest<'a, A: Allocator + Copy>(
     alloc: A,
     lines: &'a [Line<A>],
@@ -82,7 +82,7 @@ pub(crate) fn nearest<'a, A: Allocator + Copy>(
     Ok(nearest)
 }
 
-/// Whether a name could be a hexadecimal number without its mark.
+/// Whether a name could be a hexadecimal number written without `$`.
 pub(crate) fn is_hexadecimal(name: &[u8]) -> bool {
     let (_, rest) = hex_and_rest(name);
     name.len() <= 4 && rest.is_empty()

@@ -1,4 +1,4 @@
-//! What keeps an operand from being one.
+//! Finds the mistake in an operand.
 
 ghost use Rattle.std.specs.Prelude.{◌<◌, ◌≤◌, length};
 
@@ -6,17 +6,17 @@ use crate::line::{before, run_len};
 use crate::mistake::Mistake;
 use a2_text::{is_blank, number_in};
 
-// The bytes that may stand in a name.
+// The bytes that a name may contain.
 const NAME: &[u8] = b"ABCDEFGHIJKLMNOPQRSTUVWXYZabcdefghijklmnopqrstuvwxyz0123456789_";
 
-/// How many bytes at the front of a text may stand in a name.
+/// Returns how many bytes at the front of a text a name may contain.
 pub(crate) fn name_len(text: &[u8]) -> usize
     ensures { result ≤ length text.now }
 {
     run_len(text, NAME, true)
 }
 
-// How long the quoted text at the front is: with its closing quote, or to the end where there is none.
+// Returns the length of the quoted text at the front: up to and including its closing quote, or to the end if there is none.
 fn quoted_len(text: &[u8]) -> usize
     ensures { result ≤ length text.now }
 {
@@ -26,7 +26,7 @@ fn quoted_len(text: &[u8]) -> usize
     before(rest, *quote).len().saturating_add(2).min(text.len())
 }
 
-// How long the word at the front of a text is: at least 1 where the text is not empty.
+// Returns the length of the word at the front of a text: at least 1 if the text is not empty.
 fn word_len(text: &[u8]) -> usize
     ensures within { result ≤ length text.now }
     ensures some { 0 < length text.now → 0 < result }
@@ -40,12 +40,12 @@ fn word_len(text: &[u8]) -> usize
     }
 }
 
-// Whether a text in quotes is closed behind its opening quote.
+// Whether a text in quotes has a closing quote.
 fn is_closed(word: &[u8]) -> bool {
     matches!(word, [b'"', .., b'"'] | [b'\'', .., b'\''])
 }
 
-// What is wrong with a term.
+// Finds the mistake in a term.
 fn in_term(word: &[u8]) -> Option<Mistake> {
     match word {
         [b'"' | b'\'', ..] => in_character(word),
@@ -57,7 +57,7 @@ fn in_term(word: &[u8]) -> Option<Mistake> {
     }
 }
 
-// What is wrong with a word that is to be a number, and has this value.
+// Returns the mistake in a word that should be a number, given its value if it has one.
 fn in_number(value: Option<u16>) -> Option<Mistake> {
     match value {
         Some(_) => None,
@@ -65,7 +65,7 @@ fn in_number(value: Option<u16>) -> Option<Mistake> {
     }
 }
 
-// What is wrong with a number that begins with a digit.
+// Finds the mistake in a number that begins with a digit.
 fn in_decimal(word: &[u8]) -> Option<Mistake> {
     match word {
         [b'0', b'x' | b'X', ..] => Some(Mistake::HexPrefix),
@@ -74,7 +74,7 @@ fn in_decimal(word: &[u8]) -> Option<Mistake> {
     }
 }
 
-// What is wrong with a character that begins with a quote.
+// Finds the mistake in a character in quotes.
 fn in_character(word: &[u8]) -> Option<Mistake> {
     if word.len() == 3 && matches!(word, [.., b'"' | b'\'']) {
         None
@@ -85,20 +85,20 @@ fn in_character(word: &[u8]) -> Option<Mistake> {
     }
 }
 
-/// How far an operand was looked through.
+/// The state of the reader after the words of an operand read so far.
 #[derive(Clone, Copy)]
 struct Reader {
-    // A term has to come.
+    // The next word must be a term.
     wants_term: bool,
-    // Nothing came yet.
+    // No word was read yet.
     is_front: bool,
-    // An expression in parentheses is open.
+    // A parenthesis is open.
     is_inside: bool,
-    // A blank stood before the word.
+    // There is a blank before the next word.
     is_apart: bool,
 }
 
-// What is wrong with a word that is no term.
+// Finds the mistake in a word that is not a term.
 fn in_sign(reader: Reader, word: &[u8]) -> Option<Mistake> {
     match word {
         [b'+' | b'-'] if reader.wants_term => Some(Mistake::Sign),
@@ -122,7 +122,7 @@ fn in_sign(reader: Reader, word: &[u8]) -> Option<Mistake> {
     }
 }
 
-// Whether a word begins a term.
+// Whether a word begins a term. A `*` is a term only if one is needed here.
 fn is_term(reader: Reader, word: &[u8]) -> bool {
     match word {
         [b'*'] => reader.wants_term,
@@ -132,7 +132,7 @@ fn is_term(reader: Reader, word: &[u8]) -> bool {
     }
 }
 
-// What is wrong with the next word.
+// Finds the mistake in the next word.
 fn in_word(reader: Reader, word: &[u8]) -> Option<Mistake> {
     if !is_term(reader, word) {
         return in_sign(reader, word);
@@ -147,7 +147,7 @@ fn in_word(reader: Reader, word: &[u8]) -> Option<Mistake> {
     in_term(word)
 }
 
-// The reader behind a word with which nothing is wrong.
+// Returns the reader after a word without a mistake.
 fn behind(reader: Reader, word: &[u8]) -> Reader {
     let is_term = is_term(reader, word);
     Reader {
@@ -162,7 +162,7 @@ fn behind(reader: Reader, word: &[u8]) -> Reader {
     }
 }
 
-/// The first mistake in an operand of expressions: which, where it begins, and how long its word is.
+/// Returns the first mistake in an operand made of expressions: its kind, where it begins, and the length of its word.
 pub(crate) fn mistake_in(operand: &[u8]) -> Option<(Mistake, usize, usize)> {
     let mut reader = Reader {
         wants_term: true,
@@ -190,7 +190,8 @@ pub(crate) fn mistake_in(operand: &[u8]) -> Option<(Mistake, usize, usize)> {
     in_form(operand)
 }
 
-// How much of a text is shown for a mistake in its first word: with a sign its term too, and with words behind an operand all.
+// Returns how much of a text is shown for a mistake in its first word. After a sign the term is shown too, and words after an
+// operand are all shown.
 fn shown_len(mistake: Mistake, word: &[u8], rest: &[u8]) -> usize {
     match mistake {
         Mistake::TrailingWords => rest.len(),
@@ -202,7 +203,7 @@ fn shown_len(mistake: Mistake, word: &[u8], rest: &[u8]) -> usize {
     }
 }
 
-// What is wrong with the form of an operand whose terms are in order.
+// Finds the mistake in the form of an operand whose terms have no mistake.
 fn in_form(operand: &[u8]) -> Option<(Mistake, usize, usize)> {
     let (front, end) = operand.split_at(operand.len().saturating_sub(3));
     if front.starts_with(b"(") && end.eq_ignore_ascii_case(b"),X") {
@@ -216,7 +217,7 @@ fn in_form(operand: &[u8]) -> Option<(Mistake, usize, usize)> {
     }
 }
 
-/// What is wrong with the text of ASC.
+/// Finds the mistake in the text of ASC.
 pub(crate) fn mistake_in_text(operand: &[u8]) -> Option<(Mistake, usize, usize)> {
     match operand {
         [] => Some((Mistake::EmptyText, 0, 1)),
@@ -235,12 +236,12 @@ pub(crate) fn mistake_in_text(operand: &[u8]) -> Option<(Mistake, usize, usize)>
     }
 }
 
-/// Whether a word is a register's letter.
+/// Whether a word is the letter of the accumulator.
 pub(crate) fn is_accumulator(word: &[u8]) -> bool {
     word.eq_ignore_ascii_case(b"A")
 }
 
-/// Where a word stands first in an operand, or 0 where it does not.
+/// Returns the index of the first occurrence of a word in an operand, or 0 if it does not occur.
 pub(crate) fn word_at(operand: &[u8], name: &[u8]) -> usize {
     let mut rest = operand;
     while !rest.is_empty() {

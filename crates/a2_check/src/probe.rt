@@ -1,14 +1,14 @@
-//! A source in which refused lines say something else, so that the rest tells where they lie and what their values are.
+//! Assembles a changed source, in which lines with errors are replaced, to learn their addresses and values.
 
 use crate::line::{number_of, parts_of};
 use a2_asm::{Program, assemble, refused};
 use a2_syntax::{Body, Fault, Line, parse};
 use std::alloc::{AllocError, Allocator};
 
-// A name that no source is likely to have.
+// A name that a source is unlikely to contain.
 const HERE: &[u8] = b"_HERE_IN_A_SOURCE_THAT_IS_TRIED_";
 
-// Appends a line of these pieces.
+// Appends a line made of these pieces.
 fn append_line<A: Allocator>(text: &mut Vec<u8, A>, pieces: &[&[u8]]) -> Result<(), AllocError> {
     for piece in pieces {
         text.extend_from_slice(piece)?;
@@ -17,14 +17,14 @@ fn append_line<A: Allocator>(text: &mut Vec<u8, A>, pieces: &[&[u8]]) -> Result<
     Ok(())
 }
 
-// The program of a text, where it is accepted.
+// Assembles a text.
 fn accepted<A: Allocator + Copy>(alloc: A, text: &[u8]) -> Result<Program<A>, Fault> {
     let source = parse(alloc, text)?;
     assemble(alloc, &source)
 }
 
-// The program of a text, where it is accepted, or is with an instruction behind its lines: the lines that were changed may have
-// had the only one.
+// Returns the program of a text if it assembles, if needed with one more instruction after its lines. The replaced lines may
+// have held the only instruction.
 fn tried<A: Allocator + Copy>(
     alloc: A,
     text: &mut Vec<u8, A>,
@@ -45,14 +45,15 @@ fn tried<A: Allocator + Copy>(
     }
 }
 
-// An address and the word there.
+// Returns an address and the 16-bit word there.
 fn word_at<A: Allocator>(program: &Program<A>, address: u16) -> Option<(u16, u16)> {
     let low = program.image().get(address)?;
     let high = program.image().get(address.checked_add(1)?)?;
     Some((address, u16::from_le_bytes([low, high])))
 }
 
-/// The address of the line at an index, and the word there: its value, where it was refused for that.
+/// Returns the address of the line at an index, and the 16-bit word there. The word is the line's value if the value was the
+/// error.
 pub(crate) fn word_of_line<A: Allocator>(program: &Program<A>, index: usize) -> Option<(u16, u16)> {
     for statement in program.statements() {
         if statement.line == number_of(index) {
@@ -62,21 +63,21 @@ pub(crate) fn word_of_line<A: Allocator>(program: &Program<A>, index: usize) -> 
     None
 }
 
-// Whether the line at an index is an instruction that is refused for its value.
+// Whether the line at an index is an instruction whose value is the error.
 fn is_word<A: Allocator>(line: &Line<A>, index: usize, refusals: &[Fault]) -> bool {
     let number = number_of(index);
     matches!(line.body, Body::Instr(_, _))
         && (refusals.contains(&Fault::Range(number)) || refusals.contains(&Fault::Branch(number)))
 }
 
-// A line with the word of its operand in place of its operation.
+// Returns the pieces of a line that stores the value of its operand as a word, instead of the instruction.
 fn as_word(line: &[u8]) -> [&[u8]; 3] {
     let parts = parts_of(line);
     [parts.label, b" DW ", parts.expression()]
 }
 
-/// The program of a source in which each instruction that is refused for its value is that value as a word, where there is one,
-/// and the rest is accepted.
+/// Returns the program of a source in which each instruction with a bad value is replaced by that value as a word. Returns
+/// `None` if there is no such instruction, or if the changed source does not assemble.
 pub(crate) fn with_values<A: Allocator + Copy>(
     alloc: A,
     texts: &[&[u8]],
@@ -103,8 +104,8 @@ pub(crate) fn with_values<A: Allocator + Copy>(
     }
 }
 
-// The line of the first statement, by its address, that reaches over what a name stands for and stands in front of the line at
-// an index.
+// Returns the line of the statement with the lowest address that reaches past the address named `name`, if that line comes
+// before the line at an index.
 fn first_over<A: Allocator>(program: &Program<A>, index: usize, name: &[u8]) -> Option<u16> {
     let Ok(name) = str::from_utf8(name) else {
         return None;
@@ -123,8 +124,8 @@ fn first_over<A: Allocator>(program: &Program<A>, index: usize, name: &[u8]) -> 
     found
 }
 
-/// The line of the first statement, by its address, that reaches over the address of a line, where the rest of the source is
-/// accepted.
+/// Returns the line of the statement with the lowest address that reaches past the address of a line. Returns `None` if the
+/// rest of the source does not assemble.
 pub(crate) fn in_the_way<A: Allocator + Copy>(
     alloc: A,
     texts: &[&[u8]],

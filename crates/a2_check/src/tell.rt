@@ -1,4 +1,4 @@
-//! How refusals are told.
+//! Writes the messages for errors.
 
 use crate::checked::{Checked, line_at};
 use crate::forms::put_forms;
@@ -11,28 +11,28 @@ use a2_text::{cut, decimal, json_escape};
 use std::alloc::{AllocError, Allocator};
 use thiserror::Error;
 
-/// The most refusals that are told at length.
+/// The most errors that are written in the long format.
 const MOST_AT_LENGTH: usize = 20;
 
-/// How refusals are written.
+/// The format of error messages.
 #[derive(Clone, Copy, Debug, PartialEq, Eq)]
 pub enum Format {
-    /// Three lines each: what is wrong, the line, and the mend under its place. At most 20, then how many more, and a last line
-    /// with their number.
+    /// Three lines for each error: what is wrong, the line, and the fix below the place. At most 20 errors are written, then
+    /// how many more there are; the last line has their number.
     Long,
-    /// A line each, as compilers write them and editors read them: `FILE:LINE:COLUMN: error: E2: TEXT`.
+    /// One line for each error, as compilers write them and editors read them: `FILE:LINE:COLUMN: error: E2: TEXT`.
     Short,
-    /// An array of objects in JSON.
+    /// A JSON array of objects.
     Json,
 }
 
-/// Why refusals are not told.
+/// Why errors cannot be written.
 #[derive(Clone, Copy, Debug, PartialEq, Eq, Error)]
 pub enum TellFault {
     /// A write failed.
     #[error("WRITE FAULT")]
     Write,
-    /// A growth of memory was refused.
+    /// There was not enough memory.
     #[error("NO MEMORY")]
     Memory,
 }
@@ -49,7 +49,7 @@ impl From<WriteFault> for TellFault {
     }
 }
 
-// The number of a refusal, as its users know it.
+// Returns the code of an error, as users see it.
 fn code(fault: Fault) -> &'static [u8] {
     match fault {
         Fault::TooLarge(_) => b"E1",
@@ -67,12 +67,12 @@ fn code(fault: Fault) -> &'static [u8] {
     }
 }
 
-// Writes a number.
+// Writes a number in decimal.
 fn put_number<W: Output>(number: usize, writer: &mut W) -> Result<(), WriteFault> {
     put(decimal(number as u64).as_slice(), writer)
 }
 
-// Writes so many of the same byte.
+// Writes a byte `count` times.
 fn put_times<W: Output>(byte: u8, count: usize, writer: &mut W) -> Result<(), WriteFault> {
     for _ in 0..count {
         put(&[byte], writer)?;
@@ -80,7 +80,7 @@ fn put_times<W: Output>(byte: u8, count: usize, writer: &mut W) -> Result<(), Wr
     Ok(())
 }
 
-// Writes bytes as they are shown, in a string of JSON or elsewhere.
+// Writes bytes as shown characters, escaped if they are in a JSON string.
 fn put_shown<W: Output>(text: &[u8], in_json: bool, writer: &mut W) -> Result<(), WriteFault> {
     for c in text {
         let c = shown(*c);
@@ -93,7 +93,7 @@ fn put_shown<W: Output>(text: &[u8], in_json: bool, writer: &mut W) -> Result<()
     Ok(())
 }
 
-// Writes a byte of a sentence, or the word that it is the mark of.
+// Writes a byte of a sentence, or the text that it is the placeholder for.
 fn put_marked<W: Output>(
     c: u8,
     told: Told<'_>,
@@ -108,7 +108,7 @@ fn put_marked<W: Output>(
     }
 }
 
-// Writes what is told, its words in the places of their marks.
+// Writes a sentence with its placeholders replaced.
 fn put_told<W: Output>(told: Told<'_>, in_json: bool, writer: &mut W) -> Result<(), WriteFault> {
     for c in told.sentence {
         put_marked(*c, told, in_json, writer)?;
@@ -119,7 +119,7 @@ fn put_told<W: Output>(told: Told<'_>, in_json: bool, writer: &mut W) -> Result<
     }
 }
 
-// Writes how a source is called. What is above ASCII stands as it is in JSON too: names of files are in the host's coding.
+// Writes the name of a source. Bytes above ASCII are written unchanged, in JSON too: file names are in the host's encoding.
 fn put_name<W: Output>(name: &[u8], in_json: bool, writer: &mut W) -> Result<(), WriteFault> {
     for c in name {
         if in_json && *c < 0x7F {
@@ -131,23 +131,23 @@ fn put_name<W: Output>(name: &[u8], in_json: bool, writer: &mut W) -> Result<(),
     Ok(())
 }
 
-// A refusal, as it is told.
+// An error with all that its message needs.
 #[derive(Clone, Copy)]
 struct Report<'a> {
-    // How the source is called.
+    // The name of the source.
     name: &'a str,
-    // The line that it is of, as it was written.
+    // The line with the error, as written.
     text: &'a [u8],
-    // The number of that line; 0, where it is of none.
+    // The number of that line, or 0 if the error is not in a line.
     line: u16,
     code: &'static [u8],
     telling: Telling<'a>,
-    // Whether words stand in strings of JSON.
+    // Whether the texts are in JSON strings.
     in_json: bool,
 }
 
-// How a report is written: a capital letter stands for a part of it, as `put_part` says, any other byte for itself. A line that
-// is too long is not shown.
+// Returns the template of a report. A capital letter stands for a part, as `put_part` writes it; any other byte stands for
+// itself. A line that is too long is not shown.
 fn form_of(report: Report<'_>, format: Format) -> &'static [u8] {
     match format {
         Format::Long if report.line == 0 => b"error[E]: T\n     = M\n",
@@ -161,7 +161,7 @@ fn form_of(report: Report<'_>, format: Format) -> &'static [u8] {
     }
 }
 
-// Writes a part of a report.
+// Writes one part of a report.
 fn put_part<W: Output>(part: u8, report: Report<'_>, writer: &mut W) -> Result<(), WriteFault> {
     let Report {
         line,
@@ -190,7 +190,7 @@ fn put_part<W: Output>(part: u8, report: Report<'_>, writer: &mut W) -> Result<(
     }
 }
 
-// Writes a report.
+// Writes a report by its template.
 fn put_report<W: Output>(
     report: Report<'_>,
     format: Format,
@@ -202,7 +202,7 @@ fn put_report<W: Output>(
     Ok(())
 }
 
-// Writes how many refusals there are, and before that how many of them were not told.
+// Writes how many errors were left out, if any, and how many there are.
 fn put_count<W: Output>(count: usize, writer: &mut W) -> Result<(), WriteFault> {
     let more = count.saturating_sub(MOST_AT_LENGTH);
     if more > 0 {
@@ -221,7 +221,7 @@ fn put_count<W: Output>(count: usize, writer: &mut W) -> Result<(), WriteFault> 
     )
 }
 
-// Writes what is told of a refusal of a source; `front` stands before it in an array.
+// Writes the message for one error of a source. `front` is written before it in a JSON array.
 fn put_refusal<A: Allocator + Copy, W: Output>(
     alloc: A,
     checked: &Checked<'_, A>,
@@ -245,7 +245,7 @@ fn put_refusal<A: Allocator + Copy, W: Output>(
     Ok(put_report(report, format, writer)?)
 }
 
-// Writes what stands behind so many refusals.
+// Writes the end of the output, after `count` errors.
 fn put_end<W: Output>(format: Format, count: usize, writer: &mut W) -> Result<(), WriteFault> {
     match format {
         Format::Long => put_count(count, writer),
@@ -254,7 +254,7 @@ fn put_end<W: Output>(format: Format, count: usize, writer: &mut W) -> Result<()
     }
 }
 
-// Writes what is told of each of these refusals of a source.
+// Writes the message for each of these errors of a source.
 fn put_each<A: Allocator + Copy, W: Output>(
     alloc: A,
     checked: &Checked<'_, A>,
@@ -274,7 +274,7 @@ fn put_each<A: Allocator + Copy, W: Output>(
     Ok(put_end(format, refusals.len(), writer)?)
 }
 
-// Writes what is told of refusals of a source with these lines; where one of them is not in the grammar, `lines` is empty.
+// Writes the messages for errors of a source with these lines. If a line is not in the grammar, `lines` is empty.
 fn put_of_lines<'a, A: Allocator + Copy, W: Output>(
     alloc: A,
     name: &'a str,
@@ -296,8 +296,8 @@ fn put_of_lines<'a, A: Allocator + Copy, W: Output>(
     put_each(alloc, &checked, refusals, format, writer)
 }
 
-/// Writes what is told of each refusal of `source`, which is called `name`: its place, what is wrong and the mend, in this
-/// format. Refused where a write fails, and for want of memory. This project's profile.
+/// Writes the message for each of these errors of `source`, which is called `name`, in this format: its place, what is wrong
+/// and how to fix it. Fails if a write fails, or if there is not enough memory. This project's profile.
 pub fn put_refusals<A: Allocator + Copy, W: Output>(
     alloc: A,
     name: &str,

@@ -1,33 +1,33 @@
-//! What is told of a refusal.
+//! The message for an error.
 
 use crate::line::Parts;
 use crate::mistake::{Finding, Sentence};
 use a2_opcode::Mnemonic;
 
-/// What is told of a refusal: where it stands in its line, what is wrong and the mend, with the words that stand for the marks of
+/// The message for an error: its place in the line, what is wrong and how to fix it, with the texts for the placeholders of
 /// these two sentences.
 #[derive(Clone, Copy)]
 pub(crate) struct Telling<'a> {
-    /// Where the place begins, counted from 0.
+    /// The index where the place begins, counted from 0.
     pub at: usize,
-    /// How many characters it has; where it has none, one is meant.
+    /// The number of characters at the place; 0 is shown as 1.
     pub width: usize,
     pub what: Sentence,
     pub mend: Sentence,
-    /// What stands for `@` in what is wrong.
+    /// The text for `@` in the sentence that says what is wrong.
     pub shown: &'a [u8],
-    /// What stands for `@` in the mend.
+    /// The text for `@` in the fix.
     pub first: &'a [u8],
-    /// What stands for `~`.
+    /// The text for `~`.
     pub second: &'a [u8],
-    /// What stands for `#`.
+    /// The number for `#`.
     pub number: u16,
-    /// The mnemonic whose forms stand behind the mend.
+    /// The mnemonic whose operand forms are listed after the fix.
     pub forms: Option<Mnemonic>,
 }
 
 impl<'a> Telling<'a> {
-    /// These sentences at a place, without words.
+    /// Returns a message with these two sentences at a place, without texts for placeholders.
     pub(crate) fn new(at: usize, width: usize, what: Sentence, mend: Sentence) -> Telling<'a> {
         Telling {
             at,
@@ -42,7 +42,7 @@ impl<'a> Telling<'a> {
         }
     }
 
-    /// The same with this word for `@`.
+    /// Returns the message with this word for `@` in both sentences.
     pub(crate) fn with_word(self, word: &'a [u8]) -> Telling<'a> {
         Telling {
             shown: word,
@@ -51,12 +51,12 @@ impl<'a> Telling<'a> {
         }
     }
 
-    /// The same with this number for `#`.
+    /// Returns the message with this number for `#`.
     pub(crate) fn with_number(self, number: u16) -> Telling<'a> {
         Telling { number, ..self }
     }
 
-    /// What is told of a mistake that a line of these parts shows.
+    /// Returns the message for a mistake in a line with these parts.
     pub(crate) fn of_finding(finding: Finding<'a>, parts: Parts<'a>) -> Telling<'a> {
         let Finding { mistake, at, word } = finding;
         Telling {
@@ -67,7 +67,7 @@ impl<'a> Telling<'a> {
         }
     }
 
-    /// What is wrong.
+    /// Returns the sentence that says what is wrong.
     pub(crate) fn told(self) -> Told<'a> {
         Told {
             sentence: self.what,
@@ -78,7 +78,7 @@ impl<'a> Telling<'a> {
         }
     }
 
-    /// The mend.
+    /// Returns the sentence that says how to fix it.
     pub(crate) fn told_mend(self) -> Told<'a> {
         Told {
             sentence: self.mend,
@@ -89,21 +89,21 @@ impl<'a> Telling<'a> {
     }
 }
 
-/// A sentence, and the words that stand for its marks.
+/// A sentence, and the texts for its placeholders.
 #[derive(Clone, Copy)]
 pub(crate) struct Told<'a> {
     pub sentence: Sentence,
-    /// What stands for `@`.
+    /// The text for `@`.
     pub first: &'a [u8],
-    /// What stands for `~`.
+    /// The text for `~`.
     pub second: &'a [u8],
-    /// What stands for `#`.
+    /// The number for `#`.
     pub number: u16,
-    /// The mnemonic whose forms stand behind it.
+    /// The mnemonic whose operand forms are listed after the sentence.
     pub forms: Option<Mnemonic>,
 }
 
-/// A character that prints, in place of a byte: `?` for one that does not, and a blank for a tab.
+/// Returns a printable character for a byte: a blank for a tab, and `?` for other bytes that are not printable.
 pub(crate) fn shown(c: u8) -> u8 {
     match c {
         b' '..=b'~' => c,

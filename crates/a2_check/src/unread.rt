@@ -1,4 +1,4 @@
-//! The lines of a text that are not in the grammar.
+//! Finds the lines of a text that are not in the grammar.
 
 ghost use Rattle.std.specs.Prelude.{◌≡◌, ◌≢◌, ◌≤◌, ◌++◌, ◌∷◌, [], List, ℕ, true, false, length, map, IfOk};
 ghost use Rattle.std.specs.List.{All};
@@ -13,7 +13,8 @@ use a2_text::append;
 use arrayvec::ArrayVec;
 use std::alloc::{AllocError, Allocator};
 
-// The text whose one line this is: it ends by a carriage return and a line feed, so that the line keeps one of its own.
+// Returns a text that contains just this line. It ends with a carriage return and a line feed, so that a carriage return at the
+// end of the line itself stays part of the line.
 fn ended(line: &[u8]) -> ArrayVec<u8, 257>
     requires { length line.now ≤ 255 }
     ensures { result.items ≡ line.now ++ 13 ∷ 10 ∷ [] }
@@ -40,7 +41,7 @@ fn is_read<A: Allocator + Copy>(alloc: A, line: &[u8]) -> Result<bool, AllocErro
     }
 }
 
-// A refusal for each line that is not in the grammar, in order.
+// Returns a syntax error for each line that is not in the grammar, in order.
 pub(crate) fn unread<A: Allocator + Copy>(
     alloc: A,
     texts: &[&[u8]],

@@ -1,4 +1,4 @@
-//! What a source text is found to be.
+//! Checks a source text.
 
 ghost use Rattle.std.specs.Prelude.{◌≡◌, ◌<◌, ◌∷◌, [], IfOk, length};
 ghost use Rattle.a2_syntax.specs.Sources.{IsTextRefusal};
@@ -12,16 +12,16 @@ use a2_asm::{Program, assemble, refusals, refused};
 use a2_syntax::{Fault, Source, lines, parse};
 use std::alloc::{AllocError, Allocator};
 
-/// What a source text is found to be.
+/// The result of checking a source text.
 #[derive(Drop)]
 pub enum Verdict<A: Allocator> {
-    /// It is accepted: what its lines say, and the program that they make.
+    /// The text assembles: its parsed lines and its program.
     Accepted(Source<A>, Program<A>),
-    /// It is refused, and these are its refusals, one at least.
+    /// The text has these errors, at least one.
     Refused(Vec<Fault, A>),
 }
 
-// One refusal by itself.
+// Returns a list of one error.
 fn alone<A: Allocator>(alloc: A, fault: Fault) -> Result<Vec<Fault, A>, AllocError>
     ensures { IfOk result (λ faults. faults.items ≡ fault ∷ []) }
 {
@@ -30,7 +30,7 @@ fn alone<A: Allocator>(alloc: A, fault: Fault) -> Result<Vec<Fault, A>, AllocErr
     Ok(faults)
 }
 
-// The refusals of a text that is too large, or has lines that are not in the grammar.
+// Returns the errors of a text that is too large, or has lines that are not in the grammar.
 fn of_text<A: Allocator + Copy>(alloc: A, text: &[u8]) -> Result<Vec<Fault, A>, AllocError>
     requires { (fault : Fault) × IsTextRefusal text.now fault }
     ensures { IfOk result (λ faults. AreOfText text.now faults.items) }
@@ -41,7 +41,7 @@ fn of_text<A: Allocator + Copy>(alloc: A, text: &[u8]) -> Result<Vec<Fault, A>, 
     }
 }
 
-// The refusals of lines that make no program.
+// Returns the layout errors of lines that do not make a program.
 fn of_layout<A: Allocator + Copy>(alloc: A, source: &Source<A>) -> Result<Vec<Fault, A>, AllocError>
     requires { (fault : Fault) × IsLayoutRefusal source.now fault }
     ensures told { IfOk result (λ faults. AreLayoutRefusals source.now faults.items) }
@@ -50,10 +50,10 @@ fn of_layout<A: Allocator + Copy>(alloc: A, source: &Source<A>) -> Result<Vec<Fa
     refusals(alloc, source)
 }
 
-/// What a source text, of any bytes, is found to be. It is accepted exactly where `a2` accepts it. The refusals of a text that is
-/// too large are that one alone; else there is one for each line that is not in the grammar, in order; else there are those of the
-/// layout that are known at once, the first of all in front. The first of them is what `a2` tells. Refused only for want of
-/// memory. This project's profile.
+/// Checks a source text, which may contain any bytes. It is accepted exactly if `a2` accepts it. If the text is too large, that
+/// is the only error. Otherwise there is an error for each line that is not in the grammar, in order. Otherwise there are the
+/// layout errors that can be found at once, with the first error in front. The first error is the one that `a2` reports. Fails
+/// only if there is not enough memory. This project's profile.
 pub fn verdict_of<A: Allocator + Copy>(alloc: A, text: &[u8]) -> Result<Verdict<A>, AllocError>
     ensures { IfOk result (λ verdict. IsVerdict text.now verdict) }
 {
@@ -73,8 +73,8 @@ pub fn verdict_of<A: Allocator + Copy>(alloc: A, text: &[u8]) -> Result<Verdict<
     }
 }
 
-/// The refusals of a source text, of any bytes, as `verdict_of` finds them; none where it is accepted. Refused only for want of
-/// memory. This project's profile.
+/// Returns the errors of a source text, which may contain any bytes, as `verdict_of` finds them, or none if it is accepted.
+/// Fails only if there is not enough memory. This project's profile.
 pub fn refusals_of<A: Allocator + Copy>(alloc: A, text: &[u8]) -> Result<Vec<Fault, A>, AllocError>
     ensures { IfOk result (λ faults. AreRefusals text.now faults.items) }
 {

@@ -1,4 +1,4 @@
-//! What a source has that is accepted, and may be meant otherwise: it is printed as notes.
+//! Warnings about lines that assemble but may not do what their author meant. They are printed as notes.
 
 mod lines;
 mod sentences;
@@ -13,33 +13,33 @@ use a2_syntax::Line;
 pub use sentences::put_warnings;
 use std::alloc::{AllocError, Allocator};
 
-/// What a warning is of. There are no other kinds.
+/// The kind of a warning. There are no other kinds.
 #[derive(Clone, Copy, Debug, PartialEq, Eq)]
 pub enum WarningKind {
-    /// `*=` and a number, from column 1 on, is a comment.
+    /// A line with `*=` and a number in column 1 is a comment.
     Place,
-    /// An operation in column 1 is a label.
+    /// A mnemonic in column 1 is a label.
     Operation,
-    /// An instruction reads a byte below $0100 by its number, and none stores there.
+    /// An instruction reads a byte below $0100, given as a number, and nothing stores there.
     Unwritten,
-    /// No instruction begins behind one that goes on there.
+    /// No instruction begins after one that continues there.
     RunsOut,
-    /// An instruction jumps to itself.
+    /// An instruction jumps or branches to itself.
     Circle,
-    /// A character with bit 7 clear goes to the screen.
+    /// A character with bit 7 clear is written to the screen.
     Plain,
 }
 
-/// A line that may be meant otherwise, and why.
+/// A line that may not do what its author meant, and why.
 #[derive(Clone, Copy, Debug, PartialEq, Eq)]
 pub struct Warning {
-    /// The line's number, counted from 1.
+    /// The number of the line, counted from 1.
     pub line: usize,
     /// What the line does.
     pub kind: WarningKind,
 }
 
-// Adds the warnings of lines as they are spelt.
+// Adds the warnings that depend only on how a line is written.
 fn warn_of_texts<A: Allocator>(
     warnings: &mut Vec<Warning, A>,
     texts: &[&[u8]],
@@ -55,7 +55,7 @@ fn warn_of_texts<A: Allocator>(
     Ok(())
 }
 
-// What is told of a line by itself, in its program.
+// Returns the warning for a line of a program, or `None` if there is none.
 fn kind_of_line<A: Allocator>(
     line: &Line<A>,
     program: &Program<A>,
@@ -70,7 +70,7 @@ fn kind_of_line<A: Allocator>(
     None
 }
 
-// Adds the warnings of lines by what they say.
+// Adds the warnings that depend on a parsed line and the program.
 fn warn_of_lines<A: Allocator>(
     warnings: &mut Vec<Warning, A>,
     lines: &[Line<A>],
@@ -88,7 +88,7 @@ fn warn_of_lines<A: Allocator>(
     Ok(())
 }
 
-// What is told of a statement of a line with this text, by what stands behind it and where instructions begin.
+// Returns the warning for a statement, or `None` if there is none. `text` is its line, `behind` are the statements after it.
 fn kind_of_statement<A: Allocator>(
     text: &[u8],
     statement: &Statement,
@@ -101,7 +101,7 @@ fn kind_of_statement<A: Allocator>(
     kind_of(begins, statement)
 }
 
-// Adds the warnings of statements by where they lie.
+// Adds the warnings that depend on the addresses of statements.
 fn warn_of_statements<A: Allocator>(
     alloc: A,
     warnings: &mut Vec<Warning, A>,
@@ -120,9 +120,10 @@ fn warn_of_statements<A: Allocator>(
     Ok(())
 }
 
-/// Returns the warnings of a source that is accepted: `texts` are its lines as they are spelt, `lines` what they say, and `program` is
-/// what they make. Those of lines as they are spelt come first, then those of lines by what they say, and then those of statements
-/// by where they are, each in the order of the lines. Fails only for want of memory. This project's profile.
+/// Returns the warnings for a source without errors. `texts` are its lines as written, `lines` the parsed lines, and `program`
+/// is the program that they make. The warnings come in three groups, each in the order of the lines: those from the text of a
+/// line, those from the parsed line, and those from the addresses of statements. Fails only if there is not enough memory. This
+/// project's profile.
 pub fn warnings_of<A: Allocator + Copy>(
     alloc: A,
     texts: &[&[u8]],

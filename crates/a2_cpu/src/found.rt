@@ -1,4 +1,4 @@
-//! What stands at PC: the instruction, and where its operand is.
+//! Decodes the instruction at PC and finds its operand.
 
 ghost use Rattle.std.specs.Prelude.{◌≡◌, ◌+◌, ◌*◌, ◌%◌, ◌<◌, ◌≤◌, ◌&&◌, IfOk, slice_get, option_map, Some};
 ghost use Rattle.a2_bus.specs.BusState.{BusState};
@@ -21,15 +21,15 @@ use a2_opcode::{Mnemonic, Mode, branch_target, row_of};
 /// Where an operand is.
 #[derive(Clone, Copy)]
 pub(crate) enum Place {
-    /// There is none.
+    /// There is no operand.
     Nowhere,
-    /// A.
+    /// The operand is A.
     Accumulator,
     /// The operand is this byte.
     Literal(u8),
-    /// The byte at this address, or the address itself.
+    /// The operand is the byte at this address, or the address itself.
     Address(u16),
-    /// The address that stands at this one.
+    /// The target is the address held at this one.
     Pointer(u16),
 }
 
@@ -40,7 +40,8 @@ pub(crate) struct Operand {
     pub base: u16,
 }
 
-/// An instruction at PC: its cycles with that for a crossed page, and the next instruction's address.
+/// An instruction found at PC, with its cycles, including the one for a crossed page, and the next instruction's
+/// address.
 #[derive(Clone, Copy)]
 pub(crate) struct Found {
     pub mnemonic: Mnemonic,
@@ -49,7 +50,7 @@ pub(crate) struct Found {
     pub next: u16,
 }
 
-// The byte after an opcode.
+// Returns the byte after an opcode.
 #[inline(always)]
 fn byte<B: Bus>(bus: &B, pc: u16) -> Option<u8>
     ensures { result ≡ operand_byte_at (slice_get (B.state bus.now).bytes) pc }
@@ -57,7 +58,7 @@ fn byte<B: Bus>(bus: &B, pc: u16) -> Option<u8>
     bus.peek(pc.wrapping_add(1))
 }
 
-// The two bytes after an opcode, low one first.
+// Returns the two bytes after an opcode as a word, low byte first.
 #[inline(always)]
 fn word<B: Bus>(bus: &B, pc: u16) -> Option<u16>
     ensures { result ≡ word_at (slice_get (B.state bus.now).bytes) pc }
@@ -67,7 +68,7 @@ fn word<B: Bus>(bus: &B, pc: u16) -> Option<u16>
     Some(u16::from(low) + 256 * u16::from(high))
 }
 
-// Whether a place is in another page than an address.
+// Returns whether a place is in another page than an address.
 #[inline(always)]
 fn crosses(base: u16, place: Place) -> bool
     ensures { result ≡ crosses_page base (place_for place) }
@@ -78,7 +79,7 @@ fn crosses(base: u16, place: Place) -> bool
     }
 }
 
-// What a mode looks at on a bus: the byte or the word behind the opcode, which is fetched, and page 0.
+// What a mode examines on a bus: page 0, and the byte or the word after the opcode, already fetched.
 #[derive(Clone, Copy)]
 struct Shown<'a, B: Bus> {
     bus: &'a B,
@@ -115,7 +116,7 @@ impl<'a, B: Bus> Bytes for Shown<'a, B> {
     }
 }
 
-// An operand that is there.
+// Returns an operand that exists.
 #[inline(always)]
 fn with_base(place: Place, base: u16) -> Option<Operand>
     ensures { result ≡ Some (record { place = place; base = base }) }
@@ -123,7 +124,7 @@ fn with_base(place: Place, base: u16) -> Option<Operand>
     Some(Operand { place, base })
 }
 
-// An operand at an address, by the byte or the word behind the opcode.
+// Returns an operand at an address, found from the byte or the word after the opcode.
 #[inline(always)]
 fn at_address<P: AtAddress, B: Bus>(live: &Live, bus: &B, byte: u8, word: u16) -> Option<Operand>
     ensures { operand_for result
@@ -133,7 +134,7 @@ fn at_address<P: AtAddress, B: Bus>(live: &Live, bus: &B, byte: u8, word: u16) -
     with_base(Place::Address(place), base)
 }
 
-/// The operand of a mode at PC, if all bytes of the instruction are there.
+/// Returns the operand of a mode at PC, if all bytes of the instruction exist.
 #[inline(always)]
 #[tactic(auto, unfolding(crate::specs::Code::operand_at, crate::specs::Code::value_at))]
 fn locate<B: Bus>(mode: Mode, live: &Live, bus: &B) -> Option<Operand>
@@ -167,7 +168,8 @@ fn locate<B: Bus>(mode: Mode, live: &Live, bus: &B) -> Option<Operand>
     }
 }
 
-/// The instruction at PC, or why there is none: the bus shows not all of its bytes, or its opcode is undocumented.
+/// Returns the instruction at PC, or why there is none: either the bus does not show all of its bytes, or its opcode
+/// is undocumented.
 #[inline(always)]
 #[tactic(auto, unfolding(a2_opcode::specs::Encoding::fetched, crate::specs::Code::operand_at))]
 pub(crate) fn find<B: Bus>(live: &Live, bus: &B) -> Result<Found, GuardedStep>

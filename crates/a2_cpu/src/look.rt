@@ -1,4 +1,4 @@
-//! Why a guarded step would not be made.
+//! Finds out why a guarded step would be refused.
 
 ghost use Rattle.std.specs.Prelude.{◌≡◌, ℕ, Some, None, slice_get};
 ghost use Rattle.std.specs.List.{list_any};
@@ -14,7 +14,7 @@ use a2_bus::Bus;
 use a2_effect::Live;
 use a2_opcode::Mnemonic;
 
-// Whether one of a mnemonic's stores is at a protected address.
+// Returns whether one of a mnemonic's stores is at a protected address.
 #[inline(always)]
 fn stores_at_protected<G: Protection>(
     mnemonic: Mnemonic,
@@ -31,7 +31,7 @@ fn stores_at_protected<G: Protection>(
     }
 }
 
-/// Why a mnemonic is refused, if it is.
+/// Returns why a mnemonic is refused, or `None` if it is not.
 #[inline(always)]
 #[tactic(auto, unfolding(crate::specs::Code::refused_at, crate::specs::BusStep::refusal_of, crate::specs::Code::acting_stores))]
 pub(crate) fn refusal<G: Protection>(
@@ -50,9 +50,9 @@ pub(crate) fn refusal<G: Protection>(
     }
 }
 
-/// Why [`guarded_step`](crate::run::guarded_step) would refuse the instruction at `regs.pc`, with
-/// these registers, this bus and this guard: what it would answer in place of the cycles. `None`
-/// where it would be done. Nothing changes, and no device sees an access.
+/// Returns why [`guarded_step`](crate::run::guarded_step) would refuse the instruction at `regs.pc`, with these
+/// registers, this bus and this guard. Returns `None` if the instruction would be executed. Nothing changes, and no
+/// device sees an access.
 pub fn guarded_refusal<B: Bus, G: Protection>(
     regs: &Regs,
     bus: &B,
@@ -64,7 +64,7 @@ pub fn guarded_refusal<B: Bus, G: Protection>(
     live_refusal(&Live::of(regs), bus, guard)
 }
 
-/// The same as [`guarded_refusal`], of registers as they are computed with.
+/// Does the same as [`guarded_refusal`], for registers in computing form.
 pub fn live_refusal<B: Bus, G: Protection>(live: &Live, bus: &B, guard: &G) -> Option<GuardedStep>
     ensures { result ≡ why_not (guarded_answer_of
         (guarded_bus_step (G.is_protected guard.now) B.access (before_live_step live.now (B.state bus.now)))) }

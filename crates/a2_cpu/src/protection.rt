@@ -1,13 +1,13 @@
-//! Addresses at which nothing may be stored.
+//! Sets of addresses at which nothing may be stored.
 
 ghost use Rattle.std.specs.Prelude.{◌≡◌, ℕ, Bool, false};
 
-/// A set of addresses, from 0 to $FFFF, at which a guarded step stores and pushes nothing.
+/// A set of addresses, from 0 to $FFFF, at which a guarded step never stores or pushes.
 pub trait Protection {
-    /// What contracts see of the set.
+    /// The set, as contracts see it.
     ghost is_protected: { Self → ℕ → Bool };
 
-    /// Whether an address is in the set.
+    /// Returns whether an address is in the set.
     fn is_protected(&self, address: u16) -> bool
         ensures { result ≡ is_protected self.now address };
 }

@@ -1,4 +1,4 @@
--- Debuggers that look alike stand for one session, and show the same of it.
+-- Debuggers that look alike represent the same session, and show the same.
 use Rattle.std.proofs.Common.{arith, ◌≡◌, ℕ, zero, suc, List, [], ◌∷◌, length, refl, sym, ap, ap₂, ◌∙◌}
 use Rattle.a2_hex.specs.Images.{held}
 use Rattle.a2_asm.specs.Assembled.{Assembled}
@@ -79,7 +79,7 @@ picture-alike s t h =
     ap (λ (session : Session). let memory = session.last.memory in page.picture memory.devices.switches memory.page1 memory.page2)
     (session-alike s t h)
 
--- what is left of them by steps to one session looks alike
+-- after steps to the same session, they look alike
 pub moves-alike : (s t new next : Stored) (n : ℕ) → LookAlike s t → session_of new ≡ session_of next → Moves s n new → Moves t n next
     → LookAlike new next
 moves-alike s t new next n h same a b = record {
@@ -91,11 +91,11 @@ moves-alike s t new next n h same a b = record {
   reruns = a.reruns ∙ h.reruns ∙ sym b.reruns;
 }
 
--- what they are said to be looks alike
+-- debuggers equal to two that look alike also look alike
 pub both-alike : (new next s t : Stored) → new ≡ s → next ≡ t → LookAlike s t → LookAlike new next
 both-alike new next s t a b h = rw (a, b) h
 
--- and they look alike the other way round
+-- looking alike is symmetric
 pub alike-back : (s t : Stored) → LookAlike s t → LookAlike t s
 alike-back s t h = record {
   programs = grind (arith, h.programs);

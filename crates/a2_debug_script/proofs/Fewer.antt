@@ -13,7 +13,7 @@ use Rattle.a2_services.proofs.Effects.{served_fewer}
 use Rattle.a2_services.proofs.Lines.{ram_devices}
 use Rattle.a2_machine.specs.Meaning.{Code, Decoded, next_at, next}
 
--- the number of keys that wait
+-- the number of keys that are waiting
 abbrev pub waiting : Memory → ℕ
 waiting memory = length memory.devices.keys
 
@@ -31,7 +31,7 @@ write_fewer m a b =
     let stored = ap (λ (d : Devices). length d.keys) (ram_devices m a b) in
     grind arith
 
--- a memory beside itself, with at most so many keys
+-- two equal memories, with at most this many keys waiting
 record Same (most : ℕ) (m n : Memory) : Type 0 where
   same : m ≡ n
   few : waiting m ≤ most

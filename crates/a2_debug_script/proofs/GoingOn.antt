@@ -34,9 +34,9 @@ module _ (program : Assembled) (marks : List ℕ) where
   unfolding advanced
   stops_last s free = grind arith
 
-  -- steps through sessions of which each is the last one with a world more
+  -- steps through sessions, each of which is the one before with one more world
   module _ (at : ℕ → Session) (on : (k : ℕ) → at (suc k) ≡ appended program (at k)) where
-    -- none is stuck or comes to a mark
+    -- no world is stuck or at a mark
     pub over : (k more : ℕ) → ((i : ℕ) → i < k → stuck (guarded_code program) (at i).last ≡ None)
         → ((i : ℕ) → i < k → is_among marks (at (suc i)).last.registers.pc ≡ false)
         → advanced program marks (k + more) (at 0) ≡ advanced program marks more (at k)
@@ -46,7 +46,7 @@ module _ (program : Assembled) (marks : List ℕ) where
         let step = goes_on more (at k) (free k (omega arith)) (rw on at (off k (omega arith))) in
         rw (suc-add, on) (rw add-suc at before ∙ step)
 
-    -- some number of them leads where all lead
+    -- after some number of steps, the session is the one that all the steps lead to
     pub reached : (m j : ℕ) → (k : ℕ) × (k ≤ m) × ((advanced program marks m (at j)).session ≡ at (j + k))
     unfolding advanced
     reached zero j = (0, omega arith, rw add-zero)
@@ -59,7 +59,7 @@ module _ (program : Assembled) (marks : List ℕ) where
         go None e true f _ = (1, omega arith, rw (stops_marked m (at j) e (rw on at f), add-one, on))
         go None e false f (k, le, is) = (suc k, omega (arith, le), rw (goes_on m (at j) e (rw on at f), ← on, add-suc) (rw suc-add at is))
 
-    -- the last one comes to a mark
+    -- the last world is at a mark
     pub to_mark : (k more : ℕ) → ((i : ℕ) → i < suc k → stuck (guarded_code program) (at i).last ≡ None)
         → ((i : ℕ) → i < k → is_among marks (at (suc i)).last.registers.pc ≡ false)
         → is_among marks (at (suc k)).last.registers.pc ≡ true → advanced program marks (k + suc more) (at 0) ≡ ends (at (suc k)) Break

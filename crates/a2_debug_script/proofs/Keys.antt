@@ -27,7 +27,7 @@ keys_at-typed_at n (k ∷ ks) = let rest = keys_at-typed_at n ks in grind (arith
 pub typed_then : (n : ℕ) (keys : List ℕ) → All (λ t. t.count ≡ n) (typed_at n keys)
 typed_then n keys = All-map (λ t. t.count ≡ n) (λ key. record { count = n; key = key }) keys (λ k d l. refl)
 
--- keys typed at a count, behind those that were typed before
+-- keys typed at a count, after those typed before
 pub keys_at-not_yet : (log : List Typed) (n : ℕ) (keys : List ℕ) (i : ℕ) → i < n → keys_at (log ++ typed_at n keys) i ≡ keys_at log i
 keys_at-not_yet log n keys i l =
     let then = typed_then n keys in
@@ -41,7 +41,7 @@ keys_at-front log k i h =
     let parts = keys_at-append (take k log) (drop k log) i in
     grind (arith, take-append-drop, append-nil)
 
--- later keys forgotten
+-- the log without later keys
 pub keys_at-up_to : (log : List Typed) (n i : ℕ) → i ≤ n → keys_at (up_to n log) i ≡ keys_at log i
 keys_at-up_to [] n i l = refl
 keys_at-up_to (t ∷ ts) n i l = let rest = keys_at-up_to ts n i l in grind (arith, nat_tests)
@@ -69,7 +69,7 @@ InOrder-drop log zero h = h
 InOrder-drop [] (suc k) h = tt
 InOrder-drop (t ∷ ts) (suc k) h = InOrder-drop ts k h.1
 
--- no key that is left is below the first of them
+-- no key that is left was typed before the first of them
 pub NoneBelow-rest : (log : List Typed) (k : ℕ) (d : Typed) → InOrder log → k < length log → NoneBelow (get_or log k d).count (drop k log)
 NoneBelow-rest [] k d h l = absurd (omega arith)
 NoneBelow-rest (t ∷ ts) zero d h l = All-cons (λ x. t.count ≤ x.count) t ts (omega arith) h.0

@@ -1,4 +1,4 @@
--- A list of calls goes on by one.
+-- A list of calls is extended by one call.
 use Rattle.std.proofs.Common.{◌≡◌, ℕ, ap, ◌∙◌, List, [], ◌∷◌, ◌++◌, refl, subst}
 use Rattle.std.specs.Prelude.{Result, Ok, Err}
 use Rattle.a2_debug_script.specs.declared.fault.DebugFault.{DebugFault}
@@ -27,7 +27,7 @@ sets_told old new (Err fault) (Err why) answer told (same, kept) left =
     (told ∙ ap (λ f. Refused f) same, left ∙ ap (λ (bs : List ℕ). record old { breaks = bs }) kept)
 sets_told old new done found answer told is left = absurd is
 
--- a refused call changes nothing
+-- a rejected call changes nothing
 sets_refused : (old new : Stored) (found : Result (List ℕ) DebugFault) (why : DebugFault) → Sets old found (Refused why) new → new ≡ old
 sets_refused old new (Ok breaks) why h = cc
 sets_refused old new (Err fault) why h = h.1

@@ -1,4 +1,4 @@
--- Each call has one answer, and each line one answer or one refusal, at debuggers that look alike.
+-- On debuggers that look alike, each call has one answer, and each line has one answer or one error.
 use Rattle.std.proofs.Common.{◌≡◌, ◌⊎◌, ℕ, List, [], ◌∷◌, ◌++◌, length, map, drop, Result, Ok, Err, refl, sym, ap, ap₂, ◌∙◌, inl, inr, arith}
 use Rattle.a2_text.specs.Bytes.{capital}
 use Rattle.a2_text.specs.Words.{words, first_word, behind_word}
@@ -23,7 +23,7 @@ use Rattle.a2_debug_script.proofs.Total.{spells_only, verb-one}
 
 -- Calls
 
--- two answers, and what they leave
+-- two equal answers, and states that look alike
 abbrev One : Answer → Answer → Stored → Stored → Type 0
 One answer other new next = (answer ≡ other) × LookAlike new next
 
@@ -97,9 +97,9 @@ run-one [] (a ∷ answers) also old other new next like h k = absurd h
 run-one (c ∷ calls) [] also old other new next like h k = absurd h
 run-one calls answers also old other new next like h k = absurd k
 
--- What a verb and what stands behind it say
+-- What a verb and the text after it mean
 
--- a call, wherever its word lies
+-- a call, wherever its word is stored
 plain : Call → Call
 plain (call.SetBreak word) = call.SetBreak (record { ref_ptr = (0, 0); now = word.now })
 plain (call.ClearBreak word) = call.ClearBreak (record { ref_ptr = (0, 0); now = word.now })
@@ -129,7 +129,7 @@ call-one verb rest c d h k = absurd h
 screen_says : (line : List ℕ) (verb : Verb) (rest : List ℕ) (c : Call) → Says verb rest c → IsVerb line verb → IsVerb line Screen → ⊥
 screen_says line verb rest c h is screen = rw (verb-one line verb Screen is screen) at h
 
--- a blank line begins with no verb
+-- a blank line does not begin with a verb
 blank_none : (line : List ℕ) (verb : Verb) → first_word line ≡ [] → IsVerb line verb → ⊥
 blank_none line Step blank h = let bad : verb_letters Step ≡ map capital [] = rw blank at h in cc
 blank_none line verb blank h = let bad : verb_letters verb ≡ map capital [] = rw blank at h in cc
@@ -143,7 +143,7 @@ text-one Back Done new next text words like h k = h ∙ line-alike new next like
 text-one verb Done new next text words like h k = h ∙ sym k
 text-one verb (Refused why) new next text words like h k = absurd h
 
--- what a verb and what stands behind it say is done once
+-- a verb and the text after it have only one result
 said-one : (verb : Verb) (rest : List ℕ) (old other new next : Stored) (c d : Call) (a b : Answer) → LookAlike old other
     → Says verb rest c → Says verb rest d → CallDoes old c a new → CallDoes other d b next → One a b new next
 said-one verb rest old other new next c d a b like says said does did =

@@ -1,4 +1,4 @@
--- Where checkpoints are, and that they stay what they were.
+-- Where checkpoints are, and that they do not change.
 use Rattle.std.specs.Prelude.{◌==◌, ◌&&◌, nat_lt}
 use Rattle.std.proofs.Common.{◌≡◌, ℕ, ◌+◌, ◌-◌, ◌*◌, ◌/◌, ◌%◌, ◌<◌, ◌≤◌, true, false, List, [], ◌∷◌, ◌++◌, length, get_or, take, drop, Some, refl, sym, ◌∙◌, arith, length-append, length-take, length-drop, ◌⊎◌, inl, inr}
 use Rattle.std.proofs.lemmas.Bool.Decides.{nat_tests}
@@ -24,7 +24,7 @@ due : (n m oldest many : ℕ) → n ≤ m → m ≤ 1024 * (n / 1024) + 1024 →
 due n m oldest many ahead near places eight = grind (arith, nat_tests)
 
 module _ (program : Assembled) (log : List Typed) (n oldest : ℕ) (held : List MachineState) (c : AreCheckpoints program log n oldest held) where
-  -- keys typed, and keys forgotten
+  -- keys are typed, and keys are forgotten
   pub places_typed : (keys : List ℕ) → AreCheckpoints program (log ++ typed_at n keys) n oldest held
   places_typed keys = record {
     spaced = λ k d l. at_same (c.spaced k d l)
@@ -46,7 +46,7 @@ module _ (program : Assembled) (log : List Typed) (n oldest : ℕ) (held : List 
         places = places;
       }
 
-  -- the newest one
+  -- the newest checkpoint
   pub newest_at : (state : MachineState) → last_item held ≡ Some state → IsCopyAt program log (n - n % 1024) state
   newest_at state last =
       let place : oldest + 1024 * (length held - 1) ≡ n - n % 1024 = omega (arith, c.places, c.some) in
@@ -87,7 +87,7 @@ module _ (program : Assembled) (log : List Typed) (n oldest : ℕ) (held : List 
           })
       go (inr (e, still, same)) = rw (e, sym still) (record { spaced = c.spaced; some = c.some; eight = c.eight; places = omega (arith, same, c.places) })
 
--- a machine that is brought back to it
+-- a machine that is restored to the newest checkpoint
 pub brought_back : {program : Assembled} {log : List Typed} {n oldest : ℕ} {held : List MachineState} (c : AreCheckpoints program log n oldest held)
     (m : ℕ) (left : List MachineState) (state : MachineState) → m ≤ n → oldest ≤ m → left ≡ take ((m - m % 1024 - oldest) / 1024 + 1) held
     → last_item left ≡ Some (unguarded state) → state.guard ≡ Some (guard_of_program program)
@@ -95,7 +95,7 @@ pub brought_back : {program : Assembled} {log : List Typed} {n oldest : ℕ} {he
 brought_back c m left state le above is last guarded =
     at_guarded state (newest_at _ _ _ _ _ (places_back _ _ _ _ _ c m le above) (unguarded state) (rw is at last)) guarded
 
--- a machine before the keys of its count, and a log of which some keys are taken to be typed
+-- a machine before the keys of its count, and a log whose later keys are left out
 pub at_front : (program : Assembled) (log : List Typed) (k n : ℕ) (state : MachineState) → IsAt program (world_before_keys program log n) n state
     → AllUnder n (take k log) → NoneBelow n (drop k log) → IsAt program (world_with_keys program (take k log) n) n state
 at_front program log k n state at under later =

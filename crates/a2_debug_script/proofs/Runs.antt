@@ -1,4 +1,4 @@
--- Runs of the machine, as steps of a session.
+-- Runs of the machine as steps of a session.
 use Rattle.std.proofs.Common.{◌≡◌, ◌≢◌, ◌⊎◌, ℕ, zero, suc, ◌+◌, ◌-◌, ◌*◌, ◌/◌, ◌<◌, ◌≤◌, false, List, take, drop, Some, None, refl, sym, ap, ap₂, ◌∙◌, inl, inr, arith, add-zero, add-suc, add-one}
 use Rattle.a2_text.specs.Bytes.{is_among}
 use Rattle.a2_asm.specs.Assembled.{Assembled}
@@ -30,7 +30,7 @@ use Rattle.a2_debug_script.proofs.Places.{places_run}
 use Rattle.a2_debug_script.proofs.Sessions.{at_count, session_next}
 use Rattle.a2_debug_script.proofs.GoingOn.{ends, over, to_mark, stops_stuck, stops_last}
 
--- while a machine is not stuck, its worlds are the session's
+-- as long as a machine is not stuck, its worlds are those of the session
 module _ (program : Assembled) (log : List Typed) (n : ℕ) (state : MachineState) (at : IsAt program (world_with_keys program log n) n state)
     (past : NoneAbove n log) where
   told : (k : ℕ) → run.world_at (code_of state) (world_of_state state) k ≡ world_with_keys program log (n + k)
@@ -74,7 +74,7 @@ module _ (program : Assembled) (log : List Typed) (n : ℕ) (old new : Device) (
       went : (k : ℕ) → k < n + count → stuck (guarded_code program) (world_with_keys program log k) ≡ None
       went k l = let before = old.went k in let later = free_at (k - n) in grind arith
 
--- a run, whatever ended it, makes steps
+-- a run consists of steps, whatever ended it
 pub steps_of_run : (limit : ℕ) (old new : Device) (why : Stop) → EndsBy limit old new (new.state.steps - old.state.steps) why
     → AreSteps old new (new.state.steps - old.state.steps) × (new.state.steps - old.state.steps ≤ limit)
 steps_of_run limit old new (stop.Cause cause) ran = (
@@ -83,7 +83,7 @@ steps_of_run limit old new (stop.Cause cause) ran = (
 )
 steps_of_run limit old new stop.Breakpoint ran = (ran.2, omega (arith, ran.1))
 
--- a run through worlds of which none is stuck makes all its steps
+-- a run through worlds that are not stuck executes all its steps
 pub goes_whole_way : (program : Assembled) (log : List Typed) (n limit : ℕ) (old new : Device) (cause : Cause)
     → IsAt program (world_with_keys program log n) n old.state → NoneAbove n log → NoneStuck program log (n + limit) → n + limit ≤ 100_000_000
     → IsMachineRun limit old new cause → IsAt program (world_with_keys program log (n + limit)) (n + limit) new.state × (new.made ≡ raised_by old.made limit)
@@ -101,7 +101,7 @@ goes_whole_way program log n limit old new cause at past free few ran = rw (← 
         let steps = at.steps in
         grind arith
 
--- the same under the front of a log
+-- the same for the front of a log
 pub goes_to : (program : Assembled) (log : List Typed) (k n limit to : ℕ) (old new : Device) (cause : Cause)
     → IsAt program (world_with_keys program (take k log) n) n old.state → NoneAbove n (take k log) → NoneBelow to (drop k log) → NoneStuck program log to
     → to ≤ 100_000_000 → n + limit ≡ to → IsMachineRun limit old new cause
@@ -110,7 +110,7 @@ goes_to program log k n limit to old new cause at past later went few end ran =
     rw end at (goes_whole_way program (take k log) n limit old new cause at past
     (λ i l. front_free program log k i to went later (omega (arith, l, end))) (omega (arith, few, end)) ran)
 
--- a run from a session's last world up to a count, at most
+-- a run from the last world of a session, at most up to a count
 pub record IsRun (program : Assembled) (log : List Typed) (n oldest : ℕ) (marks : List ℕ) (to : ℕ) (old new : Device) (why : Stop) : Type 0 where
   pub kept : IsKept program log n old.state
   pub held : List MachineState
@@ -172,7 +172,7 @@ unmarked : (why : Stop) → halt_by why ≢ Break → is_at_breakpoint (Some why
 unmarked (stop.Cause cause) other = refl
 unmarked stop.Breakpoint other = absurd (other refl)
 
--- the session after so many of its steps
+-- the session after this many of its steps
 abbrev walk : Stored → ℕ → Session
 walk s k = session_of (at_count s (s.count + k))
 
@@ -235,13 +235,13 @@ module _ (s : Stored) {marks : List ℕ} {to : ℕ} {old new : Device} {why : St
             (let all : to - s.count ≡ count r = omega (arith, far, there, steps_are r) in rw (all, ← end) (rw start at (goes (unmarked why other) more)));
       }
 
--- to make so many steps is to make those that are left
+-- executing all the steps is the same as executing those that are left
 pub record IsOnTheWay (breaks : Breaks) (n : ℕ) (old mid : Stored) : Type 0 where
   pub moves : Moves old n mid
   pub rest : advanced mid.program (heeded breaks mid.breaks) (old.count + n - mid.count) (session_of mid)
       ≡ advanced old.program (heeded breaks old.breaks) n (session_of old)
 
--- one run behind another
+-- one run after another
 module _ {breaks : Breaks} {n to : ℕ} {old mid new : Stored} {halt : Halt} (way : IsOnTheWay breaks n old mid)
     (ran : RunsToCount (heeded breaks mid.breaks) to mid new halt) (ahead : mid.count ≤ to) (fits : to ≤ old.count + n) where
   left : old.count + n - mid.count ≡ to - mid.count + (old.count + n - to)

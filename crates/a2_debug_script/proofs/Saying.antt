@@ -1,4 +1,4 @@
--- Where what stands behind a verb says no call.
+-- If the text after a verb means no call.
 use Rattle.std.proofs.Common.{◌≡◌, ◌≢◌, ℕ, ◌<◌, List, [], length, drop, None, refl, arith}
 use Rattle.a2_text.specs.Words.{words, only_word}
 use Rattle.a2_bus.specs.KeyText.{SpellsKeys}
@@ -10,7 +10,7 @@ use Rattle.a2_debug_script.specs.Lines.{only_number}
 use Rattle.a2_debug_script.specs.Stored.{Stored}
 use Rattle.a2_debug_script.specs.Answers.{Says, done_text}
 
--- what a verb wants is not there
+-- what a verb needs is missing
 abbrev pub Lacks : Verb → List ℕ → Type 0
 Lacks Step rest = only_number (words rest) ≡ None
 Lacks Go rest = only_number (words rest) ≡ None
@@ -29,7 +29,7 @@ lacking Clear rest none (call.ClearBreak word) h = cc
 lacking TypeKeys rest none (call.TypeKeys keys) h = omega (arith, none h.0 keys h.1, h.2)
 lacking verb rest none c h = h
 
--- no verb but one has a text where its call is done
+-- only one verb has a text when its call succeeds
 pub undone : (verb : Verb) (new : Stored) → verb ≢ Back → [] ≡ done_text verb new
 undone Back new other = absurd (other refl)
 undone _ new other = refl

@@ -36,7 +36,7 @@ pub breaks_are : (s : Stored) → (session_of s).breaks ≡ s.breaks
 unfolding session_of
 breaks_are s = refl
 
--- further on
+-- stepping forwards
 
 abbrev pub at_count : Stored → ℕ → Stored
 at_count s n = record s { count = n; oldest = raised s.oldest n }

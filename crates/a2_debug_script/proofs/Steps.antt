@@ -22,7 +22,7 @@ use Rattle.a2_debug_script.specs.Stored.{IsAt, under_guard, laid_by, world_with_
 use Rattle.a2_debug_script.proofs.Keys.{keys_at-front}
 use Rattle.a2_debug_script.proofs.Worlds.{world_at-same, world_at-typed, length-world_at}
 
--- where memory holds the program's code, its bytes say what its statements say
+-- wherever memory holds the program's code, its bytes mean the same as its statements
 module _ (program : Assembled) (sound : IsSound program) (world : World)
     (holds : HoldsCode (guard_of_program program).code (laid_by program) world.memory) where
   alike : found_at_pc (bytes (Some (guard_of_program program))) world ≡ found_at_pc (guarded_code program) world
@@ -41,7 +41,7 @@ module _ (program : Assembled) (sound : IsSound program) (world : World)
   unfolding guarded_code statements
   next_holds free = next-keeps_code (guarded_code program) (laid_by program) world holds free
 
--- a machine at a world is at an equal one
+-- a machine that holds a world holds any equal world
 pub at_same : {program : Assembled} {v w : World} {m n : ℕ} {state : MachineState} → IsAt program v m state → v ≡ w → m ≡ n → IsAt program w n state
 at_same at e f = rw (sym e, sym f) at
 
@@ -49,7 +49,7 @@ pub at_steps : {program : Assembled} (world : ℕ → World) {n : ℕ} (state : 
     → IsAt program (world state.steps) state.steps state
 at_steps world state at = at_same at (ap world (sym at.steps)) (sym at.steps)
 
--- a state's guard is left aside, and put back
+-- a state without its guard, and with the guard put back
 pub at_unguarded : {program : Assembled} {world : World} {n : ℕ} {state : MachineState} → IsAt program world n state
     → IsAt program world n (under_guard program (unguarded state))
 at_unguarded at = record { holds = at.holds; steps = at.steps; guarded = refl; sound = at.sound; code = at.code }
@@ -80,7 +80,7 @@ on_ok_of : {X E : Type 0} (r : Result X E) (P : Type 0) → IsOk r → OnOk r P 
 on_ok_of (Ok x) P e h = h
 on_ok_of (Err x) P e h = cc
 
--- keys are typed at a machine that has taken no more than the log, where it may take no more than 4,096
+-- keys are typed at a machine that has taken no more keys than the log has, if it may take at most 4,096
 module _ {program : Assembled} (log : List Typed) {n : ℕ} (old new : Device) (keys : List ℕ) {X E : Type 0} (r : Result X E)
     (at : IsAt program (world_with_keys program log n) n old.state) (few : length log + length keys ≤ 4096)
     (fits : IsOk r ↔ (length old.state.bus.devices.keys + length keys ≤ 4096)) (taken : OnOk r (new ≡ after_keys old keys)) where

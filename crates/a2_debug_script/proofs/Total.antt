@@ -1,4 +1,4 @@
--- Each line of a session is answered or refused, whatever the session is.
+-- Each line of a session has an answer or an error, whatever the session is.
 use Rattle.std.specs.Prelude.{bytes_eq, Decides}
 use Rattle.std.proofs.Common.{◌≡◌, ◌≢◌, ◌⊎◌, ℕ, zero, suc, ◌+◌, ◌-◌, ◌%◌, ◌<◌, ◌≤◌, Bool, true, false, List, [], ◌∷◌, ◌++◌, length, map, Option, Some, None, Result, Ok, Err, refl, sym, ap, ◌∙◌, inl, inr, arith, eqb, cond, zero-add, add-zero, add-suc, add-one}
 use Rattle.std.proofs.lemmas.Bool.{false≢true}
@@ -31,11 +31,11 @@ use Rattle.a2_debug_script.proofs.Saying.{lacking}
 
 -- Calls
 
--- what a call answers, and leaves
+-- the answer of a call, and the state afterwards
 abbrev Outcome : (Answer → Stored → Type 0) → Type 0
 Outcome does = (answer : Answer) × (new : Stored) × does answer new
 
--- after so many steps
+-- the lowest count to return to, after this many steps
 olds : Stored → ℕ → ℕ
 olds s zero = s.oldest
 olds s (suc k) = raised s.oldest (s.count + suc k)
@@ -120,7 +120,7 @@ spelt_on text rest key begins (inr none) = inr go
         let same = begins_only text key k rest h.0 begins h.1 in
         none ks (rw (sym same.same_rest) at h.2)
 
--- a text that begins neither with a printable character nor with \ and a key's letter
+-- a text that begins with neither a printable character nor \ and the letter of a key
 no_spelling : (c : ℕ) (cs : List ℕ) → (0x20 ≤ c → c ≤ 0x7E → c ≢ 0x5C → ⊥)
     → ((l key : ℕ) (ls : List ℕ) → cs ≡ l ∷ ls → c ≡ 0x5C → escaped l ≡ Some key → ⊥) → Spelt (c ∷ cs)
 no_spelling c cs plain escape = inr go
@@ -135,7 +135,7 @@ no_spelling c cs plain escape = inr go
     go [] h = (let bad : ⊥ = cc in bad)
     go (k ∷ ks) h = begins k h.0 h.1
 
--- by its first character, where the rest does, and what is behind the letter after \\
+-- a text by its first character, if the rest spells keys, and so does the text after the letter that follows \\
 spelt_by : (c : ℕ) (cs : List ℕ) → Spelt cs → ((l : ℕ) (ls : List ℕ) → cs ≡ l ∷ ls → Spelt ls) → Spelt (c ∷ cs)
 spelt_by c cs rest behind = go split
   where
@@ -155,7 +155,7 @@ spelt_by c cs rest behind = go split
     go (inr (inl slash)) = escape cs refl slash
     go (inr (inr (unseen, other))) = no_spelling c cs (λ low high _. unseen low high) (λ l key ls e slash found. other slash)
 
--- each text spells keys, or none
+-- each text spells keys, or does not
 spelt : (text : List ℕ) → Spelt text
 spelt [] = inl ([], refl)
 spelt (c ∷ []) = spelt_by c [] (inl ([], refl)) (λ l ls e. (let bad : ⊥ = cc in absurd bad))
@@ -163,7 +163,7 @@ spelt (c ∷ l ∷ ls) = spelt_by c (l ∷ ls) (spelt (l ∷ ls)) (λ m ms e. (l
 
 -- Verbs and their calls
 
--- the verb of this second letter
+-- the verb with this second letter
 by_letter : List ℕ → Verb
 by_letter [] = Screen
 by_letter (a ∷ []) = Screen
@@ -219,7 +219,7 @@ asked Screen rest = inr (λ c says. says)
 abbrev pub Met : List ℕ → Stored → Type 0
 Met line old = ((text : List ℕ) × (new : Stored) × IsDebugAnswer line old text new) ⊎ ((why : DebugFault) × IsLineRefused line old why)
 
--- each line is answered or refused
+-- each line has an answer or an error
 pub met : (line : List ℕ) (old : Stored) → NoneAbove old.count old.log → Met line old
 met line old past = go (first_word line) refl
   where
@@ -252,7 +252,7 @@ met line old past = go (first_word line) refl
     go [] e = inl ([], old, inl (e, refl, refl))
     go (c ∷ cs) e = with_verb (λ nothing. (let bad : ⊥ = cc in bad)) (verb_in (map capital (first_word line)))
 
--- Keys stay such as were typed at counts up to now
+-- All keys are still typed at counts up to the current one
 
 steps_past : (old new : Stored) (n : ℕ) (end : End) (answer : Answer) → MakesSteps old n end answer new → NoneAbove old.count old.log → NoneAbove new.count new.log
 steps_past old new n end (Refused why) h past = rw h.2 past
@@ -289,7 +289,7 @@ answered_past line old text new (inl blank) past = rw blank.2 past
 answered_past line old text new (inr (inl screen)) past = rw screen.3 past
 answered_past line old text new (inr (inr obeyed)) past = does_past old new obeyed.2.called.0 obeyed.2.answer obeyed.2.called.2 past
 
--- No line is refused for a failed write
+-- No line is rejected because of a failed write
 
 place_no : (names : Names) (word : List ℕ) → word_address names word ≡ Err fault.Write → ⊥
 unfolding word_address

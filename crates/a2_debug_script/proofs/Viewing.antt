@@ -1,4 +1,4 @@
--- The bytes of a page that a machine shows are those of memory.
+-- The page bytes that a machine shows are those of its memory.
 use Rattle.std.specs.Prelude.{slice_index}
 use Rattle.std.proofs.Common.{◌≡◌, ℕ, ◌+◌, ◌<◌, take, drop, sym, ◌∙◌}
 use Rattle.std.proofs.lemmas.List.{get_or-take, get_or-drop}

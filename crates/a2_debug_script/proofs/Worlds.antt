@@ -50,7 +50,7 @@ length-worlds_below program log zero = refl
 length-worlds_below program log (suc n) = ap suc (length-worlds_below program log n)
 
 module _ (program : Assembled) (log : List Typed) (n : ℕ) where
-  -- where no key was typed there
+  -- if no key was typed at the count
   pub fresh_before : All (λ t. t.count ≢ n) log → world_with_keys program log n ≡ world_before_keys program log n
   unfolding world_with_keys
   fresh_before none = ap (λ ks. typed ks (world_before_keys program log n)) (keys_at-none log n none) ∙ typed-nil _
@@ -72,7 +72,7 @@ pub world_at-more : (program : Assembled) (log : List Typed) (n : ℕ) → NoneA
 unfolding world_with_keys world_before_keys
 world_at-more program log n past = rw add-one (fresh_before program log (suc n) (omega (arith, past)))
 
--- no more keys wait than were typed
+-- no more keys are waiting than were typed
 module _ (program : Assembled) (log : List Typed) where
   waiting-here : (n : ℕ) → waiting (typed (keys_at log n) (world_before_keys program log n)).memory
       ≡ waiting (world_before_keys program log n).memory + length (keys_at log n)

@@ -1,4 +1,4 @@
--- What a line says, and what it answers. This project's profile.
+-- What a line means, and what it answers. This project's profile.
 use Rattle.std.specs.Prelude.{◌≡◌, ◌≢◌, ◌⊎◌, ℕ, ◌<◌, ◌≤◌, List, [], ◌++◌, length, map, drop, Option, Some, None, Result, Ok, Err}
 use Rattle.a2_stream.specs.Stream.{Taker, Sends, Breaks}
 use Rattle.a2_text.specs.Bytes.{capital}
@@ -16,7 +16,7 @@ use Rattle.a2_debug_script.specs.Calls.{CallDoes}
 use Rattle.a2_debug_script.specs.Lines.{verb_letters, only_number, session_line, halt_line, session_picture}
 use Rattle.a2_debug_script.specs.Stored.{Stored}
 
--- a verb, and what stands behind it, say this call
+-- a verb and the text after it mean this call
 abbrev pub Says : Verb → List ℕ → Call → Type 0
 Says Step rest (call.Step n) = only_number (words rest) ≡ Some n
 Says Go rest (call.Go n) = only_number (words rest) ≡ Some n
@@ -26,37 +26,37 @@ Says Clear rest (call.ClearBreak word) = only_word (words rest) ≡ Some word.no
 Says TypeKeys rest (call.TypeKeys keys) = (0 < length rest) × SpellsKeys (drop 1 rest) keys × (length keys ≤ 4096)
 Says verb rest call = ⊥
 
--- they say no call
+-- they mean no call
 abbrev pub SaysNone : Verb → List ℕ → Type 0
 SaysNone verb rest = (call : Call) → Says verb rest call → ⊥
 
--- the text of a call that was done and has no other answer
+-- the text of a call that succeeded and has no other answer
 abbrev pub done_text : Verb → Stored → List ℕ
 done_text Back new = session_line new
 done_text _ new = []
 
--- a call that was done answers this text
+-- a call that succeeded has an answer with this text
 abbrev pub IsAnswerText : Verb → Answer → Stored → List ℕ → Type 0
 IsAnswerText verb (Halted halt) new text = text ≡ session_line new ++ halt_line halt
 IsAnswerText verb Done new text = text ≡ done_text verb new
 IsAnswerText verb (Refused fault) new text = ⊥
 
--- the call that a verb and what stands behind it say is made, and answers this
+-- the call that a verb and the text after it mean is executed, with this answer
 abbrev pub IsCallAnswered : Verb → List ℕ → Stored → Answer → Stored → Type 0
 IsCallAnswered verb rest old answer new = (call : Call) × Says verb rest call × CallDoes old call answer new
 
--- so it is; or they say none, and nothing changes
+-- the call they mean is executed; or they mean none, and nothing changes
 abbrev pub IsAnswered : Verb → List ℕ → Stored → Option Answer → Stored → Type 0
 IsAnswered verb rest old (Some answer) new = IsCallAnswered verb rest old answer new
 IsAnswered verb rest old None new = SaysNone verb rest × (new ≡ old)
 
--- the call was done, and this is its answer's text
+-- the call succeeded, and this is the text of its answer
 pub record IsCallDone (verb : Verb) (rest : List ℕ) (old : Stored) (text : List ℕ) (new : Stored) : Type 0 where
   pub answer : Answer
   pub called : IsCallAnswered verb rest old answer new
   pub spelt : IsAnswerText verb answer new text
 
--- they say none, or the call is refused
+-- they mean no call, or the call is rejected
 pub record IsCallRefused (verb : Verb) (rest : List ℕ) (old : Stored) (why : DebugFault) : Type 0 where
   pub cause : (SaysNone verb rest × (why ≡ fault.Syntax)) ⊎ IsCallAnswered verb rest old (Refused why) old
 
@@ -64,21 +64,23 @@ pub record IsCallRefused (verb : Verb) (rest : List ℕ) (old : Stored) (why : D
 abbrev pub IsVerb : List ℕ → Verb → Type 0
 IsVerb line verb = verb_letters verb ≡ map capital (first_word line)
 
--- a line is done, with this answer: a blank line answers nothing, `screen` the picture, any other what its call answers
+-- a line is executed, with this answer: nothing for a blank line, the picture for `screen`, and otherwise the answer of
+-- its call
 abbrev pub IsDebugAnswer : List ℕ → Stored → List ℕ → Stored → Type 0
 IsDebugAnswer line old text new =
     ((first_word line ≡ []) × (text ≡ []) × (new ≡ old))
     ⊎ (IsVerb line Screen × (words (behind_word line) ≡ []) × (text ≡ session_picture old) × (new ≡ old))
     ⊎ ((verb : Verb) × IsVerb line verb × IsCallDone verb (behind_word line) old text new)
 
--- a line is refused for this: it begins with no verb, or more stands behind `screen`, or its call is none or is refused
+-- a line is rejected for this reason: it does not begin with a verb, or there is more text after `screen`, or it means
+-- no call, or its call is rejected
 abbrev pub IsLineRefused : List ℕ → Stored → DebugFault → Type 0
 IsLineRefused line old why =
     ((first_word line ≢ []) × ((verb : Verb) → IsVerb line verb → ⊥) × (why ≡ fault.Syntax))
     ⊎ (IsVerb line Screen × (words (behind_word line) ≢ []) × (why ≡ fault.Syntax))
     ⊎ ((verb : Verb) × (verb ≢ Screen) × IsVerb line verb × IsCallRefused verb (behind_word line) old why)
 
--- the answer went out; or the line is refused, and nothing changed or went out; or it was done, and a write failed
+-- the answer was sent; or the line is rejected, and nothing was changed or sent; or it was executed, and a write failed
 abbrev pub DebugLineAnswers : List ℕ → Stored → Stored → Taker → Taker → Result (Unit {0}) DebugFault → Type 0
 DebugLineAnswers line old new before after (Ok _) = (text : List ℕ) × IsDebugAnswer line old text new × Sends before after text
 DebugLineAnswers line old new before after (Err why) =

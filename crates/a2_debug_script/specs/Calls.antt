@@ -1,4 +1,5 @@
--- What a list of calls answers and leaves: each call does to the session what the session's definition says.
+-- The answers of a list of calls, and the state afterwards: each call does to the session what the definition of the
+-- session says.
 use Rattle.std.specs.Prelude.{◌≡◌, ℕ, ◌+◌, ◌-◌, ◌%◌, ◌<◌, ◌≤◌, ◌^◌, List, [], ◌∷◌, ◌++◌, length, Result, Ok, Err}
 use Rattle.a2_debug_script.specs.declared.fault.DebugFault.{DebugFault}
 use Rattle.a2_debug_script.specs.declared.fault.DebugFault.TheVariants.{TooFar, Full, Steps}
@@ -11,7 +12,7 @@ use Rattle.a2_debug_script.specs.Marks.{marked, unmarked, at_place}
 use Rattle.a2_debug_script.specs.Session.{Halted as End, stepped, gone, with_keys, with_breaks, backed}
 use Rattle.a2_debug_script.specs.Stored.{Stored, session_of, typed_at, up_to, Moves}
 
--- what a call answers that makes steps, and one that makes none
+-- the answer of a call that steps, and of one that does not
 abbrev pub halted_or : Result Halt DebugFault → Answer
 halted_or (Ok halt) = Halted halt
 halted_or (Err fault) = Refused fault
@@ -20,27 +21,27 @@ abbrev pub done_or : Result (Unit {0}) DebugFault → Answer
 done_or (Ok _) = Done
 done_or (Err fault) = Refused fault
 
--- steps are made, or refused where there would be too many
+-- steps are executed, or the call is rejected if there would be too many
 abbrev pub MakesSteps : Stored → ℕ → End → Answer → Stored → Type 0
 MakesSteps old n end (Refused fault) new = (100_000_000 < old.count + n) × (fault ≡ Steps) × (new ≡ old)
 MakesSteps old n end Done new = ⊥
 MakesSteps old n end (Halted halt) new =
     (old.count + n ≤ 100_000_000) × (session_of new ≡ end.session) × (halt ≡ end.halt) × Moves old n new
 
--- the call goes back: it makes the steps from the last count that is divisible by 1,024 again, and no others
+-- the call goes back: it replays exactly the steps from the last count divisible by 1,024
 abbrev pub GoesBack : Stored → ℕ → Stored → Type 0
 GoesBack old n new =
     (old.oldest + n ≤ old.count) × (session_of new ≡ backed n (session_of old))
     × (new ≡ record old { count = old.count - n; log = up_to (old.count - n) old.log; reruns = (old.count - n) % 1024; made = new.made })
     × (old.made + new.reruns < 2 ^ 64 → new.made ≡ old.made + new.reruns)
 
--- other breakpoints, or a refusal
+-- other breakpoints, or an error
 abbrev pub Sets : Stored → Result (List ℕ) DebugFault → Answer → Stored → Type 0
 Sets old (Ok breaks) answer new =
     (answer ≡ Done) × (session_of new ≡ with_breaks breaks (session_of old)) × (new ≡ record old { breaks = breaks })
 Sets old (Err fault) answer new = (answer ≡ Refused fault) × (new ≡ old)
 
--- a call may answer this and leave this
+-- a call may have this answer and leave this state
 abbrev pub CallDoes : Stored → Call → Answer → Stored → Type 0
 CallDoes old (Step n) answer new = MakesSteps old n (stepped old.program n (session_of old)) answer new
 CallDoes old (Go n) answer new = MakesSteps old n (gone old.program n (session_of old)) answer new
@@ -54,7 +55,7 @@ CallDoes old (SetBreak word) answer new = Sets old (at_place marked old.program.
 CallDoes old (ClearBreak word) answer new = Sets old (at_place unmarked old.program.names word.now old.breaks) answer new
 CallDoes old _ (Halted halt) new = ⊥
 
--- these calls, one after another
+-- these calls, executed one after another
 abbrev pub Run : Stored → List Call → List Answer → Stored → Type 0
 Run old [] [] new = new ≡ old
 Run old (call ∷ calls) (answer ∷ answers) new = (mid : Stored) × CallDoes old call answer mid × Run mid calls answers new

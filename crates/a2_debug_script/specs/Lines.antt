@@ -1,4 +1,4 @@
--- The lines of a debugging session, and how their answers are spelt. This project's profile.
+-- The lines of a debugging session, and the text of their answers. This project's profile.
 use Rattle.std.specs.Prelude.{ℕ, ◌&&◌, nat_lt, nat_le, List, length, codes, Option, Some, None, if◌then◌else◌}
 use Rattle.std.specs.List.{list_all}
 use Rattle.a2_text.specs.Bytes.{is_digit, value_of_digits}
@@ -27,7 +27,7 @@ number_of digits =
     if nat_lt 0 (length digits) && nat_le (length digits) 10 && list_all is_digit digits && nat_lt (value_of_digits 10 digits) 4294967296
     then Some (value_of_digits 10 digits) else None
 
--- the number that a text's one word says
+-- the number that the only word of a text means
 abbrev pub number_by : Option (List ℕ) → Option ℕ
 number_by None = None
 number_by (Some digits) = number_of digits

@@ -1,4 +1,5 @@
--- Breakpoints: where a word says that one is, and what setting and clearing one leaves. This project's profile.
+-- Breakpoints: the address that a word means, and the breakpoints after setting and clearing one. This project's
+-- profile.
 use Rattle.std.specs.Prelude.{◌≡◌, ℕ, ◌==◌, nat_lt, not, List, [], ◌∷◌, ◌++◌, length, filter, if◌then◌else◌, Option, Some, None, Result, Ok, Err}
 use Rattle.a2_text.specs.Bytes.{is_among}
 use Rattle.a2_text.specs.Signs.{sign}
@@ -12,7 +13,7 @@ abbrev pub found_or : DebugFault → Option ℕ → Result ℕ DebugFault
 found_or fault None = Err fault
 found_or fault (Some address) = Ok address
 
--- the address that a word says: $ and 1 to 4 hexadecimal digits, or a name that a line of the program defines
+-- the address that a word means: $ and 1 to 4 hexadecimal digits, or a name that a line of the program defines
 unfoldable pub word_address : Names → List ℕ → Result ℕ DebugFault
 word_address names [] = Err Syntax
 word_address names (c ∷ cs) =
@@ -20,7 +21,7 @@ word_address names (c ∷ cs) =
     else if is_name (c ∷ cs) then found_or Unknown (name_value names (c ∷ cs))
     else Err Syntax
 
--- one more, where there is room: no more than 256 are set, each once
+-- one more breakpoint, if there is room: at most 256 are set, each only once
 abbrev pub marked : List ℕ → ℕ → Result (List ℕ) DebugFault
 marked marks address =
     if is_among marks address then Ok marks
@@ -30,11 +31,11 @@ marked marks address =
 abbrev pub unmarked : List ℕ → ℕ → Result (List ℕ) DebugFault
 unmarked marks address = Ok (filter (λ mark. not (mark == address)) marks)
 
--- what becomes of breakpoints at the place that a word says, or why nothing does
+-- the breakpoints after a change at the place that a word means, or why nothing changes
 abbrev pub at_place : (List ℕ → ℕ → Result (List ℕ) DebugFault) → Names → List ℕ → List ℕ → Result (List ℕ) DebugFault
 at_place change names word marks = elim (word_address names word) [ Err fault ↦ Err fault | Ok address ↦ change marks address ]
 
--- a call leaves these breakpoints, or is refused for this and leaves those that were set
+-- a call leaves these breakpoints; or it fails with this error, and the breakpoints are unchanged
 abbrev pub Marks : List ℕ → List ℕ → Result (Unit {0}) DebugFault → Result (List ℕ) DebugFault → Type 0
 Marks old new (Ok _) (Ok marks) = new ≡ marks
 Marks old new (Err fault) (Err why) = (fault ≡ why) × (new ≡ old)

@@ -1,4 +1,4 @@
--- Steps that are made at once.
+-- Steps that are executed in one run.
 use Rattle.std.specs.Prelude.{◌≡◌, ◌≢◌, ◌⊎◌, ℕ, ◌+◌, ◌-◌, ◌<◌, ◌≤◌, List, []}
 use Rattle.a2_machine.specs.declared.Stop.{Stop}
 use Rattle.a2_machine.specs.declared.Stop.TheVariants as stop
@@ -14,21 +14,22 @@ abbrev pub heeded : Breaks → List ℕ → List ℕ
 heeded Ignored marks = []
 heeded Heeded marks = marks
 
--- why steps ended, as a debugger tells it
+-- why steps ended, in the form that a debugger reports
 abbrev pub halt_by : Stop → Halt
 halt_by (stop.Cause cause) = Stopped cause
 halt_by stop.Breakpoint = Break
 
--- what a debugger leaves and answers
+-- the state of a debugger and its answer
 abbrev pub halted : Stored → Halt → Halted
 halted new halt = record { session = session_of new; halt = halt }
 
--- steps were made up to a count, or fewer
+-- steps were executed up to a count, or fewer
 pub record RunsToCount (marks : List ℕ) (to : ℕ) (old new : Stored) (halt : Halt) : Type 0 where
   pub moves : Moves old (to - old.count) new
-  -- these and any more end here, where they came to a breakpoint or not so far; or these alone
+  -- running these steps and `more` others also ends here, if they ended at a breakpoint or before the count, or if
+  -- `more` is 0
   pub ended : (more : ℕ) → (halt ≡ Break) ⊎ (new.count < to) ⊎ (more ≡ 0)
       → advanced old.program marks (to - old.count + more) (session_of old) ≡ halted new halt
-  -- or else to make them and so many more is to make so many after them
+  -- otherwise, running these steps and more is the same as running the additional steps after them
   pub on : halt ≢ Break → to ≤ new.count → (more : ℕ)
       → advanced old.program marks (to - old.count + more) (session_of old) ≡ advanced old.program marks more (session_of new)

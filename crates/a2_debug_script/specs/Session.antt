@@ -1,4 +1,4 @@
--- What a debugging session is: the worlds that were reached, of which the last one is looked at, under a guarded program.
+-- What a debugging session is: the worlds that a guarded program has reached, of which the last one is shown.
 use Rattle.std.specs.Prelude.{ℕ, zero, suc, ◌+◌, ◌-◌, ◌*◌, ◌/◌, List, [], ◌∷◌, length, if◌then◌else◌, Some, None, max}
 use Rattle.a2_text.specs.Bytes.{is_among}
 use Rattle.a2_asm.specs.Assembled.{Assembled}
@@ -14,18 +14,18 @@ pub record Session : Type 0 where
   -- the worlds before the last one, the latest first
   pub earlier : List World
   pub breaks : List ℕ
-  -- no count below this one can be gone back to
+  -- the lowest count that `back` can return to
   pub oldest : ℕ
 
--- the oldest count that can be gone back to, once this count is reached
+-- the lowest count that `back` can return to, once this count is reached
 abbrev pub raised : ℕ → ℕ → ℕ
 raised oldest count = max oldest (1024 * (count / 1024 - 7))
 
--- the session as it begins
+-- the session at its start
 abbrev pub fresh : Assembled → Session
 fresh program = record { last = start program; earlier = []; breaks = []; oldest = 0 }
 
--- one world more
+-- the session with one more world
 unfoldable pub appended : Assembled → Session → Session
 appended program session = record session {
   last = next (guarded_code program) session.last;
@@ -33,16 +33,16 @@ appended program session = record session {
   oldest = raised session.oldest (length session.earlier + 1);
 }
 
--- why steps end at a world, at the latest
+-- the reason why steps must end at a world, if they did not end before
 abbrev pub halt_at : Assembled → World → Halt
 halt_at program world = elim (stuck (guarded_code program) world) [ Some cause ↦ Stopped cause | None ↦ Stopped Limit ]
 
--- what a call that makes steps leaves and answers
+-- the state and the answer of a call that steps
 pub record Halted : Type 0 where
   pub session : Session
   pub halt : Halt
 
--- next worlds are appended until the last is stuck, or is at a mark, or so many were appended
+-- next worlds are appended until the last one is stuck or at a mark, or until this many were appended
 unfoldable pub advanced : Assembled → List ℕ → ℕ → Session → Halted
 advanced program marks zero session = record { session = session; halt = halt_at program session.last }
 advanced program marks (suc n) session =
@@ -65,7 +65,7 @@ gone program n session = advanced program session.breaks n session
 unfoldable pub with_keys : List ℕ → Session → Session
 with_keys keys session = record session { last = typed keys session.last }
 
--- so many of the last worlds dropped
+-- the session without this many of its last worlds
 unfoldable pub backed : ℕ → Session → Session
 backed zero session = session
 backed (suc n) session =
@@ -74,6 +74,6 @@ backed (suc n) session =
       | world ∷ worlds ↦ backed n (record session { last = world; earlier = worlds })
     ]
 
--- other breakpoints
+-- the session with other breakpoints
 abbrev pub with_breaks : List ℕ → Session → Session
 with_breaks breaks session = record session { breaks = breaks }

@@ -1,4 +1,4 @@
--- How refusals are spelt. This project's profile.
+-- The messages of errors. This project's profile.
 use Rattle.std.specs.Prelude.{ℕ, List, codes}
 use Rattle.a2_debug_script.specs.declared.fault.DebugFault.{DebugFault}
 use Rattle.a2_debug_script.specs.declared.fault.DebugFault.TheVariants.{Syntax, Unknown, TooFar, Full, Steps, Memory, Write}

@@ -1,4 +1,4 @@
-//! Lists of a debugger's calls.
+//! Lists of calls to a debugger.
 
 ghost use Rattle.std.specs.Prelude.{◌≡◌, IfOk, IfErr};
 ghost use Rattle.a2_debug_script.specs.Calls.{CallDoes, Run, done_or};
@@ -7,7 +7,7 @@ use crate::{DebugFault, Debugger, Halt};
 use a2_bus::Keys;
 use std::alloc::{AllocError, Allocator};
 
-/// A call that may change a debugger: that of its name, with its argument.
+/// A call that may change a debugger, with its argument. The variant has the name of the method.
 #[derive(Drop)]
 pub enum Call<'a> {
     Step(u32),
@@ -18,7 +18,7 @@ pub enum Call<'a> {
     ClearBreak(&'a [u8]),
 }
 
-/// What such a call answers.
+/// The answer of such a call.
 #[derive(Clone, Copy, Drop)]
 pub enum Answer {
     Halted(Halt),
@@ -26,7 +26,7 @@ pub enum Answer {
     Refused(DebugFault),
 }
 
-// What a call answers that is done or refused.
+// Returns the answer of a call that either succeeds or fails.
 fn answer_of(done: Result<(), DebugFault>) -> Answer
     ensures { result ≡ done_or done }
 {
@@ -36,7 +36,7 @@ fn answer_of(done: Result<(), DebugFault>) -> Answer
     }
 }
 
-/// Makes one call, and answers what it answers.
+/// Executes one call, and returns its answer.
 #[inline(always)]
 pub fn perform<A: Allocator>(debugger: &mut Debugger<A>, call: &Call<'_>) -> Answer
     ensures { CallDoes debugger.old call.now result debugger.new }
@@ -53,9 +53,9 @@ pub fn perform<A: Allocator>(debugger: &mut Debugger<A>, call: &Call<'_>) -> Ans
     }
 }
 
-/// Makes a list of calls, one after another, and answers their answers in order: these, and what is left of the debugger,
-/// are what the definition of a session says of the list. Refused only for want of memory for the answers, before any call
-/// is made.
+/// Executes a list of calls, one after another, and returns their answers in order. The answers, and the debugger
+/// afterwards, are what the definition of a session says about the list. Fails only if memory for the answers runs out,
+/// before any call is executed.
 pub fn perform_all<A: Allocator, B: Allocator>(
     alloc: B,
     debugger: &mut Debugger<A>,

@@ -1,4 +1,4 @@
-//! At most eight checkpoints, the oldest first, and machines out of use.
+//! At most eight checkpoints, the oldest first, and unused machines.
 
 ghost use Rattle.std.specs.Prelude.{◌≡◌, ◌*◌, ◌<◌, ◌≤◌, ◌++◌, ◌∷◌, [], Some, length, take, IfOk};
 ghost use Rattle.a2_debug_script.specs.Held.{unguarded};
@@ -11,20 +11,20 @@ use circular_buffer::HeapCircularBuffer;
 use std::alloc::{AllocError, Allocator, Global};
 use std::marker::Model;
 
-/// How many steps lead from one checkpoint to the next.
+/// How many steps lie between one checkpoint and the next.
 pub const STRIDE: u32 = 1024;
 
 /// The most checkpoints that are held.
 const MOST_HELD: usize = 8;
 
-/// Checkpoints. All room is made at the start. The machines are never run, so they stay without a guard; and each stays in
-/// its box, since one is 4 KB and more, and a move from place to place would copy that.
+/// Checkpoints. All memory is allocated at the start. The machines are never run, so they stay without a guard. Each
+/// machine stays in its box, because it has 4 KB or more and moving it would copy all of that.
 pub struct Checkpoints<A: Allocator = Global> {
     ring: HeapCircularBuffer<Box<Machine<A>, A>, A>,
     spare: Vec<Box<Machine<A>, A>, A>,
 }
 
-// Not derived, for the prover alone: it follows this as one call, and a derived one field by field.
+// Not derived, only for the prover: it follows this as one call, and a derived one field by field.
 impl<A: Allocator> Drop for Checkpoints<A> {
     fn drop(self) {
         let Checkpoints { ring: _, spare: _ } = self;
@@ -46,7 +46,7 @@ impl<A: Allocator> Model for Checkpoints<A> {
     ghost invariant = { λ c. (c.ring.capacity ≡ 8) × (length c.ring.items + vec_len c.spare ≡ 8) × (8 ≤ vec_capacity c.spare) };
 }
 
-// Puts a machine behind the others of the ring, which has room.
+// Puts a machine after the others in the ring, which must have room for it.
 fn put_back<A: Allocator>(
     ring: &mut HeapCircularBuffer<Box<Machine<A>, A>, A>,
     machine: Box<Machine<A>, A>,
@@ -54,11 +54,11 @@ fn put_back<A: Allocator>(
     requires { length ring.old.items < ring.old.capacity }
     ensures { ring.new ≡ buffer (ring.old.items ++ machine ∷ []) ring.old.capacity }
 {
-    // There is room, so nothing comes back.
+    // The ring has room, so no machine is returned.
     let _ = ring.push_back(machine);
 }
 
-/// Makes a checkpoint where steps were made from one count to another that is one for it.
+/// Makes a checkpoint, if the steps from one count to another ended at a count that gets one.
 pub fn keep_at<A: Allocator>(
     checkpoints: &mut Checkpoints<A>,
     machine: &Machine<A>,
@@ -73,7 +73,7 @@ pub fn keep_at<A: Allocator>(
     }
 }
 
-/// The oldest count that can be gone back to, where this one is reached.
+/// Returns the oldest count that `back` can return to, once this count is reached.
 pub fn oldest_at(oldest: u32, count: u32) -> u32
     ensures { result ≡ raised oldest count }
 {
@@ -81,7 +81,7 @@ pub fn oldest_at(oldest: u32, count: u32) -> u32
 }
 
 impl<A: Allocator + Copy> Checkpoints<A> {
-    /// Eight machines out of use.
+    /// Returns eight unused machines and no checkpoints.
     pub fn new(alloc: A) -> Result<Checkpoints<A>, AllocError>
         ensures held { IfOk result (λ c. c.held ≡ []) }
         ensures made { IfOk result (λ c. c.made ≡ 0) }
@@ -96,17 +96,17 @@ impl<A: Allocator + Copy> Checkpoints<A> {
 }
 
 impl<A: Allocator> Checkpoints<A> {
-    /// How many are held.
+    /// Returns how many checkpoints are held.
     pub fn len(&self) -> usize
         ensures len { result ≡ length self.now.held }
         ensures eight { result ≤ 8 }
     {
-        // For the prover alone: the invariant speaks of both fields.
+        // Only for the prover: the invariant is about both fields.
         let _ = &self.spare;
         self.ring.len()
     }
 
-    /// Makes a checkpoint, from a machine out of use or else from the oldest.
+    /// Makes a checkpoint in an unused machine or, if there is none, in the machine of the oldest checkpoint.
     pub fn keep(&mut self, now: &Machine<A>)
         ensures held { self.new.held ≡ keep_last 8 (self.old.held ++ unguarded now.now.state ∷ []) }
         ensures made { self.new.made ≡ self.old.made }
@@ -122,7 +122,7 @@ impl<A: Allocator> Checkpoints<A> {
         }
     }
 
-    /// Holds no more than so many, the oldest ones.
+    /// Keeps at most this many checkpoints, the oldest ones.
     pub fn truncate(&mut self, most: usize)
         ensures held { self.new.held ≡ take most self.old.held }
         ensures made { self.new.made ≡ self.old.made }
@@ -134,7 +134,7 @@ impl<A: Allocator> Checkpoints<A> {
         }
     }
 
-    /// The machine becomes what the newest checkpoint is, under its own guard.
+    /// Makes the machine equal to the newest checkpoint; the machine keeps its own guard.
     pub fn load_newest(&self, machine: &mut Machine<A>)
         requires { 0 < length self.now.held }
         ensures state { last_item self.now.held ≡ Some (unguarded machine.new.state) }
@@ -146,7 +146,7 @@ impl<A: Allocator> Checkpoints<A> {
         }
     }
 
-    /// The steps that the machines ever made.
+    /// Returns how many steps the machines have ever executed.
     pub fn made(&self) -> u128
         ensures made { result ≡ self.now.made }
         ensures fits { result ≤ 8 * 18446744073709551615 }

@@ -1,4 +1,4 @@
-//! The words of a line.
+//! The commands on a line.
 
 ghost use Rattle.std.specs.Prelude.{◌≡◌, ◌≢◌, map, true, false, IfSome, IfNone, MatchOption};
 ghost use Rattle.a2_text.specs.Bytes.{capital as capital_of, digit as digit_of, is_digit};
@@ -13,7 +13,7 @@ use crate::Call;
 use a2_bus::Keys;
 use a2_text::only_word;
 
-/// What a line asks for.
+/// The command that the first word of a line names.
 #[derive(Clone, Copy, Debug, PartialEq, Eq)]
 pub enum Verb {
     Step,
@@ -28,7 +28,7 @@ pub enum Verb {
 // The most letters of a verb.
 const LONGEST: usize = 6;
 
-// The verb of these letters.
+// Returns the verb with these letters.
 fn spelled(letters: &[u8]) -> Option<Verb>
     ensures { MatchOption result ((v : DeclaredVerb) → said.verb_letters v ≢ letters.now) (λ v. said.verb_letters v ≡ letters.now) }
 {
@@ -44,7 +44,7 @@ fn spelled(letters: &[u8]) -> Option<Verb>
     }
 }
 
-/// The verb that a word is, in either case.
+/// Returns the verb that a word means, in either case.
 pub fn verb_of(word: &[u8]) -> Option<Verb>
     ensures { MatchOption result ((v : DeclaredVerb) → said.verb_letters v ≢ map capital_of word.now)
         (λ v. said.verb_letters v ≡ map capital_of word.now) }
@@ -56,7 +56,7 @@ pub fn verb_of(word: &[u8]) -> Option<Verb>
     spelled(letters)
 }
 
-// What a decimal digit stands for.
+// Returns the value of a decimal digit.
 fn digit(c: u8) -> Option<u8>
     ensures { MatchOption result (is_digit c ≡ false) (λ d. (is_digit c ≡ true) × (d ≡ digit_of c)) }
 {
@@ -66,7 +66,7 @@ fn digit(c: u8) -> Option<u8>
     }
 }
 
-/// The number that 1 to 10 decimal digits say, at most 4,294,967,295.
+/// Returns the number that 1 to 10 decimal digits mean, at most 4,294,967,295.
 #[tactic(auto, unfolding(crate::specs::Lines::number_of))]
 fn number_of(digits: &[u8]) -> Option<u32>
     ensures { result ≡ said.number_of digits.now }
@@ -87,14 +87,14 @@ fn number_of(digits: &[u8]) -> Option<u32>
     Some(n as u32)
 }
 
-/// The number that the one word of a text says.
+/// Returns the number that the only word of a text means.
 pub fn number_in(text: &[u8]) -> Option<u32>
     ensures { result ≡ said.only_number (words text.now) }
 {
     number_of(only_word(text)?)
 }
 
-// The keys that stand behind the one blank.
+// Returns the keys written after exactly one blank.
 fn keys_in(rest: &[u8]) -> Option<Keys>
     ensures some { IfSome result (λ keys. Says VerbTypeKeys rest.now (CallTypeKeys keys)) }
     ensures none { IfNone result (SaysNone VerbTypeKeys rest.now) }
@@ -106,7 +106,7 @@ fn keys_in(rest: &[u8]) -> Option<Keys>
     Keys::parse(text)
 }
 
-/// The call that a verb and what stands behind it say.
+/// Returns the call that a verb and the text after it mean.
 #[inline(always)]
 pub fn call_of(verb: Verb, rest: &[u8]) -> Option<Call<'_>>
     ensures some { IfSome result (λ call. Says verb rest.now call) }

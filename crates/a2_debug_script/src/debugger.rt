@@ -33,17 +33,17 @@ use std::marker::Model;
 /// The most steps of a session.
 const MOST_COUNT: u32 = 100_000_000;
 
-/// The most keys that are typed in a session.
+/// The most keys that can be typed in a session.
 const MOST_KEYS: usize = 4096;
 
-/// What becomes of breakpoints while steps are made.
+/// How breakpoints are treated during steps.
 #[derive(Clone, Copy)]
 pub enum Breaks {
     Ignored,
     Heeded,
 }
 
-// Why steps ended, as a debugger tells it.
+// Returns why steps ended, in the form that a debugger reports.
 fn halt_of(stop: Stop) -> Halt
     ensures { result ≡ halt_by stop }
 {
@@ -53,7 +53,7 @@ fn halt_of(stop: Stop) -> Halt
     }
 }
 
-// Runs a machine, before these breakpoints where they are heeded.
+// Runs a machine, stopping at these breakpoints if they are heeded.
 fn run_machine<A: Allocator>(
     machine: &mut Machine<A>,
     limit: u32,
@@ -68,9 +68,10 @@ fn run_machine<A: Allocator>(
     }
 }
 
-/// A debugger of one program, guarded, which steps forwards and backwards. Contracts see the program, the keys typed with
-/// their counts, the count, breakpoints, the oldest count, and how many steps were made; the session that it stands for, a
-/// list of worlds from the start to where it is, is a function of these. This project's profile.
+/// A debugger of one program, guarded, which steps forwards and backwards. Contracts see the program, the keys typed
+/// with their counts, the count, the breakpoints, the oldest count, and how many steps were executed. The session that
+/// the debugger represents, a list of worlds from the start to the current one, is a function of these. This project's
+/// profile.
 pub struct Debugger<A: Allocator = Global> {
     program: Program<A>,
     machine: Machine<A>,
@@ -82,7 +83,7 @@ pub struct Debugger<A: Allocator = Global> {
     reruns: u32,
 }
 
-// Not derived, for the prover alone: it follows this as one call, and a derived one field by field.
+// Not derived, only for the prover: it follows this as one call, and a derived one field by field.
 impl<A: Allocator> Drop for Debugger<A> {
     fn drop(self) {
         let Debugger {
@@ -120,10 +121,10 @@ impl<A: Allocator> Model for Debugger<A> {
 }
 
 impl<A: Allocator + Copy> Debugger<A> {
-    /// A debugger of `program` at its start: `machine`, whatever it held, is booted with the program's image and guarded,
-    /// with no keys. All memory that the debugger ever takes is taken here, of `alloc`: room for 256 breakpoints and 4,096
-    /// keys, and eight machines for checkpoints. Refused, by `DebugFault::Memory`, only for want of memory; machine and
-    /// program are dropped then.
+    /// Returns a debugger of `program` at its start. `machine`, whatever it held, is booted with the program's image
+    /// and guarded, with no keys waiting. All memory that the debugger ever needs is allocated here, from `alloc`: room
+    /// for 256 breakpoints and 4,096 keys, and eight machines for checkpoints. Fails with `DebugFault::Memory` only if
+    /// memory runs out; then machine and program are dropped.
     pub fn new(
         alloc: A,
         machine: Machine<A>,
@@ -161,7 +162,7 @@ impl<A: Allocator + Copy> Debugger<A> {
 }
 
 impl<A: Allocator> Debugger<A> {
-    // Makes steps up to a count, which is no further than the next checkpoint.
+    // Steps up to a count, which is not after the next checkpoint.
     fn run_to(&mut self, to: u32, breaks: Breaks) -> Halt
         requires ahead { self.old.count ≤ to }
         requires near { to ≤ 1024 * (self.old.count / 1024) + 1024 }
@@ -176,7 +177,7 @@ impl<A: Allocator> Debugger<A> {
         halt_of(stop)
     }
 
-    // Makes so many steps, or fewer, from checkpoint to checkpoint.
+    // Executes at most this many steps, from checkpoint to checkpoint.
     #[tactic(auto, using(crate::proofs::Runs::on_the_way, crate::proofs::Runs::goes_on_from))]
     fn make_steps(&mut self, n: u32, breaks: Breaks) -> Result<Halt, DebugFault>
         ensures { MakesSteps self.old n (advanced self.old.program (heeded breaks self.old.breaks) n (session_of self.old))
@@ -197,17 +198,18 @@ impl<A: Allocator> Debugger<A> {
         Ok(self.run_to(end, breaks))
     }
 
-    /// Makes steps until a cause holds or `n` are made in this call, and answers the cause, `Cause::Limit` only where no
-    /// other holds. Breakpoints are ignored. Refused, by `DebugFault::Steps`, exactly where the count and `n` make more
-    /// than 100,000,000; nothing changes then.
+    /// Steps until there is a cause to stop or `n` steps were executed in this call, and returns the cause. The cause
+    /// is `Cause::Limit` only if there is no other. Breakpoints are ignored. Fails with `DebugFault::Steps` exactly if
+    /// the count plus `n` is above 100,000,000; then nothing changes.
     pub fn step(&mut self, n: u32) -> Result<Halt, DebugFault>
         ensures { CallDoes self.old (Step n) (halted_or result) self.new }
     {
         self.make_steps(n, Breaks::Ignored)
     }
 
-    /// The same of `limit`, but ends after a step that comes to a breakpoint, and answers `Halt::Break`, whatever cause
-    /// holds there. PC is not looked at before the first step.
+    /// Steps like [`Debugger::step`], with `limit` as the number of steps, but also ends after a step that reaches a
+    /// breakpoint. Then it returns `Halt::Break`, whatever cause there is at that place. PC is not checked before the
+    /// first step.
     #[tactic(auto, using(crate::proofs::Sessions::breaks_are))]
     pub fn go(&mut self, limit: u32) -> Result<Halt, DebugFault>
         ensures { CallDoes self.old (Go limit) (halted_or result) self.new }
@@ -215,8 +217,8 @@ impl<A: Allocator> Debugger<A> {
         self.make_steps(limit, Breaks::Heeded)
     }
 
-    /// Types `keys`, in order, behind those that wait, at the count that is reached. Refused, by `DebugFault::Full`, exactly
-    /// where the keys typed at counts up to this one would be more than 4,096; nothing changes then.
+    /// Types `keys` at the current count, in order, after those that are waiting. Fails with `DebugFault::Full` exactly
+    /// if the keys typed at counts up to this one would be more than 4,096; then nothing changes.
     pub fn type_keys(&mut self, keys: &Keys) -> Result<(), DebugFault>
         ensures { CallDoes self.old (TypeKeys keys.now) (done_or result) self.new }
     {
@@ -224,16 +226,16 @@ impl<A: Allocator> Debugger<A> {
         if self.log.len() + bytes.len() > MOST_KEYS {
             return Err(DebugFault::Full);
         }
-        // No more keys wait than the log has, so there is room.
+        // No more keys are waiting than the log has, so there is room.
         let _ = self.machine.type_keys(keys);
         note_keys(&mut self.log, self.count, bytes);
         Ok(())
     }
 
-    /// Sets a breakpoint at the address that `word` says: `$` and 1 to 4 hexadecimal digits, or a name of the program in
-    /// its own letters. Where one is set there already, nothing changes. Refused, with nothing changed, by
-    /// `DebugFault::Syntax` where it is neither, by `DebugFault::Unknown` where no line of the program defines the name,
-    /// and by `DebugFault::Full` where it would be the 257th.
+    /// Sets a breakpoint at the address that `word` means: `$` and 1 to 4 hexadecimal digits, or a name of the program,
+    /// in which case matters. If a breakpoint is already set there, nothing changes. Fails with `DebugFault::Syntax` if
+    /// the word is neither of these, with `DebugFault::Unknown` if no line of the program defines the name, and with
+    /// `DebugFault::Full` if it would be the 257th breakpoint. A failed call changes nothing.
     pub fn set_break(&mut self, word: &[u8]) -> Result<(), DebugFault>
         ensures breaks { Marks self.old.breaks self.new.breaks result
             (at_place marked self.old.program.names word.now self.old.breaks) }
@@ -242,7 +244,7 @@ impl<A: Allocator> Debugger<A> {
         self.breaks.set(place_of(&self.program, word)?)
     }
 
-    /// Takes the breakpoint at such an address away, if there is one. Refused as [`Debugger::set_break`], but never for
+    /// Clears the breakpoint at such an address, if there is one. Fails like [`Debugger::set_break`], but never with
     /// `DebugFault::Full`.
     pub fn clear_break(&mut self, word: &[u8]) -> Result<(), DebugFault>
         ensures breaks { Marks self.old.breaks self.new.breaks result
@@ -253,10 +255,10 @@ impl<A: Allocator> Debugger<A> {
         Ok(())
     }
 
-    /// Goes back `n` steps: to the newest checkpoint that is not behind the new count, and on from there, with each key
-    /// typed again at its count. Keys typed at counts above the new one are forgotten, those typed at it or below stay;
-    /// breakpoints stay. Refused, by `DebugFault::TooFar`, exactly where the count is below `n` or would come below
-    /// [`Debugger::oldest`]; nothing changes then.
+    /// Goes back `n` steps. It restores the newest checkpoint that is not after the new count, and replays the steps
+    /// from there, typing each key again at its count. Keys typed at counts above the new one are forgotten; keys typed
+    /// at it or below are kept, and so are breakpoints. Fails with `DebugFault::TooFar` exactly if the count is below
+    /// `n`, or if the new count would be below [`Debugger::oldest`]. Then nothing changes.
     pub fn back(&mut self, n: u32) -> Result<(), DebugFault>
         ensures { CallDoes self.old (Back n) (done_or result) self.new }
     {
@@ -275,7 +277,7 @@ impl<A: Allocator> Debugger<A> {
         Ok(())
     }
 
-    /// How many steps lead from the start to where the session stands, 0 to 100,000,000.
+    /// Returns the current count: how many steps lead from the start to the current state, 0 to 100,000,000.
     #[tactic(auto, using(crate::proofs::Sessions::count_is))]
     pub fn count(&self) -> u32
         ensures count { result ≡ self.now.count }
@@ -284,8 +286,8 @@ impl<A: Allocator> Debugger<A> {
         self.count
     }
 
-    /// The least count that can be gone back to: that of the oldest of at most eight checkpoints, which are made at counts
-    /// that 1,024 divides. It never falls.
+    /// Returns the lowest count that `back` can return to. It is the count of the oldest of at most eight checkpoints,
+    /// which are made at counts divisible by 1,024. It never falls.
     #[tactic(auto, using(crate::proofs::Sessions::oldest_is))]
     pub fn oldest(&self) -> u32
         ensures { result ≡ (session_of self.now).oldest }
@@ -293,21 +295,24 @@ impl<A: Allocator> Debugger<A> {
         self.oldest
     }
 
-    /// How many steps the last call of [`Debugger::back`] that was not refused made again, 0 to 1,023; 0 before any.
+    /// Returns how many steps the last successful call of [`Debugger::back`] replayed, 0 to 1,023, or 0 if there was no
+    /// such call.
     pub fn reruns(&self) -> u32
         ensures { result ≡ self.now.reruns }
     {
         self.reruns
     }
 
-    /// How many steps the debugger's machines ever made, those before it was made too.
+    /// Returns how many steps the debugger's machines have ever executed, including those before the debugger was
+    /// created.
     pub fn made(&self) -> u128
         ensures { result ≡ self.now.made }
     {
         self.machine.made() as u128 + self.checkpoints.made()
     }
 
-    /// The registers where the session stands, before the next step. Bits 5 and 4 of the flags, which are none, are clear.
+    /// Returns the registers of the current state, before the next step. Bits 5 and 4 of the flags are not flags, and
+    /// are clear.
     #[tactic(auto, using(crate::proofs::Sessions::last_is))]
     pub fn regs(&self) -> Regs
         ensures value { registers_of result ≡ (session_of self.now).last.registers }
@@ -316,8 +321,8 @@ impl<A: Allocator> Debugger<A> {
         self.machine.regs()
     }
 
-    /// What a screen shows where the session stands: the bytes of both text pages, those between the cells too, and the
-    /// switches.
+    /// Returns what a screen shows in the current state: the bytes of both text pages, including those between the
+    /// cells, and the switches.
     #[tactic(auto, using(crate::proofs::Sessions::last_is), unfolding(a2_bus::specs::View::memory_of))]
     pub fn view(&self) -> View<'_>
         ensures bytes1 { (a : ℕ) → a < 1024 → slice_index result.page1.now a
@@ -331,7 +336,7 @@ impl<A: Allocator> Debugger<A> {
         self.machine.view()
     }
 
-    /// The processor's cycles from the start to where the session stands.
+    /// Returns the processor's cycles from the start to the current state.
     #[tactic(auto, using(crate::proofs::Sessions::last_is))]
     pub fn cycles(&self) -> u64
         ensures { result ≡ (session_of self.now).last.cycles }

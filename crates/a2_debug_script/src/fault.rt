@@ -1,4 +1,4 @@
-//! Why a debugger refuses a call.
+//! Why a debugger rejects a call.
 
 ghost use Rattle.std.specs.Prelude.{◌≡◌, Some};
 ghost use Rattle.a2_debug_script.specs.Texts.{debug_fault_text};
@@ -7,27 +7,27 @@ use a2_stream::WriteFault;
 use std::error::Error;
 use std::fmt;
 
-/// Why a debugger refuses a call. This project's profile.
+/// Why a debugger rejects a call. This project's profile.
 #[derive(Clone, Copy, Debug, PartialEq, Eq, Drop)]
 pub enum DebugFault {
-    /// G1: the line is no command, or the word is no place for a breakpoint.
+    /// G1: the line is not a command, or the word is not a place for a breakpoint.
     Syntax,
     /// G2: no line of the program defines the name.
     Unknown,
-    /// G3: the count lies before the oldest one that can be gone back to.
+    /// G3: the count is below the oldest one that `back` can return to.
     TooFar,
-    /// G4: no more breakpoints fit, or no more keys.
+    /// G4: there is no room for more breakpoints or more keys.
     Full,
-    /// G5: more than 100,000,000 steps in all.
+    /// G5: the session would have more than 100,000,000 steps in all.
     Steps,
-    /// A growth of memory was refused.
+    /// Memory ran out.
     Memory,
     /// A write failed.
     Write,
 }
 
 impl DebugFault {
-    /// How the refusal is spelt.
+    /// Returns the text of the error.
     pub fn text(self) -> &'static str
         ensures { result.now ≡ debug_fault_text self }
     {

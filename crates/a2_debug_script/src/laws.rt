@@ -1,11 +1,12 @@
-//! Laws of what lines and calls mean. The functions do nothing: their contracts are the laws.
+//! Laws about the meaning of lines and calls. The functions do nothing: their contracts are the laws.
 
 ghost use Rattle.a2_debug_script.specs.Laws.{OneSession, EachLineHasAnswer, KeysStayPast, NeverBoth, OneAnswer, OneLineRefusal};
 ghost use Rattle.a2_debug_script.specs.Laws.{EachCallHasAnswer, OneCallAnswer, EachListHasAnswers, OneListOfAnswers};
 
-/// Where no key was typed later than now, as it is at the start and stays, each line is answered or refused. No line is
-/// both, and none has two answers or two refusals: debuggers that look alike answer it by one text, or refuse it for one
-/// reason, and look alike then. Those that look alike stand for one session.
+/// If no key was typed at a later count than the current one, each line has either an answer or an error, never both.
+/// This condition holds at the start and stays true. A line has at most one answer or error: debuggers that look alike
+/// answer it with the same text, or reject it for the same reason, and still look alike afterwards. Debuggers that look
+/// alike represent the same session.
 pub fn each_line_has_one_answer()
     ensures session { OneSession }
     ensures each { EachLineHasAnswer }
@@ -15,7 +16,8 @@ pub fn each_line_has_one_answer()
     ensures refusal { OneLineRefusal }
 {}
 
-/// In the same way each call has one answer, which may be a refusal, and each list of calls its answers.
+/// In the same way each call has exactly one answer, which may be an error, and each list of calls has exactly one list
+/// of answers.
 pub fn each_call_has_one_answer()
     ensures each { EachCallHasAnswer }
     ensures one { OneCallAnswer }

@@ -10,7 +10,7 @@ use a2_text::{first_word, split_word};
 use std::alloc::Allocator;
 
 impl<A: Allocator> Debugger<A> {
-    // Makes the call that a verb and what stands behind it say, and answers what it answers; none where they say none.
+    // Executes the call that a verb and the text after it mean, and returns its answer, or `None` if they mean no call.
     #[inline(always)]
     fn answer(&mut self, verb: Verb, rest: &[u8]) -> Option<Answer>
         ensures { IsAnswered verb rest.now self.old result self.new }
@@ -19,7 +19,7 @@ impl<A: Allocator> Debugger<A> {
         Some(perform(self, &call))
     }
 
-    // The same. (Not inlined: the room for the keys of `type`, 4,104 bytes, would be cleared for each line.)
+    // The same. It is not inlined, because room for the keys of `type`, 4,104 bytes, would be cleared for each line.
     #[inline(never)]
     fn answer_apart(&mut self, verb: Verb, rest: &[u8]) -> Option<Answer>
         ensures { IsAnswered verb rest.now self.old result self.new }
@@ -27,21 +27,22 @@ impl<A: Allocator> Debugger<A> {
         self.answer(verb, rest)
     }
 
-    /// Does what a line says, and writes its answer. Words stand in either case; blanks (spaces and tabs) may stand at
-    /// both ends and, one or more, between words; N is 0 to 4,294,967,295 in 1 to 10 decimal digits.
+    /// Executes a line, and writes its answer. Words may have either case. Blanks (spaces and tabs) are allowed at both
+    /// ends, and one or more of them separate words. N is 0 to 4,294,967,295 in 1 to 10 decimal digits.
     ///
     /// | Line | What it does | Answer |
     /// |---|---|---|
-    /// | `step N`, `go N` | [`Debugger::step`], [`Debugger::go`] | the register line, then `STOP ` and the cause, or `BREAK` |
+    /// | `step N`, `go N` | [`Debugger::step`], [`Debugger::go`] | the register line, then `STOP ` and the cause, or
+    /// `BREAK` |
     /// | `back N` | [`Debugger::back`] | the register line |
     /// | `break P`, `clear P` | [`Debugger::set_break`], [`Debugger::clear_break`] | nothing |
-    /// | `type K` | [`Debugger::type_keys`], of the keys that all behind one blank spells | nothing |
+    /// | `type K` | [`Debugger::type_keys`], with the keys spelled by everything after one blank | nothing |
     /// | `screen` | nothing | the picture |
     ///
-    /// STEPS of a register line is [`Debugger::count`]. A blank line does and answers nothing, and everything else is
-    /// `DebugFault::Syntax`. A refusal is that of the call; nothing changes then, and nothing is written. Where a write
-    /// fails the answer is `DebugFault::Write`: the line is done, and a front of its answer went out. This project's
-    /// profile.
+    /// STEPS of a register line is [`Debugger::count`]. A blank line does nothing and has no answer. Everything else is
+    /// `DebugFault::Syntax`. Any other error is that of the call; then nothing changes, and nothing is written. If a
+    /// write fails, the error is `DebugFault::Write`: the line was executed, and a front of its answer was sent. This
+    /// project's profile.
     pub fn line<W: Output>(&mut self, text: &[u8], writer: &mut W) -> Result<(), DebugFault>
         ensures { DebugLineAnswers text.now self.old self.new (W.taker writer.old) (W.taker writer.new) result }
     {

@@ -1,4 +1,4 @@
-//! Breakpoints, by the addresses that words say.
+//! Breakpoints, and the addresses that words mean.
 
 ghost use Rattle.std.specs.Prelude.{◌≡◌, true, ◌==◌, [], not, filter, IfOk};
 ghost use Rattle.a2_syntax.specs.Names.{is_name as is_name_of};
@@ -19,7 +19,7 @@ const MOST_BREAKS: usize = 256;
 /// How many addresses there are.
 const ADDRESSES: usize = 0x1_0000;
 
-// The value of a name of the program.
+// Returns the value of a name of the program.
 fn value_of<A: Allocator>(program: &Program<A>, name: &[u8]) -> Option<u16>
     requires { is_name_of name.now ≡ true }
     ensures { result ≡ value_in program.now.names name.now }
@@ -30,7 +30,8 @@ fn value_of<A: Allocator>(program: &Program<A>, name: &[u8]) -> Option<u16>
     }
 }
 
-/// The address that a word says: `$` and 1 to 4 hexadecimal digits, or a name that a line of the program defines.
+/// Returns the address that a word means: `$` and 1 to 4 hexadecimal digits, or a name that a line of the program
+/// defines.
 #[tactic(auto, unfolding(crate::specs::Marks::word_address))]
 pub fn place_of<A: Allocator>(program: &Program<A>, word: &[u8]) -> Result<u16, DebugFault>
     ensures { result ≡ place program.now.names word.now }
@@ -42,14 +43,15 @@ pub fn place_of<A: Allocator>(program: &Program<A>, word: &[u8]) -> Result<u16, 
     }
 }
 
-/// Breakpoints: their addresses in the order in which they were set, and for each address whether it is one, which lies
-/// in it, so that a look is one load, without a bound. All room is made at the start.
+/// Breakpoints: their addresses in the order in which they were set, and for each address whether it is a breakpoint.
+/// The table of all addresses is stored inline, so that a check is one load without a bounds check. All memory is
+/// allocated at the start.
 pub struct BreakSet<A: Allocator = Global> {
     places: Vec<u16, A>,
     marked: [bool; ADDRESSES],
 }
 
-// Not derived, for the prover alone: it follows this as one call, and a derived one field by field.
+// Not derived, only for the prover: it follows this as one call, and a derived one field by field.
 impl<A: Allocator> Drop for BreakSet<A> {
     fn drop(self) {
         let BreakSet {
@@ -71,7 +73,7 @@ impl<A: Allocator> Model for BreakSet<A> {
 }
 
 impl<A: Allocator + Copy> BreakSet<A> {
-    /// No breakpoints. Refused only for want of memory.
+    /// Returns an empty set of breakpoints. Fails only if memory runs out.
     pub fn new(alloc: A) -> Result<Box<BreakSet<A>, A>, AllocError>
         ensures { IfOk result (λ marks. marks.value ≡ []) }
     {
@@ -82,7 +84,7 @@ impl<A: Allocator + Copy> BreakSet<A> {
 }
 
 impl<A: Allocator> BreakSet<A> {
-    /// Sets one, where fewer than 256 are set or it is among them.
+    /// Sets a breakpoint. Fails if 256 others are already set.
     pub fn set(&mut self, address: u16) -> Result<(), DebugFault>
         ensures { Marks self.old self.new result (marked self.old address) }
     {
@@ -97,7 +99,7 @@ impl<A: Allocator> BreakSet<A> {
         Ok(())
     }
 
-    /// Clears one, if it is set.
+    /// Clears a breakpoint, if it is set.
     pub fn clear(&mut self, address: u16)
         ensures { self.new ≡ filter (λ mark. not (mark == address)) self.old }
     {
@@ -113,7 +115,7 @@ impl<A: Allocator> Breakpoints for BreakSet<A> {
 
     #[inline(always)]
     fn is_breakpoint(&self, address: u16) -> bool {
-        // For the prover alone: the invariant speaks of both fields.
+        // Only for the prover: the invariant is about both fields.
         let _ = &self.places;
         self.marked[address as usize]
     }

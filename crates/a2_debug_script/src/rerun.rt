@@ -1,4 +1,4 @@
-//! Steps made again, with the keys that were typed on the way.
+//! Replaying steps, with the keys that were typed on the way.
 
 ghost use Rattle.std.specs.Prelude.{◌≡◌, ◌+◌, ◌-◌, ◌<◌, ◌≤◌, ◌^◌, take, drop};
 ghost use Rattle.a2_debug_script.specs.Stored.{IsAt, world_before_keys, world_with_keys, NoneBelow, NoneAbove, NoneStuck, AreLogged};
@@ -10,7 +10,7 @@ use a2_bus::Keys;
 use a2_machine::Machine;
 use std::alloc::Allocator;
 
-/// The machine goes on to a count at which it has not been, and no key is typed on the way.
+/// Runs the machine on to a count that it has not reached yet, with no keys typed on the way.
 pub fn run_on<A: Allocator>(
     machine: &mut Machine<A>,
     program: &Program<A>,
@@ -29,12 +29,12 @@ pub fn run_on<A: Allocator>(
     ensures made { machine.old.made + (to - machine.old.state.steps) < 2 ^ 64
         → machine.new.made + machine.old.state.steps ≡ machine.old.made + to }
 {
-    // No world on the way is stuck, so all of these steps are made.
+    // No world on the way is stuck, so all of these steps are executed.
     machine.run(to - machine.steps() as u32);
 }
 
-/// The machine is brought from the world before the keys that were typed at its count to a later count, by the steps and keys
-/// that led there.
+/// Takes the machine from the world before the keys typed at its count to a later count, by the same steps and keys as
+/// before.
 pub fn rerun<A: Allocator>(machine: &mut Machine<A>, program: &Program<A>, log: &[Typed], to: u32)
     requires here { IsAt program.now (world_before_keys program.now log.now machine.old.state.steps)
         machine.old.state.steps machine.old.state }
@@ -48,7 +48,7 @@ pub fn rerun<A: Allocator>(machine: &mut Machine<A>, program: &Program<A>, log: 
     for i in typed_below(log, machine.steps() as u32)..log.len() {
         let next = log[i];
         run_on(machine, program, log, i, next.count);
-        // No more keys wait than the log has, so the machine takes this one too.
+        // No more keys are waiting than the log has, so the machine accepts this one too.
         let _ = machine.type_keys(&Keys::one(next.key));
     }
     run_on(machine, program, log, log.len(), to);

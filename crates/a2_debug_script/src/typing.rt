@@ -6,7 +6,7 @@ ghost use Rattle.a2_debug_script.specs.Stored.{typed_at, up_to, InOrder, AllUnde
 use crate::Typed;
 use std::alloc::Allocator;
 
-/// Notes the keys that are typed at a count.
+/// Records keys that are typed at a count.
 pub fn note_keys<A: Allocator>(log: &mut Vec<Typed, A>, count: u32, keys: &[u8])
     requires { vec_len log.old + length keys.now ≤ vec_capacity log.old }
     ensures items { log.new.items ≡ log.old.items ++ typed_at count keys.now }
@@ -25,7 +25,7 @@ pub fn forget_after<A: Allocator>(log: &mut Vec<Typed, A>, count: u32)
     log.retain(|typed| typed.count <= count);
 }
 
-/// How many keys were typed at counts below this one.
+/// Returns how many keys were typed at counts below this one.
 pub fn typed_below(log: &[Typed], count: u32) -> usize
     requires { InOrder log.now }
     ensures known { result ≤ length log.now }

@@ -1,4 +1,4 @@
--- What a run keeps between the addresses that are marked.
+-- What a run leaves unchanged between marked addresses.
 use Rattle.std.specs.Prelude.{IsTrue, ◌≢◌, not, is_some, length, take, get_or, slice_set, Contains, ◌||◌, ◌&&◌, ◌==◌, nat_le, nat_lt, if◌then◌else◌}
 use Rattle.std.specs.List.{list_any}
 use Rattle.std.proofs.Common.{◌≡◌, ◌⊎◌, inl, inr, ℕ, zero, suc, ◌+◌, ◌-◌, ◌<◌, ◌≤◌, Bool, true, false, true≢false, List, [], ◌∷◌, Option, Some, None, Result, Ok, Err, refl, sym, ap, ap₂, subst, ◌∙◌, arith}
@@ -53,13 +53,13 @@ or-true false = refl
 some≢none : {X : Type 0} (x : X) → Some x ≡ None → ⊥
 some≢none x e = true≢false (ap is_some e)
 
--- one that passes is among them
+-- an element that passes the test is found
 any-at : {X : Type 0} (p : X → Bool) (xs : List X) (i : ℕ) (d : X) → i < length xs → p (get_or xs i d) ≡ true → list_any p xs ≡ true
 any-at p [] i d low is = absurd (omega (arith, low))
 any-at p (x ∷ xs) zero d low is = ap (λ v. v || list_any p xs) is
 any-at p (x ∷ xs) (suc i) d low is = ap (λ v. p x || v) (any-at p xs i d (omega (arith, low)) is) ∙ or-true (p x)
 
--- what is calm at a statement
+-- a calm statement makes its address calm
 pub calm-at : (watches : List Span) (statements : List Statement) (memory : Memory) (i : ℕ) (d : Statement)
     → i < length statements → StandsCalm watches memory (get_or statements i d) → IsCalm watches statements memory (get_or statements i d).addr
 calm-at watches statements memory i d low calm =
@@ -116,7 +116,7 @@ marked-next breaks i d marks at low here in_range before m hit = go (same-or-not
         get_or-set_other marks at m.pc true true ne
         ∙ before m (left-true (list_any (is_hit m) (take i breaks)) _ (sym (any-taken (is_hit m) breaks i d low) ∙ hit) missed)
 
--- keys change no byte
+-- typing keys changes no byte
 keys-byte : (keys : List ℕ) (w : World) (a : ℕ) → ram_byte (with_keys keys w).memory a ≡ ram_byte w.memory a
 unfolding with_keys ram_byte
 keys-byte keys w a = go (nat_le (length w.memory.devices.keys + length keys) 4096)
@@ -150,7 +150,7 @@ found-there guard w row value is = go (is_among guard.starts w.registers.pc) ref
     go false e = inl (OffStatement, ap found e)
     go true e = inr (ap found e ∙ ap decoded_or_cause is)
 
--- where nothing is found a world is stuck
+-- if nothing is found, a world is stuck
 none-found : (code : Code) (w : World) (cause : Cause) → service_at w.registers.pc ≡ None → found_at_pc code w ≡ Err cause → stuck code w ≡ None → ⊥
 unfolding stuck stuck_at
 none-found code w cause none found free = told (w.registers.pc == return_address) (sym step ∙ free)
@@ -165,7 +165,7 @@ none-found code w cause none found free = told (w.registers.pc == return_address
     told true e = some≢none Returned e
     told false e = some≢none cause e
 
--- an instruction leaves each byte but those at which it stores
+-- an instruction changes only the bytes where it stores
 calm-next : (guard : Guard) (w : World) (row : Row) (value : ℕ) → service_at w.registers.pc ≡ None
     → fetched (peek w.memory) w.registers.pc ≡ instruction row value → stuck (bytes (Some guard)) w ≡ None
     → (a : ℕ) → IsNotIn a (stores_of memory_access row value w)
@@ -185,7 +185,7 @@ calm-next guard w row value none there free a away = go (found-there guard w row
         ]).memory a) none
         ∙ performed-stores memory_access ram_byte changed_by_writes row value w a away
 
--- keys and steps that store nothing into code leave it
+-- keys, and steps that store nothing into code, leave the code unchanged
 module _ (course : Course) (laid : ℕ → ℕ) where
   holds-next : (n : ℕ) → HoldsCode (code_of course.origin).protected laid (world_on course n).memory
       → stuck (code_of course.origin) (world_on course n) ≡ None → HoldsCode (code_of course.origin).protected laid (world_on course (suc n)).memory
@@ -207,7 +207,7 @@ module _ (course : Course) (laid : ℕ → ℕ) where
 same-number : (a : ℕ) → (a == a) ≡ true
 same-number a = grind (arith, nat_tests)
 
--- what is as it was is not changed
+-- a byte that is the same is not changed
 unchanged-from : (first n : ℕ) (ram : ℕ → Option ℕ) → is_changed_from first n ram ram ≡ false
 unfolding is_changed_from
 unchanged-from first zero ram = refl
@@ -221,7 +221,7 @@ unchanged : (watches : List Span) (ram : ℕ → Option ℕ) → list_any (is_sp
 unchanged [] ram = refl
 unchanged (s ∷ ss) ram = ap₂ (λ x y. x || y) (unchanged-from s.first (s.last + 1 - s.first) ram) (unchanged ss ram)
 
--- a test of two that fails, where one of them holds
+-- if a conjunction fails and one side holds, the other side fails
 and-false : (u v : Bool) → (u && v) ≡ false → v ≡ true → u ≡ false
 and-false u v e is = sym (right u v is) ∙ e
   where
@@ -233,14 +233,14 @@ or-false : (u v : Bool) → (u || v) ≡ false → (u ≡ false) × (v ≡ false
 or-false false v e = (refl, e)
 or-false true v e = absurd (true≢false e)
 
--- an address that passes is not among those of which none does
+-- an address that passes a test is not in a list in which none passes
 away-from : (test : ℕ → Bool) (a : ℕ) (xs : List ℕ) → list_any test xs ≡ false → test a ≡ true → IsNotIn a xs
 away-from test a [] none is = tt
 away-from test a (x ∷ xs) none is =
     let parts = or-false (test x) (list_any test xs) none in
     (λ e. true≢false (sym is ∙ ap test e ∙ parts.0), away-from test a xs parts.1 is)
 
--- whether one of some bytes is changed is told by them alone
+-- whether one of these bytes has changed depends only on them
 span-same : (first n : ℕ) (before one other : ℕ → Option ℕ) → ((k : ℕ) → k < n → one (first + k) ≡ other (first + k))
     → is_changed_from first n before one ≡ is_changed_from first n before other
 unfolding is_changed_from
@@ -265,7 +265,7 @@ watched-same (s ∷ ss) before one other same =
 same-peek : (v w : World) (a : ℕ) → ram_byte v.memory a ≡ ram_byte w.memory a → peek v.memory a ≡ peek w.memory a
 same-peek v w a e = ap (λ (b : ℕ). if nat_lt a ram_end then Some b else None) e
 
--- a run that goes on from a place, with its breakpoints, what is watched, and the addresses that are marked for them
+-- a run that continues from a position, with its breakpoints, the watched spans, and the addresses marked for them
 module _ (free : Bool) (program : Assembled) (course : Course) (from : ℕ) (breaks : List Break) (watches : List Span) (alerts : Alerts)
     (guarded : course.origin.guard ≡ guard_of_run free program)
     (are : AreAlerts free program.statements (world_on course from).memory breaks watches alerts) where
@@ -327,7 +327,7 @@ module _ (free : Bool) (program : Assembled) (course : Course) (from : ℕ) (bre
       ∙ ap (λ (c : Code). ram_byte (next c w).memory a) (code-is e)
       ∙ calm-next (guard_of_program program) w found.0 i.value none there free a away
 
-  -- the same watched bytes are changed behind a step that stores at none as before it, and so it is not the first
+  -- a step that stores at no watched byte changes no watched byte, so it is not the first step to a stop
   was-changed : (k : ℕ) → from ≤ k
       → ((a : ℕ) → is_watched watches a ≡ true
       → ram_byte (world_on course (k + 1)).memory a ≡ ram_byte (world_on course k).memory a)
@@ -380,7 +380,7 @@ module _ (free : Bool) (program : Assembled) (course : Course) (from : ℕ) (bre
           ∙ and-false (is_marked alerts.stops (world_on course (k + 1)).registers.pc) _ off.0 e))
       go false e changed = watched changed (are.watched pc (and-false (is_marked alerts.stores pc) _ off.1 changed))
 
--- so it is from where the run stands
+-- the same holds from the current position on
 pub warned : (free : Bool) (program : Assembled) (track : Track) (before : World) (breaks : List Break) (watches : List Span) (alerts : Alerts)
     → before ≡ here track → track.course.origin.guard ≡ guard_of_run free program
     → AreAlerts free program.statements before.memory breaks watches alerts → WarnsOfStops alerts breaks watches track
@@ -388,7 +388,7 @@ warned free program track before breaks watches alerts is guarded are =
     warns free program track.course track.position breaks watches alerts guarded
     (subst (λ (w : World). AreAlerts free program.statements w.memory breaks watches alerts) is are)
 
--- and up to where a routine is left
+-- and up to the step where a routine returns
 pub warns-left : (s : ℕ) (alerts : Alerts) (breaks : List Break) (watches : List Span) (track : Track) → WarnsOfStops alerts breaks watches track
     → Warns (is_left s (is_stop breaks watches (here track))) (λ shown. nat_le s shown.look.next_s || alarms alerts breaks watches (here track) shown)
     track.course track.position
@@ -401,6 +401,6 @@ warns-left s alerts breaks watches track stops k l went seen calm =
     right false v e h = h
     right true v e h = absurd (true≢false e)
 
--- an address that no step comes to
+-- an address that no step reaches
 pub warns-at : (address : ℕ) (course : Course) (from : ℕ) → Warns (is_at address) (λ shown. shown.look.next_pc == address) course from
 warns-at address course from k l went seen calm = absurd (true≢false (sym seen ∙ calm))

@@ -1,4 +1,4 @@
--- Instructions that stand in a memory.
+-- Instructions that are stored in a memory.
 use Rattle.std.specs.Prelude.{◌≡◌, ℕ, ◌+◌, ◌-◌, ◌%◌, ◌<◌, min, Bool, true, false, List, length, take, drop, get_or, slice_get, slice_range, Option, Some, None, is_some, IfSome, nat_lt, if◌then◌else◌}
 use Rattle.std.proofs.Common.{refl, sym, ap, ap₂, subst, ◌∙◌, true≢false, arith, length-drop}
 use Rattle.std.proofs.lemmas.Bool.Decides.{nat_tests}
@@ -12,7 +12,7 @@ use Rattle.a2_asm.specs.declared.program.Statement.{Statement}
 use Rattle.a2_asm.specs.Programs.{Holds}
 use Rattle.a2_debugger.specs.Alerts.{Stands}
 
--- where there is a byte is RAM
+-- an address with a byte is in RAM
 byte-low : (m : Memory) (a byte : ℕ) → peek m a ≡ Some byte → a < ram_end
 byte-low m a byte e = go (nat_lt a ram_end) refl e
   where
@@ -20,7 +20,7 @@ byte-low m a byte e = go (nat_lt a ram_end) refl e
     go true is shown = grind (arith, nat_tests, is)
     go false is shown = absurd (true≢false (ap is_some (sym shown)))
 
--- the front of a part of a list lies in the part, and has its elements
+-- the beginning of a part of a list lies in the part and has its elements
 front-of-part : (xs : List ℕ) (from to n k : ℕ) → k < length (take n (slice_range xs from to))
     → (k < to - from) × (slice_get (take n (slice_range xs from to)) k ≡ slice_get xs (from + k))
 front-of-part xs from to n k low =
@@ -34,7 +34,7 @@ front-of-part xs from to n k low =
           ∙ sym (slice_get-get_or xs (from + k) 0 (omega (arith, size, low))),
     )
 
--- what is decoded from a statement's bytes of RAM stands there
+-- an instruction decoded from a statement's bytes of RAM is fetched there
 pub stands : (memory : Memory) (ram part : List ℕ) (s : Statement) (first size : ℕ) (found : Option Instr)
     → slice_get ram ≡ peek memory → part ≡ slice_range ram first (first + size) → first ≡ s.addr → size ≡ s.length
     → IfSome found (λ i. IsFetchedFrom i s.addr (take (length_of i.mode) part)) → IfSome found (λ i. Stands memory s i)

@@ -11,7 +11,7 @@ use Rattle.a2_debugger.specs.Words.{IsVerb}
 abbrev words : List (List ℕ × Verb)
 words = map (λ row. (row.0.now, row.1)) WORDS
 
--- each row is a verb's
+-- each row belongs to a verb
 pub verb_found : (text : List ℕ) (v : Verb) → Contains words (text, v) → IsVerb text v
 verb_found text v among =
     let P : List ℕ × Verb → Type 0 = λ row. IsVerb row.0 row.1 in

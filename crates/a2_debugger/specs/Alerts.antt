@@ -1,4 +1,4 @@
--- Which steps alarm of a run that is gone along in bursts. No public clause cites this file.
+-- Which steps need a check for a stop when a run is executed in bursts. No public clause cites this file.
 use Rattle.std.specs.Prelude.{◌≡◌, ◌⊎◌, ℕ, Bool, true, false, ◌||◌, ◌&&◌, List, [], Some, None, is_some, nat_le, get_or, slice_get, Contains}
 use Rattle.std.specs.List.{list_any}
 use Rattle.a2_opcode.specs.declared.Instr.{Instr}
@@ -20,7 +20,7 @@ use Rattle.a2_debugger.specs.declared.stops.Break.{Break}
 use Rattle.a2_debugger.specs.declared.stops.Moment.{Moment as DeclaredMoment}
 use Rattle.a2_symbols.specs.declared.places.Span.{Span}
 
--- for each address, whether there is a breakpoint, and whether a step there may change a watched byte
+-- for each address, whether it has a breakpoint, and whether a step there may change a watched byte
 pub record Alerts : Type 0 where
   pub stops : List Bool
   pub stores : List Bool
@@ -33,57 +33,57 @@ is_marked marks address = get_or marks address true
 abbrev pub is_watched : List Span → ℕ → Bool
 is_watched watches address = list_any (λ span. nat_le span.first address && nat_le address span.last) watches
 
--- where an instruction's operand is
+-- the place of an instruction's operand
 abbrev pub place_in : World → Instr → Place
 place_in world i = place_of memory_access world.memory world.registers i.mode i.value
 
--- in whatever world, an instruction's operand is at no watched address
+-- in any world, an instruction's operand is at no watched address
 abbrev pub SparesAt : List Span → Instr → Type 0
 SparesAt watches i = (world : World) → list_any (is_watched watches) (place_addresses (place_in world i)) ≡ false
 
--- in whatever world, it stores and pushes at none
+-- in any world, it stores and pushes at no watched address
 abbrev pub Spares : List Span → Instr → Type 0
 Spares watches i = (world : World)
     → list_any (is_watched watches) (effect_stores (effect_of i.mnemonic) (place_in world i) world.registers.s) ≡ false
 
--- from each memory that holds a statement's bytes as this one does, this instruction is fetched there
+-- this instruction is fetched at a statement's address from any memory that holds the statement's bytes as this memory does
 abbrev pub Stands : Memory → Statement → Instr → Type 0
 Stands memory statement i = (other : Memory) → ((a : ℕ) → Holds statement a → peek other a ≡ peek memory a)
     → (found : Row) × (row i.mnemonic i.mode ≡ Some found) × (fetched (peek other) statement.addr ≡ instruction found i.value)
 
--- one that spares what is watched
+-- such an instruction that changes no watched byte
 pub record IsHarmless (watches : List Span) (memory : Memory) (statement : Statement) : Type 0 where
   pub instr : Instr
   pub stands : Stands memory statement instr
   pub spares : Spares watches instr
 
--- such an instruction is a statement's, and no service
+-- the statement is such an instruction, and not a service
 pub record StandsCalm (watches : List Span) (memory : Memory) (statement : Statement) : Type 0 where
   pub some : is_some statement.instr ≡ true
   pub none : service_at statement.addr ≡ None
   pub harmless : IsHarmless watches memory statement
 
--- such a statement of some begins at an address
+-- one of these statements begins at the address and is calm
 abbrev pub IsCalm : List Span → List Statement → Memory → ℕ → Type 0
 IsCalm watches statements memory address =
     (s : Statement) × Contains statements s × (s.addr ≡ address) × StandsCalm watches memory s
 
--- all addresses are marked but those
+-- all addresses except calm ones are marked
 abbrev pub MarksAllBut : List Span → List Statement → Memory → List Bool → Type 0
 MarksAllBut watches statements memory marks =
     (address : ℕ) → is_marked marks address ≡ false → IsCalm watches statements memory address
 
--- the addresses of breakpoints are marked, and where bytes are watched all but those
+-- the addresses of breakpoints are marked and, if bytes are watched, all addresses except calm ones
 pub record AreAlerts (free : Bool) (statements : List Statement) (memory : Memory) (breaks : List Break) (watches : List Span) (alerts : Alerts) : Type 0 where
   pub breaks_marked : (moment : Moment) → list_any (is_hit moment) breaks ≡ true → is_marked alerts.stops moment.pc ≡ true
   pub watched : (address : ℕ) → is_marked alerts.stores address ≡ false
       → (watches ≡ []) ⊎ ((free ≡ false) × IsCalm watches statements memory address)
 
--- what a stop may be about, with RAM as a list
+-- the state that decides a stop, with RAM as a function of the address
 abbrev pub told : DeclaredMoment → Moment
 told m = record { pc = m.pc; a = m.a; x = m.x; y = m.y; s = m.s; p = m.p; ram = slice_get m.ram.now }
 
--- and behind a step
+-- the same state after a step
 abbrev pub moment_behind : Shown → Moment
 moment_behind shown = record {
   pc = shown.look.next_pc;
@@ -95,13 +95,14 @@ moment_behind shown = record {
   ram = shown.ram;
 }
 
--- a step to a breakpoint whose condition holds, or one that may change a watched byte, behind which one is not as in a world
+-- a step that reaches a breakpoint whose condition holds, or one that may change a watched byte and after which a watched byte
+-- differs from the given world
 abbrev pub alarms : Alerts → List Break → List Span → World → Shown → Bool
 alarms alerts breaks watches now shown =
     (is_marked alerts.stops shown.look.next_pc && list_any (is_hit (moment_behind shown)) breaks)
     || (is_marked alerts.stores shown.look.pc && list_any (is_span_changed (peek now.memory) shown.ram) watches)
 
--- each step from a place on that comes to a stop is one of these
+-- every step from a position on that reaches a stop is one of these
 abbrev pub WarnsOfStops : Alerts → List Break → List Span → Track → Type 0
 WarnsOfStops alerts breaks watches track =
     Warns (is_stop breaks watches (here track)) (alarms alerts breaks watches (here track)) track.course track.position

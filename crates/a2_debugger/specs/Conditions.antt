@@ -1,4 +1,4 @@
--- How breakpoints and their conditions are written. This project's profile.
+-- The syntax of breakpoints and their conditions. This project's profile.
 use Rattle.std.specs.Prelude.{ℕ, ◌==◌, List, [], ◌∷◌, if◌then◌else◌, Option, Some, None, ◌&&◌, Bool, false}
 use Rattle.a2_text.specs.Signs.{sign}
 use Rattle.a2_text.specs.Bytes.{capital}
@@ -36,7 +36,7 @@ abbrev pub subject_by : Option Register → Option ℕ → Option Subject
 subject_by (Some register) place = Some (InRegister register)
 subject_by None place = in_byte place
 
--- a register, or else the byte at a place
+-- a register, or otherwise the byte at an address
 abbrev pub subject_of : Assembled → List ℕ → Option Subject
 subject_of program word = subject_by (register_of word) (place_of program word)
 
@@ -54,7 +54,7 @@ condition_by (Some subject) (Some relation) None = None
 condition_by (Some subject) (Some relation) (Some value) =
     Some (record { subject = subject; relation = relation; value = value })
 
--- a subject, how it compares, and a number
+-- a subject, a relation and a number
 abbrev pub condition_in : Assembled → List (List ℕ) → Option Condition
 condition_in program [] = None
 condition_in program (subject ∷ []) = None
@@ -79,7 +79,7 @@ break_where None condition = None
 break_where (Some address) None = None
 break_where (Some address) (Some condition) = Some (record { address = address; condition = Some condition })
 
--- a place, or one with IF and a condition behind it
+-- a place, or a place followed by IF and a condition
 abbrev pub break_in : Assembled → List (List ℕ) → Option Break
 break_in program [] = None
 break_in program (place ∷ []) = plain_break (place_of program place)

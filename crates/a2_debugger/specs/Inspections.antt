@@ -1,4 +1,4 @@
--- What the lines of a debugger leave. This project's profile.
+-- The effect of the debugger's lines. This project's profile.
 use Rattle.std.specs.Prelude.{◌≡◌, ◌⊎◌, ℕ, ◌+◌, ◌-◌, ◌<◌, ◌≤◌, min, not, nat_lt, nat_le, List, [], ◌∷◌, ◌++◌, ◌==◌, ◌||◌, ◌&&◌, length, map, take, filter, slice_get, Bool, true, false, Option, Some, None, if◌then◌else◌}
 use Rattle.a2_text.specs.Bytes.{capital}
 use Rattle.a2_text.specs.Words.{words, first_word, behind_word}
@@ -23,50 +23,50 @@ use Rattle.a2_debugger.specs.declared.verbs.Verb.{Verb}
 
 pub record Inspection : Type 0 where
   pub program : Assembled
-  -- the run, and where it stands
+  -- the run and the current position in it
   pub track : Track
-  -- the breakpoints, and what is watched, in the order in which they were set
+  -- the breakpoints and the watched spans, in the order in which they were set
   pub breaks : List Breakpoint
   pub watches : List Span
-  -- the line that an empty one repeats
+  -- the line that an empty line repeats
   pub last : List ℕ
-  -- the most steps that one line makes which looks for a place
+  -- the greatest number of steps that a command executes while it looks for a place
   pub most : ℕ
 
 -- the world before a step of an instruction or service at this address
 abbrev pub is_at : ℕ → World → Bool
 is_at address world = world.registers.pc == address
 
--- a world in which the stack pointer is no longer below this, or that is a stop
+-- a world in which the stack pointer is at least this value, or that is a stop
 abbrev pub is_left : ℕ → (World → Bool) → World → Bool
 is_left s stop world = nat_le s world.registers.s || stop world
 
--- steps were made to the first world that is seen, or that is stuck, or as many as this
+-- steps were executed up to the first world that is seen or stuck, or up to this many steps
 pub record GoesOn (seen : World → Bool) (most : ℕ) (old new : Track) : Type 0 where
   pub course : new.course ≡ old.course
   pub halt : Halt
   pub advances : Advances seen old.course old.position (min (old.position + most) 100_000_000) new.position halt
 
--- the run stands where it stood, or at the place that was found
+-- the run is at the position that was found, or where it was if none was found
 abbrev pub turned_to : Option ℕ → Track → Track
 turned_to None track = track
 turned_to (Some position) track = record track { position = position }
 
--- it stands at the newest earlier place at which something is seen; where there is none, where it stood
+-- the run is at the latest earlier position where something is seen, or where it was if there is none
 pub record GoesBack (seen : World → Bool) (old new : Track) : Type 0 where
   pub found : Option ℕ
   pub newest : IsNewest seen old.course 0 old.position found
   pub turned : new ≡ turned_to found old
 
--- keys were typed at a place
+-- keys were typed at a position
 abbrev pub with_keys_typed : List ℕ → Track → Track
 with_keys_typed keys track = record track { course = with_typed track.position keys track.course }
 
--- how many keys wait at a place with these behind them
+-- the number of keys waiting at a position, with these added
 abbrev pub waiting_with : List ℕ → Track → ℕ
 waiting_with keys track = length (here track).memory.devices.keys + length keys
 
--- what came of typing keys: they wait; or more than 4,096 would, or there is no memory, and all is as it was
+-- the outcome of typing keys: they are waiting; or more than 4,096 would be, or memory ran out, and nothing changed
 abbrev pub TypesBy : Outcome → List ℕ → Track → Track → Type 0
 TypesBy Typed keys old new = (waiting_with keys old ≤ 4096) × (new ≡ with_keys_typed keys old)
 TypesBy KeysFull keys old new = (4096 < waiting_with keys old) × (new ≡ old)
@@ -76,17 +76,18 @@ TypesBy outcome keys old new = ⊥
 abbrev pub Types : List ℕ → Track → Track → Type 0
 Types keys old new = (outcome : Outcome) × TypesBy outcome keys old new
 
--- where a JSR is next steps were made until its routine is left, or to a stop; else one
+-- if the next instruction is a JSR, steps were executed until its routine returned or up to a stop; otherwise one step was
+-- executed
 abbrev pub GoesOver : Bool → ℕ → (World → Bool) → ℕ → Track → Track → Type 0
 GoesOver true s stop most old new = GoesOn (is_left s stop) most old new
 GoesOver false s stop most old new = GoesOn (λ world. false) 1 old new
 
--- until this routine is left, or to a stop; where there is none it stands where it stood
+-- steps were executed until this routine returned or up to a stop; if there is no routine, nothing changed
 abbrev pub GoesOut : Option Entry → (World → Bool) → ℕ → Track → Track → Type 0
 GoesOut None stop most old new = new ≡ old
 GoesOut (Some entry) stop most old new = GoesOn (is_left entry.s stop) most old new
 
--- it stands at the newest earlier place at which no more routines are entered; where there is none, where it stood
+-- the run is at the latest earlier position where no more routines are entered than now, or where it was if there is none
 abbrev pub GoesBackOver : Track → Track → Type 0
 GoesBackOver old new = (found : Option ℕ)
     × IsNewestOutside old.course (length (entered old.course old.position)) old.position found × (new ≡ turned_to found old)
@@ -95,26 +96,26 @@ GoesBackOver old new = (found : Option ℕ)
 abbrev pub innermost : List Entry → Option Entry
 innermost entries = slice_get entries (length entries - 1)
 
--- all but the breakpoint at an address
+-- all breakpoints except the one at an address
 abbrev pub others : ℕ → List Breakpoint → List Breakpoint
 others address breaks = filter (λ b. not (b.address == address)) breaks
 
--- this one takes the place of that at its address, or is one more; no more than 64
+-- the breakpoint replaces the one at its address or is added; there are at most 64
 abbrev pub with_break : Breakpoint → List Breakpoint → List Breakpoint
 with_break b breaks = if nat_lt (length (others b.address breaks)) 64 then others b.address breaks ++ b ∷ [] else others b.address breaks
 
--- one more, but each once, and no more than 8
+-- a span is added, each one only once; there are at most 8
 abbrev pub unlike : Span → List Span → List Span
 unlike span watches = filter (λ w. not ((w.first == span.first) && (w.last == span.last))) watches
 
 abbrev pub with_watch : Span → List Span → List Span
 with_watch span watches = if nat_lt (length (unlike span watches)) 8 then unlike span watches ++ span ∷ [] else unlike span watches
 
--- what an order leaves of the run, with these stops
+-- the effect of a command on the run, with these stops
 abbrev pub Moves : Order → (World → Bool) → ℕ → Track → Track → Type 0
 Moves (Step n) stop most old new = GoesOn (λ world. false) n old new
 Moves Next stop most old new = GoesOver (is_call (here old)) (here old).registers.s stop most old new
--- where memory is wanted it stands where it stood
+-- if memory runs out, the position is unchanged
 Moves Out stop most old new = GoesOut (innermost (entered old.course old.position)) stop most old new ⊎ (new ≡ old)
 Moves (Back n) stop most old new = new ≡ record old { position = old.position - n }
 Moves GoBackOver stop most old new = GoesBackOver old new ⊎ (new ≡ old)
@@ -125,7 +126,7 @@ Moves (Who span) stop most old new = GoesBack (λ world. is_changed_in (here old
 Moves (TypeKeys keys) stop most old new = Types keys old new
 Moves order stop most old new = new ≡ old
 
--- what it leaves of the breakpoints, and of what is watched
+-- the effect of a command on the breakpoints and the watched spans
 abbrev pub breaks_by : Order → List Breakpoint → List Breakpoint
 breaks_by (Break b) breaks = with_break b breaks
 breaks_by Clear breaks = []
@@ -136,7 +137,7 @@ watches_by (Watch span) watches = with_watch span watches
 watches_by Clear watches = []
 watches_by order watches = watches
 
--- an order was done
+-- a command was executed
 pub record IsDone (order : Order) (old new : Inspection) : Type 0 where
   pub program : new.program ≡ old.program
   pub moves : Moves order (is_stop old.breaks old.watches (here old.track)) old.most old.track new.track
@@ -145,7 +146,7 @@ pub record IsDone (order : Order) (old new : Inspection) : Type 0 where
   pub last : new.last ≡ old.last
   pub most : new.most ≡ old.most
 
--- a line that is not blank was done, or asks for nothing, and all is as it was
+-- a line that is not blank was executed, or it holds no command and nothing changed
 abbrev pub IsObeyed : List ℕ → Inspection → Inspection → Type 0
 IsObeyed line old new =
     let word = map capital (first_word line) in
@@ -153,15 +154,15 @@ IsObeyed line old new =
     ⊎ ((verb : Verb) × IsVerb word verb × SaysNone old.program verb (behind_word line) × (new ≡ old))
     ⊎ ((verb : Verb) × IsVerb word verb × ((order : Order) × Says old.program verb (behind_word line) order × IsDone order old new))
 
--- the front of a line, which is all of one that is not too long
+-- the beginning of a line, which is the whole line unless it is too long
 abbrev pub front : List ℕ → List ℕ
 front line = take (min 255 (length line)) line
 
--- the line that is done: the last again, where this one is blank
+-- the line to execute: this one, or the last one again if this one is blank
 abbrev pub meant : List ℕ → List ℕ → List ℕ
 meant line last = front (if length (words line) == 0 then last else line)
 
--- what a line leaves, which is noted
+-- the effect of a line, which is stored as the last one
 abbrev pub IsAnswered : List ℕ → Inspection → Inspection → Type 0
 IsAnswered line old new =
     (obeyed : Inspection) × IsObeyed (meant line old.last) old obeyed × (new ≡ record obeyed { last = meant line old.last })

@@ -1,4 +1,4 @@
--- What lines say. This project's profile.
+-- The meaning of lines. This project's profile.
 use Rattle.std.specs.Prelude.{◌≡◌, ◌≢◌, ℕ, ◌<◌, ◌≤◌, List, [], ◌∷◌, length, drop, Option, Some, None}
 use Rattle.a2_text.specs.Bytes.{number_in}
 use Rattle.a2_text.specs.Words.{words, only_word}
@@ -13,7 +13,7 @@ use Rattle.a2_debugger.specs.declared.order.Order.TheVariants as order
 use Rattle.a2_debugger.specs.declared.verbs.Verb.{Verb}
 use Rattle.a2_debugger.specs.declared.verbs.Verb.TheVariants.{Step, Next, Out, Back, Rnext, Go, Until, Rback, Watch, Who, Break, Clear, Keys, Where, Regs, Print, Mem, Screen, List as Lines, Info, Help}
 
--- a number of steps: one word of decimal digits, at most 65,535; 1 where there is no word
+-- a number of steps: one word of decimal digits, at most 65,535; 1 if there is no word
 abbrev pub count_in : List (List ℕ) → Option ℕ
 count_in [] = Some 1
 count_in (word ∷ []) = number_in 10 5 word
@@ -23,7 +23,7 @@ abbrev pub place_by : Assembled → Option (List ℕ) → Option ℕ
 place_by program None = None
 place_by program (Some word) = place_of program word
 
--- the address that the one word says
+-- the address given by the only word
 abbrev pub place_in : Assembled → List (List ℕ) → Option ℕ
 place_in program words = place_by program (only_word words)
 
@@ -31,19 +31,19 @@ abbrev pub span_by_word : Assembled → Option (List ℕ) → Option Span
 span_by_word program None = None
 span_by_word program (Some word) = watchable (span_of program word)
 
--- the bytes to watch that the one word says
+-- the bytes to watch, given by the only word
 abbrev pub span_in : Assembled → List (List ℕ) → Option Span
 span_in program words = span_by_word program (only_word words)
 
--- all behind one blank spells these keys
+-- the text after one blank spells these keys
 abbrev pub SpellsBehind : List ℕ → List ℕ → Type 0
 SpellsBehind rest keys = (0 < length rest) × SpellsKeys (drop 1 rest) keys × (length keys ≤ 4096)
 
--- it spells none, or more than 4,096
+-- the text spells no keys, or more than 4,096
 abbrev pub SpellsNoneBehind : List ℕ → Type 0
 SpellsNoneBehind rest = 0 < length rest → (keys : List ℕ) → SpellsKeys (drop 1 rest) keys → 4096 < length keys
 
--- a verb and what stands behind it ask for this; which of a verb's showings is not told
+-- a verb and the text after it are this command; which of its showings a verb means is left open
 abbrev pub Says : Assembled → Verb → List ℕ → Order → Type 0
 Says program Step rest (order.Step n) = count_in (words rest) ≡ Some n
 Says program Back rest (order.Back n) = count_in (words rest) ≡ Some n
@@ -68,7 +68,7 @@ Says program Info rest (order.Show show) = Unit {0}
 Says program Help rest (order.Show show) = Unit {0}
 Says program verb rest order = ⊥
 
--- they ask for nothing; why something cannot be shown is not told
+-- they are not a command; why something cannot be shown is left open
 abbrev pub SaysNone : Assembled → Verb → List ℕ → Type 0
 SaysNone program Step rest = count_in (words rest) ≡ None
 SaysNone program Back rest = count_in (words rest) ≡ None

@@ -1,4 +1,4 @@
--- Where a run stops for whoever looks: breakpoints with their conditions, and bytes that are watched. This project's profile.
+-- Stops of a run: breakpoints with their conditions, and watched bytes. This project's profile.
 use Rattle.std.specs.Prelude.{ℕ, zero, suc, ◌+◌, ◌-◌, ◌==◌, Bool, true, false, ◌||◌, ◌&&◌, not, nat_lt, List, Option, Some, None, if◌then◌else◌}
 use Rattle.std.specs.List.{list_any}
 use Rattle.a2_bus.specs.Memory.{peek}
@@ -14,7 +14,8 @@ use Rattle.a2_debugger.specs.declared.stops.Condition.{Condition}
 use Rattle.a2_debugger.specs.declared.stops.Break.{Break}
 use Rattle.a2_symbols.specs.declared.places.Span.{Span}
 
--- what a stop may be about: the registers as bytes, of P the byte that PHP pushes, and the byte of RAM at each address
+-- the state that decides a stop: the registers as bytes, with P as the byte that PHP pushes, and the byte of RAM at each
+-- address
 pub record Moment : Type 0 where
   pub pc : ℕ
   pub a : ℕ
@@ -52,7 +53,7 @@ compares Other value than = not (value == than)
 compares Less value than = nat_lt value than
 compares More value than = nat_lt than value
 
--- a condition holds; of a byte that is none it does not
+-- a condition holds; it never holds for a byte that does not exist
 abbrev pub compares_some : Relation → Option ℕ → ℕ → Bool
 compares_some relation None than = false
 compares_some relation (Some value) than = compares relation value than
@@ -61,37 +62,37 @@ abbrev pub holds : Option Condition → Moment → Bool
 holds None moment = true
 holds (Some c) moment = compares_some c.relation (value_of c.subject moment) c.value
 
--- before a step at a breakpoint whose condition holds
+-- PC is at a breakpoint whose condition holds
 abbrev pub is_hit : Moment → Break → Bool
 is_hit moment b = (b.address == moment.pc) && holds b.condition moment
 
--- two bytes, which may be none, differ
+-- both bytes exist and differ
 abbrev pub is_other : Option ℕ → Option ℕ → Bool
 is_other (Some one) (Some other) = not (one == other)
 is_other one other = false
 
--- the byte at an address is another than before
+-- the byte at an address has changed
 abbrev pub is_changed : ℕ → (ℕ → Option ℕ) → (ℕ → Option ℕ) → Bool
 is_changed address before now = is_other (now address) (before address)
 
--- one of so many bytes from an address on is
+-- one of this many bytes from an address on has changed
 unfoldable pub is_changed_from : ℕ → ℕ → (ℕ → Option ℕ) → (ℕ → Option ℕ) → Bool
 is_changed_from first zero before now = false
 is_changed_from first (suc n) before now = is_changed_from first n before now || is_changed (first + n) before now
 
--- one of the bytes from the first to the last is
+-- one of the bytes from the first to the last has changed
 abbrev pub is_span_changed : (ℕ → Option ℕ) → (ℕ → Option ℕ) → Span → Bool
 is_span_changed before now span = is_changed_from span.first (span.last + 1 - span.first) before now
 
--- one of them is another than in this world
+-- one of them differs in this world
 abbrev pub is_changed_in : World → World → Span → Bool
 is_changed_in now world span = is_span_changed (peek now.memory) (peek world.memory) span
 
--- a world at a breakpoint, or in which a watched byte is another than now
+-- a world at a breakpoint, or in which a watched byte has changed
 abbrev pub is_stop : List Break → List Span → World → World → Bool
 is_stop breaks watches now world = list_any (is_hit (moment_of world)) breaks || list_any (is_changed_in now world) watches
 
--- what is watched: at most 256 bytes
+-- the spans that can be watched: at most 256 bytes
 abbrev pub watchable : Option Span → Option Span
 watchable None = None
 watchable (Some span) = if nat_lt span.last (span.first + 256) then Some span else None

@@ -1,10 +1,10 @@
--- The words that lines begin with.
+-- The words that begin lines.
 use Rattle.std.specs.Prelude.{◌≡◌, ◌⊎◌, ℕ, ◌<◌, List, [], length, map, codes}
 use Rattle.std.specs.Borrow.{Bor}
 use Rattle.a2_debugger.specs.declared.verbs.Verb.{Verb}
 use Rattle.a2_debugger.specs.declared.verbs.Verb.TheVariants.{Step, Next, Out, Back, Rnext, Go, Until, Rback, Watch, Who, Break, Clear, Keys, Where, Regs, Print, Mem, Screen, List as Lines, Info, Help}
 
--- the letters of a verb, in capitals
+-- the full word of a verb, in capitals
 abbrev pub letters : Verb → List ℕ
 letters Step = codes "STEP"
 letters Next = codes "NEXT"
@@ -28,7 +28,7 @@ letters Lines = codes "LIST"
 letters Info = codes "INFO"
 letters Help = codes "HELP"
 
--- the letter that stands for it alone, where there is one
+-- the letter that abbreviates it, if there is one
 abbrev pub letter : Verb → List ℕ
 letter Step = codes "S"
 letter Next = codes "N"
@@ -45,10 +45,10 @@ letter Info = codes "I"
 letter Help = codes "H"
 letter verb = []
 
--- a word that is not empty, in capitals, is this verb
+-- a word in capitals that is not empty stands for this verb
 abbrev pub IsVerb : List ℕ → Verb → Type 0
 IsVerb word verb = (word ≡ letters verb) ⊎ ((word ≡ letter verb) × (0 < length word))
 
--- the rows of a table: a text, and the verb that it is
+-- the rows of a table: a word and the verb it stands for
 abbrev pub listed : List (Bor (List ℕ) × Verb) → List (List ℕ × Verb)
 listed rows = map (λ row. (row.0.now, row.1)) rows

@@ -1,4 +1,4 @@
-//! Which steps alarm of a run that is gone along in bursts.
+//! Which steps need a check for a stop when a run is executed in bursts.
 
 ghost use Rattle.std.specs.Prelude.{◌≡◌, ◌⊎◌, ℕ, true, false, [], length, IfOk, IfSome};
 ghost use Rattle.std.specs.List.{list_any};
@@ -17,16 +17,16 @@ use a2_symbols::Span;
 use std::alloc::{AllocError, Allocator, Global};
 use std::marker::Model;
 
-/// How many addresses there are.
+/// The number of addresses.
 const ADDRESSES: usize = 0x1_0000;
 
-/// For each address, whether there is a breakpoint, and whether a step there may change a watched byte.
+/// For each address, whether it has a breakpoint and whether a step there may change a watched byte.
 pub struct Marks<A: Allocator = Global> {
     stops: Vec<bool, A>,
     stores: Vec<bool, A>,
 }
 
-// Not derived, for the prover alone: it follows this as one call, and a derived one field by field.
+// Not derived, only for the prover: it treats this as one call, and a derived `drop` field by field.
 impl<A: Allocator> Drop for Marks<A> {
     fn drop(self) {
         let Marks {
@@ -47,7 +47,8 @@ impl<A: Allocator> Model for Marks<A> {
     ghost invariant = { λ m. (length m.stops.items ≡ 65536) × (length m.stores.items ≡ 65536) };
 }
 
-/// The same, as each step asks for them: all addresses are there, so that a look is one load, without a bound.
+/// The same marks in the form that each step reads: all addresses are present, so a check is a single load without a bounds
+/// check.
 #[derive(Drop)]
 pub struct Alerts<'a> {
     stops: &'a [bool; ADDRESSES],
@@ -74,7 +75,7 @@ pub(crate) fn is_watched(watches: &[Span], address: u16) -> bool
         .any(|span| span.first <= address && address <= span.last)
 }
 
-// Whether an instruction's operand is at no watched address, whatever registers and memory are.
+// Whether an instruction's operand is never at a watched address, whatever registers and memory hold.
 fn spares_operand(instr: Instr, watches: &[Span]) -> bool
     ensures { result ≡ true → alert.SparesAt watches.now instr }
 {
@@ -85,7 +86,7 @@ fn spares_operand(instr: Instr, watches: &[Span]) -> bool
     }
 }
 
-// Whether an instruction stores and pushes at no watched address, whatever registers and memory are.
+// Whether an instruction never stores or pushes at a watched address, whatever registers and memory hold.
 #[tactic(auto, unfolding(a2_effect::specs::Effect::effect_of))]
 fn spares(instr: Instr, watches: &[Span]) -> bool
     ensures { result ≡ true → alert.Spares watches.now instr }
@@ -97,7 +98,7 @@ fn spares(instr: Instr, watches: &[Span]) -> bool
     }
 }
 
-// The instruction that a statement's bytes are, as a machine holds them.
+// The instruction encoded by a statement's bytes in the machine's memory.
 fn standing<A: Allocator>(statement: &Statement, machine: &Machine<A>) -> Option<Instr>
     ensures { IfSome result (λ instr. alert.Stands (world_of_state machine.now.state).memory statement.now instr) }
 {
@@ -106,7 +107,7 @@ fn standing<A: Allocator>(statement: &Statement, machine: &Machine<A>) -> Option
     decode(bytes, statement.addr)
 }
 
-// Whether a statement is an instruction that spares what is watched, and no service.
+// Whether a statement is an instruction that never stores at a watched byte, and not a service.
 fn is_calm<A: Allocator>(statement: &Statement, machine: &Machine<A>, watches: &[Span]) -> bool
     ensures { result ≡ true → StandsCalm watches.now (world_of_state machine.now.state).memory statement.now }
 {
@@ -119,7 +120,7 @@ fn is_calm<A: Allocator>(statement: &Statement, machine: &Machine<A>, watches: &
     }
 }
 
-// Marks a statement's first byte no longer where that is so.
+// Clears the mark at a statement's first byte if this holds for the statement.
 fn calm<A: Allocator>(
     marks: &mut [bool],
     statement: &Statement,
@@ -135,7 +136,7 @@ fn calm<A: Allocator>(
     }
 }
 
-// The same for each statement.
+// Does the same for each statement.
 fn calm_all<A: Allocator>(
     marks: &mut [bool],
     statements: &[Statement],
@@ -151,7 +152,7 @@ fn calm_all<A: Allocator>(
     }
 }
 
-// Marks all addresses, or none.
+// Sets or clears the marks of all addresses.
 fn fill(marks: &mut [bool], mark: bool)
     requires { length marks.old ≡ 65536 }
     ensures { (address : ℕ) → is_marked marks.new address ≡ false → mark ≡ false }
@@ -159,7 +160,8 @@ fn fill(marks: &mut [bool], mark: bool)
     marks.fill(mark);
 }
 
-// Marks where a step may change a watched byte, if there are any: all but where instructions stand that store at none.
+// Marks the addresses where a step may change a watched byte, if any bytes are watched: all except those of instructions that
+// never do.
 fn mark_stores<A: Allocator>(
     marks: &mut [bool],
     free: bool,
@@ -178,7 +180,7 @@ fn mark_stores<A: Allocator>(
     }
 }
 
-// Marks where there is a breakpoint.
+// Marks the addresses of breakpoints.
 fn mark_stops(marks: &mut [bool], breaks: &[Break])
     requires { length marks.old ≡ 65536 }
     ensures { (moment : Moment) → list_any (is_hit moment) breaks.now ≡ true → is_marked marks.new moment.pc ≡ true }
@@ -189,14 +191,14 @@ fn mark_stops(marks: &mut [bool], breaks: &[Break])
     }
 }
 
-// No address is marked.
+// Returns marks in which no address is marked.
 fn no_marks<A: Allocator>(alloc: A) -> Result<Vec<bool, A>, AllocError>
     ensures { IfOk result (λ marks. length marks.items ≡ 65536) }
 {
     vec![in alloc; false; ADDRESSES]
 }
 
-// All addresses.
+// The marks as an array of all addresses.
 fn whole(marks: &[bool]) -> &[bool; ADDRESSES]
     requires { length marks.now ≡ 65536 }
     ensures { result.now ≡ marks.now }
@@ -208,7 +210,7 @@ fn whole(marks: &[bool]) -> &[bool; ADDRESSES]
 }
 
 impl<A: Allocator + Copy> Marks<A> {
-    /// No address is marked. Refused only for want of memory.
+    /// Returns marks in which no address is marked. Fails only if memory runs out.
     pub fn new(alloc: A) -> Result<Marks<A>, AllocError> {
         Ok(Marks {
             stops: no_marks(alloc)?,
@@ -218,9 +220,9 @@ impl<A: Allocator + Copy> Marks<A> {
 }
 
 impl<A: Allocator> Marks<A> {
-    /// Marks the addresses of breakpoints; and where bytes are watched all at which a step may change one: all but those at
-    /// which an instruction of a program stands that is not free of the guard, as a machine holds it, and that stores nothing,
-    /// or at the address alone that is its operand, which is not watched.
+    /// Marks the addresses of breakpoints and, if bytes are watched, all addresses where a step may change one. The exceptions
+    /// are instructions of a guarded program, as found in the machine's memory, that store nothing, or that store only at a
+    /// fixed operand address that is not watched.
     pub fn set<C: Allocator>(
         &mut self,
         free: bool,
@@ -241,7 +243,7 @@ impl<A: Allocator> Marks<A> {
         );
     }
 
-    /// As each step asks for them.
+    /// Returns the marks in the form that each step reads.
     pub fn lent(&self) -> Alerts<'_>
         ensures { result ≡ self.now }
     {
@@ -253,7 +255,7 @@ impl<A: Allocator> Marks<A> {
 }
 
 impl Alerts<'_> {
-    /// Whether there is a breakpoint at an address.
+    /// Returns whether an address has a breakpoint.
     #[inline(always)]
     pub fn has_stop(&self, address: u16) -> bool
         ensures { result ≡ is_marked self.now.stops address }
@@ -261,7 +263,7 @@ impl Alerts<'_> {
         self.stops[usize::from(address)]
     }
 
-    /// Whether a step at an address may change a watched byte.
+    /// Returns whether a step at an address may change a watched byte.
     #[inline(always)]
     pub fn may_store(&self, address: u16) -> bool
         ensures { result ≡ is_marked self.now.stores address }

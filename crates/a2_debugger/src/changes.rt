@@ -1,4 +1,4 @@
-//! What an order changed, in words.
+//! Reports what a command changed.
 
 use crate::alerts::is_watched;
 use crate::sheet::{Sheet, Stand, byte_at, one_of};
@@ -11,25 +11,25 @@ use a2_text::{decimal, hex_pair, hex_word};
 use arrayvec::ArrayVec;
 use std::alloc::Allocator;
 
-// How many bytes that changed are told, beside those that are watched, and how many stand in a line.
+// The greatest number of changed bytes that are listed in addition to the watched ones, and the number of bytes on a line.
 const MOST_CHANGES: usize = 10;
 
 const CHANGES_IN_LINE: usize = 5;
 
-// As many bytes as may be watched: 8 spans of 256.
+// The greatest number of watched bytes: 8 spans of 256.
 const MOST_WATCHED: usize = 2048;
 
-// The first row of the mixed modes that has characters.
+// The first row that shows characters in the mixed modes.
 const MIXED_ROW: u8 = 20;
 
-// Puts a register that has another value than before.
+// Prints a register if its value changed.
 fn put_change<A: Allocator>(name: &[u8], before: u8, now: u8, sheet: &mut Sheet<A>) {
     if before != now {
         sheet.put_all(&[b" ", name, b"=", &hex_pair(before), b"->", &hex_pair(now)]);
     }
 }
 
-// Puts the flags that are others than before, of the bytes that PHP pushes. Their bits 5 and 4 are always set.
+// Prints the flags that changed, given the bytes that PHP would push. Bits 5 and 4 of these are always set.
 fn put_flags<A: Allocator>(before: u8, now: u8, sheet: &mut Sheet<A>) {
     let mut bit = 0x80u8;
     for letter in b"NV--DIZC" {
@@ -41,7 +41,7 @@ fn put_flags<A: Allocator>(before: u8, now: u8, sheet: &mut Sheet<A>) {
     }
 }
 
-/// Puts which registers have other values than before, but for PC.
+/// Prints the registers that changed, except PC.
 pub(crate) fn put_registers<A: Allocator>(before: Regs, now: Regs, sheet: &mut Sheet<A>) {
     let (flags, new_flags) = (before.p.pushed(), now.p.pushed());
     if [before.a, before.x, before.y, flags, before.s] == [now.a, now.x, now.y, new_flags, now.s] {
@@ -57,7 +57,7 @@ pub(crate) fn put_registers<A: Allocator>(before: Regs, now: Regs, sheet: &mut S
     sheet.put(b"\n");
 }
 
-// Puts a byte before and now, behind so many others.
+// Prints the old and new value of a byte, after `behind` others.
 fn put_byte<A: Allocator>(stand: &Stand<A>, address: u16, behind: usize, sheet: &mut Sheet<A>) {
     let next = one_of(behind % CHANGES_IN_LINE == 0, b"\nchanged: $", b" $");
     let lead = one_of(behind == 0, b"changed: $", next);
@@ -66,7 +66,7 @@ fn put_byte<A: Allocator>(stand: &Stand<A>, address: u16, behind: usize, sheet: 
     sheet.put_all(&[lead, &hex_word(address), b"=", &before, b"->", &now]);
 }
 
-// Puts the bytes at some addresses, before and now.
+// Prints the old and new values of the bytes at these addresses.
 fn put_bytes_at<A: Allocator>(stand: &Stand<A>, addresses: &[u16], sheet: &mut Sheet<A>) {
     let mut behind = 0usize;
     for address in addresses {
@@ -78,7 +78,8 @@ fn put_bytes_at<A: Allocator>(stand: &Stand<A>, addresses: &[u16], sheet: &mut S
     }
 }
 
-// Whether the screen shows that a byte is another than before: characters do unless the glyph is the same, hi-res does not.
+// Whether the change of a byte is reported with the screen. This holds for a character unless its glyph is the same, and not
+// for a byte of hi-res.
 fn is_on_screen<A: Allocator>(stand: &Stand<A>, address: u16) -> bool {
     let switches = stand.machine.view().switches;
     let Some((page, row, _)) = cell(address) else {
@@ -92,13 +93,14 @@ fn is_on_screen<A: Allocator>(stand: &Stand<A>, address: u16) -> bool {
     shows && (page == Page::Two) == switches.page2
 }
 
-// Whether an address is one of the stack at which nothing is pushed that has not been pulled.
+// Whether an address belongs to the unused part of the stack.
 fn is_free<A: Allocator>(machine: &Machine<A>, address: u16) -> bool {
     0x100 <= address && address <= 0x100 + u16::from(machine.regs().s)
 }
 
-/// Puts the watched bytes that have other values than before; and of the others, but for those that the screen shows and what
-/// the stack has free, the first, and how many more there are. A look at each byte of RAM is most of what a stop takes.
+/// Prints the watched bytes that changed. Of the other bytes that changed, prints the first few and the number of the rest;
+/// bytes that show on the screen and those in the unused part of the stack are left out. Comparing every byte of RAM takes most
+/// of the time of a stop.
 pub(crate) fn put_bytes<A: Allocator>(stand: &Stand<A>, sheet: &mut Sheet<A>) {
     let mut watched = ArrayVec::<u16, MOST_WATCHED>::new();
     let mut others = ArrayVec::<u16, MOST_CHANGES>::new();
@@ -121,14 +123,14 @@ pub(crate) fn put_bytes<A: Allocator>(stand: &Stand<A>, sheet: &mut Sheet<A>) {
     }
 }
 
-// The screen that a machine shows, in lines: there is room for all of it.
+// The lines of a machine's screen. There is room for all of them.
 fn screen_of<A: Allocator>(machine: &Machine<A>) -> Gathered {
     let mut screen = Gathered::new();
     let _ = print(&machine.view(), &mut screen);
     screen
 }
 
-/// Puts the lines of the screen that are others than before, each with its number, from 0 on, without the blanks at its end.
+/// Prints the lines of the screen that changed, each with its number, counted from 0, and without blanks at its end.
 pub(crate) fn put_screen_changes<A: Allocator>(stand: &Stand<A>, sheet: &mut Sheet<A>) {
     let (before, now) = (screen_of(stand.before), screen_of(stand.machine));
     let mut earlier = before.as_slice().split(|c| *c == b'\n');

@@ -1,4 +1,4 @@
-//! How breakpoints and their conditions are written.
+//! Parsing of breakpoints and their conditions.
 
 ghost use Rattle.std.specs.Prelude.{◌≡◌};
 ghost use Rattle.a2_text.specs.Words.{words};
@@ -11,7 +11,7 @@ use a2_symbols::{number_of, place_of};
 use a2_text::{capital, first_word};
 use std::alloc::Allocator;
 
-/// The register of a letter in either case.
+/// Returns the register named by a letter in either case, or `None` for any other text.
 pub fn register_of(word: &[u8]) -> Option<Register>
     ensures { result ≡ written.register_of word.now }
 {
@@ -28,7 +28,7 @@ pub fn register_of(word: &[u8]) -> Option<Register>
     }
 }
 
-// What a condition is about: a register, or else the byte at a place.
+// The subject of a condition: a register, or otherwise the byte at an address.
 fn subject_of<A: Allocator>(program: &Program<A>, word: &[u8]) -> Option<Subject>
     ensures { result ≡ written.subject_of program.now word.now }
 {
@@ -41,7 +41,7 @@ fn subject_of<A: Allocator>(program: &Program<A>, word: &[u8]) -> Option<Subject
     }
 }
 
-// How a condition compares.
+// The relation that an operator stands for.
 fn relation_of(word: &[u8]) -> Option<Relation>
     ensures { result ≡ written.relation_of word.now }
 {
@@ -54,7 +54,7 @@ fn relation_of(word: &[u8]) -> Option<Relation>
     }
 }
 
-// What three words say as a condition.
+// The condition given by three words.
 fn condition_of<A: Allocator>(
     program: &Program<A>,
     subject: &[u8],
@@ -74,7 +74,7 @@ fn condition_of<A: Allocator>(
     })
 }
 
-// The condition that the words of a text are.
+// The condition given by the words of a text.
 fn condition_in<A: Allocator>(program: &Program<A>, text: &[u8]) -> Option<Condition>
     ensures { result ≡ written.condition_in program.now (words text.now) }
 {
@@ -97,7 +97,7 @@ fn is_if(word: &[u8]) -> bool
     }
 }
 
-// The breakpoint at an address, if there is one, with a condition.
+// The breakpoint at an address with a condition, if both are valid.
 fn break_where(address: Option<u16>, condition: Option<Condition>) -> Option<Break>
     ensures { result ≡ written.break_where address condition }
 {
@@ -107,7 +107,7 @@ fn break_where(address: Option<u16>, condition: Option<Condition>) -> Option<Bre
     })
 }
 
-// The breakpoint at an address, if there is one.
+// The breakpoint at an address, if the address is valid.
 fn plain_break(address: Option<u16>) -> Option<Break>
     ensures { result ≡ written.plain_break address }
 {
@@ -117,7 +117,8 @@ fn plain_break(address: Option<u16>) -> Option<Break>
     })
 }
 
-/// The breakpoint that the words of a text say: a place, or one with `if`, what it is about, `=`, `<>`, `<` or `>`, and a number.
+/// Returns the breakpoint given by the words of a text: a place, optionally followed by `if`, a subject, `=`, `<>`, `<` or `>`,
+/// and a number. Returns `None` if they are not a breakpoint.
 pub fn break_in<A: Allocator>(program: &Program<A>, text: &[u8]) -> Option<Break>
     ensures { result ≡ written.break_in program.now (words text.now) }
 {

@@ -1,4 +1,4 @@
-//! A source's run, and the lines of a debugger.
+//! A run of a source, controlled by the commands of a debugger.
 
 ghost use Rattle.std.specs.Prelude.{◌≡◌, ◌==◌, ◌&&◌, ◌⊎◌, ◌-◌, ℕ, List, false, IfOk, IfErr};
 ghost use Rattle.a2_stream.specs.Stream.{SendsOrBreaks};
@@ -55,45 +55,45 @@ use arrayvec::ArrayVec;
 use std::alloc::{Allocator, Global};
 use std::marker::Model;
 
-// The most bytes of a line.
+// The greatest length of a line in bytes.
 const MOST_BYTES: usize = 255;
 
 // A line.
 type Line = ArrayVec<u8, MOST_BYTES>;
 
-// The most breakpoints, and the most spans of bytes that are watched. What is told where there are so many names them.
+// The greatest numbers of breakpoints and of watched spans. The messages for too many of them contain these numbers.
 const MOST_BREAKS: usize = 64;
 
 const MOST_WATCHES: usize = 8;
 
-// Breakpoints, and what is watched.
+// The breakpoints and the watched spans.
 type Breaks = ArrayVec<Break, MOST_BREAKS>;
 
 type Watches = ArrayVec<Span, MOST_WATCHES>;
 
-/// A source's run, gone along in both directions by the lines of a debugger, breakpoints, bytes that are watched, and the line
-/// that an empty one repeats.
+/// A run of a source that the lines of a debugger move in both directions. It also holds the breakpoints, the watched bytes,
+/// and the line that an empty line repeats.
 pub struct Inspector<'a, A: Allocator = Global> {
     alloc: A,
     program: Program<A>,
     lines: Vec<&'a [u8], A>,
     history: History<A>,
-    // The machine before the order that was done last.
+    // The machine before the last command.
     before: Machine<A>,
-    // Where steps alarm as a run goes on to a stop.
+    // The steps that need a check for a stop as the run continues.
     marks: Marks<A>,
     // Whether the run is free of the guard.
     free: bool,
     breaks: Breaks,
     watches: Watches,
     last: Line,
-    // The most steps that one line makes which looks for a place.
+    // The greatest number of steps that a command executes while it looks for a place.
     most: u32,
-    // What a stop tells of.
+    // What a stop reports.
     detail: Detail,
 }
 
-// Not derived, for the prover alone: it follows this as one call, and a derived one field by field.
+// Not derived, only for the prover: it treats this as one call, and a derived `drop` field by field.
 impl<'a, A: Allocator> Drop for Inspector<'a, A> {
     fn drop(self) {
         let Inspector {
@@ -129,11 +129,11 @@ impl<'a, A: Allocator> Model for Inspector<'a, A> {
       most = i.most;
     } };
 
-    // The guard of the run is that of its program, where it is not free.
+    // The run is guarded by its program, unless it is free.
     ghost invariant = { λ i. i.history.course.origin.guard ≡ guard_of_run i.free i.program };
 }
 
-// Makes steps, at most so many, up to what is looked for, in bursts.
+// Executes at most this many steps, in bursts, until the sight is seen.
 fn go_on<A: Allocator + Copy, S: Sight, L: Lookout>(
     history: &mut History<A>,
     most: u32,
@@ -149,7 +149,7 @@ fn go_on<A: Allocator + Copy, S: Sight, L: Lookout>(
     }
 }
 
-// Makes so many steps.
+// Executes this many steps.
 fn step<A: Allocator + Copy>(history: &mut History<A>, steps: u16) -> Outcome
     ensures { GoesOn (λ world. false) steps history.old history.new }
 {
@@ -159,7 +159,7 @@ fn step<A: Allocator + Copy>(history: &mut History<A>, steps: u16) -> Outcome
     }
 }
 
-// Goes back so many steps, but not beyond the start.
+// Goes back this many steps, but not beyond the start.
 fn back<A: Allocator + Copy>(history: &mut History<A>, steps: u16) -> Outcome
     ensures { history.new ≡ record history.old { position = history.old.position - steps } }
 {
@@ -168,7 +168,7 @@ fn back<A: Allocator + Copy>(history: &mut History<A>, steps: u16) -> Outcome
     Outcome::Moved
 }
 
-// Goes back to the newest earlier place at which something is seen.
+// Goes back to the latest earlier position where the sight is seen.
 fn go_back<A: Allocator + Copy, S: Sight>(history: &mut History<A>, sight: &S) -> Outcome
     ensures { GoesBack (S.is_seen sight.now) history.old history.new }
 {
@@ -181,14 +181,14 @@ fn go_back<A: Allocator + Copy, S: Sight>(history: &mut History<A>, sight: &S) -
     }
 }
 
-// Notes the machine before an order.
+// Stores a copy of the machine before a command.
 fn note<A: Allocator>(before: &mut Machine<A>, history: &History<A>)
     ensures { world_of_state before.new.state ≡ here history.now }
 {
     before.copy_from(history.machine());
 }
 
-// Marks where steps alarm as a run goes on to one of these stops.
+// Marks the steps that need a check for one of these stops as the run continues.
 fn mark<A: Allocator>(
     marks: &mut Marks<A>,
     free: bool,
@@ -203,7 +203,7 @@ fn mark<A: Allocator>(
     marks.set(free, program, stops.before, stops.breaks, stops.watches);
 }
 
-// Makes steps, at most so many, up to a stop.
+// Executes at most this many steps, up to a stop.
 fn go<A: Allocator + Copy>(
     history: &mut History<A>,
     most: u32,
@@ -221,7 +221,7 @@ fn go<A: Allocator + Copy>(
     go_on(history, most, &stops, &alarm)
 }
 
-// Makes steps, at most so many, up to an address.
+// Executes at most this many steps, up to an address.
 fn until<A: Allocator + Copy>(history: &mut History<A>, most: u32, address: u16) -> Outcome
     ensures { GoesOn (is_at address) most history.old history.new }
 {
@@ -229,7 +229,8 @@ fn until<A: Allocator + Copy>(history: &mut History<A>, most: u32, address: u16)
     go_on(history, most, &at, &at)
 }
 
-// Makes steps, at most so many, until a routine is left, by the stack pointer before its JSR, or to a stop.
+// Executes at most this many steps, up to a stop or until a routine returns. The routine is given by the stack pointer before
+// its JSR.
 fn leave<A: Allocator + Copy>(
     history: &mut History<A>,
     most: u32,
@@ -250,7 +251,7 @@ fn leave<A: Allocator + Copy>(
     go_on(history, most, &left, &left)
 }
 
-// Makes a step, or those of the routine that a JSR enters.
+// Executes one step, or a whole routine if the step is a JSR.
 fn next<A: Allocator + Copy>(
     history: &mut History<A>,
     most: u32,
@@ -270,7 +271,7 @@ fn next<A: Allocator + Copy>(
     }
 }
 
-// Makes steps until the routine that was entered last is left.
+// Executes steps until the innermost routine returns.
 fn out<A: Allocator + Copy>(
     history: &mut History<A>,
     most: u32,
@@ -292,7 +293,7 @@ fn out<A: Allocator + Copy>(
     }
 }
 
-// Goes back to the newest earlier stop.
+// Goes back to the latest earlier stop.
 fn go_back_to_stop<A: Allocator + Copy>(history: &mut History<A>, stops: Stops<A>) -> Outcome
     requires { world_of_state stops.before.now.state ≡ here history.old }
     ensures { GoesBack (is_stop stops.entry.breaks.now stops.entry.watches.now (here history.old)) history.old history.new }
@@ -300,7 +301,7 @@ fn go_back_to_stop<A: Allocator + Copy>(history: &mut History<A>, stops: Stops<A
     go_back(history, &stops)
 }
 
-// Goes back a step, or those of a whole routine.
+// Goes back one step, or a whole routine.
 fn go_back_over<A: Allocator + Copy>(history: &mut History<A>) -> Outcome
     ensures { GoesBackOver history.old history.new ⊎ (history.new ≡ history.old) }
 {
@@ -314,7 +315,7 @@ fn go_back_over<A: Allocator + Copy>(history: &mut History<A>) -> Outcome
     }
 }
 
-// Goes back to the newest step that changed one of some bytes, before it; if there is none, that is told.
+// Goes back to just before the latest step that changed one of these bytes, or reports that there is none.
 fn who<A: Allocator + Copy>(history: &mut History<A>, span: Span, before: &Machine<A>) -> Outcome
     requires { world_of_state before.now.state ≡ here history.old }
     ensures { GoesBack (λ world. is_changed_in (here history.old) world span) history.old history.new }
@@ -325,7 +326,7 @@ fn who<A: Allocator + Copy>(history: &mut History<A>, span: Span, before: &Machi
     }
 }
 
-// Types keys where the run stands.
+// Types keys at the current position.
 fn type_keys<A: Allocator + Copy>(history: &mut History<A>, keys: Keys) -> Outcome
     ensures { TypesBy result keys history.old history.new }
 {
@@ -336,14 +337,14 @@ fn type_keys<A: Allocator + Copy>(history: &mut History<A>, keys: Keys) -> Outco
     }
 }
 
-// Takes the breakpoint at an address away.
+// Removes the breakpoint at an address.
 fn clear_at(breaks: &mut Breaks, address: u16)
     ensures { breaks.new.items ≡ others address breaks.old.items }
 {
     breaks.retain(|place| place.address != address);
 }
 
-// Sets a breakpoint, which takes the place of that at its address.
+// Sets a breakpoint, and replaces the one at its address.
 fn set(breaks: &mut Breaks, place: Break) -> Outcome
     ensures { breaks.new.items ≡ with_break place breaks.old.items }
 {
@@ -355,21 +356,21 @@ fn set(breaks: &mut Breaks, place: Break) -> Outcome
     Outcome::Full
 }
 
-// Whether both are the same addresses.
+// Whether both spans are the same addresses.
 fn are_alike(one: &Span, other: Span) -> bool
     ensures { result ≡ ((one.now.first == other.first) && (one.now.last == other.last)) }
 {
     one.first == other.first && one.last == other.last
 }
 
-// Watches these addresses no longer.
+// Stops watching these addresses.
 fn forget(watches: &mut Watches, span: Span)
     ensures { watches.new.items ≡ unlike span watches.old.items }
 {
     watches.retain(|watched| !are_alike(watched, span));
 }
 
-// Watches bytes.
+// Watches these bytes.
 fn watch(watches: &mut Watches, span: Span) -> Outcome
     ensures { watches.new.items ≡ with_watch span watches.old.items }
 {
@@ -381,7 +382,7 @@ fn watch(watches: &mut Watches, span: Span) -> Outcome
     Outcome::FullWatches
 }
 
-// A line of these bytes, as far as there is room.
+// A line of these bytes, cut off at its greatest length.
 fn line_of(bytes: &[u8]) -> Line
     ensures { result.items ≡ front bytes.now }
 {
@@ -391,7 +392,7 @@ fn line_of(bytes: &[u8]) -> Line
     line
 }
 
-// The line that is done: the last again, where this one is blank.
+// The line to execute: this one, or the last one again if this one is blank.
 fn meant_by(line: &[u8], last: &Line) -> Line
     ensures { result.items ≡ meant line.now last.now.items }
 {
@@ -403,9 +404,9 @@ fn meant_by(line: &[u8], last: &Line) -> Line
 }
 
 impl<'a, A: Allocator + Copy> Inspector<'a, A> {
-    /// The run of `source` at its start, with these keys waiting, guarded or `free`. `go` and `until` make at most `most` steps
-    /// each. On the way at most `kept` copies of the machine are kept, each of some 124,000 bytes: the more, the fewer steps are
-    /// made again where the run goes back. Refused where the source is, and for want of memory.
+    /// Returns the run of `source` at its start, with these keys waiting, guarded or `free`. `go` and `until` execute at most
+    /// `most` steps each. At most `kept` copies of the machine are kept, about 124,000 bytes each: with more copies, fewer
+    /// steps are replayed when the run goes back. Fails if the source has errors or memory runs out.
     pub fn new(
         alloc: A,
         source: &'a [u8],
@@ -440,7 +441,7 @@ impl<'a, A: Allocator + Copy> Inspector<'a, A> {
         })
     }
 
-    // Does what an order says.
+    // Executes a command.
     fn perform(&mut self, order: Order) -> Outcome
         ensures { IsDone order self.old self.new }
     {
@@ -482,7 +483,7 @@ impl<'a, A: Allocator + Copy> Inspector<'a, A> {
         }
     }
 
-    // Does what a line says that is not blank.
+    // Executes a line that is not blank.
     fn obey(&mut self, line: &[u8]) -> Outcome
         ensures { IsObeyed line.now self.old self.new }
     {
@@ -500,7 +501,7 @@ impl<'a, A: Allocator + Copy> Inspector<'a, A> {
     }
 }
 
-// The routines that were entered, where they are to be shown; or that memory is wanted for them.
+// The entered routines, if they are to be shown, or an error if memory runs out.
 fn with_entries<A: Allocator + Copy>(
     alloc: A,
     history: &mut History<A>,
@@ -518,7 +519,7 @@ fn with_entries<A: Allocator + Copy>(
 }
 
 impl<A: Allocator + Copy> Inspector<'_, A> {
-    // Answers a line, in this detail.
+    // Answers a line with this level of detail.
     fn answer_in<W: Output>(
         &mut self,
         detail: Detail,
@@ -548,7 +549,7 @@ impl<A: Allocator + Copy> Inspector<'_, A> {
         tell(self.alloc, &stand, outcome, writer)
     }
 
-    /// Answers a line for whoever shows source and screen beside the answer: at a stop it has neither.
+    /// Answers a line for a caller that shows the source and the screen itself: the report of a stop contains neither.
     pub fn answer_beside<W: Output>(
         &mut self,
         line: &[u8],
@@ -572,7 +573,7 @@ impl<A: Allocator + Copy> Partner for Inspector<'_, A> {
 }
 
 impl<A: Allocator> Inspector<'_, A> {
-    /// From now on no answer has lines of the source, but for that of `list`, which asks for them.
+    /// Leaves source lines out of all later answers, except the answer to `list`, which asks for them.
     pub fn tell_plainly(&mut self)
         ensures { self.new ≡ self.old }
     {
@@ -580,28 +581,28 @@ impl<A: Allocator> Inspector<'_, A> {
     }
 }
 
-// What is shown of a run beside its answers.
+// The state of a run that can be shown beside its answers.
 impl<'a, A: Allocator> Inspector<'a, A> {
-    /// The machine where the run stands.
+    /// Returns the machine at the current position.
     pub fn machine(&self) -> &Machine<A>
         ensures { world_of_state result.now.state ≡ here self.now.track }
     {
         self.history.machine()
     }
 
-    /// The machine before the last line that asked for something.
+    /// Returns the machine before the last line that held a command.
     pub fn before(&self) -> &Machine<A> {
         &self.before
     }
 
-    /// The source's program.
+    /// Returns the program of the source.
     pub fn program(&self) -> &Program<A>
         ensures { result.now ≡ self.now.program }
     {
         &self.program
     }
 
-    /// The source's lines.
+    /// Returns the lines of the source.
     pub fn lines(&self) -> &[&'a [u8]] {
         self.lines.as_slice()
     }

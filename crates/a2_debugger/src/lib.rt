@@ -1,6 +1,6 @@
-//! A source's run at a terminal, gone along in both directions: the lines of a debugger, answered one after another.
+//! The line debugger, which moves a source's run forwards and backwards: its lines are answered one after another.
 //!
-//! How it is called is shown in CALLING.md.
+//! CALLING.md shows how to call it.
 #![tactic(auto)]
 
 mod alerts;

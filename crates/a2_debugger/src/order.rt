@@ -1,103 +1,103 @@
-//! What a line asks for.
+//! The commands that a line can hold.
 
 use crate::stops::{Break, Register};
 use crate::verbs::Verb;
 use a2_bus::Keys;
 use a2_symbols::Span;
 
-/// What is shown. Nothing changes by it.
+/// Something to show. Showing it changes nothing.
 #[derive(Clone, Copy)]
 pub enum Show {
-    /// Where the run stands, and the routines that it entered.
+    /// The current position, and the routines that were entered.
     Place,
     /// The registers.
     Registers,
-    /// What a register of a byte holds.
+    /// The value of an 8-bit register.
     Register(Register),
-    /// What PC holds.
+    /// The value of PC.
     Counter,
-    /// An address, and the byte there.
+    /// An address and the byte there.
     Address(u16),
     /// The bytes from one address to another.
     Memory(Span),
     /// The picture on the screen.
     Screen,
-    /// The lines of the source around the place.
+    /// The source lines around the current position.
     Lines,
-    /// The breakpoints, and what is watched.
+    /// The breakpoints and the watched bytes.
     Stops,
-    /// The lines that there are.
+    /// The list of commands.
     Help,
 }
 
-/// What a line asks for.
+/// A command.
 #[derive(Drop)]
 pub enum Order {
-    /// To make so many steps.
+    /// Execute this many steps.
     Step(u16),
-    /// To make a step, or those of a whole routine.
+    /// Execute one step, or a whole routine.
     Next,
-    /// To go on until the routine is left.
+    /// Execute steps until the routine returns.
     Out,
-    /// To go back so many steps.
+    /// Go back this many steps.
     Back(u16),
-    /// To go back a step, or those of a whole routine.
+    /// Go back one step, or a whole routine.
     GoBackOver,
-    /// To go on to a breakpoint, or behind a step that changed a watched byte.
+    /// Execute steps up to a breakpoint or to just after a step that changed a watched byte.
     Go,
-    /// To go on to an address.
+    /// Execute steps up to an address.
     Until(u16),
-    /// To go back to the newest earlier place at a breakpoint, or before a step that changed a watched byte.
+    /// Go back to the latest earlier breakpoint, or to just before the latest step that changed a watched byte.
     GoBack,
-    /// To watch bytes.
+    /// Watch these bytes.
     Watch(Span),
-    /// To go back to the newest step that changed one of these bytes, before it.
+    /// Go back to just before the latest step that changed one of these bytes.
     Who(Span),
-    /// To set a breakpoint.
+    /// Set a breakpoint.
     Break(Break),
-    /// To clear all breakpoints, and to watch nothing.
+    /// Remove all breakpoints and stop watching bytes.
     Clear,
-    /// To type keys.
+    /// Type keys.
     TypeKeys(Keys),
-    /// To show something.
+    /// Show something.
     Show(Show),
 }
 
-/// What came of a line.
+/// The result of a line.
 #[derive(Clone, Copy)]
 pub enum Outcome {
-    /// There was nothing to do again.
+    /// There was nothing to repeat.
     Nothing,
-    /// Steps were made or gone back, or up to what was looked for; none, where there are none further back.
+    /// The run moved by the steps of the command, or up to the place it looked for. It may not have moved at all, at the start.
     Moved,
-    /// Steps were made, and the machine is stuck, or they were as many as one line makes.
+    /// Steps were executed until the machine was stuck or the limit of one line was reached.
     Stopped(a2_machine::Cause),
     /// No earlier step begins at a breakpoint, or changed a watched byte.
     NoneEarlier,
     /// No earlier step changed one of these bytes.
     NeverChanged(Span),
-    /// No routine is entered.
+    /// No routine has been entered.
     NoRoutine,
-    /// There is a breakpoint.
+    /// The breakpoint is set.
     Set(Break),
-    /// There are as many breakpoints as there may be.
+    /// The breakpoint could not be set: there are already as many as allowed.
     Full,
-    /// Bytes are watched.
+    /// The bytes are watched.
     Watched(Span),
-    /// As much is watched as may be.
+    /// The bytes are not watched: there are already as many watched spans as allowed.
     FullWatches,
-    /// There is no breakpoint, and nothing is watched.
+    /// All breakpoints and watched spans were removed.
     Cleared,
     /// Keys were typed.
     Typed,
-    /// They were not: too many would wait.
+    /// The keys were not typed: too many would be waiting.
     KeysFull,
-    /// Nothing was done, for want of memory.
+    /// Nothing was done, because memory ran out.
     Memory,
     /// This is to be shown.
     Shown(Show),
-    /// The first word of the line is none.
+    /// The first word of the line is not a command.
     NoWord,
-    /// What this word asks for does not stand behind it.
+    /// The text after this command is not valid.
     Refused(Verb),
 }

@@ -1,4 +1,4 @@
-//! What lines say.
+//! Parsing of commands.
 
 ghost use Rattle.std.specs.Prelude.{◌≡◌, ◌≢◌, None, Some, MatchOption, IfSome, IfNone, []};
 ghost use Rattle.a2_text.specs.Words.{words};
@@ -15,7 +15,7 @@ use a2_symbols::{Span, place_of, span_of};
 use a2_text::{first_word, number_in, only_word};
 use std::alloc::Allocator;
 
-// The number that the one word of a text says; 1 where it has none.
+// The number given by the only word of a text, or 1 if the text is blank.
 fn count_in(text: &[u8]) -> Option<u16>
     ensures { result ≡ count_of (words text.now) }
 {
@@ -28,21 +28,21 @@ fn count_in(text: &[u8]) -> Option<u16>
     }
 }
 
-// The address that the one word of a text says.
+// The address given by the only word of a text.
 fn place_in<A: Allocator>(program: &Program<A>, text: &[u8]) -> Option<u16>
     ensures { result ≡ place_of_words program.now (words text.now) }
 {
     place_of(program, only_word(text)?)
 }
 
-// The addresses to watch that the one word of a text says.
+// The addresses to watch, given by the only word of a text.
 fn span_in<A: Allocator>(program: &Program<A>, text: &[u8]) -> Option<Span>
     ensures { result ≡ span_of_words program.now (words text.now) }
 {
     watchable(span_of(program, only_word(text)?))
 }
 
-// The keys that stand behind the one blank.
+// The keys spelled after the one blank.
 fn keys_in(rest: &[u8]) -> Option<Keys>
     ensures some { IfSome result (λ keys. SpellsBehind rest.now keys) }
     ensures none { IfNone result (SpellsNoneBehind rest.now) }
@@ -54,7 +54,7 @@ fn keys_in(rest: &[u8]) -> Option<Keys>
     Keys::parse(text)
 }
 
-// The value that is to be shown: PC's, a register's, or else a place's.
+// The value to show: PC, another register, or the byte at an address.
 fn value_in<A: Allocator>(program: &Program<A>, rest: &[u8]) -> Option<Show> {
     let word = only_word(rest)?;
     if word.eq_ignore_ascii_case(b"PC") {
@@ -66,12 +66,12 @@ fn value_in<A: Allocator>(program: &Program<A>, rest: &[u8]) -> Option<Show> {
     }
 }
 
-// The bytes that are to be shown.
+// The bytes to show.
 fn bytes_in<A: Allocator>(program: &Program<A>, rest: &[u8]) -> Option<Show> {
     Some(Show::Memory(span_of(program, only_word(rest)?)?))
 }
 
-// What a word asks for that stands alone.
+// The command of a word that takes no arguments.
 fn alone(order: Order, rest: &[u8]) -> Option<Order>
     ensures { MatchOption result (words rest.now ≢ []) (λ said. (said ≡ order) × (words rest.now ≡ [])) }
 {
@@ -81,7 +81,7 @@ fn alone(order: Order, rest: &[u8]) -> Option<Order>
     }
 }
 
-/// What a verb and what stands behind it ask for.
+/// Returns the command given by a verb and the text after it, or `None` if the text is not valid.
 pub fn order_of<A: Allocator>(program: &Program<A>, verb: Verb, rest: &[u8]) -> Option<Order>
     ensures { MatchOption result (SaysNone program.now verb rest.now) (λ order. Says program.now verb rest.now order) }
 {

@@ -1,4 +1,4 @@
-//! The answers, in words.
+//! The text of the answers.
 
 ghost use Rattle.std.specs.Prelude.{List, ℕ};
 ghost use Rattle.a2_stream.specs.Stream.{SendsOrBreaks};
@@ -16,7 +16,7 @@ use a2_symbols::{Scene, Span, put_address, put_place, statement_at};
 use a2_text::{decimal, hex_pair, hex_word};
 use std::alloc::Allocator;
 
-// The forms of lines, in words.
+// The help text: the forms of all commands.
 const HELP: &[u8] = b"step [N]     makes a step, or N: at most 65535           s
 next         makes one, or those of a whole routine      n
 out          goes on until the routine is left           o
@@ -42,46 +42,46 @@ help, quit   this; ends
 P is a name, a line as 12:, or an address as $300, also with + and a number behind it. An empty line does the last again.
 ";
 
-// How many lines are listed before the place, and behind it.
+// The number of lines that `list` shows before and after the current one.
 const LINES_LISTED: u16 = 4;
 
-// How many of them are shown at a stop.
+// The number of these lines that a stop shows.
 const LINES_AT_STOP: u16 = 2;
 
-// What stands behind the number of a line, up to the column of its text.
+// The blanks after a line number, up to the column of the line's text.
 const BEHIND_NUMBER: &[u8; 6] = b"      ";
 
-// What is told where there are no breakpoints, and nothing is watched.
+// The message if there are no breakpoints and no watched bytes.
 const NO_STOPS: &[u8] = b"no breakpoints, and nothing is watched\n";
 
-/// What is told beside where a run stands, and what changed.
+/// What a stop reports besides the current position and the changes.
 #[derive(Clone, Copy)]
 pub enum Detail {
-    /// The lines of the source, and the screen where it changed.
+    /// The source lines, and the screen if it changed.
     Full,
-    /// The screen, and no line of the source.
+    /// The screen, but no source line.
     Plain,
-    /// Neither: whoever asks shows both.
+    /// Neither: the caller shows both.
     Beside,
 }
 
-/// Where a run stands.
+/// The state of a run that an answer reports.
 #[derive(Drop)]
 pub struct Stand<'a, A: Allocator> {
     pub scene: Scene<'a, A>,
     pub machine: &'a Machine<A>,
-    /// The machine before the order that was done last.
+    /// The machine before the last command.
     pub before: &'a Machine<A>,
     pub breaks: &'a [Break],
     pub watches: &'a [Span],
-    /// The routines that were entered, where they are to be shown, the outermost first.
+    /// The routines that were entered, if they are to be shown, outermost first.
     pub entries: &'a [Entry],
-    /// The most steps that one line makes which looks for a place.
+    /// The greatest number of steps that a command executes while it looks for a place.
     pub most: u32,
     pub detail: Detail,
 }
 
-/// An answer, which is put together before it goes out. That memory was wanted for a part is noted, and told in its place.
+/// An answer, assembled before it is written. If memory runs out for a part, this is noted and reported instead of the answer.
 #[derive(Drop)]
 pub(crate) struct Sheet<A: Allocator> {
     text: Kept<A>,
@@ -89,24 +89,24 @@ pub(crate) struct Sheet<A: Allocator> {
 }
 
 impl<A: Allocator> Sheet<A> {
-    // Notes whether a part was put there.
+    // Notes whether a part was added.
     fn note(&mut self, part: Result<(), WriteFault>) {
         self.is_whole = self.is_whole && part.is_ok();
     }
 
-    /// Puts a text there.
+    /// Adds a text.
     pub(crate) fn put(&mut self, text: &[u8]) {
         let part = put(text, &mut self.text);
         self.note(part);
     }
 
-    /// Puts pieces there, one after another.
+    /// Adds several texts, one after another.
     pub(crate) fn put_all(&mut self, pieces: &[&[u8]]) {
         let part = put_all(pieces, &mut self.text);
         self.note(part);
     }
 
-    // What is told.
+    // The text to write.
     fn told(&self) -> &[u8] {
         if self.is_whole {
             self.text.as_slice()
@@ -116,17 +116,17 @@ impl<A: Allocator> Sheet<A> {
     }
 }
 
-/// One of two texts.
+/// Returns one of two texts.
 pub(crate) fn one_of(is_first: bool, first: &'static [u8], other: &'static [u8]) -> &'static [u8] {
     if is_first { first } else { other }
 }
 
-/// The byte of RAM at an address, or 0.
+/// Returns the byte of RAM at an address, or 0 if there is none.
 pub(crate) fn byte_at<A: Allocator>(machine: &Machine<A>, address: u16) -> u8 {
     machine.peek(address).unwrap_or(0)
 }
 
-// Puts a place: the line of the source that stands there, where lines are told and one does.
+// Prints the source line of an address, if source lines are shown and the address has one.
 fn put_spot<A: Allocator>(stand: &Stand<A>, address: u16, sheet: &mut Sheet<A>) {
     let spot = match stand.detail {
         Detail::Plain => put_address(address, &mut sheet.text),
@@ -135,7 +135,7 @@ fn put_spot<A: Allocator>(stand: &Stand<A>, address: u16, sheet: &mut Sheet<A>) 
     sheet.note(spot);
 }
 
-// Puts the instruction at an address of RAM, as in a listing.
+// Prints the instruction at an address of RAM, in the form of a listing.
 fn put_instruction<A: Allocator>(machine: &Machine<A>, address: u16, sheet: &mut Sheet<A>) {
     let bytes = [
         byte_at(machine, address),
@@ -145,7 +145,7 @@ fn put_instruction<A: Allocator>(machine: &Machine<A>, address: u16, sheet: &mut
     sheet.put_all(&[b"  ", list_line(&bytes, address).text.as_str().as_bytes()]);
 }
 
-// Puts where the run stands: the step, the line of the source where one is told, the instruction, and the registers.
+// Prints the current position: the step, the source line if one is shown, the instruction, and the registers.
 fn put_stand<A: Allocator>(stand: &Stand<A>, sheet: &mut Sheet<A>) {
     let machine = stand.machine;
     let pc = machine.regs().pc;
@@ -163,7 +163,7 @@ fn put_stand<A: Allocator>(stand: &Stand<A>, sheet: &mut Sheet<A>) {
     sheet.note(registers);
 }
 
-// Puts a stop: where the run stands, what changed, and the lines of the source around it.
+// Prints a stop: the current position, the changes, and the source lines around the position.
 fn put_stop<A: Allocator>(stand: &Stand<A>, sheet: &mut Sheet<A>) {
     put_stand(stand, sheet);
     put_registers(stand.before.regs(), stand.machine.regs(), sheet);
@@ -176,7 +176,7 @@ fn put_stop<A: Allocator>(stand: &Stand<A>, sheet: &mut Sheet<A>) {
     }
 }
 
-// Puts why there is no further step, in words.
+// Prints why there is no further step.
 fn put_cause<A: Allocator>(cause: Cause, most: u32, sheet: &mut Sheet<A>) {
     match cause {
         Cause::Limit => sheet.put_all(&[
@@ -188,7 +188,7 @@ fn put_cause<A: Allocator>(cause: Cause, most: u32, sheet: &mut Sheet<A>) {
     }
 }
 
-// Puts the bytes at some addresses, eight in a line.
+// Prints the bytes at these addresses, eight on a line.
 fn put_memory<A: Allocator>(machine: &Machine<A>, span: Span, sheet: &mut Sheet<A>) {
     for address in span.first..=span.last {
         if address == span.first || address % 8 == 0 {
@@ -205,8 +205,7 @@ fn put_memory<A: Allocator>(machine: &Machine<A>, span: Span, sheet: &mut Sheet<
     sheet.put(b"\n");
 }
 
-// Puts a line of the source behind its number, with an arrow where the run stands at it. Its text begins in column 8, at a tab's
-// stop.
+// Prints a source line after its number, with an arrow if it is the current one. Its text begins in column 8, a tab stop.
 fn put_source_line<A: Allocator>(number: u16, text: &[u8], is_here: bool, sheet: &mut Sheet<A>) {
     let number = decimal(u64::from(number));
     sheet.put(one_of(is_here, b"> ", b"  "));
@@ -218,8 +217,8 @@ fn put_source_line<A: Allocator>(number: u16, text: &[u8], is_here: bool, sheet:
     sheet.put(b"\n");
 }
 
-// Puts the lines of the source around the place where the run stands, at most so many before it and behind it; none where no
-// line stands there.
+// Prints the source lines around the current one, at most this many before and after it; none if the position has no source
+// line.
 fn put_lines<A: Allocator>(stand: &Stand<A>, around: u16, sheet: &mut Sheet<A>) {
     let pc = stand.machine.regs().pc;
     let Some(statement) = statement_at(stand.scene.program.statements(), pc) else {
@@ -235,7 +234,7 @@ fn put_lines<A: Allocator>(stand: &Stand<A>, around: u16, sheet: &mut Sheet<A>) 
     }
 }
 
-// Puts the lines around the place, or that there are none.
+// Prints the source lines around the current one, or a message if there are none.
 fn put_list<A: Allocator>(stand: &Stand<A>, sheet: &mut Sheet<A>) {
     let pc = stand.machine.regs().pc;
     if statement_at(stand.scene.program.statements(), pc).is_none() {
@@ -255,7 +254,7 @@ fn letter_of(register: Register) -> &'static [u8] {
     }
 }
 
-// How a condition compares, before a hexadecimal number.
+// The operator of a condition, before a hexadecimal number.
 fn sign_of(relation: Relation) -> &'static [u8] {
     match relation {
         Relation::Equal => b" = $",
@@ -265,7 +264,7 @@ fn sign_of(relation: Relation) -> &'static [u8] {
     }
 }
 
-// Puts a condition as it is written in a line.
+// Prints a condition in the form in which it is typed.
 fn put_condition<A: Allocator>(condition: Condition, sheet: &mut Sheet<A>) {
     sheet.put(b" if ");
     match condition.subject {
@@ -275,7 +274,7 @@ fn put_condition<A: Allocator>(condition: Condition, sheet: &mut Sheet<A>) {
     sheet.put_all(&[sign_of(condition.relation), &hex_word(condition.value)]);
 }
 
-// Puts a breakpoint.
+// Prints a breakpoint.
 fn put_break<A: Allocator>(place: Break, sheet: &mut Sheet<A>) {
     sheet.put_all(&[b"breakpoint at $", &hex_word(place.address)]);
     if let Some(condition) = place.condition {
@@ -283,7 +282,7 @@ fn put_break<A: Allocator>(place: Break, sheet: &mut Sheet<A>) {
     }
 }
 
-// Puts a line with addresses from one to another, behind what is said of them.
+// Prints a line with a span of addresses, after a text.
 fn put_span<A: Allocator>(what: &[u8], span: Span, sheet: &mut Sheet<A>) {
     sheet.put_all(&[what, b"$", &hex_word(span.first)]);
     if span.first != span.last {
@@ -292,7 +291,7 @@ fn put_span<A: Allocator>(what: &[u8], span: Span, sheet: &mut Sheet<A>) {
     sheet.put(b"\n");
 }
 
-// Puts breakpoints, each with the line of the source that stands there, where lines are told and one does, and what is watched.
+// Prints the breakpoints, each with its source line if source lines are shown and it has one, and the watched bytes.
 fn put_stops<A: Allocator>(stand: &Stand<A>, sheet: &mut Sheet<A>) {
     if stand.breaks.is_empty() && stand.watches.is_empty() {
         sheet.put(NO_STOPS);
@@ -313,7 +312,7 @@ fn put_stops<A: Allocator>(stand: &Stand<A>, sheet: &mut Sheet<A>) {
     }
 }
 
-// Puts where the run stands, and which routines it entered, the innermost first.
+// Prints the current position and the routines that were entered, innermost first.
 fn put_where<A: Allocator>(stand: &Stand<A>, sheet: &mut Sheet<A>) {
     put_stand(stand, sheet);
     for entry in stand.entries.iter().rev() {
@@ -323,7 +322,7 @@ fn put_where<A: Allocator>(stand: &Stand<A>, sheet: &mut Sheet<A>) {
     }
 }
 
-// Puts that something has a byte, in three bases.
+// Prints the value of something in three bases.
 fn put_value<A: Allocator>(name: &[u8], byte: u8, sheet: &mut Sheet<A>) {
     let mut digits = [b'0'; 8];
     for place in 0..8usize {
@@ -343,7 +342,7 @@ fn put_value<A: Allocator>(name: &[u8], byte: u8, sheet: &mut Sheet<A>) {
     ]);
 }
 
-// Puts an address, and the byte there.
+// Prints an address and the byte there.
 fn put_value_at<A: Allocator>(machine: &Machine<A>, address: u16, sheet: &mut Sheet<A>) {
     sheet.put_all(&[
         b"$",
@@ -357,13 +356,13 @@ fn put_value_at<A: Allocator>(machine: &Machine<A>, address: u16, sheet: &mut Sh
     }
 }
 
-// Puts PC.
+// Prints PC.
 fn put_counter<A: Allocator>(pc: u16, sheet: &mut Sheet<A>) {
     let number = decimal(u64::from(pc));
     sheet.put_all(&[b"PC has $", &hex_word(pc), b" ", number.as_slice(), b"\n"]);
 }
 
-// Puts what is asked for.
+// Prints what a command asks to show.
 fn put_shown<A: Allocator>(stand: &Stand<A>, show: Show, sheet: &mut Sheet<A>) {
     let machine = stand.machine;
     match show {
@@ -389,7 +388,7 @@ fn put_shown<A: Allocator>(stand: &Stand<A>, show: Show, sheet: &mut Sheet<A>) {
     }
 }
 
-// What stands behind a word, for whoever wrote something else there.
+// The arguments of a command, for the message about wrong arguments.
 fn form_of(verb: Verb) -> &'static [u8] {
     match verb {
         Verb::Step | Verb::Back => b"a number of steps stands behind it: 0 to 65535\n",
@@ -406,7 +405,7 @@ fn form_of(verb: Verb) -> &'static [u8] {
     }
 }
 
-// What is told where nothing else is to be said; nothing of the others.
+// The whole answer to an outcome that needs no further text, or an empty text for the other outcomes.
 fn sentence_of(outcome: Outcome) -> &'static [u8] {
     match outcome {
         Outcome::NoneEarlier =>
@@ -424,7 +423,7 @@ fn sentence_of(outcome: Outcome) -> &'static [u8] {
     }
 }
 
-// Puts the answer.
+// Prints the answer.
 fn put_answer<A: Allocator>(stand: &Stand<A>, outcome: Outcome, sheet: &mut Sheet<A>) {
     match outcome {
         Outcome::Moved => put_stop(stand, sheet),

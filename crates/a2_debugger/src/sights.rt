@@ -1,4 +1,4 @@
-//! What is looked for in a run.
+//! The sights that a debugger's command looks for in a run.
 
 use crate::alerts::Alerts;
 use crate::stops::{Break, Moment, are_changed, is_at_break, is_changed_in, ram_of};
@@ -8,7 +8,7 @@ use a2_machine::Machine;
 use a2_symbols::Span;
 use std::alloc::Allocator;
 
-/// Worlds at an address.
+/// Worlds with PC at an address.
 #[derive(Clone, Copy)]
 pub struct At {
     pub address: u16,
@@ -35,7 +35,7 @@ impl Lookout for At {
     }
 }
 
-/// Worlds at a breakpoint, or in which a watched byte is another than in a machine before.
+/// Worlds at a breakpoint, or in which a watched byte differs from a machine before.
 #[derive(Clone, Copy)]
 pub struct Stops<'a, B: Allocator> {
     pub breaks: &'a [Break],
@@ -55,8 +55,8 @@ impl<B: Allocator> Sight for Stops<'_, B> {
     }
 }
 
-/// What alarms on the way to a stop: a step to a breakpoint whose condition holds, and one that may have stored where a watched
-/// byte is another.
+/// The alarm for possible stops: a step that reaches a breakpoint whose condition holds, or a step that may have stored and
+/// after which a watched byte differs.
 #[derive(Drop)]
 pub struct Alarm<'a, B: Allocator> {
     pub alerts: Alerts<'a>,
@@ -71,7 +71,7 @@ impl<B: Allocator> Alarm<'_, B> {
     ghost use Rattle.a2_debugger.specs.Alerts.{is_marked, moment_behind};
     ghost use Rattle.a2_debugger.specs.Stops.{is_hit, is_span_changed};
 
-    // Whether a step comes to a breakpoint whose condition holds.
+    // Whether a step reaches a breakpoint whose condition holds.
     #[inline(always)]
     fn comes_to_break(&self, look: Look, ram: &[u8]) -> bool
         ensures { result ≡ (is_marked self.now.alerts.stops look.next_pc
@@ -81,7 +81,7 @@ impl<B: Allocator> Alarm<'_, B> {
             && is_at_break(self.stops.breaks, &Moment::behind(look, ram))
     }
 
-    // Whether a step may have stored, and a watched byte is another behind it.
+    // Whether a step may have stored and a watched byte differs after it.
     #[inline(always)]
     fn leaves_change(&self, look: Look, ram: &[u8]) -> bool
         ensures { result ≡ (is_marked self.now.alerts.stores look.pc
@@ -106,7 +106,7 @@ impl<B: Allocator> Lookout for Alarm<'_, B> {
     }
 }
 
-/// Worlds in which a routine is left, by the stack pointer before its JSR; and those of stops.
+/// Worlds in which a routine has returned, given by the stack pointer before its JSR; and the worlds of stops.
 #[derive(Drop)]
 pub struct Left<'a, B: Allocator> {
     pub s: u8,
@@ -140,7 +140,7 @@ impl<B: Allocator> Lookout for Left<'_, B> {
     }
 }
 
-/// Worlds in which one of some bytes is another than in a machine before.
+/// Worlds in which one of these bytes differs from a machine before.
 #[derive(Drop)]
 pub struct Changed<'a, B: Allocator> {
     pub span: Span,

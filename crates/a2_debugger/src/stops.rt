@@ -1,4 +1,4 @@
-//! Where a run stops for whoever looks: breakpoints with their conditions, and bytes that are watched.
+//! Stops of a run: breakpoints with their conditions, and watched bytes.
 
 ghost use Rattle.std.specs.Prelude.{◌≡◌, ◌||◌, slice_get};
 ghost use Rattle.std.specs.List.{list_any};
@@ -12,10 +12,10 @@ use a2_machine::Machine;
 use a2_symbols::Span;
 use std::alloc::Allocator;
 
-// The most bytes that are watched together.
+// The greatest number of bytes in one watched span.
 const MOST_WATCHED: u16 = 256;
 
-/// A register of a byte.
+/// An 8-bit register.
 #[derive(Clone, Copy)]
 pub enum Register {
     A,
@@ -25,16 +25,16 @@ pub enum Register {
     P,
 }
 
-/// What a condition is about.
+/// The subject of a condition.
 #[derive(Clone, Copy)]
 pub enum Subject {
-    /// What a register holds.
+    /// The value of a register.
     InRegister(Register),
     /// The byte at an address.
     InByte(u16),
 }
 
-/// How a condition compares.
+/// The relation of a condition.
 #[derive(Clone, Copy)]
 pub enum Relation {
     Equal,
@@ -43,7 +43,7 @@ pub enum Relation {
     More,
 }
 
-/// What is to hold for a stop at a breakpoint.
+/// A condition that must hold for a stop at a breakpoint.
 #[derive(Clone, Copy)]
 pub struct Condition {
     pub subject: Subject,
@@ -55,11 +55,11 @@ pub struct Condition {
 #[derive(Clone, Copy, Default)]
 pub struct Break {
     pub address: u16,
-    /// Where there is one, only worlds in which it holds are stops.
+    /// If present, only worlds in which it holds are stops.
     pub condition: Option<Condition>,
 }
 
-/// What a stop may be about: the registers as bytes, and RAM.
+/// The state that decides a stop: the registers as bytes, and RAM.
 #[derive(Clone, Copy)]
 pub struct Moment<'a> {
     pub pc: u16,
@@ -74,7 +74,7 @@ pub struct Moment<'a> {
 }
 
 impl<'a> Moment<'a> {
-    /// That of a machine.
+    /// Returns the state of a machine.
     pub fn of<A: Allocator>(machine: &'a Machine<A>) -> Moment<'a>
         ensures { told result ≡ stop.moment_of (world_of_state machine.now.state) }
     {
@@ -90,7 +90,7 @@ impl<'a> Moment<'a> {
         }
     }
 
-    /// That behind a step, as an observer is shown it.
+    /// Returns the state after a step, as an observer is shown it.
     #[inline(always)]
     pub fn behind(look: Look, ram: &'a [u8]) -> Moment<'a>
         ensures { told result ≡ moment_behind (record { look = look; ram = slice_get ram.now }) }
@@ -107,21 +107,21 @@ impl<'a> Moment<'a> {
     }
 }
 
-/// A machine's RAM.
+/// Returns a machine's RAM.
 pub fn ram_of<A: Allocator>(machine: &Machine<A>) -> &[u8]
     ensures { slice_get result.now ≡ peek (world_of_state machine.now.state).memory }
 {
     machine.space().ram()
 }
 
-// The byte of RAM at an address, where there is one.
+// The byte of RAM at an address, if there is one.
 fn byte_at(ram: &[u8], address: u16) -> Option<u8>
     ensures { result ≡ slice_get ram.now address }
 {
     ram.get(usize::from(address)).copied()
 }
 
-/// What a register holds.
+/// Returns the value of a register.
 pub fn in_register(register: Register, moment: &Moment) -> u8
     ensures { result ≡ stop.in_register register (told moment.now) }
 {
@@ -134,7 +134,7 @@ pub fn in_register(register: Register, moment: &Moment) -> u8
     }
 }
 
-// What a condition is about, where there is such a byte.
+// The value of a condition's subject, if there is such a byte.
 fn value_of(subject: Subject, moment: &Moment) -> Option<u8>
     ensures { result ≡ stop.value_of subject (told moment.now) }
 {
@@ -144,7 +144,7 @@ fn value_of(subject: Subject, moment: &Moment) -> Option<u8>
     }
 }
 
-// Whether a value compares so with another.
+// Whether a value is in this relation to another.
 fn compares(relation: Relation, value: u8, than: u16) -> bool
     ensures { result ≡ stop.compares relation value than }
 {
@@ -157,7 +157,7 @@ fn compares(relation: Relation, value: u8, than: u16) -> bool
     }
 }
 
-// Whether a condition holds, where there is one.
+// Whether a condition holds, if there is one.
 fn holds(condition: Option<Condition>, moment: &Moment) -> bool
     ensures { result ≡ stop.holds condition (told moment.now) }
 {
@@ -170,14 +170,14 @@ fn holds(condition: Option<Condition>, moment: &Moment) -> bool
     }
 }
 
-// Whether a breakpoint is there and its condition holds.
+// Whether PC is at a breakpoint and its condition holds.
 fn is_hit(place: &Break, moment: &Moment) -> bool
     ensures { result ≡ stop.is_hit (told moment.now) place.now }
 {
     place.address == moment.pc && holds(place.condition, moment)
 }
 
-// Whether two bytes, which may be none, differ.
+// Whether both bytes exist and differ.
 fn is_other(one: Option<u8>, other: Option<u8>) -> bool
     ensures { result ≡ stop.is_other one other }
 {
@@ -187,14 +187,14 @@ fn is_other(one: Option<u8>, other: Option<u8>) -> bool
     }
 }
 
-// Whether this was found before, or the byte at an address is another than before.
+// Whether this was found before, or the byte at an address has changed.
 fn is_changed_too(was: bool, address: u16, before: &[u8], ram: &[u8]) -> bool
     ensures { result ≡ (was || stop.is_changed address (slice_get before.now) (slice_get ram.now)) }
 {
     was || is_other(byte_at(ram, address), byte_at(before, address))
 }
 
-/// Whether one of these bytes of RAM is another than before.
+/// Returns whether one of these bytes of RAM has changed.
 pub fn is_changed_in(span: &Span, before: &[u8], ram: &[u8]) -> bool
     ensures { result ≡ stop.is_span_changed (slice_get before.now) (slice_get ram.now) span.now }
 {
@@ -206,21 +206,21 @@ pub fn is_changed_in(span: &Span, before: &[u8], ram: &[u8]) -> bool
     is_changed
 }
 
-/// Whether one of these breakpoints is there and its condition holds.
+/// Returns whether PC is at one of these breakpoints and its condition holds.
 pub fn is_at_break(breaks: &[Break], moment: &Moment) -> bool
     ensures { result ≡ list_any (stop.is_hit (told moment.now)) breaks.now }
 {
     breaks.iter().any(|place| is_hit(place, moment))
 }
 
-/// Whether one of the watched bytes of RAM is another than before.
+/// Returns whether one of the watched bytes of RAM has changed.
 pub fn are_changed(watches: &[Span], before: &[u8], ram: &[u8]) -> bool
     ensures { result ≡ list_any (stop.is_span_changed (slice_get before.now) (slice_get ram.now)) watches.now }
 {
     watches.iter().any(|span| is_changed_in(span, before, ram))
 }
 
-/// The addresses, where they may be watched together: at most 256.
+/// Returns the span if it is small enough to be watched, which means at most 256 bytes.
 pub fn watchable(span: Option<Span>) -> Option<Span>
     ensures { result ≡ stop.watchable span }
 {

@@ -1,4 +1,4 @@
-//! The words that lines begin with.
+//! The words that begin lines.
 
 ghost use Rattle.std.specs.Prelude.{map, IfSome, IfNone};
 ghost use Rattle.std.specs.List.{Contains};
@@ -6,7 +6,7 @@ ghost use Rattle.a2_text.specs.Bytes.{capital as capital_of};
 ghost use Rattle.a2_debugger.specs.Words.{IsVerb, listed};
 ghost use Rattle.a2_debugger.specs.declared.verbs.Verb.{Verb as DeclaredVerb};
 
-/// What a line begins with.
+/// The command word of a line.
 #[derive(Clone, Copy)]
 pub enum Verb {
     Step,
@@ -32,13 +32,13 @@ pub enum Verb {
     Help,
 }
 
-// The most letters of a word.
+// The greatest length of a command word.
 const LONGEST: usize = 6;
 
-// A word in capitals, and the verb that it is.
+// A word in capitals and the verb it stands for.
 type Row = (&'static [u8], Verb);
 
-// The verbs, and then the letters that stand for some.
+// The full words of the verbs, followed by the letters that abbreviate some of them.
 static WORDS: [Row; 34] = [
     (b"STEP", Verb::Step),
     (b"NEXT", Verb::Next),
@@ -76,7 +76,7 @@ static WORDS: [Row; 34] = [
     (b"H", Verb::Help),
 ];
 
-// What some capitals are by the rows of a table.
+// The verb that a word in capitals stands for in a table.
 fn named(rows: &[Row], letters: &[u8]) -> Option<Verb>
     ensures found { IfSome result (λ v. Contains (listed rows.now) (letters.now, v)) }
     ensures none { IfNone result ((v : DeclaredVerb) → Contains (listed rows.now) (letters.now, v) → ⊥) }
@@ -89,7 +89,7 @@ fn named(rows: &[Row], letters: &[u8]) -> Option<Verb>
     None
 }
 
-// The verb of these capitals.
+// The verb of a word in capitals.
 fn spelled(letters: &[u8]) -> Option<Verb>
     ensures found { IfSome result (λ v. IsVerb letters.now v) }
     ensures none { IfNone result ((v : DeclaredVerb) → IsVerb letters.now v → ⊥) }
@@ -97,7 +97,7 @@ fn spelled(letters: &[u8]) -> Option<Verb>
     named(&WORDS, letters)
 }
 
-/// The verb that a word is, whole or by its letter, in either case.
+/// Returns the verb that a word stands for, as a full word or a letter, in either case.
 pub fn verb_of(word: &[u8]) -> Option<Verb>
     ensures found { IfSome result (λ v. IsVerb (map capital_of word.now) v) }
     ensures none { IfNone result ((v : DeclaredVerb) → IsVerb (map capital_of word.now) v → ⊥) }

@@ -1,25 +1,24 @@
-//! Where each pane stands in a terminal.
+//! The position of each pane in the terminal.
 
 ghost use Rattle.std.specs.Prelude.{◌≡◌, ◌+◌, ◌-◌, ◌<◌, ◌≤◌};
 
 use a2_tty::{MOST_COLUMNS, MOST_ROWS};
 
-/// The least rows and columns of panes.
+/// The smallest number of rows and columns for panes.
 pub const LEAST_ROWS: u8 = 24;
 
 pub const LEAST_COLUMNS: u8 = 80;
 
-/// The columns of the Apple's screen, and of the line left of it.
+/// The columns of the Apple's screen and of the line to its left.
 const SCREEN: u8 = 41;
 
 /// The row above the source.
 pub(crate) const SOURCE: u8 = 3;
 
-/// The columns that 16 bytes of memory take, behind their address.
+/// The columns that 16 bytes of memory take after their address.
 const WIDE: u8 = 54;
 
-/// Where the panes stand: the size that they take of the terminal, and the row above the stack, above memory and above the
-/// answer.
+/// The layout of the panes: the size they take of the terminal, and the rows above the stack, the memory and the answer.
 #[derive(Drop)]
 pub(crate) struct Layout {
     rows: u8,
@@ -32,7 +31,7 @@ pub(crate) struct Layout {
     ghost wide: { (80 ≤ columns) × (columns ≤ 255) },
 }
 
-// A size as far as panes go.
+// A size limited to the range that panes support.
 fn within(size: usize, least: u8, most: u8) -> u8
     requires { least ≤ most }
     ensures least { least ≤ result }
@@ -48,8 +47,8 @@ fn within(size: usize, least: u8, most: u8) -> u8
 }
 
 impl Layout {
-    /// That of a terminal of so many rows and columns. Of the rows beyond the least, half go to the source, and a quarter to
-    /// memory.
+    /// Returns the layout for a terminal of this many rows and columns. Of the rows beyond the smallest number, half go to the
+    /// source and a quarter to the memory.
     pub(crate) fn of(rows: usize, columns: usize) -> Layout {
         let rows = within(rows, LEAST_ROWS, MOST_ROWS);
         let more = rows - LEAST_ROWS;
@@ -64,19 +63,19 @@ impl Layout {
         }
     }
 
-    /// The rows.
+    /// Returns the number of rows.
     pub(crate) fn rows(&self) -> u8
         ensures { result ≤ 64 }
     {
         self.rows
     }
 
-    /// The columns.
+    /// Returns the number of columns.
     pub(crate) fn columns(&self) -> u8 {
         self.columns
     }
 
-    /// The columns left of the screen, and of the line beside it.
+    /// Returns the number of columns left of the screen and of the line beside it.
     pub(crate) fn left(&self) -> u8
         ensures least { 39 ≤ result }
         ensures most { result ≤ 214 }
@@ -84,7 +83,7 @@ impl Layout {
         self.columns - SCREEN
     }
 
-    /// The row above the stack.
+    /// Returns the row above the stack.
     pub(crate) fn stack(&self) -> u8
         ensures least { 12 ≤ result }
         ensures most { result < 56 }
@@ -92,21 +91,21 @@ impl Layout {
         self.stack
     }
 
-    /// The row above memory.
+    /// Returns the row above the memory.
     pub(crate) fn memory(&self) -> u8
         ensures { result < 58 }
     {
         self.memory
     }
 
-    /// The row above the answer.
+    /// Returns the row above the answer.
     pub(crate) fn answer(&self) -> u8
         ensures { result ≤ 58 }
     {
         self.answer
     }
 
-    /// The row of the prompt.
+    /// Returns the row of the prompt.
     pub(crate) fn prompt(&self) -> u8
         ensures least { 22 ≤ result }
         ensures most { result ≤ 62 }
@@ -114,12 +113,12 @@ impl Layout {
         self.rows - 2
     }
 
-    /// How many lines of the source stand above the one where the run stands.
+    /// Returns the number of source lines shown above the current one.
     pub(crate) fn lines_before(&self) -> u16 {
         u16::from((self.stack - SOURCE - 1) / 2 - 1)
     }
 
-    /// How many bytes stand in a row, 8 or 16.
+    /// Returns the number of bytes in a row, 8 or 16.
     pub(crate) fn bytes(&self) -> u8
         ensures { result ≤ 16 }
     {

@@ -1,7 +1,7 @@
-//! A run at a terminal in panes: its source, registers, stack and memory, the last answer, and the Apple's screen, drawn again
-//! behind each line.
+//! The debugger in panes over a whole terminal: source, registers, stack, memory, the last answer and the Apple's screen,
+//! redrawn after each line.
 //!
-//! How it is called is shown in CALLING.md.
+//! CALLING.md shows how to call it.
 #![tactic(auto)]
 
 mod layout;

@@ -1,4 +1,4 @@
-//! What each pane shows.
+//! The contents of each pane.
 
 ghost use Rattle.std.specs.Prelude.{◌<◌};
 
@@ -10,7 +10,7 @@ use a2_symbols::statement_at;
 use a2_text::{decimal, hex_pair, hex_word};
 use a2_tty::{Frame, Shot, Tile};
 
-/// The row of the registers, of the flags and the step, and of the instruction.
+/// The rows of the registers, of the flags and the step, and of the instruction.
 const REGISTERS: u8 = 0;
 
 const FLAGS: u8 = 1;
@@ -22,10 +22,10 @@ const SCREEN_ROWS: u8 = 24;
 
 const SCREEN_COLUMNS: u8 = 40;
 
-/// The flags, from the highest bit.
+/// The letters of the flags, from the highest bit.
 const LETTERS: [u8; 8] = *b"NV-BDIZC";
 
-// What a byte of a text shows.
+// The tile that shows a byte of a text.
 fn tile_of(byte: u8, is_marked: bool) -> Tile {
     let code = if matches!(byte, 0x20..=0x7E) {
         byte
@@ -39,7 +39,7 @@ fn tile_of(byte: u8, is_marked: bool) -> Tile {
     }
 }
 
-/// What is drawn, and where.
+/// The frame that is drawn, and its layout.
 #[derive(Drop)]
 struct Canvas<'a> {
     frame: Frame,
@@ -47,7 +47,7 @@ struct Canvas<'a> {
 }
 
 impl Canvas<'_> {
-    // Writes a text from a place on, as far as there are columns left of the screen.
+    // Draws a text from a position on, up to the columns of the screen.
     fn put(&mut self, row: u8, column: u8, text: &[u8], is_marked: bool)
         requires { row < 64 }
     {
@@ -62,7 +62,7 @@ impl Canvas<'_> {
         }
     }
 
-    // Writes the line above a pane.
+    // Draws the line above a pane.
     fn put_title(&mut self, row: u8, name: &[u8])
         requires { row < 64 }
     {
@@ -73,7 +73,7 @@ impl Canvas<'_> {
     }
 }
 
-// Writes a register, marked where it changed.
+// Draws a register, marked if it changed.
 fn put_register(canvas: &mut Canvas<'_>, column: u8, name: &[u8], before: u8, now: u8) {
     canvas.put(REGISTERS, column, name, false);
     canvas.put(
@@ -84,7 +84,7 @@ fn put_register(canvas: &mut Canvas<'_>, column: u8, name: &[u8], before: u8, no
     );
 }
 
-// Writes the registers.
+// Draws the registers.
 fn put_registers(canvas: &mut Canvas<'_>, before: &Machine, machine: &Machine) {
     let (old, now) = (before.regs(), machine.regs());
     put_register(canvas, 0, b"A=", old.a, now.a);
@@ -96,7 +96,7 @@ fn put_registers(canvas: &mut Canvas<'_>, before: &Machine, machine: &Machine) {
     canvas.put(REGISTERS, 28, &hex_word(now.pc), false);
 }
 
-// Writes the flags that are set, each that changed marked, and the step.
+// Draws the flags that are set, marked if they changed, and the step.
 fn put_flags(canvas: &mut Canvas<'_>, before: &Machine, machine: &Machine) {
     let (old, now) = (before.regs().p.pushed(), machine.regs().p.pushed());
     for place in 0..8u8 {
@@ -117,7 +117,7 @@ fn byte_at(machine: &Machine, address: u16) -> u8 {
     machine.peek(address).unwrap_or(0)
 }
 
-// Writes the instruction that is next.
+// Draws the next instruction.
 fn put_instruction(canvas: &mut Canvas<'_>, machine: &Machine) {
     let pc = machine.regs().pc;
     if machine.peek(pc).is_none() {
@@ -137,7 +137,7 @@ fn put_instruction(canvas: &mut Canvas<'_>, machine: &Machine) {
     );
 }
 
-// Writes the lines of the source around the one where the run stands, which is marked.
+// Draws the source lines around the current one, which is marked.
 fn put_source(canvas: &mut Canvas<'_>, inspector: &Inspector<'_>) {
     let pc = inspector.machine().regs().pc;
     let statement = statement_at(inspector.program().statements(), pc);
@@ -163,7 +163,7 @@ fn put_source(canvas: &mut Canvas<'_>, inspector: &Inspector<'_>) {
     }
 }
 
-// Writes the bytes from an address on, each that changed marked, in a row.
+// Draws a row with the bytes from an address on, marked if they changed.
 fn put_bytes(canvas: &mut Canvas<'_>, row: u8, first: u16, before: &Machine, machine: &Machine)
     requires { row < 64 }
 {
@@ -184,7 +184,7 @@ fn put_bytes(canvas: &mut Canvas<'_>, row: u8, first: u16, before: &Machine, mac
     }
 }
 
-// Writes the bytes above the stack pointer.
+// Draws the bytes above the stack pointer.
 fn put_stack(canvas: &mut Canvas<'_>, machine: &Machine) {
     let s = machine.regs().s;
     let row = canvas.layout.stack() + 1;
@@ -199,7 +199,7 @@ fn put_stack(canvas: &mut Canvas<'_>, machine: &Machine) {
     }
 }
 
-// Writes memory from an address on.
+// Draws the memory from an address on.
 fn put_memory(canvas: &mut Canvas<'_>, aim: u16, before: &Machine, machine: &Machine) {
     let above = canvas.layout.memory();
     let bytes = u16::from(canvas.layout.bytes());
@@ -209,12 +209,12 @@ fn put_memory(canvas: &mut Canvas<'_>, aim: u16, before: &Machine, machine: &Mac
     }
 }
 
-// Whether a line of an answer says what a pane shows.
+// Whether a pane already shows what a line of an answer reports.
 fn is_shown(line: &[u8]) -> bool {
     line.starts_with(b"step ") || line.starts_with(b"A=") || line.starts_with(b"changed: ")
 }
 
-// Writes what an answer says that no pane shows, as far as there are rows; dots follow where there are not.
+// Draws the part of an answer that no pane shows, as far as there are rows, followed by dots if there are too few.
 fn put_answer(canvas: &mut Canvas<'_>, answer: &[u8]) {
     let (left, end) = (canvas.layout.left(), canvas.layout.prompt());
     let mut row = canvas.layout.answer() + 1;
@@ -233,7 +233,7 @@ fn put_answer(canvas: &mut Canvas<'_>, answer: &[u8]) {
     }
 }
 
-// Shows the Apple's screen on the right.
+// Draws the Apple's screen on the right.
 fn put_screen(canvas: &mut Canvas<'_>, machine: &Machine) {
     let shot = Shot::new(&machine.view(), false);
     let left = canvas.layout.left();
@@ -249,7 +249,7 @@ fn put_screen(canvas: &mut Canvas<'_>, machine: &Machine) {
     }
 }
 
-/// All panes as they are laid out: the memory from `aim` on, and the last answer.
+/// Returns the frame with all panes drawn: the memory from `aim` on, and the last answer.
 pub(crate) fn painted(
     inspector: &Inspector<'_>,
     layout: &Layout,

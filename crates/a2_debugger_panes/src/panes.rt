@@ -1,4 +1,4 @@
-//! Panes over the whole terminal, behind each line that is answered.
+//! Panes over the whole terminal, redrawn after each line.
 
 ghost use Rattle.std.specs.Prelude.{◌≡◌, ◌<◌, ◌↔◌, true, List, ℕ};
 ghost use Rattle.a2_stream.specs.Stream.{SendsOrBreaks};
@@ -16,15 +16,15 @@ use a2_tty::{Colours, Frame, Partner, Size, put_frame};
 use std::alloc::Global;
 use std::cell::Cell;
 
-/// What puts a terminal's other screen up, and what takes it down.
+/// The sequences that switch to the terminal's alternate screen and back.
 const ENTER: &[u8] = b"\x1B[?1049h\x1B[2J";
 
 const LEAVE: &[u8] = b"\x1B[0m\x1B[?1049l\r\x1B[K";
 
 const TOO_SMALL: &[u8] = b"panes need a terminal of at least 80 columns and 24 rows\n";
 
-/// Where panes are drawn: the columns in which lines are edited, the terminal's rows and columns, and its colours. Of more than
-/// 64 rows or 255 columns the first are taken.
+/// Where panes are drawn: the columns in which lines are edited, the terminal's rows and columns, and its colours. If there are
+/// more than 64 rows or 255 columns, only the first ones are used.
 #[derive(Clone, Copy)]
 pub struct Wall<'a> {
     pub columns: &'a Cell<usize>,
@@ -33,19 +33,19 @@ pub struct Wall<'a> {
     pub colours: Colours,
 }
 
-/// A run and its panes, where there is a wall for them. The line `panes`, in either case, puts them up, or takes them down.
+/// A run and its panes, if there is a wall for them. The line `panes`, in either case, opens or closes them.
 pub struct Panes<'a, 'b> {
     alloc: Global,
     inspector: Inspector<'a>,
     wall: Option<Wall<'b>>,
     is_up: bool,
-    // What is drawn.
+    // The frame on the terminal.
     frame: Option<Frame>,
-    // Where the memory that is shown begins.
+    // The first address of the memory that is shown.
     aim: u16,
 }
 
-// Not derived, for the prover alone: it follows this as one call, and a derived one field by field.
+// Not derived, only for the prover: it treats this as one call, and a derived `drop` field by field.
 impl<'a, 'b> Drop for Panes<'a, 'b> {
     fn drop(self) {
         let Panes {
@@ -59,7 +59,7 @@ impl<'a, 'b> Drop for Panes<'a, 'b> {
     }
 }
 
-// Whether a line asks for panes.
+// Whether a line is the command `panes`.
 fn is_panes(line: &[u8]) -> bool
     ensures { (result ≡ true) ↔ IsPanes line.now }
 {
@@ -77,7 +77,7 @@ fn is_panes(line: &[u8]) -> bool
     }
 }
 
-// Whether a word shows or looks at memory.
+// Whether a command shows, watches or asks about bytes of memory.
 fn is_of_memory(word: &[u8]) -> bool {
     word.eq_ignore_ascii_case(b"MEM")
         || word.eq_ignore_ascii_case(b"X")
@@ -85,7 +85,7 @@ fn is_of_memory(word: &[u8]) -> bool {
         || word.eq_ignore_ascii_case(b"WATCH")
 }
 
-// The address of memory that a line names, where it looks at memory.
+// The address of memory in a line, if its command is about memory.
 fn aim_of(inspector: &Inspector<'_>, line: &[u8]) -> Option<u16> {
     let (word, behind) = first_word(line)?;
     let (place, _) = first_word(behind)?;
@@ -95,7 +95,7 @@ fn aim_of(inspector: &Inspector<'_>, line: &[u8]) -> Option<u16> {
     Some(span_of(inspector.program(), place)?.first)
 }
 
-// Makes the left of a row blank, and puts the terminal's cursor there.
+// Clears the left part of a row and moves the terminal's cursor there.
 fn put_blank<W: Output>(layout: &Layout, row: u8, writer: &mut W) -> Result<(), WriteFault>
     requires { row < 64 }
 {
@@ -111,7 +111,7 @@ fn put_blank<W: Output>(layout: &Layout, row: u8, writer: &mut W) -> Result<(), 
     )
 }
 
-// What a frame makes of a terminal that shows another, with room for the prompt. Refused only for want of memory.
+// The output that turns the terminal from one frame into another, with space for the prompt. Fails only if memory runs out.
 fn drawn(
     alloc: Global,
     before: &Option<Frame>,
@@ -134,18 +134,18 @@ fn drawn(
     Ok(bytes)
 }
 
-// What a line is answered, in memory, where there is some for it.
+// The answer to a line, in memory, as far as there is memory for it.
 fn told(alloc: Global, inspector: &mut Inspector<'_>, line: &[u8]) -> Vec<u8>
     ensures { IsAnswered line.now inspector.old inspector.new }
 {
     let mut sheet = Vec::new(alloc);
-    // Where memory is wanted, what is there is shown.
+    // If memory runs out, the part that was stored is shown.
     let _ = inspector.answer_beside(line, &mut ToWrite::new(&mut sheet));
     sheet
 }
 
 impl<'a, 'b> Panes<'a, 'b> {
-    /// A run without panes yet, which have a wall, or none.
+    /// Returns a run whose panes are closed, with a wall for them or without.
     pub fn new(alloc: Global, inspector: Inspector<'a>, wall: Option<Wall<'b>>) -> Panes<'a, 'b> {
         let aim = inspector.program().entry();
         Panes {
@@ -177,7 +177,7 @@ impl<'a, 'b> Panes<'a, 'b> {
         }
     }
 
-    /// Puts the panes up where they are down, and down where they are up.
+    /// Opens the panes if they are closed, and closes them if they are open.
     pub fn turn<W: Output>(&mut self, writer: &mut W) -> Result<(), WriteFault>
         ensures kept { self.new.inspector ≡ self.old.inspector }
         ensures sent { (text : List ℕ) × SendsOrBreaks (W.taker writer.old) (W.taker writer.new) result text }
@@ -193,7 +193,7 @@ impl<'a, 'b> Panes<'a, 'b> {
         self.draw(b"panes, or Ctrl-L, takes these down", writer)
     }
 
-    /// Takes the panes down, where they are up.
+    /// Closes the panes if they are open.
     pub fn leave<W: Output>(&mut self, writer: &mut W) -> Result<(), WriteFault>
         ensures kept { self.new.inspector ≡ self.old.inspector }
         ensures sent { (text : List ℕ) × SendsOrBreaks (W.taker writer.old) (W.taker writer.new) result text }

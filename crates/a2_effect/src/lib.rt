@@ -1,11 +1,13 @@
-//! The 6502's instructions by themselves: what each does to the registers and to a memory, whatever that is.
+//! The effect of each 6502 instruction on the registers and on any memory.
 //!
-//! [`Live`] are the registers as they are computed with, [`Regs`] as they are kept. A mode is a type of [`modes`], which finds where
-//! an operand is; a mnemonic one of [`mnemonics`], which says what it does to the registers; and what it does with a memory, one
-//! function a family of [`families`]. [`stores_operand`] says which mnemonics store at their operand. Of these `a2_cpu` makes an instruction over any bus, and `a2_burst` bursts of them over RAM. Each
-//! is as the MCS6500 Microcomputer Family Programming Manual (MOS Technology, 1976) has it.
+//! [`Live`] holds the registers in the form used for computing, [`Regs`] in the form used for keeping them. Each
+//! addressing mode is a type in [`modes`], which finds where an operand is. Each mnemonic is a type in [`mnemonics`],
+//! which says what it does to the registers. What an instruction does with a memory is in [`families`], one function
+//! for each family of mnemonics. [`stores_operand`] says which mnemonics store at their operand. `a2_cpu` builds one
+//! instruction over any bus from these parts, and `a2_burst` builds bursts over RAM. All of it follows the MCS6500
+//! Microcomputer Family Programming Manual (MOS Technology, 1976).
 //!
-//! How it is called is shown in CALLING.md.
+//! CALLING.md shows how to call this crate.
 #![tactic(auto)]
 
 ghost use Rattle.std.specs.Prelude.{◌≡◌};
@@ -32,7 +34,7 @@ pub struct Regs {
     pub x: u8,
     /// Index register Y.
     pub y: u8,
-    /// The stack pointer: a push stores at $0100 + S, then S goes down by one, from 0 to $FF.
+    /// The stack pointer, from 0 to $FF. A push stores at $0100 + S, then S goes down by one.
     pub s: u8,
     /// The address of the next instruction.
     pub pc: u16,
@@ -41,8 +43,8 @@ pub struct Regs {
 }
 
 impl Regs {
-    /// The registers at the start of a run (this project's profile): PC is `entry`, any address; S
-    /// is $FD; A, X, Y and the flags are 0, bits 5 and 4 of the flags too.
+    /// Returns the registers at the start of a run (this project's profile). PC is `entry`, which may be any address,
+    /// and S is $FD. A, X, Y and the flags are 0, including bits 5 and 4 of the flags.
     pub fn start(entry: u16) -> Regs
         ensures registers { registers_of result ≡ registers_at entry }
         ensures bits { bits_of result.p ≡ 0 }

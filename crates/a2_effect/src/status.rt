@@ -12,36 +12,36 @@ use bitflags::{Flag, Flags};
 
 /// The flags as a byte, N V 1 B D I Z C from bit 7 down (MCS6500 Programming Manual, chapter 3).
 ///
-/// Bits 5 and 4, for 1 and B, are no flags: the processor keeps neither. A value of this type may
-/// have them set, as [`Status::pulled`] gives it, and `==` does not look at them. The operations of
-/// the trait [`Flags`] are those of its eight bits.
+/// Bits 5 and 4, for 1 and B, are not flags: the processor does not keep them. A value of this type may have them
+/// set, for example one from [`Status::pulled`], but `==` ignores them. The operations of the trait [`Flags`] work on
+/// all eight bits.
 #[derive(Clone, Copy, Debug)]
 pub struct Status {
     bits: u8,
 }
 
 impl Status {
-    /// N, bit 7: the last result was 128 or more, or negative as a number from -128 to 127.
+    /// N, bit 7: the last result was 128 or more, that is, negative as a number from -128 to 127.
     pub const NEGATIVE: Status = Status { bits: 0x80 };
-    /// V, bit 6: the last sum, of numbers from -128 to 127, left that range.
+    /// V, bit 6: the last sum of numbers from -128 to 127 left that range.
     pub const OVERFLOW: Status = Status { bits: 0x40 };
-    /// D, bit 3: ADC and SBC are to be decimal, and are refused (this project's profile).
+    /// D, bit 3: selects decimal ADC and SBC, which this project's profile does not execute.
     pub const DECIMAL: Status = Status { bits: 8 };
-    /// I, bit 2: interrupts are disabled. There are none here.
+    /// I, bit 2: interrupts are disabled. This machine has no interrupts.
     pub const INTERRUPT: Status = Status { bits: 4 };
     /// Z, bit 1: the last result was 0.
     pub const ZERO: Status = Status { bits: 2 };
-    /// C, bit 0: the carry of a sum, no borrow of a difference, or the bit that was shifted out.
+    /// C, bit 0: the carry of a sum, the absence of a borrow in a difference, or the bit that was shifted out.
     pub const CARRY: Status = Status { bits: 1 };
 
-    /// No flag is set, and no other bit.
+    /// Returns a status with no flag and no other bit set.
     pub fn none() -> Status
         ensures { bits_of result ≡ 0 }
     {
         Status { bits: 0 }
     }
 
-    /// Whether N is set.
+    /// Returns whether N is set.
     #[inline(always)]
     pub fn negative(self) -> bool
         ensures { result ≡ (flags_of self).n }
@@ -49,7 +49,7 @@ impl Status {
         self.contains(Status::NEGATIVE)
     }
 
-    /// Whether V is set.
+    /// Returns whether V is set.
     #[inline(always)]
     pub fn overflow(self) -> bool
         ensures { result ≡ (flags_of self).v }
@@ -57,7 +57,7 @@ impl Status {
         self.contains(Status::OVERFLOW)
     }
 
-    /// Whether D is set.
+    /// Returns whether D is set.
     #[inline(always)]
     pub fn decimal(self) -> bool
         ensures { result ≡ (flags_of self).d }
@@ -65,7 +65,7 @@ impl Status {
         self.contains(Status::DECIMAL)
     }
 
-    /// Whether I is set.
+    /// Returns whether I is set.
     #[inline(always)]
     pub fn interrupt(self) -> bool
         ensures { result ≡ (flags_of self).i }
@@ -73,7 +73,7 @@ impl Status {
         self.contains(Status::INTERRUPT)
     }
 
-    /// Whether Z is set.
+    /// Returns whether Z is set.
     #[inline(always)]
     pub fn zero(self) -> bool
         ensures { result ≡ (flags_of self).z }
@@ -81,7 +81,7 @@ impl Status {
         self.contains(Status::ZERO)
     }
 
-    /// Whether C is set.
+    /// Returns whether C is set.
     #[inline(always)]
     pub fn carry(self) -> bool
         ensures { result ≡ (flags_of self).c }
@@ -89,8 +89,8 @@ impl Status {
         self.contains(Status::CARRY)
     }
 
-    /// The status with these values of N, V, D, I, Z and C, each set where its argument is true, and
-    /// with bits 5 and 4 clear.
+    /// Returns the status in which each of N, V, D, I, Z and C is set if its argument is true. Bits 5 and 4 are
+    /// clear.
     #[inline(always)]
     pub fn pack(
         negative: bool,
@@ -112,8 +112,8 @@ impl Status {
         Status { bits }
     }
 
-    /// The byte that PHP pushes: the flags at their bits, and bits 5 and 4 set (MCS6500 Programming
-    /// Manual, chapter 8).
+    /// Returns the byte that PHP pushes: each flag in its bit, and bits 5 and 4 set (MCS6500 Programming Manual,
+    /// chapter 8).
     #[inline(always)]
     pub fn pushed(self) -> u8
         ensures { result ≡ byte_of_flags (flags_of self) }
@@ -121,8 +121,8 @@ impl Status {
         self.bits | 0x30
     }
 
-    /// The status that PLP or RTI makes of a byte that it pulled: each flag as its bit of the byte
-    /// (MCS6500 Programming Manual, chapters 8 and 9), and bits 5 and 4 as they are in it.
+    /// Returns the status that PLP or RTI takes from a pulled byte. Each flag is its bit of the byte (MCS6500
+    /// Programming Manual, chapters 8 and 9), and bits 5 and 4 are copied from the byte.
     #[inline(always)]
     pub fn pulled(byte: u8) -> Status
         ensures flags { flags_of result ≡ flags_of_byte byte }
@@ -132,7 +132,7 @@ impl Status {
     }
 }
 
-/// Equality of the six flags.
+/// Compares the six flags only.
 impl PartialEq for Status {
     ghost eq = { on (λ status. byte_of_flags (flags_of_byte status.bits)) ◌==◌ };
 
@@ -159,7 +159,7 @@ macro_rules! flag {
     };
 }
 
-// The flags by name, from bit 7 down.
+// The flags with their names, from bit 7 down.
 static FLAGS: [Flag<Status>; 6] = [
     flag!(NEGATIVE),
     flag!(OVERFLOW),

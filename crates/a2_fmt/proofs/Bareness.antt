@@ -1,4 +1,4 @@
--- Lines that are the same without their allocator are the same.
+-- Lines that are equal without their allocators are equal.
 use Rattle.std.proofs.Common.{◌≡◌, List, [], ◌∷◌, map, refl, sym, ap, ◌∙◌}
 use Rattle.a2_syntax.specs.Bare.{NoAllocator, bare_term, bare_signed, bare_expr, bare_operand, bare_body, bare_line, bare}
 use Rattle.a2_syntax.specs.declared.source.Term.{Term}

@@ -9,22 +9,22 @@ use Rattle.a2_text.specs.Signs.{sign}
 use Rattle.a2_text.specs.Words.{behind_blanks}
 use Rattle.a2_fmt.specs.Operand.{comment_at, tidied}
 
--- what may stand in a word: neither a blank nor the `;` of a comment
+-- a byte that can be part of a word: neither a blank nor the `;` of a comment
 abbrev pub is_of_word : ℕ → Bool
 is_of_word c = not (is_blank c) && not (c == sign ";")
 
--- the word at the front of a text, and what stands behind it
+-- the word at the beginning of a text
 abbrev pub word : List ℕ → List ℕ
 word text = take (prefix_len is_of_word text) text
 
 abbrev pub behind_word : List ℕ → List ℕ
 behind_word text = drop (prefix_len is_of_word text) text
 
--- without the white space at the end
+-- a text without the white space at its end
 abbrev pub trimmed : List ℕ → List ℕ
 trimmed text = take (length text - suffix_len is_ascii_whitespace text) text
 
--- blanks up to a column, which counts from 0, one at least
+-- blanks up to a column, counted from 0, at least one
 abbrev pub padded : ℕ → List ℕ → List ℕ
 padded column front = front ++ take (max (column - length front) 1) (codes "                            ")
 
@@ -36,7 +36,7 @@ with_word front operation = if length operation == 0 then front else padded 8 fr
 abbrev pub takes_list : List ℕ → Bool
 takes_list operation = str_eq_ignore_ascii_case operation (codes "DFB") || str_eq_ignore_ascii_case operation (codes "DW")
 
--- an operand; behind a comma outside lists stands the letter of a register
+-- an operand; outside lists, the letter of a register can follow a comma
 abbrev pub operand_text : List ℕ → List ℕ → List ℕ
 operand_text operation operand =
     if str_eq_ignore_ascii_case operand (codes "A") then codes "A" else tidied (not (takes_list operation)) None false operand
@@ -45,14 +45,15 @@ operand_text operation operand =
 abbrev pub with_operand : List ℕ → List ℕ → List ℕ → List ℕ
 with_operand front operation operand = if length operand == 0 then front else padded 12 front ++ operand_text operation operand
 
--- what stands before a comment: it stays at the front of its line, stands below operations where it is alone, and else has its column
+-- the text before a comment: empty if the comment begins the line; up to the column of operations if the comment is alone;
+-- otherwise up to the column of comments
 abbrev pub before_comment : List ℕ → List ℕ → List ℕ
 before_comment line front = if get_or line 0 0 == sign ";" then front else padded (if length front == 0 then 8 else 28) front
 
 abbrev pub with_comment : List ℕ → List ℕ → List ℕ → List ℕ
 with_comment line front comment = if length comment == 0 then front else before_comment line front ++ comment
 
--- the operation of a line, and what stands behind it
+-- the operation of a line
 abbrev pub operation : List ℕ → List ℕ
 operation line = word (behind_blanks (behind_word line))
 
@@ -66,11 +67,11 @@ statement line =
     (with_operand (with_word (word line) (operation line)) (operation line) (trimmed (take (comment_at None (behind_operation line)) (behind_operation line))))
     (trimmed (drop (comment_at None (behind_operation line)) (behind_operation line)))
 
--- a line of any length: one that begins with `*` is a comment
+-- a line of any length; a line that begins with `*` is a comment
 abbrev pub any : List ℕ → List ℕ
 any line = if get_or line 0 0 == sign "*" then trimmed line else statement line
 
--- a line in columns, or as it is where it would be too long
+-- a line in columns, or unchanged if the result would be too long
 abbrev pub fitting : List ℕ → List ℕ
 fitting line = if nat_le (length (any line)) 255 then any line else line
 

@@ -1,18 +1,18 @@
-//! Why a source is not laid out.
+//! Errors of formatting a source.
 
 ghost use Rattle.std.specs.Prelude.{◌≡◌};
 
 use a2_syntax::Fault;
 use std::alloc::AllocError;
 
-/// Why a source is not laid out.
+/// Why a source cannot be formatted.
 #[derive(Clone, Copy, Debug, PartialEq, Eq)]
 pub enum FormatFault {
-    /// The text is no source.
+    /// The text is not a valid source.
     Source(Fault),
-    /// Laid out, the text would say something else, or be too large.
+    /// The formatted text would have a different meaning or be too large.
     Unlike,
-    /// A growth of memory was refused.
+    /// Memory ran out.
     Memory,
 }
 

@@ -29,7 +29,7 @@ fn put_lines<A: Allocator + Copy>(
     Ok(())
 }
 
-// A text in columns.
+// Returns a text in columns.
 fn laid_out<A: Allocator + Copy>(alloc: A, text: &[u8]) -> Result<Vec<u8, A>, AllocError>
     ensures { IfOk result (λ out. out.items ≡ laid text.now) }
 {
@@ -39,7 +39,7 @@ fn laid_out<A: Allocator + Copy>(alloc: A, text: &[u8]) -> Result<Vec<u8, A>, Al
     Ok(out)
 }
 
-// Whether a text is as it is laid out.
+// Whether formatting leaves a text unchanged.
 fn is_laid<A: Allocator + Copy>(alloc: A, text: &[u8]) -> Result<bool, AllocError>
     ensures { IfOk result (λ is. IsTrue is ↔ laid text.now ≡ text.now) }
 {
@@ -47,7 +47,7 @@ fn is_laid<A: Allocator + Copy>(alloc: A, text: &[u8]) -> Result<bool, AllocErro
     Ok(again.as_slice() == text)
 }
 
-// Whether a text is a source of the same lines.
+// Whether a text is a source with the same lines.
 fn is_alike<A: Allocator + Copy>(
     alloc: A,
     source: &Source<A>,
@@ -62,7 +62,7 @@ fn is_alike<A: Allocator + Copy>(
     }
 }
 
-// The text in columns, where it says the same, and stays as it is when it is laid out again.
+// Returns the text in columns if it has the same meaning and formatting it again leaves it unchanged.
 fn settled<A: Allocator + Copy>(
     alloc: A,
     source: &Source<A>,
@@ -77,12 +77,13 @@ fn settled<A: Allocator + Copy>(
     Ok(if is { Some(out) } else { None })
 }
 
-/// The text of a source in columns, with capitals where the case of letters says nothing: labels in the first column,
-/// operations from column 9 on, operands from 13 on and comments from 29 on, where what stands before leaves room. Its lines
-/// say the same as those of `text`, comments are kept, and laid out again it stays as it is.
+/// Returns the text of a source in columns. Letters become capitals wherever their case does not matter. Labels begin in column
+/// 1, operations in column 9, operands in column 13 and comments in column 29, or further right if the text before them is
+/// longer. The lines have the same meaning as those of `text`, comments are kept, and formatting the result again leaves it
+/// unchanged.
 ///
-/// Refused by `Source` with the first refusal of a text that is no source; by `Unlike` where the text in columns would not be
-/// such a source, as where it were too large; and for want of memory. This project's profile.
+/// Fails with `Source` and the first error if the text is not a valid source. Fails with `Unlike` if the text in columns would
+/// not be such a source, for instance because it would be too large. Also fails if memory runs out. This project's profile.
 pub fn format_source<A: Allocator + Copy>(alloc: A, text: &[u8]) -> Result<Vec<u8, A>, FormatFault>
     ensures laid { IfOk result (λ out. out.items ≡ laid text.now) }
     ensures same { IfOk result (λ out. AreAlike text.now out.items) }

@@ -1,6 +1,6 @@
-//! Source texts laid out in columns, which say the same.
+//! Formats source texts in columns without changing their meaning.
 //!
-//! How it is called is shown in CALLING.md.
+//! CALLING.md shows how to call it.
 #![tactic(auto)]
 
 mod fault;

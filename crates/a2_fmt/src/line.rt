@@ -8,20 +8,20 @@ use crate::operand::{comment_at, put_tidied};
 use a2_text::{behind_blanks, capital, front_len, is_blank};
 use std::alloc::{AllocError, Allocator};
 
-// The columns that operations, operands and comments begin in, counted from 0.
+// The columns where operations, operands and comments begin, counted from 0.
 const OPERATION: usize = 8;
 
 const OPERAND: usize = 12;
 
 const COMMENT: usize = 28;
 
-// The most bytes of a line.
+// The greatest length of a line in bytes.
 const MOST_BYTES: usize = 255;
 
-// As many as stand before the last column.
+// As many blanks as there are columns before the last of these.
 const BLANKS: &[u8] = b"                            ";
 
-// The word at the front of a text, up to a blank or a comment, and what stands behind it.
+// The word at the beginning of a text, up to a blank or a comment, and the text after it.
 fn parted(text: &[u8]) -> (&[u8], &[u8])
     ensures word { result.0.now ≡ layout.word text.now }
     ensures rest { result.1.now ≡ layout.behind_word text.now }
@@ -36,7 +36,7 @@ fn trimmed(text: &[u8]) -> &[u8]
     text.trim_ascii_end()
 }
 
-// Appends blanks up to a column, one at least.
+// Appends blanks up to a column, at least one.
 fn pad<A: Allocator>(row: &mut Vec<u8, A>, column: usize) -> Result<(), AllocError>
     requires { column ≤ 28 }
     ensures { IfOk result (λ _. row.new.items ≡ layout.padded column row.old.items) }
@@ -45,7 +45,7 @@ fn pad<A: Allocator>(row: &mut Vec<u8, A>, column: usize) -> Result<(), AllocErr
     row.extend_from_slice(&BLANKS[..count])
 }
 
-// Appends a word's capitals, where there is one, in its column.
+// Appends a word in capitals in its column, unless it is empty.
 fn put_word<A: Allocator>(row: &mut Vec<u8, A>, word: &[u8]) -> Result<(), AllocError>
     ensures { IfOk result (λ _. row.new.items ≡ layout.with_word row.old.items word.now) }
 {
@@ -56,7 +56,7 @@ fn put_word<A: Allocator>(row: &mut Vec<u8, A>, word: &[u8]) -> Result<(), Alloc
     put_capitals(row, word)
 }
 
-// Appends the capitals of a word.
+// Appends a word in capitals.
 fn put_capitals<A: Allocator>(row: &mut Vec<u8, A>, word: &[u8]) -> Result<(), AllocError>
     ensures { IfOk result (λ _. row.new.items ≡ row.old.items ++ map capital_of word.now) }
 {
@@ -68,14 +68,14 @@ fn put_capitals<A: Allocator>(row: &mut Vec<u8, A>, word: &[u8]) -> Result<(), A
     Ok(())
 }
 
-// Whether a word is a directive that takes a list, in which a name may stand behind a comma.
+// Whether a word is a directive that takes a list. In a list, a name can follow a comma.
 fn takes_list(word: &[u8]) -> bool
     ensures { result ≡ layout.takes_list word.now }
 {
     word.eq_ignore_ascii_case(b"DFB") || word.eq_ignore_ascii_case(b"DW")
 }
 
-// Appends the operand of a word, where there is one, in its column.
+// Appends the operand of an operation in its column, unless it is empty.
 fn put_operand<A: Allocator>(
     row: &mut Vec<u8, A>,
     word: &[u8],
@@ -94,7 +94,7 @@ fn put_operand<A: Allocator>(
     }
 }
 
-// Appends blanks up to where a comment begins, none where it begins its line.
+// Appends blanks up to the column of a comment, or none if the comment begins the line.
 fn pad_comment<A: Allocator>(row: &mut Vec<u8, A>, line: &[u8]) -> Result<(), AllocError>
     ensures { IfOk result (λ _. row.new.items ≡ layout.before_comment line.now row.old.items) }
 {
@@ -104,7 +104,7 @@ fn pad_comment<A: Allocator>(row: &mut Vec<u8, A>, line: &[u8]) -> Result<(), Al
     pad(row, if row.is_empty() { OPERATION } else { COMMENT })
 }
 
-// Appends a comment, where there is one, in its column.
+// Appends a comment in its column, if there is one.
 fn put_comment<A: Allocator>(
     row: &mut Vec<u8, A>,
     line: &[u8],
@@ -119,7 +119,7 @@ fn put_comment<A: Allocator>(
     row.extend_from_slice(comment)
 }
 
-// Lays out a statement in an empty row.
+// Formats a statement into an empty row.
 fn put_statement<A: Allocator>(row: &mut Vec<u8, A>, line: &[u8]) -> Result<(), AllocError>
     requires { row.old.items ≡ [] }
     ensures { IfOk result (λ _. row.new.items ≡ layout.statement line.now) }
@@ -134,7 +134,7 @@ fn put_statement<A: Allocator>(row: &mut Vec<u8, A>, line: &[u8]) -> Result<(), 
     put_comment(row, line, trimmed(comment))
 }
 
-// Lays out a line of any length.
+// Formats a line whose result may have any length.
 fn put_any<A: Allocator>(row: &mut Vec<u8, A>, line: &[u8]) -> Result<(), AllocError>
     ensures { IfOk result (λ _. row.new.items ≡ layout.any line.now) }
 {
@@ -145,7 +145,7 @@ fn put_any<A: Allocator>(row: &mut Vec<u8, A>, line: &[u8]) -> Result<(), AllocE
     }
 }
 
-// Appends a line in columns, or as it is where it would be too long.
+// Appends a line in columns, or unchanged if the result would be too long.
 fn put_fitting<A: Allocator>(
     text: &mut Vec<u8, A>,
     row: &[u8],
@@ -161,7 +161,7 @@ fn put_fitting<A: Allocator>(
     }
 }
 
-/// Appends a line in columns and LF, or as it is where it would be too long. `row` is room for it.
+/// Appends a line in columns, or unchanged if the result would be too long, and LF. `row` is a buffer for it.
 pub(crate) fn put_line<A: Allocator>(
     text: &mut Vec<u8, A>,
     row: &mut Vec<u8, A>,

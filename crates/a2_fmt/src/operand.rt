@@ -1,4 +1,4 @@
-//! What stands behind an operation: its operand, and a comment.
+//! The text after an operation: its operand and a comment.
 
 ghost use Rattle.std.specs.Prelude.{◌≡◌, ◌≤◌, ◌++◌, length, None, false, IfOk};
 ghost use Rattle.a2_syntax.specs.Names.{is_name_byte};
@@ -7,7 +7,7 @@ ghost use Rattle.a2_fmt.specs.Operand as operand;
 use a2_text::{capital, is_blank};
 use std::alloc::{AllocError, Allocator};
 
-// The quote that is open behind a byte, where one may be open before it.
+// The quote that is open after a byte, given the one that is open before it.
 fn quote_behind(quote: Option<u8>, c: u8) -> Option<u8>
     ensures { result ≡ operand.quote_behind quote c }
 {
@@ -22,7 +22,7 @@ fn quote_behind(quote: Option<u8>, c: u8) -> Option<u8>
     }
 }
 
-/// How many bytes stand before the comment of a text, a `;` outside quotes.
+/// Returns the number of bytes before the comment of a text. A comment begins with a `;` outside quotes.
 pub(crate) fn comment_at(text: &[u8]) -> usize
     ensures is { result ≡ operand.comment_at None text.now }
     ensures within { result ≤ length text.now }
@@ -39,22 +39,22 @@ pub(crate) fn comment_at(text: &[u8]) -> usize
     text.len() - rest.len()
 }
 
-// Whether a byte may stand in a name or a number.
+// Whether a byte can be part of a name or a number.
 fn is_of_run(c: u8) -> bool
     ensures { result ≡ is_name_byte c }
 {
     matches!(c, b'0'..=b'9' | b'A'..=b'Z' | b'a'..=b'z' | b'_')
 }
 
-// Whether letters behind a byte outside quotes are capitals.
+// Whether letters after a byte outside quotes become capitals.
 fn raises(indexed: bool, raised: bool, c: u8) -> bool
     ensures { result ≡ operand.raises indexed raised c }
 {
     c == b'$' || indexed && c == b',' || raised && is_of_run(c)
 }
 
-/// Appends an operand without blanks outside quotes, where digits of `$` are capitals, and, where it is `indexed`, what stands
-/// behind a comma too.
+/// Appends an operand without blanks outside quotes. Digits after `$` become capitals, and, if it is `indexed`, letters after a
+/// comma do too.
 pub(crate) fn put_tidied<A: Allocator>(
     row: &mut Vec<u8, A>,
     indexed: bool,

@@ -1,4 +1,4 @@
-//! Whether two sources say the same.
+//! Comparing the meaning of two sources.
 
 ghost use Rattle.std.specs.Prelude.{◌≡◌, ◌↔◌, true, IsTrue};
 
@@ -6,7 +6,7 @@ use a2_opcode::Mnemonic;
 use a2_syntax::{Body, Expr, Line, Name, Operand, Signed, Source, Term};
 use std::alloc::Allocator;
 
-// What can be compared with another of its type.
+// A type whose values can be compared.
 trait Same {
     // Whether it is the same as another.
     fn is_same(&self, other: &Self) -> bool
@@ -74,7 +74,7 @@ fn same_operand<A: Allocator>(a: &Operand<A>, b: &Operand<A>) -> bool
     }
 }
 
-// Whether two mnemonics are one.
+// Whether two mnemonics are the same.
 fn same_mnemonic(m: Mnemonic, n: Mnemonic) -> bool
     ensures { (result ≡ true) ↔ (m ≡ n) }
 {
@@ -119,7 +119,7 @@ impl<A: Allocator> Same for Line<A> {
     }
 }
 
-/// Whether two sources have the same lines, but for what is no part of them.
+/// Returns whether two sources have the same lines, apart from anything that is not part of their meaning.
 pub(crate) fn same_source<A: Allocator>(a: &Source<A>, b: &Source<A>) -> bool
     ensures { IsTrue result ↔ a.now ≡ b.now }
 {

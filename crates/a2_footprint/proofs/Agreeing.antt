@@ -1,4 +1,4 @@
--- Two memories that hold the same bytes at known addresses, through reads and writes of both.
+-- Two memories that hold the same bytes at known addresses, while both are read and written.
 use Rattle.std.specs.Prelude.{◌≡◌, ◌≢◌, ◌⊎◌, ℕ, ◌<◌, ◌≤◌, ◌==◌, Bool, true, false, ◌||◌, IsTrue, nat_lt, if◌then◌else◌, List, [], ◌∷◌, ◌++◌, Option, Some, None, refl}
 use Rattle.std.proofs.Common.{sym, ap, ◌∙◌, arith, inl, inr}
 use Rattle.std.proofs.lemmas.Bool.Decides.{nat_tests}
@@ -44,7 +44,7 @@ devices-with_ram m a v = go (cell_at a)
     go None = refl
     go (Some cell) = devices-with_grid m cell.page _
 
--- the byte at an address, by the place that it is
+-- the byte at an address, depending on whether the address is in a cell
 abbrev pub shows : Memory → ℕ → Option Cell → ℕ
 shows m a found = elim found [ Some cell ↦ byte_in (grid m cell.page) cell.row cell.column | None ↦ m.plain a ]
 
@@ -60,7 +60,7 @@ written_back m a v h = go (cell_at a) refl
         ap (λ cells. byte_in cells cell.row cell.column) (grid-with_grid m cell.page _)
         ∙ byte_in-with_byte (grid m cell.page) cell.row cell.column v (page_of m h cell.page) stands.row_ok stands.column_ok
 
--- among a list with one more
+-- membership in a list with one more item
 among_last : (b a : ℕ) (ns : List ℕ) → is_among (ns ++ a ∷ []) b ≡ true → (is_among ns b ≡ true) ⊎ (b ≡ a)
 among_last b a [] h = go (a == b) refl h
   where
@@ -92,7 +92,7 @@ last_or_before known b a ns h = go (is_among (ns ++ a ∷ []) b) refl h
     go true is _ = found (among_last b a ns is)
     go false is k = inl (among_or (is_among ns b) (known b) k)
 
--- the same writes were made to both, and what they wrote is known too
+-- the same writes were logged for both, and the bytes that they wrote are known too
 pub record Noted (known : ℕ → Bool) (l r : Logged Memory) : Type 0 where
   pub log : l.log ≡ r.log
   pub agree : AgreeOn (with_bytes l.log known) l.memory r.memory
@@ -193,7 +193,7 @@ agreeing known = record {
   kept_by_write = λ m n a v h. agree_write known known m n a v h (λ b is. inl is);
 }
 
--- a memory with a log and that without it
+-- a memory with a log, and the same memory without it
 abbrev pub Same : Logged Memory → Memory → Type 0
 Same l m = l.memory ≡ m
 

@@ -1,4 +1,4 @@
--- An instruction reads at the same addresses on a board and on its memory: the two have the same bytes in page 0.
+-- An instruction reads the same addresses on a board and on its memory, because the two have the same bytes in page 0.
 use Rattle.std.specs.Prelude.{◌≡◌, ℕ, ◌+◌, ◌*◌, ◌%◌, ◌++◌, length, refl}
 use Rattle.std.proofs.Common.{ap, ap₂}
 use Rattle.a2_opcode.specs.declared.Mode.{Mode}

@@ -1,4 +1,4 @@
--- An RTS goes back to the caller, whatever stands on the stack.
+-- An RTS returns to the caller, whatever is on the stack.
 use Rattle.std.specs.Prelude.{◌≡◌, ◌<◌, ◌==◌, ℕ, ◌+◌, ◌*◌, ◌%◌, false, if◌then◌else◌, List, [], Some, None, Ok}
 use Rattle.std.specs.List.{list_any}
 use Rattle.std.proofs.Common.{sym, ap, ap₂, ◌∙◌, subst, arith, below_more}
@@ -26,7 +26,7 @@ use Rattle.a2_footprint.proofs.Promising.{near, same-selected}
 use Rattle.a2_footprint.proofs.Ways.{called_from, returned_registers}
 use Rattle.a2_footprint.proofs.Running.{runs, cause_at, done_at, not_home, stuck_is, next_is}
 
--- What an RTS does
+-- The effect of an RTS
 
 stores_none : (d : Decoded) (w : World) → d.row.mnemonic ≡ Rts → stores_of memory_access d.row d.value w ≡ []
 unfolding stores_of performed after_effect returned effect_of

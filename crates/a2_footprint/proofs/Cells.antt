@@ -1,4 +1,4 @@
--- Which addresses are those of a window's cells.
+-- The addresses of a window's cells.
 use Rattle.std.specs.Prelude.{◌≡◌, ◌≢◌, ◌⊎◌, ℕ, zero, suc, ◌+◌, ◌-◌, ◌<◌, ◌≤◌, ◌==◌, Bool, true, false, ◌||◌, IsTrue, List, [], ◌∷◌, refl}
 use Rattle.std.specs.List.{flat_map}
 use Rattle.std.proofs.Common.{sym, ap, ◌∙◌, subst, arith, true≢false, inl, inr}
@@ -16,7 +16,7 @@ use Rattle.a2_footprint.specs.Reads.{Knows}
 use Rattle.a2_footprint.specs.Services.{cells_across, window_cells}
 use Rattle.a2_footprint.proofs.Agreeing.{among_or}
 
--- What a list's members are
+-- The members of a list
 
 pub not_in_among : (a : ℕ) (ns : List ℕ) → IsNotIn a ns → is_among ns a ≡ false
 not_in_among a [] h = refl
@@ -32,7 +32,7 @@ known_among known (n ∷ ns) a h is = go (n == a) refl is (λ rest. known_among 
     go true e _ _ = let f : n ≡ a = grind (arith, nat_tests, e) in subst (λ k. IsTrue (known k)) f h.0
     go false _ rest later = later rest
 
--- Numbers that follow one another
+-- Consecutive numbers
 
 pub numbers_among : (first count a : ℕ) → first ≤ a → a < first + count → is_among (numbers_from first count) a ≡ true
 numbers_among first zero a low high = absurd (omega (arith, low, high))
@@ -56,7 +56,7 @@ numbers_in first (suc count) a h = go (first == a) refl h (λ rest. numbers_in (
         let found : (suc first ≤ a) × (a < suc first + count) = later rest in
         (omega (arith, found.0), omega (arith, found.1))
 
--- Lists for each of such numbers
+-- A list for each of consecutive numbers
 
 pub rows_among : (f : ℕ → List ℕ) (top count row a : ℕ) → top ≤ row → row < top + count → is_among (f row) a ≡ true
     → is_among (flat_map f (numbers_from top count)) a ≡ true
@@ -92,7 +92,7 @@ rows_in f top (suc count) a h =
 
 -- The cells of a window
 
--- the window has no cell off the screen, and may have none at all
+-- the window has no cell outside the screen, and may have no cells at all
 pub record IsOnScreen (w : Window) : Type 0 where
   pub right : w.left + w.width ≤ 40
   pub bottom : w.bottom ≤ 24

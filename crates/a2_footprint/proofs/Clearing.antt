@@ -113,7 +113,7 @@ clreol_law parts known s t h fit looks reads =
 same_below : (m n : Memory) → window_of m ≡ window_of n → cursor_row m ≡ cursor_row n → cells_below m ≡ cells_below n
 same_below m n window row = λ i. window_cells (record (window i) { top = row i + 1 })
 
--- the cursor's row cleared to its end leaves window and cursor
+-- clearing the cursor's row to its end leaves the window and the cursor unchanged
 record IsPlaced (m n : Memory) : Type 0 where
   window : window_of n ≡ window_of m
   row : cursor_row n ≡ cursor_row m

@@ -1,4 +1,4 @@
--- An instruction depends on nothing but its bytes.
+-- An instruction depends only on its bytes.
 use Rattle.std.specs.Prelude.{◌≡◌, ◌<◌, ℕ, zero, suc, ◌+◌, ◌-◌, ◌%◌, Bool, true, false, nat_lt, IsTrue, if◌then◌else◌, [], ◌∷◌, Option, Some, None, Result, Err, MatchOption, refl}
 use Rattle.std.proofs.Common.{sym, ap, ◌∙◌, subst, arith}
 use Rattle.std.proofs.lemmas.Bool.Decides.{nat_tests}
@@ -23,7 +23,7 @@ same_peek known m n a h shown = go (nat_lt a ram_end) refl
     go true is = let lt : a < ram_end = grind (arith, nat_tests, is) in ap (λ b. Some b) (sym (h.bytes a lt shown))
     go false is = refl
 
--- two memories show the same at some addresses
+-- two memories show the same bytes at some addresses
 abbrev pub ShowAlike : (ℕ → Bool) → Memory → Memory → Type 0
 ShowAlike seen m n = (a : ℕ) → IsTrue (seen a) → peek n a ≡ peek m a
 
@@ -36,7 +36,7 @@ same_bytes seen m n at (suc count) h shown = λ i.
       | Some byte ↦ elim (same_bytes seen m n (suc at) count h shown.1 i) [ None ↦ None | Some rest ↦ Some (byte ∷ rest) ]
     ]
 
--- what is fetched, by the opcode's row and by the opcode
+-- what is fetched, given the opcode and its row
 abbrev by_row : (ℕ → Option ℕ) → ℕ → Option Row → Fetched
 by_row show at found =
     elim found [

@@ -1,4 +1,4 @@
--- What services leave of two worlds that are alike where they look.
+-- The memories that services leave in two worlds that agree in everything the services use.
 use Rattle.std.specs.Prelude.{◌≡◌, ℕ, Bool, true, List, [], refl}
 use Rattle.std.proofs.Common.{sym, ◌∙◌, subst₂}
 use Rattle.a2_bus.specs.Memory.{Memory}
@@ -13,8 +13,8 @@ use Rattle.a2_footprint.specs.Services.{service_needs, service_reads, service_st
 use Rattle.a2_footprint.specs.Uses.{Near}
 use Rattle.a2_footprint.proofs.Storing.{Stored, stored_none}
 
--- What a service does in two worlds that are alike where it looks: it fits in the second too, its memories become alike at what it
--- stores at, and that is the same in both.
+-- The effect of a service in two worlds that agree in everything it uses. It fits in the second world too, it stores at
+-- the same addresses in both, and the memories then agree at those addresses.
 abbrev pub StoresAlike : Service → Type 0
 StoresAlike service =
     (parts : Part → Bool) (known : ℕ → Bool) (s t : World) → Near parts (AgreeOn known) s t
@@ -23,21 +23,21 @@ StoresAlike service =
     × Stored known (service_stores service s) s.memory t.memory (effect service s).memory (effect service t).memory
     × (service_stores service s ≡ service_stores service t)
 
--- the return keeps the memories that a service made
+-- the return keeps the memories that a service left
 pub left_alike : (known : ℕ → Bool) (stores : List ℕ) (s t : World) (m n k : Memory) → Stored known stores s.memory t.memory m n → n ≡ k
     → Stored known stores s.memory t.memory (back (with_memory m s)).memory (back (with_memory k t)).memory
 left_alike known stores s t m n k h same =
     let P : Memory → Memory → Type 0 = λ x y. Stored known stores s.memory t.memory x y in
     subst₂ P (sym (returned_devices (with_memory m s))) (same ∙ sym (returned_devices (with_memory k t))) h
 
--- the same of worlds whose registers a service made too
+-- the same for worlds in which a service also changed the registers
 pub back_alike : (known : ℕ → Bool) (stores : List ℕ) (s t v w : World) → Stored known stores s.memory t.memory v.memory w.memory
     → Stored known stores s.memory t.memory (back v).memory (back w).memory
 back_alike known stores s t v w h =
     let P : Memory → Memory → Type 0 = λ x y. Stored known stores s.memory t.memory x y in
     subst₂ P (sym (returned_devices v)) (sym (returned_devices w)) h
 
--- Services that store nowhere
+-- Services that store nothing
 
 pub wait_law : StoresAlike Wait
 unfolding effect service_stores

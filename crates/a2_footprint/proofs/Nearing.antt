@@ -1,5 +1,5 @@
--- Two memories that are related, whose reads and writes keep them so, and which show the same bytes at some addresses: each
--- instruction that reads no other address, and looks at parts that are alike, does the same on both.
+-- Two memories are related, reads and writes of both preserve the relation, and both show the same bytes at some
+-- addresses. Then each instruction that reads no other address, and uses only parts that agree, does the same on both.
 use Rattle.std.specs.Prelude.{◌≡◌, ℕ, ◌+◌, ◌*◌, ◌/◌, ◌%◌, Bool, true, false, ◌&&◌, if◌then◌else◌, IsTrue, List, [], ◌∷◌, ◌++◌, refl}
 use Rattle.std.proofs.Common.{ap, ap₂, ◌∙◌, subst, arith}
 use Rattle.a2_opcode.specs.declared.Row.{Row}
@@ -19,7 +19,7 @@ use Rattle.a2_footprint.specs.Parts.{held, MatchAt, with_parts}
 use Rattle.a2_footprint.specs.Uses.{Near}
 use Rattle.a2_footprint.proofs.Steady.{Steady, steady, s-match, flags-match}
 
--- a relation that reads and writes of both keep, and under which both show the same at some addresses
+-- a relation that reads and writes of both preserve, and under which both show the same at some addresses
 pub record IsSeen {M N : Type 0} (R : M → N → Type 0) (seen : ℕ → Bool) (left : Access M) (right : Access N) : Type 0 where
   pub same_byte : (m : M) (n : N) (a : ℕ) → R m n → IsTrue (seen a) → left.byte_at m a ≡ right.byte_at n a
   pub kept_by_read : (m : M) (n : N) (a : ℕ) → R m n → R (left.after_read m a) (right.after_read n a)
@@ -29,7 +29,7 @@ pub knows-append : {X : Type 0} (known : X → Bool) (xs ys : List X) → Knows 
 knows-append known [] ys h = (tt, h)
 knows-append known (x ∷ xs) ys h = ((h.0, (knows-append known xs ys h.1).0), (knows-append known xs ys h.1).1)
 
--- the pulls behind a first one
+-- the pulls after the first one
 pub second_pull : (s : ℕ) → pull_address s 2 ≡ pull_address ((s + 1) % 256) 1
 second_pull s = omega arith
 
@@ -157,7 +157,7 @@ module _ {M N : Type 0} (R : M → N → Type 0) (seen : ℕ → Bool) (left : A
       pc-near k _ _ _ _ (read-near k _ _ _ _ between refl)
       (ap₂ (λ low high. low + 256 * high) (byte-near k s t a a h refl low) (byte-near k _ _ _ _ between refl high))
 
-  -- the part that an operand's place looks at
+  -- the part that the place of an operand uses
   abbrev place_needs : Place → List Part
   place_needs accumulator = part_a ∷ []
   place_needs _ = []
@@ -312,7 +312,7 @@ module _ {M N : Type 0} (R : M → N → Type 0) (seen : ℕ → Bool) (left : A
       λ i. if does.0 s.registers t.registers h.registers i then 1 + one_if (crosses_page (e i) (f i)) else 0
   branch-near k l s t effect m n p q h does e f = refl
 
-  -- each instruction that reads seen addresses and looks at known parts
+  -- each instruction that reads only seen addresses and uses only known parts
   pub performed-near : (k : Part → Bool) (row : Row) (value : ℕ) (s : State M) (t : State N) → Near k R s t
       → Knows k (needs row.mnemonic) → Knows k (mode_needs row.mode) → Knows seen (reads_of left row value s)
       → Near (with_parts (sets_parts row.mnemonic) k) R (performed left row value s) (performed right row value t)

@@ -1,4 +1,4 @@
--- The same stores, said of lists in another order.
+-- The same stores, stated for lists in another order.
 use Rattle.std.specs.Prelude.{◌≡◌, ◌≢◌, ℕ, Bool, true, ◌||◌, ◌==◌, IsTrue, List, [], ◌∷◌, ◌++◌}
 use Rattle.std.proofs.Common.{sym, ap, ◌∙◌, arith, true≢false}
 use Rattle.std.proofs.lemmas.Bool.Decides.{nat_tests}
@@ -11,7 +11,7 @@ use Rattle.a2_footprint.proofs.Cells.{known_among, not_in_among}
 use Rattle.a2_footprint.proofs.Nearing.{knows-append}
 use Rattle.a2_footprint.proofs.Storing.{Stored, stored_as}
 
--- what is known of each of a list, where more is known
+-- what is known of each item of a list is still known if more is known
 pub knows_where : (known next : ℕ → Bool) (xs : List ℕ) → ((a : ℕ) → IsTrue (known a) → IsTrue (next a)) → Knows known xs → Knows next xs
 knows_where known next [] more h = tt
 knows_where known next (x ∷ xs) more h = (more x h.0, knows_where known next xs more h.1)
@@ -22,7 +22,7 @@ among_self (x ∷ xs) =
     let e : (x == x) ≡ true = grind (arith, nat_tests) in
     (ap (λ b. b || is_among xs x) e, knows_where (is_among xs) (is_among (x ∷ xs)) xs (λ a h. among_or (x == a) (is_among xs a) h) (among_self xs))
 
--- what is not in a list is none that is among it
+-- an item that is not in a list differs from every item of the list
 other_than : (xs : List ℕ) (a b : ℕ) → IsTrue (is_among xs a) → IsNotIn b xs → b ≢ a
 other_than xs a b among out e = true≢false (sym among ∙ ap (λ c. is_among xs c) (sym e) ∙ not_in_among b xs out)
 
@@ -38,7 +38,7 @@ knows_both known (x ∷ xs) ys h g = (h.0, knows_both known xs ys h.1 g)
 pub knows_stored : (known : ℕ → Bool) (stores xs : List ℕ) → Knows (is_among stores) xs → Knows (with_bytes stores known) xs
 knows_stored known stores xs h = knows_where (is_among stores) (with_bytes stores known) xs (λ a among. ap (λ b. b || known a) among) h
 
--- Another list of stores, of which each was known before or is in the first one
+-- Another list of stores, each of which was known before or is in the first list
 pub stored_within : (known : ℕ → Bool) (some more : List ℕ) (m n new_m new_n : Memory) → Knows (with_bytes some known) more → Knows (is_among more) some
     → Stored known some m n new_m new_n → Stored known more m n new_m new_n
 stored_within known some more m n new_m new_n shown part h =

@@ -1,4 +1,5 @@
--- Lo-res blocks painted in two memories that agree at COLOR and at the blocks' cells, and the services that paint them.
+-- Lo-res blocks plotted in two memories that agree in COLOR and in the cells of the blocks, and the services that plot
+-- them.
 use Rattle.std.specs.Prelude.{◌≡◌, ℕ, zero, suc, ◌+◌, ◌-◌, ◌*◌, ◌/◌, ◌%◌, ◌<◌, ◌≤◌, Bool, true, ◌&&◌, nat_lt, List, [], ◌∷◌, map, fold, refl}
 use Rattle.std.proofs.Common.{sym, ap, ap₂, ◌∙◌, subst₂, arith}
 use Rattle.std.proofs.lemmas.Bool.Decides.{nat_tests}
@@ -27,7 +28,7 @@ use Rattle.a2_footprint.proofs.Left.{StoresAlike, left_alike}
 
 -- One block
 
--- what its cell holds then
+-- the byte in its cell after that
 abbrev pub painted_byte : ℕ → ℕ → Memory → ℕ
 painted_byte row column m = with_block (ram_byte m (block_cell row column)) (half_of row) (colour_of row m)
 
@@ -58,7 +59,7 @@ painting_one known m n row column h r c knows =
     (ap (λ v. with_ram n (block_cell row column) v) byte ∙ sym (painted_is row column n r c))
     (stored_byte known m n (block_cell row column) (painted_byte row column m) h)
 
--- Some of a row, and some of a column
+-- Some blocks of a row, and some of a column
 
 abbrev pub AreBelow : ℕ → List ℕ → Type 0
 AreBelow limit [] = Unit {0}
@@ -71,7 +72,7 @@ numbers_below limit first (suc count) h = (omega (arith, h), numbers_below limit
 span_below : (limit first last : ℕ) → first < limit → last < limit → AreBelow limit (span_of first last)
 span_below limit first last f l = numbers_below limit first (last - first + 1) (omega (arith, f, l))
 
--- a step for each number, which paints a block
+-- one step for each number, which plots a block
 module _ (step : ℕ → Memory → Memory) (cell : ℕ → ℕ) (limit : ℕ)
     (one : (known : ℕ → Bool) (m n : Memory) (k : ℕ) → AgreeOn known m n → k < limit → Knows known (at.color ∷ cell k ∷ [])
     → Stored known (cell k ∷ []) m n (step k m) (step k n)) where
@@ -176,7 +177,7 @@ vline_law parts known s t h fit looks reads =
       (λ i. map (λ row. block_cell row (same.y i)) (span_of (same.a i) (end i))),
     )
 
--- SCRN stores nothing, and A becomes the block's colour
+-- SCRN stores nothing, and sets A to the colour of the block
 
 pub scrn_law : StoresAlike Scrn
 unfolding effect service_stores
@@ -204,7 +205,7 @@ same_colour known m n row column h r c knows =
     ∙ ap (λ byte. block byte (half_of row)) (h.bytes (block_cell row column) (cell_low row column r c) knows.0)
     ∙ sym (colour_seen row column n r c)
 
--- the colour that it gives is the same in both
+-- the colour that it returns is the same in both
 pub scrn_colour : (parts : Part → Bool) (known : ℕ → Bool) (s t : World) → Near parts (AgreeOn known) s t
     → fits Scrn s.registers s.memory ≡ true → Knows parts (service_needs Scrn) → Knows known (service_reads Scrn s)
     → byte_in (blocks_of s.memory.page1) s.registers.a s.registers.y ≡ byte_in (blocks_of t.memory.page1) t.registers.a t.registers.y

@@ -1,4 +1,4 @@
--- Window, cursor and base address of two memories that agree where these stand.
+-- Window, cursor and base address of two memories that agree in the bytes that hold them.
 use Rattle.std.specs.Prelude.{◌≡◌, ℕ, ◌+◌, ◌/◌, ◌%◌, Bool, ◌&&◌, nat_lt, nat_le, [], ◌∷◌}
 use Rattle.std.proofs.Common.{ap, subst, arith}
 use Rattle.a2_page.specs.declared.Page.TheVariants.{One}
@@ -54,7 +54,7 @@ basing known m n agree window row =
     (stored_both known (at.basl ∷ []) (at.bash ∷ []) m n (with_ram m at.basl (base % 256)) (with_ram n at.basl (base % 256)) _ _ low
     (stored_byte (with_bytes (at.basl ∷ []) known) _ _ at.bash (base / 256) low.agree))
 
--- they lie on the screen in both
+-- they are on the screen in both
 
 pub same_window_fits : (m n : Memory) → window_of m ≡ window_of n → window_fits m ≡ window_fits n
 same_window_fits m n window =

@@ -69,7 +69,7 @@ left m other (n ∷ ns) a among = go (same_or_not a n) (λ e. left m other ns a 
         ram_byte-with_ram (with_bytes_of other ns m) n (ram_byte other n) a apart
         ∙ later (sym (among-other n ns a apart) ∙ among)
 
--- What is selected
+-- The values of a selection
 
 same-map : (f g : ℕ → ℕ) (ns : List ℕ) → ((a : ℕ) → is_among ns a ≡ true → f a ≡ g a) → map f ns ≡ map g ns
 same-map f g [] same = refl
@@ -80,7 +80,7 @@ same-if : {X : Type 0} (b : Bool) (x y none : X) → (IsTrue b → x ≡ y) → 
 same-if true x y none h = h refl
 same-if false x y none h = refl
 
--- two worlds that are alike at what is known show the same of a selection that is known
+-- two worlds that agree in what is known have the same values of a selection that is known
 pub same-selected : (k : Part → Bool) (known : ℕ → Bool) (selection : Selection) (s t : World) → Near k (AgreeOn known) s t
     → IsKnown known k selection
     → selected selection s ≡ selected selection t
@@ -109,7 +109,7 @@ chosen : {X : Type 0} (input fixed : Bool) (x y : X) → IsTrue (input || fixed)
 chosen true fixed x y known same = refl
 chosen false fixed x y known same = same known
 
--- the inputs from a processor, and the rest from one that is alike at fixed parts
+-- the inputs of one processor, and the rest of one that agrees in the fixed parts
 with_selected-match : (inputs fixed : Part → Bool) (r q : Registers) → MatchAt fixed q r
     → MatchAt (λ p. inputs p || fixed p) (with_selected inputs r q) r
 with_selected-match inputs fixed r q h = record { s = h.s; pc = h.pc; parts = part }
@@ -125,7 +125,7 @@ with_selected-match inputs fixed r q h = record { s = h.s; pc = h.pc; parts = pa
     part part_z known = chosen (inputs part_z) (fixed part_z) r.flags.z q.flags.z known (h.parts part_z)
     part part_c known = chosen (inputs part_c) (fixed part_c) r.flags.c q.flags.c known (h.parts part_c)
 
--- a world that meets the precondition is alike the base with its inputs, at what is known
+-- a world that meets the precondition agrees with the base, given its inputs, in what is known
 pub near : (promise : Promise) (Pass : World → Type 0) (world : World) → Holds promise Pass → Meets promise world
     → Near (known_parts promise) (AgreeOn (known_bytes promise)) (with_inputs promise world) world
 near promise Pass world holds meets = record {

@@ -1,4 +1,4 @@
--- What the services that put bytes on the screen make of two memories that agree at known bytes.
+-- The memories that the services that print bytes leave, from two memories that agree in known bytes.
 use Rattle.std.specs.Prelude.{◌≡◌, ℕ, ◌+◌, ◌-◌, ◌/◌, ◌%◌, ◌<◌, Bool, true, false, ◌&&◌, ◌||◌, ◌==◌, nat_lt, nat_le, if◌then◌else◌, IsTrue, List, [], ◌∷◌, ◌++◌, refl}
 use Rattle.std.proofs.Common.{sym, ap, ap₂, ◌∙◌, subst, arith, true≢false, inl}
 use Rattle.a2_text.specs.Bytes.{is_among}
@@ -47,7 +47,7 @@ stored_value : (known : ℕ → Bool) (m n : Memory) (a v w : ℕ) → AgreeOn k
 stored_value known m n a v w h e =
     subst (λ x. Stored known (a ∷ []) m n (with_ram m a v) (with_ram n a x)) e (stored_byte known m n a v h)
 
--- a test that comes out alike, on which hang the bytes that are moved and those that are stored
+-- a test with the same result in both, which decides the bytes that are moved and those that are stored
 stored_if : (known : ℕ → Bool) (moves stores : Bool → List ℕ) (m n yes_m no_m yes_n no_n : Memory) (p q : Bool) → p ≡ q → Knows known (moves p)
     → (Knows known (moves true) → Stored known (stores true) m n yes_m yes_n)
     → (Knows known (moves false) → Stored known (stores false) m n no_m no_n)
@@ -57,7 +57,7 @@ stored_if known moves stores m n yes_m no_m yes_n no_n true false e k holds fail
 stored_if known moves stores m n yes_m no_m yes_n no_n false true e k holds fails = absurd (true≢false (sym e))
 stored_if known moves stores m n yes_m no_m yes_n no_n false false e k holds fails = fails k
 
--- What is put, and the cells that it moves and changes
+-- The byte that is printed, and the cells that it moves and changes
 
 pub same_masked : (byte : ℕ) (known : ℕ → Bool) (m n : Memory) → AgreeOn known m n → IsTrue (known at.invflg) → masked byte m ≡ masked byte n
 same_masked byte known m n h k =
@@ -91,7 +91,7 @@ module _ (known : ℕ → Bool) (m n : Memory) (h : AgreeOn known m n) (k : Know
   same_put_changes =
       ap (λ b. changed_by b m) (same_masked byte known m n h mask) ∙ same_changed (masked byte n) m n (same_cursor known m n h k)
 
--- a character in its cell, and the cursor behind it
+-- a character in its cell, and the cursor after it
 abbrev shown_in : ℕ → Memory → Memory
 shown_in byte m = with_page1 (with_byte m.page1 (cursor_row m) (screen_column m) byte) m
 
@@ -116,7 +116,7 @@ showing byte known m n h c fit =
     subst (λ x. Stored known (cursor_cell m ∷ []) m n x (shown_in byte n)) left
     (subst (λ x. Stored known (cursor_cell m ∷ []) m n (with_ram m (cursor_cell m) byte) x) right (stored_byte known m n (cursor_cell m) byte h))
 
--- What puts a byte
+-- Operations that print a byte
 
 stepping_back : (known : ℕ → Bool) (m n : Memory) → AgreeOn known m n → Knows known cursor_bytes
     → Stored known (at.ch ∷ at.cv ∷ []) m n (after_backspace m) (after_backspace n)
@@ -236,7 +236,7 @@ putting byte known m n h k mask fit shown =
 
 -- Services
 
--- behind what moved the cursor, the base address is stored
+-- after the cursor is moved, the base address is stored
 pub outputting : (known : ℕ → Bool) (cells : List ℕ) (s t : World) (new_m new_n : Memory) → Knows known cursor_bytes
     → Stored known (at.ch ∷ at.cv ∷ cells) s.memory t.memory new_m new_n
     → Stored known (output_bytes ++ cells) s.memory t.memory (back (output new_m s)).memory (back (output new_n t)).memory
@@ -267,7 +267,7 @@ fits_too : (known : ℕ → Bool) (m n : Memory) (more : List ℕ) → AgreeOn k
     → window_fits m && cursor_fits m ≡ true → window_fits n && cursor_fits n ≡ true
 fits_too known m n more h reads fit = sym (same_fits m n (same_cursor known m n h (knows-append known cursor_bytes more reads).0)) ∙ fit
 
--- two bytes, one behind the other
+-- two bytes, one after the other
 
 abbrev both_put : ℕ → ℕ → Memory → Memory
 both_put first second memory = after_put second (after_put first memory)
@@ -331,9 +331,9 @@ putting_both first second known m n h k mask fit shown = (
     mask_now : IsTrue (now at.invflg)
     mask_now = among_or (is_among one at.invflg) (known at.invflg) mask
 
--- What is put as A says
+-- Output that depends on A
 
--- what comes of an A and of another one
+-- the results for one value of A and for another
 record IsOutput (put : ℕ → Memory → Memory) (changes : ℕ → Memory → List ℕ) (known : ℕ → Bool) (s t : World) (a b : ℕ) : Type 0 where
   stored : Stored known (output_bytes ++ changes a s.memory) s.memory t.memory
       (back (output (put a s.memory) s)).memory (back (output (put b t.memory) t)).memory

@@ -1,4 +1,4 @@
--- An instruction, a step and a run depend on nothing but the bytes that they read and the parts that they look at.
+-- An instruction, a step and a run depend only on the bytes that they read and the parts that they use.
 use Rattle.std.specs.Prelude.{◌≡◌, ◌<◌, ◌==◌, ℕ, zero, suc, ◌+◌, Bool, true, false, if◌then◌else◌, List, ◌++◌, Option, Some, None, Result, Ok, Err, MatchOption, not, refl, is_some}
 use Rattle.std.specs.List.{list_any}
 use Rattle.std.proofs.Common.{sym, ap, ap₂, ◌∙◌, subst, arith, true≢false, inl, below_more}
@@ -39,11 +39,11 @@ use Rattle.a2_footprint.proofs.Storing.{not_in-append}
 
 -- An instruction
 
--- with an empty log a state is as without it
+-- a state with an empty log is like the state without a log
 unlogged : (s : World) → Alike Same (with_empty_log s) s
 unlogged s = record { registers = refl; cycles = refl; memory = refl }
 
--- what it reads is what it reads beside a log
+-- it reads the same addresses with a log as without
 reads-logged : (row : Row) (value : ℕ) (s : World)
     → reads_of (logged memory_access) row value (with_empty_log s) ≡ reads_of memory_access row value s
 unfolding reads_of
@@ -106,7 +106,7 @@ instruction row value k known s t h mnemonic mode reads =
 pub some≢none : {X : Type 0} (x : X) → Some x ≡ None → ⊥
 some≢none x e = true≢false (ap is_some e)
 
--- why what is found at PC is stuck, and the world behind it
+-- why the instruction found at PC is stuck, given the state after it
 abbrev pub cause_at : List ℕ → Result Decoded Cause → World → Option Cause
 cause_at protected found world = elim found [ Err cause ↦ Some cause | Ok decoded ↦ instruction_cause protected decoded world ]
 
@@ -157,7 +157,7 @@ unfolding next next_at
 next_served code w service is = λ i.
     elim (is i) as (λ _. World) [ Some service ↦ served service w | None ↦ done_at (found_at_pc code w) w ]
 
--- what a step reads, stores at, looks at and sets, by what stands at PC
+-- the addresses that a step reads and stores at and the parts it uses and sets, given what is at PC
 pub reads_at : (code : Code) (w : World) (o : Option Service) → service_at w.registers.pc ≡ o
     → step_reads code w ≡ (elim o [ Some service ↦ service_reads service w | None ↦ found_reads (found_at_pc code w) w ])
 unfolding step_reads
@@ -219,7 +219,7 @@ calm_cause protected service w keyless away fitting = λ i.
     else if lacks_none service w.memory keyless i then Some Keys
     else None
 
--- ADC and SBC, which are refused in decimal mode, look at D
+-- ADC and SBC, which stop the run in decimal mode, use D
 same_refusal : (mnemonic : Mnemonic) (k : Part → Bool) (r q : Registers) → Knows k (needs mnemonic) → MatchAt k r q
     → refusal_of mnemonic r.flags ≡ refusal_of mnemonic q.flags
 unfolding refusal_of needs
@@ -227,7 +227,7 @@ same_refusal Adc k r q known h = ap (λ d. if d then Some decimal else None) (h.
 same_refusal Sbc k r q known h = ap (λ d. if d then Some decimal else None) (h.parts part_d known.1.0)
 same_refusal mnemonic k r q known h = refl
 
--- what comes of the same instruction in two worlds
+-- the results of the same instruction in two worlds
 Same_step : List ℕ → (Part → Bool) → (ℕ → Bool) → Result Decoded Cause → World → World → Type 0
 Same_step protected k known found s t =
     (cause_at protected found t ≡ None)
@@ -262,7 +262,7 @@ moved k known {ps} {qs} {ns} {ms} {v} {w} {x} {y} parts bytes left right h =
     (subst (λ ls. Near (with_parts qs k) (AgreeOn (with_bytes ls known)) v w) bytes
     (subst (λ rs. Near (with_parts rs k) (AgreeOn (with_bytes ns known)) v w) parts h)))
 
--- The step from the second of two worlds that are alike at what the first reads and looks at
+-- The step from the second of two worlds that agree in everything the first one reads and uses
 abbrev pub Step_alike : Code → (Part → Bool) → (ℕ → Bool) → World → World → Type 0
 Step_alike code k known s t =
     (stuck code t ≡ None)
@@ -318,7 +318,7 @@ step code k known s t h reads looks = go (service_at s.registers.pc) refl
     go None free = by_instruction code k known s t h reads looks free
     go (Some service) is = by_service code k known s t h reads looks service is
 
--- a step keeps each byte that it does not store at: of an instruction always, of a service where it fits
+-- a step changes only bytes at which it stores: an instruction always, a service if it fits
 step_keeps : (code : Code) (w : World) (b : ℕ) → Pages w.memory → stuck code w ≡ None
     → MatchOption (service_at w.registers.pc) (Unit {0}) (λ service. is_keyless service ≡ true)
     → IsNotIn b (step_stores code w) → ram_byte (next code w).memory b ≡ ram_byte w.memory b
@@ -339,7 +339,7 @@ step_keeps code w b pages free keyless stays = at_pc (service_at w.registers.pc)
         ∙ (keeping service w keyless (not_stuck code.protected service w (sym (stuck_served code w service (not_home code w free) is) ∙ free)).1 pages).0
         b (subst (λ ns. IsNotIn b ns) (stores_at code w (Some service) is) stays)
 
--- what the other world's service needs is no key either
+-- the service in the other world needs no key either
 keyless_at : (code : Code) (known : ℕ → Bool) (s t : World) → s.registers.pc ≡ t.registers.pc → StepReads code known s
     → MatchOption (service_at t.registers.pc) (Unit {0}) (λ service. is_keyless service ≡ true)
 keyless_at code known s t same reads = go (service_at t.registers.pc) refl
@@ -350,7 +350,7 @@ keyless_at code known s t same reads = go (service_at t.registers.pc) refl
 
 -- A run
 
--- what has come of so many steps from two worlds
+-- the results of this many steps from two worlds
 record IsRun (code : Code) (k : Part → Bool) (known : ℕ → Bool) (s t : World) (n : ℕ) : Type 0 where
   near : Near (parts_behind code k s n) (AgreeOn (known_behind code known s n)) (world_at code s n) (world_at code t n)
   going : (m : ℕ) → m < n → stuck code (world_at code t m) ≡ None

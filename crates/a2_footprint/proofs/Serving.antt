@@ -1,4 +1,4 @@
--- A service depends on nothing but what it reads and looks at, and changes nothing but where it stores and what it sets.
+-- A service depends only on what it reads and uses, and changes only the bytes it stores and the parts it sets.
 use Rattle.std.specs.Prelude.{◌≡◌, ◌<◌, ℕ, ◌+◌, ◌*◌, Bool, true, false, IsTrue, List, [], ◌∷◌, ◌++◌, refl}
 use Rattle.std.specs.List.{list_any}
 use Rattle.std.proofs.Common.{sym, ap, ap₂, ◌∙◌, subst, subst₂, arith, true≢false}
@@ -53,7 +53,7 @@ laws Prhex keyless = prhex_law
 laws Vtab keyless = vtab_law
 laws Keyin bad = absurd (true≢false (sym bad))
 laws Getln bad = absurd (true≢false (sym bad))
--- one whose row says that it may store at the mask alone stores the same byte there always
+-- a service whose row allows only a store at the mask always stores the same byte there
 laws _ keyless = λ parts known s t h fit looks reads.
     (refl, back_alike known _ s t _ _ (stored_byte known s.memory t.memory at.invflg _ h.memory), refl)
 
@@ -70,7 +70,7 @@ a_match k r q m n h e = record { s = h.s; pc = h.pc; parts = part }
     part part_a known = e
     part p known = h.parts p known
 
--- a hook leads to the same place
+-- a hook leads to the same address
 through_match : (k : Part → Bool) (known : ℕ → Bool) (v w : World) (hook : ℕ) → MatchAt k v.registers w.registers → AgreeOn known v.memory w.memory
     → hook < ram_end → hook + 1 < ram_end → Knows known (hook ∷ (hook + 1) ∷ [])
     → MatchAt k (record v.registers { pc = ram_byte v.memory hook + 256 * ram_byte v.memory (hook + 1) })
@@ -85,7 +85,7 @@ same_cycles Wait parts r q looks h = ap (λ a. wait_cycles a) (h.parts part_a lo
 same_cycles service parts r q looks h = refl
 
 module _ (parts : Part → Bool) (known : ℕ → Bool) (s t : World) (h : Near parts (AgreeOn known) s t) where
-  -- a service that goes back, from worlds in which it stored
+  -- a service that returns, from worlds in which it stored
   went_back : (k : Part → Bool) (stores : List ℕ) (v w : World) → MatchAt k v.registers w.registers → v.registers.s ≡ s.registers.s
       → AgreeOn (with_bytes stores known) (back v).memory (back w).memory
       → Knows known (pull_address s.registers.s 1 ∷ pull_address s.registers.s 2 ∷ [])
@@ -97,7 +97,7 @@ module _ (parts : Part → Bool) (known : ℕ → Bool) (s t : World) (h : Near 
       (subst (λ a. Knows (with_bytes stores known) (pull_address a 1 ∷ pull_address a 2 ∷ [])) (sym same)
       (knows_more known stores (pull_address s.registers.s 1 ∷ pull_address s.registers.s 2 ∷ []) shown))
 
-  -- one that sets no register
+  -- a service that sets no register
   unset : (stores : List ℕ) (v w : World) → v.registers ≡ s.registers → w.registers ≡ t.registers
       → AgreeOn (with_bytes stores known) (back v).memory (back w).memory
       → Knows known (pull_address s.registers.s 1 ∷ pull_address s.registers.s 2 ∷ [])
@@ -153,7 +153,7 @@ serving service parts known s t h keyless fitting looks shown =
       law.2,
     )
 
--- What stays
+-- What is unchanged
 
 all_known : {X : Type 0} (xs : List X) → Knows (λ x. true) xs
 all_known [] = tt

@@ -1,4 +1,4 @@
--- A register that no step looks at or sets stays.
+-- A register that no step uses or sets is unchanged.
 use Rattle.std.specs.Prelude.{◌≡◌, ◌<◌, ℕ, zero, suc, ◌+◌, ◌%◌, ◌||◌, Bool, true, false, not, IsTrue, if◌then◌else◌, Option, Some, None, Result, Ok, Err, refl}
 use Rattle.std.specs.List.{list_any}
 use Rattle.std.proofs.Common.{sym, ap, ◌∙◌, subst, arith, true≢false}
@@ -30,7 +30,7 @@ use Rattle.a2_footprint.proofs.Nearing.{knows-append}
 use Rattle.a2_footprint.proofs.Running.{done_at, found_there, keyless_there, needs_at, next_is, next_served, not_home, not_stuck, runs, sets_at, step as one_step, stuck_served}
 use Rattle.a2_footprint.proofs.Serving.{keeping}
 
--- the registers that an effect leaves, by a byte that it may take; flags, S and PC are left out that go with the stack
+-- the registers that an effect leaves, given a byte that it may take; flags, S and PC of stack operations are left out
 changed : Effect → ℕ → Registers → Registers
 changed (sets change) byte r = change r
 changed (takes change) byte r = change byte r
@@ -65,7 +65,7 @@ keeps part_y Tay byte r is bad = absurd (true≢false bad)
 keeps part_y m byte r is other = refl
 keeps part m byte r bad other = absurd (true≢false (sym bad))
 
--- S and PC are no such register, and flags are none
+-- S, PC and the flags are not such registers
 moved : (part : Part) (r : Registers) (s pc : ℕ) → held part (record r { s = s; pc = pc }) ≡ held part r
 moved part_a r s pc = refl
 moved part r s pc = refl
@@ -77,7 +77,7 @@ flagged part_x r s pc flags is = refl
 flagged part_y r s pc flags is = refl
 flagged part r s pc flags bad = absurd (true≢false (sym bad))
 
--- A is not where an operand is replaced
+-- the operand that is replaced is not in this register; of the registers, only A can hold it
 IsFree : Part → Place → Type 0
 IsFree part_a accumulator = ⊥
 IsFree _ _ = Unit {0}
@@ -129,7 +129,7 @@ stays part place returns_from_interrupt w is free same =
     flagged part w.registers _ (returned_from_interrupt memory_access w).registers.pc (returned_from_interrupt memory_access w).registers.flags is
 stays part place breaks w is free same = refl
 
--- an operand in A is looked at, and so A is known
+-- an operand in A is used, so A is known
 free : (part : Part) (mode : Mode) (w : World) (value : ℕ) (known : Part → Bool) → Knows known (mode_needs mode) → known part ≡ false
     → IsFree part (place_of memory_access w.memory w.registers mode value)
 unfolding IsFree
@@ -137,7 +137,7 @@ free part_a Accumulator w value known looks unknown = true≢false (sym looks.0 
 free part_a mode w value known looks unknown = tt
 free part mode w value known looks unknown = tt
 
--- an instruction keeps each register that is not known behind it
+-- an instruction keeps each register that is not known after it
 instruction : (row : Row) (value : ℕ) (w : World) (known : Part → Bool) (part : Part) → is_register part ≡ true
     → Knows known (mode_needs row.mode) → known part ≡ false → list_any (is_part part) (sets_parts row.mnemonic) ≡ false
     → held part (performed memory_access row value w).registers ≡ held part w.registers
@@ -164,7 +164,7 @@ step (Err cause) w known part is looks unset unknown = refl
 step (Ok d) w known part is looks unset unknown =
     instruction d.row d.value w known part is (knows-append known (needs d.row.mnemonic) (mode_needs d.row.mode) looks).1 unknown unset
 
--- the step from the second of two worlds keeps a register that is not known behind it
+-- the step from the second of two worlds keeps a register that is not known after it
 by_step : (code : Code) (k : Part → Bool) (known : ℕ → Bool) (s t : World) → Near k (AgreeOn known) s t → StepReads code known s
     → Knows k (step_needs code s) → (part : Part) → is_register part ≡ true → list_any (is_part part) (step_sets code s) ≡ false → k part ≡ false
     → held part (next code t).registers ≡ held part t.registers

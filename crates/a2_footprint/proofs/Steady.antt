@@ -1,4 +1,4 @@
--- Each mnemonic leaves registers alike at the parts that it sets, where they were alike at those that it looks at.
+-- After each mnemonic, registers agree in the parts that it sets, if they agreed in those that it uses.
 use Rattle.std.specs.Prelude.{◌≡◌, ℕ, ◌+◌, ◌-◌, ◌%◌, ◌&&◌, ◌||◌, ◌==◌, Bool, true, false, not, IsTrue, [], ◌∷◌, refl}
 use Rattle.std.proofs.Common.{ap, ap₂}
 use Rattle.a2_opcode.specs.declared.Mnemonic.{Mnemonic}
@@ -12,11 +12,11 @@ use Rattle.a2_footprint.specs.declared.Part.TheVariants.{A as part_a, X as part_
 use Rattle.a2_footprint.specs.InstructionParts.{all_flags, needs, sets_parts}
 use Rattle.a2_footprint.specs.Parts.{held, MatchAt, with_parts}
 
--- registers that are alike at some parts are alike at others
+-- registers that agree in some parts agree in others
 abbrev pub Stays : (k l : Part → Bool) → Type 0
 Stays k l = (r q : Registers) → MatchAt k r q → MatchAt l r q
 
--- an effect on registers that are alike at some parts leaves them alike at others
+-- after an effect, registers that agreed in some parts agree in others
 abbrev pub Steady : (k l : Part → Bool) → Effect → Type 0
 Steady k l (sets change) = (r q : Registers) → MatchAt k r q → MatchAt l (change r) (change q)
 Steady k l (takes change) = (b : ℕ) (r q : Registers) → MatchAt k r q → MatchAt l (change b r) (change b q)
@@ -148,7 +148,7 @@ shifted-match k x y r q e h = record { s = h.s; pc = h.pc; parts = part }
     part part_c _ = ap (λ x. (shifted x r.flags).flags.c) e
     part p known = h.parts p known
 
--- whatever the flags were, they are alike where they become the same
+-- whatever the flags were, they agree if they become the same
 pub flags-match : (k : Part → Bool) (f g : StatusFlags) (r q : Registers) → f ≡ g → MatchAt k r q
     → MatchAt (with_parts all_flags k) (record r { flags = f }) (record q { flags = g })
 flags-match k f g r q e h = record { s = h.s; pc = h.pc; parts = part }

@@ -1,4 +1,4 @@
--- Stores to two memories that agree at known bytes.
+-- Stores to two memories that agree in known bytes.
 use Rattle.std.specs.Prelude.{◌≡◌, ℕ, ◌==◌, Bool, true, false, ◌||◌, IsTrue, List, [], ◌∷◌, ◌++◌, refl}
 use Rattle.std.proofs.Common.{◌∙◌, subst}
 use Rattle.std.proofs.lemmas.List.Folds.{list_any-append}
@@ -18,7 +18,8 @@ agree_less known next m n less h = record {
   bytes = λ a lt is. h.bytes a lt (less a is);
 }
 
--- Two memories became others, which agree at known bytes and at these that were stored; each other byte stayed in both.
+-- Two memories after the same stores. They agree in the known bytes and in those that were stored, and each other byte
+-- is unchanged in both.
 pub record Stored (known : ℕ → Bool) (stores : List ℕ) (m n new_m new_n : Memory) : Type 0 where
   pub agree : AgreeOn (with_bytes stores known) new_m new_n
   pub left : (b : ℕ) → IsNotIn b stores → ram_byte new_m b ≡ ram_byte m b
@@ -65,7 +66,7 @@ stored_both known first second m n m1 n1 m2 n2 one two = record {
         either (is_among first a) (is_among second a) (known a)
         (subst (λ v. IsTrue (v || known a)) (list_any-append (λ m. m == a) first second) is)
 
--- the same stores, said of another list
+-- the same stores, stated for another list
 pub stored_as : (known : ℕ → Bool) (some more : List ℕ) (m n new_m new_n : Memory)
     → ((a : ℕ) → IsTrue (is_among more a) → IsTrue (is_among some a || known a)) → ((b : ℕ) → IsNotIn b more → IsNotIn b some)
     → Stored known some m n new_m new_n → Stored known more m n new_m new_n
@@ -82,7 +83,7 @@ stored_as known some more m n new_m new_n shown out h = record {
         go true e _ = shown a e
         go false e is = among_or (is_among some a) (known a) is
 
--- what was known still is
+-- what was known is still known
 pub knows_more : (known : ℕ → Bool) (stores xs : List ℕ) → Knows known xs → Knows (with_bytes stores known) xs
 knows_more known stores [] h = tt
 knows_more known stores (x ∷ xs) h = (among_or (is_among stores x) (known x) h.0, knows_more known stores xs h.1)

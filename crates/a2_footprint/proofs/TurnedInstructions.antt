@@ -1,4 +1,4 @@
--- What an instruction that uses the stack by S alone does in a world whose stack is turned.
+-- The effect, in a world with a rotated stack, of an instruction that uses the stack only through S.
 use Rattle.std.specs.Prelude.{◌≡◌, ◌<◌, ℕ, ◌+◌, ◌*◌, ◌/◌, ◌%◌, Bool, true, false, ◌&&◌, ◌||◌, nat_lt, if◌then◌else◌, [], ◌∷◌, refl}
 use Rattle.std.specs.List.{list_any}
 use Rattle.std.proofs.Common.{sym, ap, ap₂, ◌∙◌, subst, arith, true≢false}
@@ -21,7 +21,7 @@ use Rattle.a2_footprint.proofs.TurnedMemory.{not_in_stack, pulled_place, turned_
 
 -- Registers
 
--- alike but for S, which is turned
+-- equal except for S, which is moved
 record IsMoved (turn : ℕ) (r q : Registers) : Type 0 where
   same : r ≡ record q { s = r.s }
   low : q.s < 256
@@ -33,7 +33,7 @@ moved turn s t h = record { same = h.registers; low = h.low; s = h.s }
 abbrev at_s : ℕ → Registers → Registers
 at_s n registers = record registers { s = n }
 
--- a change of the registers that keeps S, and looks elsewhere
+-- a change of the registers that keeps S and does not use it
 abbrev Spares : (Registers → Registers) → Type 0
 Spares change = (q : Registers) (n : ℕ) → (change (at_s n q) ≡ at_s n (change q)) × ((change q).s ≡ q.s)
 
@@ -45,7 +45,7 @@ changed turn change r q h spares = record {
   s = ap (λ n. (n + turn) % 256) (spares q 0).1 ∙ h.s ∙ sym (spares r 0).1;
 }
 
--- the registers that an effect makes, of a byte that it reads, and the byte that it makes
+-- the registers that an effect leaves, given a byte that it reads, and the byte that it stores
 abbrev makes : Effect → ℕ → Registers → Registers
 makes (sets change) byte registers = change registers
 makes (takes change) byte registers = change byte registers
@@ -57,7 +57,7 @@ gives (stores byte) registers = byte registers
 gives (pushes byte) registers = byte registers
 gives _ registers = 0
 
--- S aside, it does so, and S stays
+-- it does not use S, and keeps it
 abbrev SparesS : Effect → Type 0
 SparesS effect =
     (byte : ℕ) (q : Registers) (n : ℕ) → (makes effect byte (at_s n q) ≡ at_s n (makes effect byte q))
@@ -81,7 +81,7 @@ put place result = λ q n. (refl, refl)
 
 -- Memory
 
--- a choice by whether an address is one of RAM
+-- a choice that depends on whether an address is in RAM
 sided : {X : Type 0} (turn b : ℕ) (shape : X → X) (p q r w : X) → p ≡ shape r → (turned_address turn b ≡ b → q ≡ shape w)
     → (if nat_lt b ram_end then p else q) ≡ shape (if nat_lt (turned_address turn b) ram_end then r else w)
 sided turn b shape p q r w ram device = go (nat_lt b ram_end) refl
@@ -134,7 +134,7 @@ write_turned turn m n a b v w h e f =
     ap₂ (λ k u. memory_access.after_write k b u) h (sym f) ∙ turned_write turn m b v
     ∙ ap (λ j. turned_memory turn (memory_access.after_write m j v)) e
 
--- none of a list is in the stack, nor the first
+-- if no item of a list is in the stack, then neither the first item nor any other is
 pub off_first : (a : ℕ) (rest : Bool) → in_stack a || rest ≡ false → (in_stack a ≡ false) × (rest ≡ false)
 off_first a rest off = go (in_stack a) off
   where
@@ -247,7 +247,7 @@ module _ (turn : ℕ) where
       (ap (λ n. (n + 65535) % 65536 % 256) (pc-same s t h)))
       refl
 
-  -- an operand elsewhere
+  -- an operand outside the stack
 
   operand_byte-turned : (s t : World) (place : Place) → IsTurned turn s t → list_any in_stack (place_reads place) ≡ false
       → operand_byte memory_access place s ≡ operand_byte memory_access place t
@@ -346,7 +346,7 @@ module _ (turn : ℕ) where
   effect-turned s t place returns_from_interrupt h off spares = returned_from_interrupt-turned s t h
   effect-turned s t place breaks h off spares = h
 
-  -- where the operand lies
+  -- the place of the operand
 
   zero_page_word-turned : (m n : Memory) (a : ℕ) → IsShifted turn m n → list_any in_stack (a ∷ (a + 1) % 256 ∷ []) ≡ false
       → zero_page_word memory_access m a ≡ zero_page_word memory_access n a

@@ -1,4 +1,4 @@
--- A memory whose stack is turned in its page: what is read of it and stored to it.
+-- Loads and stores in a memory whose stack is rotated within its page.
 use Rattle.std.specs.Prelude.{◌≡◌, ◌<◌, ℕ, ◌+◌, ◌%◌, ◌==◌, Bool, true, false, if◌then◌else◌, Option, Some, None, refl}
 use Rattle.std.proofs.Common.{sym, ap, ◌∙◌, arith}
 use Rattle.std.proofs.lemmas.Bool.Decides.{nat_tests}
@@ -15,21 +15,21 @@ use Rattle.a2_footprint.proofs.Agreeing.{shows}
 
 -- Addresses
 
--- outside of the stack's page they stay
+-- an address outside the stack's page is unchanged
 pub not_in_stack : (turn a : ℕ) → in_stack a ≡ false → turned_address turn a ≡ a
 not_in_stack turn a out = ap (λ b. if b then 0x100 + (a + turn) % 256 else a) out
 
--- in it they turn
+-- an address in the page is rotated
 pub turned_in_stack : (turn a : ℕ) → in_stack a ≡ true → turned_address turn a ≡ 0x100 + (a + turn) % 256
 turned_in_stack turn a is = ap (λ b. if b then 0x100 + (a + turn) % 256 else a) is
 
--- so does that of a byte of the stack
+-- so is the address of a byte of the stack
 pub turned_place : (turn s : ℕ) → s < 256 → turned_address turn (0x100 + s) ≡ 0x100 + (s + turn) % 256
 turned_place turn s low =
     let is : in_stack (0x100 + s) ≡ true = grind (arith, nat_tests, low) in
     turned_in_stack turn (0x100 + s) is ∙ omega arith
 
--- what a pull finds
+-- what a pull reads
 pub pulled_place : (turn s count : ℕ) → turned_address turn (pull_address s count) ≡ pull_address ((s + turn) % 256) count
 pulled_place turn s count = turned_place turn ((s + count) % 256) (omega arith) ∙ omega arith
 
@@ -40,7 +40,7 @@ turned_stays turn a = go (in_stack a) refl
     go true is = ap in_stack (turned_in_stack turn a is) ∙ grind (arith, nat_tests)
     go false is = ap in_stack (not_in_stack turn a is) ∙ is
 
--- no two become one
+-- different addresses remain different
 turned_same : (turn a b : ℕ) → (turned_address turn b == turned_address turn a) ≡ (b == a)
 turned_same turn a b = go (in_stack a) (in_stack b) refl refl
   where
@@ -77,7 +77,7 @@ turned_byte turn m a = go (cell_at a) ∙ ap (λ found. shows m (turned_address 
     go None = refl
     go (Some cell) = ap (λ cells. byte_in cells cell.row cell.column) (turned_grid turn m cell.page)
 
--- a byte beside the stack is the same
+-- a byte outside the stack is the same
 pub same_beside : (turn : ℕ) (m : Memory) (a : ℕ) → in_stack a ≡ false → ram_byte (turned_memory turn m) a ≡ ram_byte m a
 same_beside turn m a out = turned_byte turn m a ∙ ap (λ b. ram_byte m b) (not_in_stack turn a out)
 
@@ -96,7 +96,7 @@ turned_store turn m a v =
         by_page One = refl
         by_page Two = refl
 
--- a byte beside the stack is stored alike
+-- a byte outside the stack is stored in the same way
 pub store_beside : (turn : ℕ) (m : Memory) (a v : ℕ) → in_stack a ≡ false
     → with_ram (turned_memory turn m) a v ≡ turned_memory turn (with_ram m a v)
 store_beside turn m a v out = turned_store turn m a v ∙ ap (λ b. turned_memory turn (with_ram m b v)) (not_in_stack turn a out)

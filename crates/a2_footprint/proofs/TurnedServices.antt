@@ -1,4 +1,4 @@
--- A service that needs no key does the same where the stack is turned.
+-- A service that needs no key does the same if the stack is rotated.
 use Rattle.std.specs.Prelude.{◌≡◌, ℕ, ◌+◌, ◌-◌, ◌*◌, ◌/◌, ◌%◌, Bool, true, false, ◌&&◌, ◌==◌, nat_lt, nat_le, if◌then◌else◌, List, [], ◌∷◌, replicate, refl}
 use Rattle.std.proofs.Common.{sym, ap, ap₂, ◌∙◌, subst, subst₂, arith, true≢false}
 use Rattle.a2_page.specs.declared.Page.TheVariants.{One}
@@ -30,7 +30,7 @@ use Rattle.a2_footprint.proofs.Placing.{SameCursor, same_window_fits, same_fits}
 use Rattle.a2_footprint.proofs.TurnedMemory.{pulled_place, same_beside, store_beside, turned_byte}
 use Rattle.a2_footprint.proofs.Ways.{called_from, returned_registers}
 
--- a return changes nothing but S and PC
+-- a return changes only S and PC
 back_is : (w : World) → back w ≡ record w { registers = called_from w }
 back_is w = λ i. record {
   registers = returned_registers w i;
@@ -38,7 +38,7 @@ back_is w = λ i. record {
   cycles = ap (λ (x : World). x.cycles) (returned_is w) i;
 }
 
--- a service fits alike, and leaves the stack turned
+-- a service fits in both worlds or in neither, and leaves the stack rotated
 abbrev pub ServedAlike : Service → ℕ → World → World → Type 0
 ServedAlike service turn world other =
     (fits service other.registers other.memory ≡ fits service world.registers world.memory)
@@ -63,7 +63,7 @@ module _ (turn : ℕ) where
         screen = λ i. let w : Window = window i in w.left + column i;
       }
 
-  -- a byte is stored alike in what is turned
+  -- a byte is stored in the same way in a rotated memory
   store : (m n : Memory) (a v : ℕ) → in_stack a ≡ false → n ≡ turned_memory turn m → with_ram n a v ≡ turned_memory turn (with_ram m a v)
   store m n a v out is = ap (λ x. with_ram x a v) is ∙ store_beside turn m a v out
 
@@ -72,7 +72,7 @@ module _ (turn : ℕ) where
   either true x y m n is _ = is
   either false x y m n _ is = is
 
-  -- What is put
+  -- What is printed
 
   line_feed_turned : (m : Memory) → after_line_feed (turned_memory turn m) ≡ turned_memory turn (after_line_feed m)
   unfolding after_line_feed
@@ -137,7 +137,7 @@ module _ (turn : ℕ) where
       with_ram (with_ram (turned_memory turn m) at.basl (base % 256)) at.bash (base / 256))
       ∙ store _ _ at.bash (base / 256) refl (store_beside turn m at.basl (base % 256) refl)
 
-  -- What is cleared and painted
+  -- What is cleared and plotted
 
   to_end_turned : (m : Memory) → cleared_to_end (turned_memory turn m) ≡ turned_memory turn (cleared_to_end m)
   unfolding cleared_to_end
@@ -177,7 +177,7 @@ module _ (turn : ℕ) where
   down_turned (row ∷ rows) column m =
       ap (λ n. painted_down rows column n) (painted_turned row column m) ∙ down_turned rows column (painted row column m)
 
-  -- How a service goes on
+  -- Where execution continues after a service
 
   same_pulled : (w v : World) (count : ℕ) → IsTurned turn w v
       → ram_byte w.memory (pull_address w.registers.s count) ≡ ram_byte v.memory (pull_address v.registers.s count)
@@ -233,7 +233,7 @@ module _ (turn : ℕ) where
 
   -- Each service
 
-  -- the world with its stack turned, and this S
+  -- the world with its stack rotated, and this S
   abbrev turned_world : ℕ → World → World
   turned_world s w = record { registers = record w.registers { s = s }; memory = turned_memory turn w.memory; cycles = w.cycles }
 
@@ -294,7 +294,7 @@ module _ (turn : ℕ) where
       back_turned (with_a colour w) _ (with_a_turned w _ colour h)
   effect_turned Clrscr w s h keyless =
       left_turned w _ _ _ h (store _ _ at.v2 47 refl (store_beside turn (with_page1 black w.memory) at.color 0 refl))
-  -- one whose row says that it may store at one byte
+  -- a service whose row allows a store at one byte
   effect_turned _ w s h keyless = left_turned w _ _ _ h (store_beside turn w.memory _ _ refl)
 
   service_turned : (service : Service) (w : World) (s : ℕ) → IsTurned turn w (turned_world s w) → is_keyless service ≡ true

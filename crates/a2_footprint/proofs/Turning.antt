@@ -1,4 +1,4 @@
--- A run that uses the stack by S alone does the same wherever S points.
+-- A run that uses the stack only through S does the same for every value of S.
 use Rattle.std.specs.Prelude.{◌≡◌, ◌<◌, ◌==◌, ℕ, zero, suc, ◌+◌, ◌-◌, ◌%◌, Bool, true, false, not, nat_lt, IsTrue, if◌then◌else◌, List, [], ◌∷◌, Option, Some, None, Result, Ok, Err, MatchOption, refl}
 use Rattle.std.specs.List.{list_any}
 use Rattle.std.proofs.Common.{sym, ap, ◌∙◌, subst, arith, below_more}
@@ -51,7 +51,7 @@ same_peek turn m n a h beside =
     let off : in_stack a ≡ false = grind (arith, nat_tests, beside) in
     ap (λ k. peek k a) h ∙ ap (λ b. let o : Option ℕ = if nat_lt a ram_end then Some b else None in o) (same_beside turn m a off)
 
--- three addresses from PC on lie elsewhere, and so do those of its instruction
+-- if the three addresses that start at PC are outside the stack, so are those of its instruction
 beside_pc : (pc : ℕ) → in_stack (pc % 65536) ≡ false → IsTrue (is_beside pc)
 beside_pc pc off = grind (arith, nat_tests, off)
 
@@ -106,7 +106,7 @@ none_among : (ns : List ℕ) → list_any (is_among []) ns ≡ false
 none_among [] = refl
 none_among (n ∷ ns) = none_among ns
 
--- what comes of the same instruction
+-- the results of the same instruction
 found_turned : (turn : ℕ) (found : Result Decoded Cause) (s t : World) → IsTurned turn s t → FoundOffStack found s
     → cause_at [] found s ≡ None → (cause_at [] found t ≡ None) × IsTurned turn (done_at found s) (done_at found t)
 found_turned turn (Err cause) s t h off free = absurd (some≢none cause free)
@@ -127,7 +127,7 @@ unguarded = refl
 both_are : (turn : ℕ) {v w x y : World} → v ≡ x → w ≡ y → IsTurned turn v w → IsTurned turn x y
 both_are turn {v} {w} {x} {y} left right h = subst (λ z. IsTurned turn x z) right (subst (λ z. IsTurned turn z w) left h)
 
--- what a step from a turned world does
+-- the effect of a step from a rotated world
 abbrev StepTurns : ℕ → World → World → Type 0
 StepTurns turn s t = (stuck (bytes None) t ≡ None) × IsTurned turn (next (bytes None) s) (next (bytes None) t)
 
@@ -164,7 +164,7 @@ module _ (turn : ℕ) (s t : World) (h : IsTurned turn s t) (going : stuck (byte
         both_are turn (sym (next_served (bytes None) s service is)) (sym (next_served (bytes None) t service (there (Some service) is))) law.1,
       )
 
--- what is off the stack, by what stands at PC
+-- what is outside the stack, given what is at PC
 abbrev OffStackBy : World → Option Service → Type 0
 OffStackBy world o =
     MatchOption o
@@ -194,7 +194,7 @@ turning turn s t (suc n) h going off =
       one.1,
     )
 
--- Two runs that are alike where the first looks
+-- Two runs that agree in everything the first one uses
 
 same_pointer : (k : Part → Bool) (r q : Registers) (mode : Mode) (value : ℕ) → MatchAt k r q → Knows k (mode_needs mode)
     → pointer_reads mode value r ≡ pointer_reads mode value q

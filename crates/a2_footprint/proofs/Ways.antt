@@ -1,4 +1,4 @@
--- How a service goes on: back to its caller, as an RTS does, or through a hook.
+-- Where execution continues after a service: at its caller, as after an RTS, or through a hook.
 use Rattle.std.specs.Prelude.{◌≡◌, ◌<◌, ℕ, ◌+◌, ◌*◌, ◌%◌, Bool, IsTrue, [], ◌∷◌}
 use Rattle.std.proofs.Common.{sym, ap, ap₂, ◌∙◌, subst, arith}
 use Rattle.a2_bus.specs.Memory.{memory_access, ram_byte, ram_end}
@@ -13,7 +13,7 @@ use Rattle.a2_footprint.specs.Reads.{AgreeOn, Knows}
 use Rattle.a2_footprint.specs.Parts.{held, MatchAt}
 use Rattle.a2_footprint.specs.Calls.{caller}
 
--- the registers behind a return
+-- the registers after a return
 abbrev pub called_from : World → Registers
 called_from w = record w.registers { s = (w.registers.s + 2) % 256; pc = caller w }
 
@@ -26,7 +26,7 @@ returned_registers w =
       pc = (ram_byte w.memory (256 + (w.registers.s + 1) % 256) + 256 * ram_byte w.memory (256 + raised i) + 1) % 65536;
     })
 
--- S and PC are no parts
+-- S and PC are not parts
 pub placed_match : (k : Part → Bool) (r q : Registers) (s t pc at : ℕ) → MatchAt k r q → s ≡ t → pc ≡ at
     → MatchAt k (record r { s = s; pc = pc }) (record q { s = t; pc = at })
 placed_match k r q s t pc at h same_s same_pc = record { s = same_s; pc = same_pc; parts = part }
@@ -35,7 +35,7 @@ placed_match k r q s t pc at h same_s same_pc = record { s = same_s; pc = same_p
     part part_a known = h.parts part_a known
     part p known = h.parts p known
 
--- two worlds go back alike that hold the same return address
+-- two worlds that hold the same return address return in the same way
 pub returning : (k : Part → Bool) (known : ℕ → Bool) (v w : World) → MatchAt k v.registers w.registers → AgreeOn known v.memory w.memory
     → Knows known (pull_address v.registers.s 1 ∷ pull_address v.registers.s 2 ∷ [])
     → MatchAt k (returned memory_access v).registers (returned memory_access w).registers

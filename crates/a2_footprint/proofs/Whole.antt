@@ -1,4 +1,4 @@
--- Where all parts are known, states that are near are alike: so the laws of reads alone.
+-- If all parts are known, states that are near are alike; this gives the laws for reads only.
 use Rattle.std.specs.Prelude.{◌≡◌, ℕ, zero, suc, Bool, true, IsTrue, List, [], ◌∷◌, refl}
 use Rattle.std.specs.List.{list_any}
 use Rattle.std.proofs.Common.{ap}

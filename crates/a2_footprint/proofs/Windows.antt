@@ -28,7 +28,7 @@ use Rattle.a2_footprint.proofs.Storing.{Stored}
 
 -- Page 1 replaced
 
--- an address is that of a cell of page 1, or keeps its byte where this page is replaced
+-- an address is that of a cell of page 1, or its byte is unchanged if this page is replaced
 pub cell_or_kept : (a : ℕ) → IsCell a ⊎ ((m : Memory) (page : Grid) → ram_byte (with_page1 page m) a ≡ ram_byte m a)
 unfolding ram_byte
 cell_or_kept a = go (cell_at a) refl
@@ -46,7 +46,7 @@ cell_or_kept a = go (cell_at a) refl
         let stands : StandsAt a cell = cell_at-stands a cell is in
         by_page cell.page cell.row cell.column stands.row_ok stands.column_ok stands.address_is
 
--- a cell's byte in a new page
+-- the byte of a cell in a new page
 in_page : (m : Memory) (page : Grid) (a : ℕ) (cell : IsCell a) → ram_byte (with_page1 page m) a ≡ byte_in page cell.row cell.column
 in_page m page a cell =
     ap (λ k. ram_byte (with_page1 page m) k) (sym cell.is)
@@ -55,13 +55,13 @@ in_page m page a cell =
 in_memory : (m : Memory) (a : ℕ) (cell : IsCell a) → ram_byte m a ≡ byte_in m.page1 cell.row cell.column
 in_memory m a cell = ap (λ k. ram_byte m k) (sym cell.is) ∙ cell_seen m cell.row cell.column cell.row_ok cell.column_ok
 
--- nothing is stored at a cell, which shows in two new pages what it showed
+-- nothing is stored in a cell, and it holds the same in two new pages as before
 record IsKept (stores : List ℕ) (m n : Memory) (g h : Grid) (row column : ℕ) : Type 0 where
   out : is_among stores (address_of One row column) ≡ false
   left : byte_in g row column ≡ byte_in m.page1 row column
   right : byte_in h row column ≡ byte_in n.page1 row column
 
--- the same is stored at it
+-- the same byte is stored in it
 record IsStored (stores : List ℕ) (g h : Grid) (row column : ℕ) : Type 0 where
   among : is_among stores (address_of One row column) ≡ true
   same : byte_in g row column ≡ byte_in h row column
@@ -69,7 +69,7 @@ record IsStored (stores : List ℕ) (g h : Grid) (row column : ℕ) : Type 0 whe
 abbrev Either : List ℕ → Memory → Memory → Grid → Grid → ℕ → ℕ → Type 0
 Either stores m n g h row column = IsStored stores g h row column ⊎ IsKept stores m n g h row column
 
--- two memories with new pages, each of whose cells is one of these
+-- two memories with new pages, where one of these two cases applies to each cell
 repaged : (known : ℕ → Bool) (stores : List ℕ) (m n : Memory) (g h : Grid) → AgreeOn known m n → IsGrid g → IsGrid h
     → ((a : ℕ) → is_among stores a ≡ true → IsCell a)
     → ((row column : ℕ) → row < 24 → column < 40 → Either stores m n g h row column)
@@ -119,9 +119,9 @@ repaged known stores m n g h agree g_is h_is cells each = record {
     one k page b same_cell (inl cell) = in_page k page b cell ∙ same_cell cell ∙ sym (in_memory k b cell)
     one k page b same_cell (inr kept) = kept k page
 
--- A window's rows with other parts
+-- The rows of a window with other parts
 
--- a page with these parts in the window's rows
+-- a page with these parts in the rows of the window
 pub record IsParted (w : Window) (part : ℕ → List ℕ) (old new : Grid) : Type 0 where
   pub height : length new ≡ 24
   pub long : (r : ℕ) → w.top ≤ r → r < w.bottom → length (part r) ≡ w.width
@@ -151,7 +151,7 @@ parted known w part m n g h agree on to_g to_h =
     (parted_grid w part n.page1 h on agree.right_pages.0 to_h) (window_cell w on)
     (λ row column row_ok column_ok. each row column row_ok column_ok (cases_lt row w.top) (cases_lt row w.bottom))
   where
-    -- a row of one of both, off the part and in it
+    -- a row of one of the two pages, outside the part and inside it
     before : (old new : Grid) (row column : ℕ) → IsGrid old → IsParted w part old new → row < 24 → w.top ≤ row → row < w.bottom
         → column < w.left → byte_in new row column ≡ byte_in old row column
     before old new row column is h row_ok low high lt =
@@ -208,7 +208,7 @@ parted known w part m n g h agree on to_g to_h =
     each row column row_ok column_ok (inr low) (inl high) =
         at_column row column row_ok column_ok low high (cases_lt column w.left) (cases_lt column (w.left + w.width))
 
--- parts that are the same otherwise made
+-- the same parts, computed in another way
 same_parts : (w : Window) (part other : ℕ → List ℕ) (old new : Grid) → IsParted w part old new
     → ((r : ℕ) → w.top ≤ r → r < w.bottom → part r ≡ other r) → IsParted w other old new
 same_parts w part other old new h same = record {
@@ -220,7 +220,7 @@ same_parts w part other old new h same = record {
 
 -- A window scrolled
 
--- what comes into a row: the row below, or blanks
+-- the new contents of a row: the row below, or blanks
 abbrev part_of : Window → Grid → ℕ → Bool → List ℕ
 part_of w g r more = if more then slice_range (slice_index_or g (r + 1) []) w.left (w.left + w.width) else blank_part w
 
@@ -250,7 +250,7 @@ scrolled_parted w g w_is g_is = record {
         let e : r + 1 ≡ w.bottom = grind (arith, nat_tests, is, high) in
         scrolled-last w g r w_is g_is.height e
 
--- a row's part is the same in both where its cells are known
+-- the part of a row is the same in both if its cells are known
 same_row : (known : ℕ → Bool) (w : Window) (m n : Memory) → AgreeOn known m n → IsWindow w → Knows known (window_cells w)
     → (r : ℕ) → w.top ≤ r → r < w.bottom
     → slice_range (slice_index_or n.page1 r []) w.left (w.left + w.width) ≡ slice_range (slice_index_or m.page1 r []) w.left (w.left + w.width)
@@ -343,7 +343,7 @@ clearing_below known m n agree same row w_is =
     subst P (λ i. record (same i) { top = row i + 1 })
     (clearing known below m n agree w_is.width (record { right = w_is.right; bottom = w_is.bottom }))
 
--- A part of one row laid
+-- A part of one row replaced
 
 abbrev one_row : ℕ → ℕ → ℕ → Window
 one_row row left width = record { left = left; width = width; top = row; bottom = row + 1 }

@@ -7,11 +7,11 @@ use Rattle.a2_bus.specs.View.{memory_of}
 use Rattle.a2_effect.specs.Instruction.{State}
 use Rattle.a2_footprint.specs.InstructionReads.{reads_of}
 
--- the same processor over the memory that a board holds
+-- the same processor with the memory that a board holds
 abbrev pub over_memory : State BusState → State Memory
 over_memory state = record { registers = state.registers; memory = memory_of state.memory; cycles = state.cycles }
 
--- an instruction reads at the same addresses on a board and on the memory that it holds
+-- an instruction reads the same addresses on a board and on the memory that the board holds
 abbrev pub BoardsReadAsTheirMemory : Type 0
 BoardsReadAsTheirMemory =
     (row : Row) (value : ℕ) (state : State BusState) → length state.memory.bytes ≡ ram_end

@@ -1,4 +1,4 @@
--- A routine that is called from anywhere: its RTS goes back to its caller. This project's own.
+-- A routine that can be called from anywhere: its RTS returns to its caller. This project's own.
 use Rattle.std.specs.Prelude.{◌≡◌, ◌<◌, ◌≤◌, ℕ, suc, ◌+◌, ◌*◌, ◌%◌, Bool, IsTrue, None, Ok}
 use Rattle.a2_opcode.specs.declared.Mnemonic.TheVariants.{Rts}
 use Rattle.a2_bus.specs.Memory.{Memory, ram_byte}
@@ -14,7 +14,8 @@ use Rattle.a2_footprint.specs.Runs.{RunReads, stores_in, known_behind}
 use Rattle.a2_footprint.specs.Uses.{Near, RunNeeds, parts_behind}
 use Rattle.a2_footprint.specs.Promises.{Promise, IsKnown, Holds, Meets, known_bytes, known_parts, selected}
 
--- So many steps lead to an RTS with S as at the entry, and none stores at the return address, which need not be known.
+-- This many steps lead to an RTS, with S as at the entry. None of them stores at the return address, which need not be
+-- known.
 pub record ComesToRts (code : Code) (parts : Part → Bool) (bytes : ℕ → Bool) (start : World) (n : ℕ) : Type 0 where
   pub reads : RunReads code bytes start n
   pub needs : RunNeeds code parts start n
@@ -28,25 +29,25 @@ pub record ComesToRts (code : Code) (parts : Part → Bool) (bytes : ℕ → Boo
   pub low : IsNotIn (pull_address start.registers.s 1) (stores_in code start n)
   pub high : IsNotIn (pull_address start.registers.s 2) (stores_in code start n)
 
--- the address behind the JSR that left a return address on the stack
+-- the address after the JSR that left a return address on the stack
 abbrev pub caller : World → ℕ
 caller world =
     (ram_byte world.memory (pull_address world.registers.s 1) + 256 * ram_byte world.memory (pull_address world.registers.s 2) + 1) % 65536
 
--- So many steps and an RTS lead back to the caller, none of which is stuck; the RTS changes nothing but S and PC.
+-- This many steps and an RTS return to the caller, and none of them is stuck. The RTS changes only S and PC.
 pub record GoesBack (code : Code) (start : World) (n : ℕ) : Type 0 where
   pub going : (k : ℕ) → k < suc n → stuck code (world_at code start k) ≡ None
   pub registers : (world_at code start (suc n)).registers
       ≡ (let r : Registers = (world_at code start n).registers in record r { s = (start.registers.s + 2) % 256; pc = caller start })
   pub memory : (world_at code start (suc n)).memory ≡ (world_at code start n).memory
 
--- a run from another world, which is alike where this one looks, goes back to its own caller
+-- a run from another world that agrees in everything this run uses returns to its own caller
 abbrev pub CallsGoBack : Type 0
 CallsGoBack =
     (code : Code) (parts : Part → Bool) (bytes : ℕ → Bool) (s t : World) (n : ℕ) → Near parts (AgreeOn bytes) s t
     → ComesToRts code parts bytes s n → GoesBack code t n
 
--- A promise about calls: the routine comes to an RTS within the limit, and the postcondition holds there.
+-- A promise about calls: the routine reaches an RTS within the limit, and the postcondition holds there.
 pub record CallPasses (promise : Promise) (limit : ℕ) (start : World) : Type 0 where
   pub steps : ℕ
   pub within : steps ≤ limit
@@ -55,7 +56,8 @@ pub record CallPasses (promise : Promise) (limit : ℕ) (start : World) : Type 0
       (parts_behind promise.code (known_parts promise) start steps) promise.behind
   pub passed : IsTrue (promise.test (selected promise.before start) (selected promise.behind (world_at promise.code start steps)))
 
--- the routine goes back to its caller within the limit, the postcondition holds, and each byte stays that it does not store at
+-- the routine returns to its caller within the limit, the postcondition holds, and it changes only bytes at which it
+-- stores
 pub record CallKeeps (promise : Promise) (limit : ℕ) (world : World) : Type 0 where
   pub steps : ℕ
   pub within : steps ≤ limit
@@ -64,7 +66,7 @@ pub record CallKeeps (promise : Promise) (limit : ℕ) (world : World) : Type 0 
   pub rest : (b : ℕ) → IsNotIn b (stores_in promise.code world steps)
       → ram_byte (world_at promise.code world (suc steps)).memory b ≡ ram_byte world.memory b
 
--- so a promise holds wherever the routine is called from, with S as it was tried
+-- so a promise holds for every caller, with the same S as in the tries
 abbrev pub CallPromisesHoldEverywhere : Type 0
 CallPromisesHoldEverywhere =
     (promise : Promise) (limit : ℕ) → Holds promise (CallPasses promise limit) → (world : World) → Meets promise world

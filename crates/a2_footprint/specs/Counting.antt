@@ -1,17 +1,17 @@
--- The states of inputs, counted: so a count up to their product comes to each. This project's own.
+-- The states of inputs, numbered, so that counting up to their product reaches each of them. This project's own.
 use Rattle.std.specs.Prelude.{◌≡◌, ◌<◌, ℕ, ◌*◌, ◌/◌, ◌%◌, List, [], ◌∷◌}
 
--- how many states there are of inputs that have so many values each
+-- how many states there are, given how many values each input has
 abbrev pub states_of : List ℕ → ℕ
 states_of [] = 1
 states_of (values ∷ rest) = states_of rest * values
 
--- the state of a number: the value of the first input is its lowest digit
+-- the state with a number: the value of the first input is the number's lowest digit
 abbrev pub state_at : List ℕ → ℕ → List ℕ
 state_at [] number = []
 state_at (values ∷ rest) number = (number % values) ∷ state_at rest (number / values)
 
--- a value of each input
+-- a value for each input
 abbrev pub IsState : List ℕ → List ℕ → Type 0
 IsState [] [] = Unit {0}
 IsState (values ∷ rest) (value ∷ state) = (value < values) × IsState rest state

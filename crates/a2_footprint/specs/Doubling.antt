@@ -1,4 +1,4 @@
--- A promise that holds, as an example: ASL A, STA $06, RTS doubles A. This project's own.
+-- An example of a promise that holds: ASL A, STA $06, RTS doubles A. This project's own.
 use Rattle.std.specs.Prelude.{◌≡◌, ◌==◌, ◌*◌, ℕ, false, nat_lt, if◌then◌else◌, List, [], ◌∷◌, Option, Some, None, slice_index}
 use Rattle.a2_opcode.specs.declared.Instr.{Instr}
 use Rattle.a2_opcode.specs.declared.Mnemonic.TheVariants.{Asl, Rts, Sta}
@@ -24,8 +24,8 @@ only_a = record { addresses = []; parts = is_part part_a }
 abbrev pub only_bytes : List ℕ → Selection
 only_bytes addresses = record { addresses = addresses; parts = λ part. false }
 
--- For every A below 128, $06 is 2 * A at the end. $01FE and $01FF are fixed; X, Y, the flags and all other bytes are not
--- looked at.
+-- For every A below 128, $06 is 2 * A at the end. $01FE and $01FF are fixed; X, Y, the flags and all other bytes are
+-- not used.
 abbrev pub doubling_promise : Memory → Promise
 doubling_promise memory = record {
   code = statements doubling (0x300 ∷ 0x301 ∷ 0x302 ∷ 0x303 ∷ []);
@@ -38,7 +38,7 @@ doubling_promise memory = record {
   test = λ entry end. slice_index end.bytes 0 == 2 * entry.registers.a;
 }
 
--- it holds within 3 steps, with any memory as its base in which the stack's last two bytes lead to $FF69
+-- it holds within 3 steps, with any memory as its base in which the last two bytes of the stack return to $FF69
 abbrev pub DoublingHolds : Type 0
 DoublingHolds =
     (memory : Memory) → IsGrid memory.page1 × IsGrid memory.page2 → (ram_byte memory 0x1FE ≡ 0x68) × (ram_byte memory 0x1FF ≡ 0xFF)

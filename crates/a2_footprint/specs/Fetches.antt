@@ -1,4 +1,4 @@
--- The bytes that an instruction is fetched from. This project's own.
+-- The bytes from which an instruction is fetched. This project's own.
 use Rattle.std.specs.Prelude.{◌≡◌, ℕ, zero, suc, ◌+◌, ◌-◌, ◌%◌, Bool, List, [], ◌∷◌, Option, Some, None}
 use Rattle.a2_opcode.specs.Table.{row_of, length_of}
 use Rattle.a2_bus.specs.Memory.{Memory, peek}
@@ -9,12 +9,12 @@ use Rattle.a2_machine.specs.ByteRun.{Guard, bytes}
 use Rattle.a2_footprint.specs.Reads.{AgreeOn, Knows}
 use Rattle.a2_footprint.specs.Runs.{StepReads, step_reads}
 
--- the addresses of so many bytes, with wrap at the end of the address space
+-- the addresses of this many bytes, with wrap at the end of the address space
 abbrev pub addresses_from : ℕ → ℕ → List ℕ
 addresses_from at zero = []
 addresses_from at (suc count) = (at % 65536) ∷ addresses_from (suc at) count
 
--- the addresses of the operand behind a byte, if that is a documented opcode
+-- the addresses of the operand after an opcode, if the opcode is documented
 abbrev pub operand_addresses : ℕ → Option ℕ → List ℕ
 operand_addresses pc None = []
 operand_addresses pc (Some opcode) = elim (row_of opcode) [ None ↦ [] | Some row ↦ addresses_from (pc + 1) (length_of row.mode - 1) ]
@@ -23,15 +23,15 @@ operand_addresses pc (Some opcode) = elim (row_of opcode) [ None ↦ [] | Some r
 unfoldable pub fetch_reads : Memory → ℕ → List ℕ
 fetch_reads memory pc = pc ∷ operand_addresses pc (peek memory pc)
 
--- memories that agree at an instruction's bytes have the same instruction there, with each guard or none: so a step of what
--- the machine runs needs no more than that these bytes are known
+-- memories that agree in the bytes of an instruction have the same instruction there, with any guard or none. So for a
+-- step of the code that the machine runs, it is enough that these bytes are known.
 abbrev pub FetchesDependOnReads : Type 0
 FetchesDependOnReads =
     (guard : Option Guard) (known : ℕ → Bool) (m n : Memory) (pc : ℕ) → AgreeOn known m n → Knows known (fetch_reads m pc)
     → (bytes guard).instruction_at n pc ≡ (bytes guard).instruction_at m pc
 
--- a step by code that stands in memory reads known bytes alone, where those of its instruction are known and those that this
--- reads
+-- a step by code in memory reads only known bytes, if the bytes of its instruction and the bytes that the instruction
+-- reads are known
 abbrev pub StepsByBytesRead : Type 0
 StepsByBytesRead =
     (guard : Option Guard) (known : ℕ → Bool) (world : World)

@@ -1,4 +1,4 @@
--- What the crate's own functions answer, for their contracts alone.
+-- The results of the crate's private functions, used only in their contracts.
 use Rattle.std.specs.Prelude.{ℕ, List, [], ◌∷◌}
 use Rattle.a2_footprint.specs.declared.bytes.Few.{Few}
 use Rattle.a2_footprint.specs.declared.bytes.Few.TheVariants as few

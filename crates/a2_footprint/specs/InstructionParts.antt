@@ -1,4 +1,4 @@
--- The registers and flags that an instruction looks at, and those that it sets. MCS6500 Programming Manual, appendix A.
+-- The registers and flags that an instruction uses, and those that it sets. MCS6500 Programming Manual, appendix A.
 use Rattle.std.specs.Prelude.{List, [], ◌∷◌}
 use Rattle.a2_opcode.specs.declared.Mode.{Mode}
 use Rattle.a2_opcode.specs.declared.Mode.TheVariants.{Accumulator, ZeroPageX, ZeroPageY, AbsoluteX, AbsoluteY, IndexedIndirect, IndirectIndexed}
@@ -10,7 +10,7 @@ use Rattle.a2_footprint.specs.declared.Part.TheVariants as part
 abbrev pub all_flags : List Part
 all_flags = part.N ∷ part.V ∷ part.D ∷ part.I ∷ part.Z ∷ part.C ∷ []
 
--- the parts that a mnemonic looks at
+-- the parts that a mnemonic uses
 unfoldable pub needs : Mnemonic → List Part
 needs Adc = part.A ∷ part.D ∷ part.C ∷ []
 needs And = part.A ∷ []
@@ -47,7 +47,7 @@ needs Txs = part.X ∷ []
 needs Tya = part.Y ∷ []
 needs _ = []
 
--- the parts that a mode looks at
+-- the parts that an addressing mode uses
 abbrev pub mode_needs : Mode → List Part
 mode_needs Accumulator = part.A ∷ []
 mode_needs ZeroPageX = part.X ∷ []

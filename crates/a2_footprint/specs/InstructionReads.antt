@@ -20,12 +20,12 @@ abbrev pub place_reads : Place → List ℕ
 place_reads (address at) = at ∷ []
 place_reads _ = []
 
--- the addresses of a pointer that JMP goes by, both in one page
+-- the two addresses of the pointer that an indirect JMP uses, both in the same page
 abbrev pub jump_reads : Place → List ℕ
 jump_reads (pointer at) = at ∷ (256 * (at / 256) + (at + 1) % 256) ∷ []
 jump_reads _ = []
 
--- the address of the stack that a first, second or third pull reads
+-- the address on the stack that the first, second or third pull reads
 abbrev pub pull_address : ℕ → ℕ → ℕ
 pull_address s count = 0x100 + (s + count) % 256
 
@@ -39,7 +39,7 @@ effect_reads returns place s = pull_address s 1 ∷ pull_address s 2 ∷ []
 effect_reads returns_from_interrupt place s = pull_address s 1 ∷ pull_address s 2 ∷ pull_address s 3 ∷ []
 effect_reads _ place s = []
 
--- the addresses that an instruction reads, beside those of its own bytes
+-- the addresses that an instruction reads, except those of its own bytes
 unfoldable pub reads_of : {M : Type 0} → Access M → Row → ℕ → State M → List ℕ
 reads_of access row value state =
     pointer_reads row.mode value state.registers

@@ -1,11 +1,11 @@
--- Parts of the registers that are known, and processors that are alike there. This project's own.
+-- Parts of the registers that are known, and processors that agree in them. This project's own.
 use Rattle.std.specs.Prelude.{◌≡◌, ℕ, Bool, true, false, ◌||◌, IsTrue, List}
 use Rattle.std.specs.List.{list_any}
 use Rattle.a2_effect.specs.Registers.{Registers}
 use Rattle.a2_footprint.specs.declared.Part.{Part}
 use Rattle.a2_footprint.specs.declared.Part.TheVariants.{A as part_a, X as part_x, Y as part_y, N as part_n, V as part_v, D as part_d, I as part_i, Z as part_z, C as part_c}
 
--- what a part holds: a register a number, a flag whether it is set
+-- the value of a part: a number for a register, and whether it is set for a flag
 abbrev pub Held : Part → Type 0
 Held part_a = ℕ
 Held part_x = ℕ
@@ -23,7 +23,7 @@ held part_i registers = registers.flags.i
 held part_z registers = registers.flags.z
 held part_c registers = registers.flags.c
 
--- two processors are alike at known parts, and have the same S and PC
+-- two processors agree in the known parts, and have the same S and PC
 pub record MatchAt (known : Part → Bool) (r q : Registers) : Type 0 where
   pub s : r.s ≡ q.s
   pub pc : r.pc ≡ q.pc
@@ -41,6 +41,6 @@ is_part part_z part_z = true
 is_part part_c part_c = true
 is_part _ _ = false
 
--- the parts of a list, and those known before
+-- the parts of a list, together with those known before
 abbrev pub with_parts : List Part → (Part → Bool) → Part → Bool
 with_parts more known part = list_any (is_part part) more || known part

@@ -20,12 +20,13 @@ pub record Selection : Type 0 where
   pub addresses : List ℕ
   pub parts : Part → Bool
 
--- what they hold: the bytes, and the registers, with 0 and false for all that is not selected but S and PC
+-- the values of a selection: its bytes, and the registers; S and PC are always included, and anything else that is not
+-- selected is 0 or false
 pub record Selected : Type 0 where
   pub bytes : List ℕ
   pub registers : Registers
 
--- registers with another processor's parts where they are selected
+-- registers whose selected parts are those of another processor
 abbrev pub with_selected : (Part → Bool) → Registers → Registers → Registers
 with_selected selected from to = record to {
   a = if selected part_a then from.a else to.a;
@@ -56,18 +57,18 @@ pub record Promise : Type 0 where
   pub code : Code
   -- a world at the routine's entry
   pub base : World
-  -- what may be anything at the entry, and what has to be as in the base, such as the bytes of code that stands in memory;
-  -- nothing else is looked at before it is set
+  -- the parts of the entry state that may have any value, and those that must be as in the base, such as the bytes of
+  -- code in memory; anything else must be set before it is used
   pub inputs : Selection
   pub fixed : Selection
-  -- the precondition, a test of what these hold at the entry
+  -- the precondition, a test of the values that this selection has at the entry
   pub before : Selection
   pub required : Selected → Bool
-  -- the postcondition, a test of that, and of what these hold at the end
+  -- the postcondition, a test of those values and of the values that this selection has at the end
   pub behind : Selection
   pub test : Selected → Selected → Bool
 
--- the bytes and parts that a run may look at before it stored or set them
+-- the bytes and parts that a run may use before it stores or sets them
 abbrev pub known_bytes : Promise → ℕ → Bool
 known_bytes promise a = is_among promise.inputs.addresses a || is_among promise.fixed.addresses a
 
@@ -95,7 +96,7 @@ pub record AreBytes (promise : Promise) (world : World) : Type 0 where
 abbrev pub IsRequired : Promise → World → Type 0
 IsRequired promise world = IsTrue (promise.required (selected promise.before world))
 
--- the routine returns within the limit, having looked at nothing unknown, and the postcondition holds
+-- the routine returns within the limit without using anything unknown, and the postcondition holds
 pub record Passes (promise : Promise) (limit : ℕ) (start : World) : Type 0 where
   pub steps : ℕ
   pub within : steps ≤ limit
@@ -113,7 +114,8 @@ pub record Holds (promise : Promise) (Pass : World → Type 0) : Type 0 where
   pub every : (inputs : World) → AreBytes promise inputs → IsRequired promise (with_inputs promise inputs)
       → Pass (with_inputs promise inputs)
 
--- a world at the routine's entry: as the base where that is fixed, whatever else is in its memory and registers
+-- a world at the routine's entry: it agrees with the base in everything fixed, and the rest of its memory and registers
+-- may hold anything
 pub record Meets (promise : Promise) (world : World) : Type 0 where
   pub inputs : AreBytes promise world
   pub required : IsRequired promise world
@@ -123,7 +125,7 @@ pub record Meets (promise : Promise) (world : World) : Type 0 where
   pub pages : IsGrid world.memory.page1 × IsGrid world.memory.page2
   pub cycles : world.cycles ≡ promise.base.cycles
 
--- the routine returns within the limit, the postcondition holds, and each byte stays that it does not store at
+-- the routine returns within the limit, the postcondition holds, and the routine changes only bytes at which it stores
 pub record Keeps (promise : Promise) (limit : ℕ) (world : World) : Type 0 where
   pub steps : ℕ
   pub within : steps ≤ limit
@@ -136,7 +138,7 @@ abbrev pub PromisesHoldEverywhere : Type 0
 PromisesHoldEverywhere =
     (promise : Promise) (limit : ℕ) → Holds promise (Passes promise limit) → (world : World) → Meets promise world → Keeps promise limit world
 
--- the tries of a promise differ in their inputs alone: there are as many as these have states
+-- the tries of a promise differ only in their inputs: there are as many tries as there are states of the inputs
 abbrev pub TriesDependOnInputs : Type 0
 TriesDependOnInputs =
     (promise : Promise) (one other : World)

@@ -1,4 +1,4 @@
--- An instruction, a step and a run depend on nothing but what they read. This project's own.
+-- An instruction, a step and a run depend only on what they read. This project's own.
 use Rattle.std.specs.Prelude.{◌≡◌, ◌<◌, ◌≤◌, ℕ, zero, suc, Bool, true, List, [], ◌++◌, Some, None, Result, Ok, Err, MatchOption}
 use Rattle.a2_opcode.specs.declared.Row.{Row}
 use Rattle.a2_bus.specs.Memory.{Memory, memory_access, ram_byte}
@@ -13,8 +13,8 @@ use Rattle.a2_footprint.specs.InstructionReads.{reads_of}
 use Rattle.a2_footprint.specs.Reads.{Knows, with_bytes, AgreeOn}
 use Rattle.a2_footprint.specs.Services.{is_keyless, service_reads, service_stores}
 
--- Two states alike at known bytes, of which an instruction reads no other: behind it they are alike at those that it stored
--- at too, and in both it stores at the same addresses.
+-- Two states agree in the known bytes, and an instruction reads no others. Then they agree after it in the bytes that
+-- it stored as well, and it stores at the same addresses in both.
 abbrev pub InstructionsDependOnReads : Type 0
 InstructionsDependOnReads =
     (row : Row) (value : ℕ) (known : ℕ → Bool) (s t : World) → Alike (AgreeOn known) s t
@@ -23,7 +23,7 @@ InstructionsDependOnReads =
     (performed memory_access row value s) (performed memory_access row value t)
     × (stores_of memory_access row value s ≡ stores_of memory_access row value t)
 
--- the addresses that an instruction that is found at PC reads, and those that it stores at
+-- the addresses that the instruction found at PC reads, and those at which it stores
 abbrev pub found_reads : Result Decoded Cause → World → List ℕ
 found_reads (Ok decoded) world = reads_of memory_access decoded.row decoded.value world
 found_reads (Err cause) world = []
@@ -32,7 +32,7 @@ abbrev pub found_stores : Result Decoded Cause → World → List ℕ
 found_stores (Ok decoded) world = stores_of memory_access decoded.row decoded.value world
 found_stores (Err cause) world = []
 
--- those that the next step does, which is a service or an instruction
+-- the addresses that the next step, which is a service or an instruction, reads, and those at which it stores
 unfoldable pub step_reads : Code → World → List ℕ
 step_reads code world =
     elim (service_at world.registers.pc) [
@@ -47,8 +47,9 @@ step_stores code world =
       | None ↦ found_stores (found_at_pc code world) world
     ]
 
--- A step is made that reads known bytes alone: a service that needs no key, or an instruction that every memory has there that agrees at
--- these; of a program's statements that is so by itself.
+-- A step is executed, and reads only known bytes. It is either a service that needs no key or an instruction. An
+-- instruction must be the same in every memory that agrees in the known bytes; for the statements of a program this is
+-- always so.
 pub record StepReads (code : Code) (known : ℕ → Bool) (world : World) : Type 0 where
   pub going : stuck code world ≡ None
   pub found : MatchOption (service_at world.registers.pc)
@@ -56,7 +57,7 @@ pub record StepReads (code : Code) (known : ℕ → Bool) (world : World) : Type
       (λ service. is_keyless service ≡ true)
   pub reads : Knows known (step_reads code world)
 
--- the same of a step: the other world is not stuck either
+-- the same for a step: it is not stuck in the other world either
 abbrev pub StepsDependOnReads : Type 0
 StepsDependOnReads =
     (code : Code) (known : ℕ → Bool) (s t : World) → Alike (AgreeOn known) s t → StepReads code known s
@@ -64,23 +65,23 @@ StepsDependOnReads =
     × Alike (AgreeOn (with_bytes (step_stores code s) known)) (next code s) (next code t)
     × (step_stores code s ≡ step_stores code t)
 
--- the addresses that so many steps store at
+-- the addresses at which this many steps store
 unfoldable pub stores_in : Code → World → ℕ → List ℕ
 stores_in code start zero = []
 stores_in code start (suc n) = stores_in code start n ++ step_stores code (world_at code start n)
 
--- the bytes known behind so many steps: those known before, and those that were stored
+-- the bytes known after this many steps: those known before, and those that were stored
 unfoldable pub known_behind : Code → (ℕ → Bool) → World → ℕ → ℕ → Bool
 known_behind code known start zero = known
 known_behind code known start (suc n) = with_bytes (step_stores code (world_at code start n)) (known_behind code known start n)
 
--- so many steps read bytes alone that were known, or that earlier ones stored
+-- this many steps read only bytes that were known, or that earlier steps stored
 abbrev pub RunReads : Code → (ℕ → Bool) → World → ℕ → Type 0
 RunReads code known start n =
     (k : ℕ) → k < n → StepReads code (known_behind code known start k) (world_at code start k)
 
--- So many steps from two worlds: none from the other world is stuck, they store at the same addresses, and each other byte
--- stays; where they return from the one, they do from the other.
+-- This many steps from two worlds: none from the other world is stuck, both runs store at the same addresses, and each
+-- other byte is unchanged. If the run from the first world returns, so does the other.
 pub record RunsAlike (code : Code) (s t : World) (n : ℕ) : Type 0 where
   pub going : (k : ℕ) → k < n → stuck code (world_at code t k) ≡ None
   pub stores : stores_in code s n ≡ stores_in code t n

@@ -1,5 +1,5 @@
--- What the Monitor's services read and where they store, and the registers that they look at and set. Apple II Reference Manual (1979),
--- chapter 3, has what each is for; the exact effects are this project's profile.
+-- The bytes that the Monitor's services read and store, and the registers that they use and set. Apple II Reference
+-- Manual (1979), chapter 3, describes the purpose of each; the exact effects are this project's profile.
 use Rattle.std.specs.Prelude.{ℕ, ◌+◌, ◌-◌, ◌/◌, ◌%◌, Bool, true, false, ◌&&◌, ◌||◌, ◌==◌, nat_lt, nat_le, if◌then◌else◌, List, [], ◌∷◌, ◌++◌, map}
 use Rattle.std.specs.List.{flat_map}
 use Rattle.a2_page.specs.declared.Page.TheVariants.{One}
@@ -29,9 +29,9 @@ use Rattle.a2_footprint.specs.InstructionReads.{pull_address}
 use Rattle.a2_footprint.specs.declared.Part.{Part}
 use Rattle.a2_footprint.specs.declared.Part.TheVariants.{A as part_a, X as part_x, Y as part_y}
 
--- Of a service all is read off its row, in a2_services.
+-- Everything here is derived from the row of a service, in a2_services.
 
--- A service needs no key. Of the others it is not said here what they read and where they store.
+-- A service needs no key. For services that need one, this file does not define what they read and where they store.
 abbrev pub needs_no_key : Needs → Bool
 needs_no_key need.Key = false
 needs_no_key need.Line = false
@@ -46,7 +46,7 @@ parts_in set.A = part_a ∷ []
 parts_in set.X = part_x ∷ []
 parts_in set.AAndY = part_a ∷ part_y ∷ []
 
--- the registers that a service looks at, and those that it sets
+-- the registers that a service uses, and those that it sets
 abbrev pub service_needs : Service → List Part
 service_needs service = parts_in (service_row service).looks_at
 
@@ -55,7 +55,7 @@ service_sets service = parts_in (service_row service).sets
 
 -- Cells of page 1
 
--- so many cells of a row, from a column on
+-- this many cells of a row, starting at a column
 abbrev pub cells_across : ℕ → ℕ → ℕ → List ℕ
 cells_across row column count = numbers_from (address_of One row column) count
 
@@ -67,40 +67,40 @@ window_cells window =
 abbrev pub cursor_cell : Memory → ℕ
 cursor_cell memory = address_of One (cursor_row memory) (screen_column memory)
 
--- from the cursor to the window's right edge, and the rows of the window below
+-- the cells from the cursor to the window's right edge, and the rows of the window below the cursor
 abbrev pub cells_to_end : Memory → List ℕ
 cells_to_end memory = cells_across (cursor_row memory) (screen_column memory) ((window_of memory).width - cursor_column memory)
 
 abbrev pub cells_below : Memory → List ℕ
 cells_below memory = window_cells (record (window_of memory) { top = cursor_row memory + 1 })
 
--- the cell of a row and a column of blocks
+-- the cell at a row and a column of blocks
 abbrev pub block_cell : ℕ → ℕ → ℕ
 block_cell row column = address_of One (row / 2) column
 
--- of the blocks of HLINE, and of VLINE
+-- the cells of the blocks that HLINE plots, and of those that VLINE plots
 abbrev pub blocks_across : Registers → Memory → List ℕ
 blocks_across registers memory = map (λ column. block_cell registers.a column) (span_of registers.y (ram_byte memory at.h2))
 
 abbrev pub blocks_down : Registers → Memory → List ℕ
 blocks_down registers memory = map (λ row. block_cell row registers.y) (span_of registers.a (ram_byte memory at.v2))
 
--- A byte that is put
+-- A byte that is printed
 
--- the byte under the mask, if it is a blank or more
+-- the byte with the mask applied, if it is a blank or more
 abbrev pub masked : ℕ → Memory → ℕ
 masked byte memory = masked_by byte (inverse_mask memory)
 
--- a line feed moves the cells of the window, where the cursor can't go down
+-- the cells of the window, which a line feed moves if the cursor cannot go down
 abbrev pub scrolled_cells : Memory → List ℕ
 scrolled_cells memory =
     if nat_lt (cursor_row memory + 1) (window_of memory).bottom then [] else window_cells (window_of memory)
 
--- the cells that a character moves, which stands in the window's last column
+-- the cells that are moved if a character is printed in the window's last column
 abbrev pub wrapped_cells : Memory → List ℕ
 wrapped_cells memory = if nat_le (window_of memory).width (cursor_column memory + 1) then scrolled_cells memory else []
 
--- the cells that a byte moves, once it is masked; and those that it changes
+-- the cells that a byte moves after it is masked, and those that it changes
 abbrev pub moved_by : ℕ → Memory → List ℕ
 moved_by byte memory =
     if byte == carriage_return || byte == line_feed then scrolled_cells memory
@@ -127,7 +127,7 @@ window_bytes = at.wndlft ∷ at.wndwdth ∷ at.wndtop ∷ at.wndbtm ∷ []
 abbrev pub cursor_bytes : List ℕ
 cursor_bytes = at.ch ∷ at.cv ∷ window_bytes
 
--- the bytes that say whether it fits
+-- the bytes of window, cursor or block that decide whether the service fits
 abbrev pub fit_bytes : Needs → List ℕ
 fit_bytes need.Window = window_bytes
 fit_bytes need.Cursor = cursor_bytes
@@ -135,7 +135,7 @@ fit_bytes need.Across = at.h2 ∷ []
 fit_bytes need.Down = at.v2 ∷ []
 fit_bytes _ = []
 
--- those that say where it goes on: a hook's, or the return address
+-- the bytes that hold where execution continues: those of a hook, or the return address
 abbrev pub way_by : Takes → ℕ → List ℕ
 way_by span.OutputHook s = at.csw ∷ (at.csw + 1) ∷ []
 way_by span.InputHook s = at.ksw ∷ (at.ksw + 1) ∷ []
@@ -144,7 +144,7 @@ way_by _ s = pull_address s 1 ∷ pull_address s 2 ∷ []
 abbrev pub way_bytes : Service → ℕ → List ℕ
 way_bytes service s = way_by (service_row service).takes s
 
--- those of which it makes what it stores
+-- the bytes from which it computes what it stores
 abbrev pub bytes_made_of : OnScreen → Registers → Memory → List ℕ
 bytes_made_of cells.PutsByte registers memory = at.invflg ∷ put_moves registers.a memory
 bytes_made_of cells.PutsDigits registers memory =
@@ -174,7 +174,7 @@ base_bytes = at.basl ∷ at.bash ∷ []
 abbrev pub output_bytes : List ℕ
 output_bytes = at.ch ∷ at.cv ∷ base_bytes
 
--- the bytes of its reach that it stores at, but for the cells of the screen
+-- the bytes within its reach at which it stores, except the cells of the screen
 abbrev pub bytes_set : Reach → List ℕ
 bytes_set reaches.Screen = output_bytes
 bytes_set reaches.Mask = at.invflg ∷ []

@@ -1,5 +1,5 @@
--- A service depends on nothing but what it reads and looks at, and changes nothing but where it stores and what it sets. This project's
--- own.
+-- A service depends only on what it reads and uses, and changes only the bytes it stores and the parts it sets. This
+-- project's own.
 use Rattle.std.specs.Prelude.{◌≡◌, ℕ, Bool, true, false}
 use Rattle.std.specs.List.{list_any}
 use Rattle.a2_page.specs.Grid.{IsGrid}
@@ -14,8 +14,9 @@ use Rattle.a2_footprint.specs.Parts.{held, is_part, with_parts}
 use Rattle.a2_footprint.specs.Services.{is_keyless, service_needs, service_sets, service_reads, service_stores}
 use Rattle.a2_footprint.specs.Uses.{Near}
 
--- Two worlds that are alike where a service looks: where it fits in the one, it does in the other; behind it they are alike at what it
--- stored and set too, and in both it stores at the same addresses.
+-- Two worlds agree in everything that a service uses. If it fits in the first (its window, cursor and block are valid),
+-- it fits in the second. After it the worlds also agree in what it stored and set, and it stores at the same addresses
+-- in both.
 abbrev pub ServicesDependOnUses : Type 0
 ServicesDependOnUses =
     (service : Service) (parts : Part → Bool) (bytes : ℕ → Bool) (s t : World) → Near parts (AgreeOn bytes) s t
@@ -25,7 +26,7 @@ ServicesDependOnUses =
     × Near (with_parts (service_sets service) parts) (AgreeOn (with_bytes (service_stores service s) bytes)) (served service s) (served service t)
     × (service_stores service s ≡ service_stores service t)
 
--- Behind a service that fits, each byte is as before that it does not store at, and each register and flag that it does not set.
+-- A service that fits changes only the bytes at which it stores and the registers and flags that it sets.
 abbrev pub ServicesKeepTheRest : Type 0
 ServicesKeepTheRest =
     (service : Service) (world : World) → is_keyless service ≡ true → fits service world.registers world.memory ≡ true

@@ -1,4 +1,4 @@
--- Registers that no step looks at or sets. This project's own.
+-- Registers that no step uses or sets. This project's own.
 use Rattle.std.specs.Prelude.{◌≡◌, ℕ, Bool, true, false, not, IsTrue}
 use Rattle.a2_services.specs.World.{World}
 use Rattle.a2_machine.specs.Meaning.{Code, world_at}
@@ -16,8 +16,8 @@ is_register part_x = true
 is_register part_y = true
 is_register _ = false
 
--- Steps from two worlds, of which the first looks at nothing unknown: a register that is not known behind them, so that none of them
--- looks at it or sets it, holds in the second what it held before.
+-- Steps are taken from two worlds, and those from the first use nothing unknown. A register that is not known after
+-- them is one that no step uses or sets. In the second world it is unchanged.
 abbrev pub UnknownRegistersStay : Type 0
 UnknownRegistersStay =
     (code : Code) (parts : Part → Bool) (bytes : ℕ → Bool) (s t : World) (n : ℕ) → Near parts (AgreeOn bytes) s t

@@ -1,5 +1,5 @@
--- The stack turned in its page: a run that uses it by S alone does the same wherever S points. This project's own. MCS6500 Programming
--- Manual, chapter 8, has the stack, which wraps in page 1.
+-- The stack rotated within its page: a run that uses it only through S does the same for every value of S. This
+-- project's own. MCS6500 Programming Manual, chapter 8, describes the stack, which wraps in page 1.
 use Rattle.std.specs.Prelude.{◌≡◌, ◌<◌, ℕ, ◌+◌, ◌%◌, Bool, true, false, if◌then◌else◌, List, [], None, Result, Ok, Err, MatchOption}
 use Rattle.std.specs.List.{list_any}
 use Rattle.a2_text.specs.Bytes.{is_between}
@@ -21,19 +21,19 @@ use Rattle.a2_footprint.specs.Runs.{RunReads}
 use Rattle.a2_footprint.specs.Services.{is_keyless}
 use Rattle.a2_footprint.specs.Uses.{Near, RunNeeds}
 
--- an address lies in the stack's page
+-- an address is in the stack's page
 abbrev pub in_stack : ℕ → Bool
 in_stack address = is_between 0x100 0x1FF address
 
--- the address so many bytes further up in the stack's page, which wraps; any other address stays
+-- the address this many bytes further up in the stack's page, which wraps; any other address is unchanged
 abbrev pub turned_address : ℕ → ℕ → ℕ
 turned_address turn address = if in_stack address then 0x100 + (address + turn) % 256 else address
 
--- a memory that shows there what another one has so many bytes further up
+-- a memory whose stack page holds what another one holds this many bytes further up
 abbrev pub turned_memory : ℕ → Memory → Memory
 turned_memory turn memory = record memory { plain = λ address. memory.plain (turned_address turn address) }
 
--- a world is another one with its stack turned, S with it
+-- a world is another one with its stack rotated, and S moved with it
 pub record IsTurned (turn : ℕ) (world other : World) : Type 0 where
   pub registers : world.registers ≡ record other.registers { s = world.registers.s }
   pub low : other.registers.s < 256
@@ -41,7 +41,7 @@ pub record IsTurned (turn : ℕ) (world other : World) : Type 0 where
   pub memory : other.memory ≡ turned_memory turn world.memory
   pub cycles : other.cycles ≡ world.cycles
 
--- the addresses that an effect at a place reads and stores at, beside the stack
+-- the addresses that an effect at a place reads and stores at, except those on the stack
 abbrev pub operand_uses : Effect → Place → List ℕ
 operand_uses (takes change) place = place_reads place
 operand_uses (replaces change) place = place_reads place
@@ -54,7 +54,7 @@ moves_s Tsx = true
 moves_s Txs = true
 moves_s _ = false
 
--- an instruction uses the stack by S alone: it is no TSX and no TXS, and its operand lies elsewhere
+-- an instruction uses the stack only through S: it is not TSX or TXS, and its operand is outside the stack's page
 pub record IsOffStack (decoded : Decoded) (world : World) : Type 0 where
   pub mnemonic : moves_s decoded.row.mnemonic ≡ false
   pub pointer : list_any in_stack (pointer_reads decoded.row.mode decoded.value world.registers) ≡ false
@@ -65,7 +65,8 @@ abbrev pub FoundOffStack : Result Decoded Cause → World → Type 0
 FoundOffStack (Ok decoded) world = IsOffStack decoded world
 FoundOffStack (Err cause) world = Unit {0}
 
--- so does a step, of an instruction whose bytes lie elsewhere too (it has three at most), or of a service that needs no key
+-- a step uses the stack only through S: it is such an instruction, with its bytes (at most three) outside the stack's
+-- page, or a service that needs no key
 abbrev pub StepIsOffStack : World → Type 0
 StepIsOffStack world =
     MatchOption (service_at world.registers.pc)
@@ -75,8 +76,8 @@ StepIsOffStack world =
 abbrev pub RunIsOffStack : World → ℕ → Type 0
 RunIsOffStack start n = (k : ℕ) → k < n → StepIsOffStack (world_at (bytes None) start k)
 
--- Steps from a world whose stack is turned are the same, and leave what is turned so. No byte is guarded: a guard of bytes of the stack
--- would stop pushes by where S points.
+-- Steps from a world with a rotated stack do the same, and leave the stack rotated by the same amount. No byte is
+-- guarded, because a guard on bytes of the stack would stop a push depending on S.
 abbrev pub RunsTurnAlike : Type 0
 RunsTurnAlike =
     (turn : ℕ) (world other : World) (n : ℕ) → IsTurned turn world other
@@ -84,7 +85,7 @@ RunsTurnAlike =
     → ((k : ℕ) → k < n → stuck (bytes None) (world_at (bytes None) other k) ≡ None)
     × IsTurned turn (world_at (bytes None) world n) (world_at (bytes None) other n)
 
--- and where a run uses the stack so, a run does that is alike where the first looks
+-- if a run uses the stack only through S, so does a run from a world that agrees in everything the first one uses
 abbrev pub RunsOffStackAlike : Type 0
 RunsOffStackAlike =
     (parts : Part → Bool) (known : ℕ → Bool) (s t : World) (n : ℕ) → Near parts (AgreeOn known) s t

@@ -1,4 +1,4 @@
--- A run depends on nothing but the bytes that it reads and the registers and flags that it looks at. This project's own.
+-- A run depends only on the bytes that it reads and the registers and flags that it uses. This project's own.
 use Rattle.std.specs.Prelude.{◌≡◌, ◌<◌, ℕ, zero, suc, Bool, List, [], ◌++◌, Some, None, Result, Ok, Err}
 use Rattle.a2_effect.specs.Instruction.{State}
 use Rattle.a2_services.specs.Services.{service_at}
@@ -12,13 +12,13 @@ use Rattle.a2_footprint.specs.Parts.{MatchAt, with_parts}
 use Rattle.a2_footprint.specs.Runs.{RunReads, RunsAlike, known_behind}
 use Rattle.a2_footprint.specs.Services.{service_needs, service_sets}
 
--- alike at known parts of the registers, with equal cycles, and related memories
+-- two states agree in the known parts of the registers, have equal cycles, and their memories are related
 pub record Near {M N : Type 0} (known : Part → Bool) (R : M → N → Type 0) (s : State M) (t : State N) : Type 0 where
   pub registers : MatchAt known s.registers t.registers
   pub cycles : s.cycles ≡ t.cycles
   pub memory : R s.memory t.memory
 
--- the parts that an instruction that is found at PC looks at, and those that it sets
+-- the parts that the instruction found at PC uses, and those that it sets
 abbrev pub found_needs : Result Decoded Cause → List Part
 found_needs (Ok decoded) = needs decoded.row.mnemonic ++ mode_needs decoded.row.mode
 found_needs (Err cause) = []
@@ -27,7 +27,7 @@ abbrev pub found_sets : Result Decoded Cause → List Part
 found_sets (Ok decoded) = sets_parts decoded.row.mnemonic
 found_sets (Err cause) = []
 
--- those that the next step does, which is a service or an instruction
+-- the parts that the next step, which is a service or an instruction, uses, and those that it sets
 unfoldable pub step_needs : Code → World → List Part
 step_needs code world =
     elim (service_at world.registers.pc) [ Some service ↦ service_needs service | None ↦ found_needs (found_at_pc code world) ]
@@ -36,13 +36,13 @@ unfoldable pub step_sets : Code → World → List Part
 step_sets code world =
     elim (service_at world.registers.pc) [ Some service ↦ service_sets service | None ↦ found_sets (found_at_pc code world) ]
 
--- the parts known behind so many steps: those known before, and those that were set
+-- the parts known after this many steps: those known before, and those that were set
 unfoldable pub parts_behind : Code → (Part → Bool) → World → ℕ → Part → Bool
 parts_behind code known start zero = known
 parts_behind code known start (suc n) =
     with_parts (step_sets code (world_at code start n)) (parts_behind code known start n)
 
--- so many steps look at parts alone that were known, or that earlier ones set
+-- this many steps use only parts that were known, or that earlier steps set
 abbrev pub RunNeeds : Code → (Part → Bool) → World → ℕ → Type 0
 RunNeeds code known start n =
     (k : ℕ) → k < n → Knows (parts_behind code known start k) (step_needs code (world_at code start k))

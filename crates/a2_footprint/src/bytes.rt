@@ -13,16 +13,16 @@ use a2_cpu::Regs;
 use a2_opcode::{Instr, Mnemonic, Mode};
 use arrayvec::ArrayVec;
 
-/// The addresses that an instruction reads, beside those of its own bytes, in order.
+/// The addresses that an instruction reads, except those of its own bytes, in order.
 #[derive(Drop)]
 pub struct BytesRead {
-    /// The two of page 0 that hold its operand's address, where it is indirect and indexed.
+    /// The two addresses in page 0 that hold the operand's address, if the addressing mode is indirect and indexed.
     pub pointer: ArrayVec<u16, 3>,
-    /// That of its operand, of what it pulls, or of the pointer that JMP goes by.
+    /// The address of its operand, of the bytes that it pulls, or of the pointer that an indirect JMP uses.
     pub operand: ArrayVec<u16, 3>,
 }
 
-// Three addresses at most.
+// At most three addresses.
 #[derive(Clone, Copy)]
 enum Few {
     None,
@@ -31,7 +31,7 @@ enum Few {
     Three(u16, u16, u16),
 }
 
-// The same as a list.
+// Returns the same addresses as a list.
 fn listed(few: Few) -> ArrayVec<u16, 3>
     ensures { result.items ≡ addresses_for few }
 {
@@ -52,7 +52,7 @@ fn listed(few: Few) -> ArrayVec<u16, 3>
     addresses
 }
 
-// The addresses in page 0 that hold the operand's address.
+// Returns the addresses in page 0 that hold the operand's address.
 fn pointer_of(mode: Mode, value: u16, regs: &Regs) -> Few
     requires { IsPointer mode value }
     ensures { addresses_for result ≡ pointer_reads mode value (registers_of regs.now) }
@@ -67,7 +67,7 @@ fn pointer_of(mode: Mode, value: u16, regs: &Regs) -> Few
     }
 }
 
-// The word at an address of page 0, with wrap in the page.
+// Returns the 16-bit word at an address of page 0. It wraps within the page.
 fn low_word<B: Bus>(bus: &B, address: u16) -> u16
     requires { address < 256 }
     ensures { result ≡ zero_page_word B.access (B.state bus.now) address }
@@ -77,7 +77,7 @@ fn low_word<B: Bus>(bus: &B, address: u16) -> u16
     u16::from(low) + 256 * u16::from(high)
 }
 
-// The operand's address.
+// Returns the operand's address.
 fn operand_at<B: Bus>(mode: Mode, value: u16, regs: &Regs, bus: &B) -> Few
     requires { IsPointer mode value }
     ensures { addresses_for result ≡ place_reads (place_of B.access (B.state bus.now) (registers_of regs.now) mode value) }
@@ -95,7 +95,7 @@ fn operand_at<B: Bus>(mode: Mode, value: u16, regs: &Regs, bus: &B) -> Few
     }
 }
 
-// The addresses of a pointer that JMP goes by.
+// Returns the addresses of the pointer that an indirect JMP uses.
 fn jump_at<B: Bus>(mode: Mode, value: u16, regs: &Regs, bus: &B) -> Few
     ensures { addresses_for result ≡ jump_reads (place_of B.access (B.state bus.now) (registers_of regs.now) mode value) }
 {
@@ -105,16 +105,16 @@ fn jump_at<B: Bus>(mode: Mode, value: u16, regs: &Regs, bus: &B) -> Few
     }
 }
 
-/// The address of the byte that a pull reads, the first, second or third by `count`, where S is `s` before the first of them: so many
-/// above S, from $0100 to $01FF, for behind $FF comes $00. PLA and PLP pull once, RTS twice, RTI three times. MCS6500 Programming
-/// Manual, chapter 8.
+/// Returns the address, from $0100 to $01FF, of the byte that a pull reads. `s` is S before the first pull, and `count`
+/// is 1, 2 or 3 for the first, second or third pull. The address is `count` bytes above S, and $FF is followed by $00.
+/// PLA and PLP pull once, RTS twice, RTI three times. MCS6500 Programming Manual, chapter 8.
 pub fn pull_address(s: u8, count: u8) -> u16
     ensures { result ≡ pulled_at s count }
 {
     256 + u16::from(s.wrapping_add(count))
 }
 
-// The addresses that a mnemonic reads, by its operand.
+// Returns the addresses that a mnemonic reads, given its operand.
 #[tactic(auto, unfolding(a2_effect::specs::Effect::effect_of))]
 fn effect_at<B: Bus>(instr: Instr, regs: &Regs, bus: &B) -> Few
     requires { IsPointer instr.mode instr.value }
@@ -149,9 +149,9 @@ fn effect_at<B: Bus>(instr: Instr, regs: &Regs, bus: &B) -> Few
     }
 }
 
-/// The addresses that an instruction would read with these registers and this bus, beside those of its own bytes, wherever it
-/// stands. The value of an instruction by a pointer of page 0 and Y is below 256. Nothing changes, and no device sees an
-/// access. MCS6500 Programming Manual, chapters 4 to 9.
+/// Returns the addresses that an instruction would read with these registers and this bus, except those of its own
+/// bytes, at any address of the instruction. The operand of an instruction in a mode with a pointer in page 0, indexed
+/// by Y, must be below 256. Nothing changes, and no device sees an access. MCS6500 Programming Manual, chapters 4 to 9.
 pub fn reads<B: Bus>(instr: Instr, regs: &Regs, bus: &B) -> BytesRead
     requires { IsPointer instr.mode instr.value }
     ensures pointer { result.pointer.items ≡ pointer_reads instr.mode instr.value (registers_of regs.now) }

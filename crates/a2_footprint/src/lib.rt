@@ -1,6 +1,6 @@
-//! What an instruction and a run look at: the bytes that they read, and the registers and flags. Laws say that nothing else matters.
+//! The bytes, registers and flags that an instruction or a run uses, with laws that it depends on nothing else.
 //!
-//! How it is called is shown in CALLING.md.
+//! CALLING.md shows how to use this crate.
 #![tactic(auto)]
 
 mod bytes;
@@ -17,7 +17,7 @@ pub use laws::{
 };
 pub use parts::{mode_needs, needs, sets};
 
-/// A register or a flag. S and PC are none of these: each instruction looks at PC, and the stack is looked at by S.
+/// A register or a flag. S and PC are not included: each instruction uses PC, and the stack is used through S.
 #[derive(Clone, Copy, PartialEq, Eq, Debug)]
 pub enum Part {
     A,

@@ -1,4 +1,4 @@
-//! The registers and flags that an instruction looks at, and those that it sets.
+//! The registers and flags that an instruction uses, and those that it sets.
 
 ghost use Rattle.std.specs.Prelude.{◌≡◌};
 ghost use Rattle.a2_footprint.specs.InstructionParts as parts;
@@ -6,11 +6,11 @@ ghost use Rattle.a2_footprint.specs.InstructionParts as parts;
 use crate::Part;
 use a2_opcode::{Mnemonic, Mode};
 
-// As PHP pushes them, and PLP pulls them.
+// In the order in which PHP pushes them and PLP pulls them.
 static FLAGS: [Part; 6] = [Part::N, Part::V, Part::D, Part::I, Part::Z, Part::C];
 
-/// The registers and flags that a mnemonic looks at, beside those of its mode: what it does depends on no others. MCS6500
-/// Programming Manual, appendix A.
+/// Returns the registers and flags that a mnemonic uses, except those of its addressing mode. Its effect depends on no
+/// others. MCS6500 Programming Manual, appendix A.
 #[tactic(auto, unfolding(crate::specs::InstructionParts::needs))]
 pub fn needs(mnemonic: Mnemonic) -> &'static [Part]
     ensures { result.now ≡ parts.needs mnemonic }
@@ -31,7 +31,8 @@ pub fn needs(mnemonic: Mnemonic) -> &'static [Part]
     }
 }
 
-/// The registers that a mode looks at: an index, or A where that is the operand. MCS6500 Programming Manual, chapters 4 to 6.
+/// Returns the registers that an addressing mode uses: an index, or A if A is the operand. MCS6500 Programming Manual,
+/// chapters 4 to 6.
 pub fn mode_needs(mode: Mode) -> &'static [Part]
     ensures { result.now ≡ parts.mode_needs mode }
 {
@@ -43,7 +44,7 @@ pub fn mode_needs(mode: Mode) -> &'static [Part]
     }
 }
 
-/// The registers and flags that a mnemonic sets, whatever they held. MCS6500 Programming Manual, appendix A.
+/// Returns the registers and flags that a mnemonic sets, whatever they held. MCS6500 Programming Manual, appendix A.
 #[tactic(auto, unfolding(crate::specs::InstructionParts::sets_parts))]
 pub fn sets(mnemonic: Mnemonic) -> &'static [Part]
     ensures { result.now ≡ parts.sets_parts mnemonic }

@@ -4,7 +4,7 @@ use Rattle.std.proofs.lemmas.Bool.{cases_lt}
 use Rattle.std.proofs.lemmas.List.{get_or_past, get_or-replicate, length-replicate}
 use Rattle.a2_hex.specs.Images.{Cells, held, ram_end}
 
--- all of which P holds is None, so cells made of such have no byte
+-- every value that P allows is None, so cells made of such values have no bytes
 pub empty-cells : (P : Option ℕ → Type 0) (cells : Cells) (n : ℕ) → (((o : Option ℕ) → P o → o ≡ None) → cells ≡ replicate n None) → ((byte : ℕ) → P (Some byte) → ⊥) → n ≡ ram_end
     → (length cells ≡ ram_end) × ((a : ℕ) → held cells a ≡ None)
 empty-cells P cells n made never size = rw (made only, size) (length-replicate {A = Option ℕ} ram_end None, at)

@@ -1,4 +1,4 @@
--- One line after another is loaded.
+-- Loading one line after another.
 use Rattle.std.proofs.Common.{◌≡◌, ℕ, ◌+◌, ◌-◌, ◌<◌, ◌≤◌, true, false, List, [], ◌∷◌, length, map, get_or, drop, Option, Some, None, Result, Ok, Err, refl, sym, ap, ◌∙◌, subst, arith}
 use Rattle.std.specs.Prelude.{IfSome, IfErr, IsErrAnd, unwrap_or}
 use Rattle.std.specs.Borrow.{Bor}
@@ -13,7 +13,7 @@ use Rattle.a2_hex.specs.declared.fault.HexFault.TheVariants.{Memory}
 use Rattle.a2_hex.specs.Images.{no_bytes, ram_end}
 use Rattle.a2_hex.specs.ObjectLines.{Store, store_of, Loaded, lies_outside, after_bytes, after_store_line, after_line, after_lines, image_of, ◌>>=◌}
 
--- the bytes behind a first one
+-- the bytes after the first one
 pub bytes_behind : (o p : Option (List ℕ)) (byte : ℕ) (xs : List ℕ) → o ≡ option_map (λ others. byte ∷ others) p → o ≡ Some xs → (ys : List ℕ) × (p ≡ Some ys) × (xs ≡ byte ∷ ys)
 bytes_behind o None byte xs e h = cc
 bytes_behind o (Some ys) byte xs e h = (ys, refl, same_Some xs (byte ∷ ys) (sym h ∙ e))
@@ -27,7 +27,7 @@ inside at count h = grind (arith, nat_tests)
 pub outside : (at count : ℕ) → ram_end - at < count → lies_outside at count ≡ true
 outside at count h = grind (arith, nat_tests)
 
--- a line that is not blank, by what it stores
+-- what a line that is not blank does, given what it stores
 pub after-store : (n : ℕ) (before : Loaded) (line : List ℕ) {word : List ℕ} {others : List (List ℕ)} {store : Option Store} → words line ≡ word ∷ others → store_of line ≡ store
     → after_line n before line ≡ after_store_line n before store
 unfolding after_line
@@ -35,7 +35,7 @@ after-store n before line {word = word} {others = others} w is =
     let some : 0 < length (word ∷ others) = omega arith in
     rw (w, is) (grind (arith, nat_tests))
 
--- and one of which the bytes were counted
+-- the same, if the line's bytes were counted
 pub after-counted : (line : List ℕ) {word : List ℕ} {others : List (List ℕ)} (given : Option ℕ) {o : Option (List ℕ)} {count : ℕ} → words line ≡ word ∷ others
     → store_of line ≡ option_map (λ bytes. record { address = given; bytes = bytes }) o → option_map length o ≡ Some count
     → (o ≡ Some (unwrap_or o [])) × (length (unwrap_or o []) ≡ count)
@@ -44,11 +44,11 @@ after-counted line given {o = None} w is e = cc
 after-counted line None {o = Some xs} w is e = (refl, cc, λ n image next. after-store n _ line w is)
 after-counted line (Some at) {o = Some xs} w is e = (refl, cc, λ n image next. after-store n _ line w is)
 
--- the bytes that are left are a byte and others, so the next address is below the end of RAM
+-- the bytes left are one byte and then others, so the next address is below the end of RAM
 pub next-below : (at all next : ℕ) (left others : List ℕ) (byte : ℕ) → lies_outside at all ≡ false → left ≡ byte ∷ others → next + length left ≡ at + all → at ≤ next → next < ram_end
 next-below at all next left others byte h is sums le = grind (arith, nat_tests, ap length is)
 
--- the lines that are left, by the first of them
+-- what the lines left load, given their first line
 pub left-lines : (items : List (Bor (List ℕ))) (i : ℕ) (d : Bor (List ℕ)) (before : Loaded) {r : Result Loaded HexFault} → i < length items → after_line (i + 1) before (get_or items i d).now ≡ r
     → after_lines (i + 1) before (drop i (map (λ x. x.now) items)) ≡ (r >>= (λ after. after_lines (i + 1 + 1) after (drop (i + 1) (map (λ x. x.now) items))))
 left-lines items i d before lt is =
@@ -59,7 +59,7 @@ left-lines items i d before lt is =
 pub left-none : (items : List (Bor (List ℕ))) (i : ℕ) (before : Loaded) → length items ≤ i → after_lines (i + 1) before (drop i (map (λ x. x.now) items)) ≡ Ok before
 left-none items i before ge = (let n = length-map items (λ x. x.now) in ap (after_lines (i + 1) before) (drop_all i (map (λ x. x.now) items) (omega arith)))
 
--- a result that is this refusal
+-- a result that is this error
 pub is-refused : {T : Type 0} (r : Result T HexFault) (text : List ℕ) (fault : HexFault) → IsErrAnd r (λ e. e ≡ fault) → after_lines 1 (record { image = no_bytes; next = None }) (lines text) ≡ Err fault
     → IfErr r (λ e. (e ≡ Memory → ⊥) → image_of text ≡ Err e)
 is-refused (Ok x) text fault h is = tt

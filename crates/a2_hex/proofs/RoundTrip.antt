@@ -1,4 +1,4 @@
--- What is written loads to the image again.
+-- The text that is written for an image loads to the same image.
 use mathlib.Core.Path.{fun_ext}
 use Rattle.std.proofs.Common.{◌≡◌, ◌≢◌, ℕ, zero, suc, ◌+◌, ◌-◌, ◌/◌, ◌%◌, ◌<◌, ◌≤◌, ◌⊎◌, Bool, true, false, cond, List, [], ◌∷◌, ◌++◌, length, Option, Some, None, Result, Ok, Err, inl, inr, refl, sym, ◌∙◌, subst, arith, add-one}
 use Rattle.std.specs.Prelude.{IfSome, is_some}
@@ -17,7 +17,7 @@ cases_byte : (o : Option ℕ) → ((byte : ℕ) × (o ≡ Some byte)) ⊎ (o ≡
 cases_byte (Some byte) = inl (byte, refl)
 cases_byte None = inr refl
 
--- lines behind which one more is loaded
+-- the lines before, and then one more line, are loaded
 lines-push : {after next : Loaded} (line : List ℕ) → ((n : ℕ) → after_line n after line ≡ Ok next) → (xs : List (List ℕ)) (n : ℕ) (before : Loaded)
     → after_lines n before xs ≡ Ok after → after_lines n before (xs ++ line ∷ []) ≡ Ok next
 lines-push {after = after} line step [] n before h = (let same : before ≡ after = cc in rw (same, step n))
@@ -30,7 +30,7 @@ lines-push {after = after} {next = next} line step (x ∷ xs) n before h = behin
     behind (Err fault) e more = cc
 
 module _ (image : ℕ → Option ℕ) where
-  -- a run of the image changes places to what the image has
+  -- a run of the image can only make a place equal to the image
   run-or : (loaded : ℕ → Option ℕ) (a n x : ℕ) → (overlaid loaded a (run image a n) x ≡ loaded x) ⊎ (overlaid loaded a (run image a n) x ≡ image x)
   run-or loaded a zero x = inl refl
   run-or loaded a (suc n) x = elim (cases_byte (image a)) [
@@ -59,7 +59,7 @@ module _ (image : ℕ → Option ℕ) (h : IsImage image) where
   byte-inside : (a byte : ℕ) → image a ≡ Some byte → (a < ram_end) × (byte < 256)
   byte-inside a byte is = (let P : Option ℕ → Type 0 = λ o. IfSome o (λ byte. (a < ram_end) × (byte < 256)) in subst P is (h a))
 
-  -- a run has bytes of the image
+  -- a run consists of bytes of the image
   run-bytes : (a n : ℕ) → AreBytes (run image a n)
   run-bytes a zero = tt
   run-bytes a (suc n) = elim (cases_byte (image a)) [
@@ -76,7 +76,7 @@ module _ (image : ℕ → Option ℕ) (h : IsImage image) where
     | inr none ↦ rw none (λ some. absurd (omega arith))
   ]
 
-  -- a written line is loaded
+  -- what loading a written line does
   line-loads : (n a : ℕ) (before : Loaded) → begins_line image a ≡ true
       → after_line n before (line_at image a) ≡ Ok (record { image = overlaid before.image a (run image a (8 - a % 8)); next = Some (a + length (run image a (8 - a % 8))) })
   line-loads n a before begins = elim (cases_byte (image a)) [
@@ -90,7 +90,8 @@ module _ (image : ℕ → Option ℕ) (h : IsImage image) where
     | inr none ↦ (let no : begins_line image a ≡ false = rw none in cc)
   ]
 
-  -- after the lines below an address: bytes of the image alone, and those that stand behind one below it without a gap, up to an address that is divisible by 8
+  -- after the lines below an address, only bytes of the image are loaded; this includes all those that follow a byte
+  -- below the address without a gap, up to an address divisible by 8
   record LoadedBelow (n : ℕ) : Type 0 where
     after : Loaded
     is : after_lines 1 (record { image = no_bytes; next = None }) (lines_below image n) ≡ Ok after

@@ -1,4 +1,4 @@
--- What the parts of a line say.
+-- What the parts of a line mean.
 use Rattle.std.proofs.Common.{◌≡◌, ℕ, ◌+◌, eqb, false, List, take, drop, length, inl, inr, refl, arith}
 use Rattle.std.specs.Option.{option_and_then}
 use Rattle.std.specs.List.{position, position_or_len}
@@ -8,7 +8,7 @@ use Rattle.std.proofs.lemmas.List.Folds.{list_any_none, list_any_at}
 use Rattle.std.proofs.lemmas.List.Sums.{fails_before_first, passes_at_first}
 use Rattle.a2_hex.specs.ObjectLines.{hex_bytes, given_before, both, store_of}
 
--- the line by the place of its `:`
+-- the line, given the position of its `:`
 pub store_of_position : (line : List ℕ) → store_of line ≡ option_and_then (λ end. both (given_before (take end line)) (hex_bytes (drop (end + 1) line))) (position (λ c. eqb c 58) line)
 unfolding store_of
 store_of_position line = elim (cases_lt (position_or_len (λ c. eqb c 58) line) (length line)) [

@@ -1,4 +1,4 @@
--- A text of lines is cut into these lines, and a line says its address and its bytes.
+-- A text of lines is cut into these lines again, and a line gives its address and its bytes.
 use Rattle.std.proofs.Common.{◌≡◌, ℕ, ◌-◌, ◌/◌, ◌%◌, ◌<◌, Bool, true, false, not, ◌&&◌, eqb, List, [], ◌∷◌, ◌++◌, length, map, take, drop, Option, Some, refl, sym, ap, ◌∙◌, arith}
 use Rattle.std.specs.Option.{option_map}
 use Rattle.std.specs.List.{flat_map, list_all, position, position_or_len, slice_split, All}
@@ -60,7 +60,7 @@ pub lines-text : (ls : List (List ℕ)) → ArePlain ls → lines (text_of_lines
 lines-text [] h = refl
 lines-text (line ∷ ls) h = cut-plain line (text_of_lines ls) h.0 ∙ ap (λ (l : List (List ℕ)). line ∷ l) (lines-text ls h.1)
 
--- the digits are plain, no blanks and no `:`
+-- the digits are plain, and are neither blanks nor `:`
 digit-plain : (n : ℕ) → is_plain (hex_digit n) ≡ true
 digit-plain n = grind (arith, nat_tests)
 
@@ -111,7 +111,7 @@ unfolding hex_bytes
 bytes_of-spaced [] h = refl
 bytes_of-spaced (byte ∷ bytes) h = ap (λ (ws : List (List ℕ)). each (map byte_of ws)) (words-pairs byte bytes) ∙ each-pairs (byte ∷ bytes) h
 
--- the address
+-- the four digits of an address give the address
 address-word : (a : ℕ) → a < 65536 → hex_address (hex_word a) ≡ Some a
 address-word a h = grind (arith, nat_tests)
 
@@ -125,7 +125,7 @@ given-word a h = rw (behind-word a [], address-word a h)
 colon-at : (a : ℕ) (rest : List ℕ) → position is_colon (hex_word a ++ 58 ∷ rest) ≡ Some 4
 colon-at a rest = rw (digit-not_colon (a / 256 / 16), digit-not_colon (a / 256 % 16), digit-not_colon (a % 256 / 16), digit-not_colon (a % 256 % 16), lt-ltb 4 (length (hex_word a ++ 58 ∷ rest)) (omega arith))
 
--- what a written line says
+-- what a written line stores
 pub store-line : (a : ℕ) (bytes : List ℕ) → a < 65536 → AreBytes bytes → store_of (hex_word a ++ 58 ∷ spaced bytes) ≡ Some (record { address = Some a; bytes = bytes })
 store-line a bytes h k = rw (store_of_position (hex_word a ++ 58 ∷ spaced bytes), colon-at a (spaced bytes), given-word a h, bytes_of-spaced bytes k)
 

@@ -9,7 +9,7 @@ use Rattle.std.proofs.lemmas.Grind.{common_steps, flat_map-append}
 use Rattle.a2_hex.specs.ObjectText.{after_blank, to_gap, run, begins_line, line_at, lines_below, text_of_lines, object_text}
 use Rattle.a2_hex.specs.Images.{ram_end}
 
--- the run from an address on
+-- the run from an address, given its first byte
 pub run_next : (image : ℕ → Option ℕ) (a n : ℕ) → 0 < n → run image a n ≡ to_gap (image a) (run image (a + 1) (n - 1))
 run_next image a zero some = absurd (omega arith)
 run_next image a (suc n) some = (let one : suc n - 1 ≡ n = omega arith in rw one refl)
@@ -18,12 +18,12 @@ pub run_gap : (image : ℕ → Option ℕ) (a n : ℕ) → image a ≡ None → 
 run_gap image a zero h = refl
 run_gap image a (suc n) h = rw h refl
 
--- one byte more of a run
+-- a run with one more byte
 pub run-step : (image : ℕ → Option ℕ) (line new all : List ℕ) (a i n byte : ℕ) → i < n → image (a + i) ≡ Some byte → line ++ flat_map after_blank (run image (a + i) (n - i)) ≡ all → new ≡ line ++ after_blank byte
     → new ++ flat_map after_blank (run image (a + (i + 1)) (n - (i + 1))) ≡ all
 run-step image line new all a i n byte lt h e is = grind (arith, common_steps, run_next)
 
--- a line by its parts
+-- a line, made of its parts
 pub line_parts : (image : ℕ → Option ℕ) (a first : ℕ) → image a ≡ Some first
     → (line_at image a ≡ line_at image a) × (line_at image a ≡ hex_word a ++ 58 ∷ (hex_pair first ++ flat_map after_blank (run image (a + 1) (7 - a % 8))))
 line_parts image a first h = (
@@ -31,12 +31,12 @@ line_parts image a first h = (
   (let seven : 8 - a % 8 - 1 ≡ 7 - a % 8 = omega arith in rw (run_next image a (8 - a % 8) (omega arith), h, seven) refl),
 )
 
--- the lines below one address more
+-- the lines below the next address
 pub below-next : (image : ℕ → Option ℕ) (a : ℕ) → lines_below image (a + 1) ≡ lines_below image a ++ cond (begins_line image a) (line_at image a ∷ []) []
 unfolding lines_below
 below-next image a = rw add-one refl
 
--- the lines below an address are a front of all
+-- the lines below an address are a front of all lines
 below-front : (image : ℕ → Option ℕ) (n k : ℕ) → (rest : List ℕ) × (text_of_lines (lines_below image n) ++ rest ≡ text_of_lines (lines_below image (n + k)))
 below-front image n zero = ([], append-nil _ ∙ ap (λ (m : ℕ). text_of_lines (lines_below image m)) (omega arith))
 below-front image n (suc k) =
@@ -44,16 +44,16 @@ below-front image n (suc k) =
     let next : n + suc k ≡ n + k + 1 = omega arith in
     (rest ++ text_of_lines (cond (begins_line image (n + k)) (line_at image (n + k) ∷ []) []), rw (next, below-next image (n + k), flat_map-append, ← is) (sym (append_assoc (text_of_lines (lines_below image n)) rest _)))
 
--- no line begins where there is no byte
+-- no line begins at an address without a byte
 below-gap : (image : ℕ → Option ℕ) (n k : ℕ) → ((a : ℕ) → n ≤ a → a < n + k → image a ≡ None) → lines_below image (n + k) ≡ lines_below image n
 below-gap image n zero none = ap (lines_below image) (omega arith)
 below-gap image n (suc k) none =
     let next : n + suc k ≡ n + k + 1 = omega arith in
     rw (next, below-next image (n + k), none (n + k) (omega arith) (omega arith)) (append-nil _ ∙ below-gap image n k (λ a le lt. none a le (omega (arith, lt))))
 
--- Lines that are gathered
+-- Gathering of lines
 
--- what went out, with what is gathered behind it, is the lines below an address
+-- what was sent, followed by what is gathered, is the text of the lines below an address
 pub record IsGathered (old new : Taker) (image : ℕ → Option ℕ) (a : ℕ) (piece : List ℕ) : Type 0 where
   pub sent : List ℕ
   pub out : Sends old new sent
@@ -80,7 +80,7 @@ module _ {old mid : Taker} {image : ℕ → Option ℕ} {a : ℕ} {piece : List 
         (flat_map_more (λ (line : List ℕ). line ++ 10 ∷ []) [] (lines_below image a) (line_at image a));
   }
 
-  -- what was gathered broke off
+  -- the write of the gathered lines broke off
   pub gathered-broke : {T E : Type 0} (r : Result T E) (new : Taker) → IsErr r → Breaks mid new piece → a < ram_end → SendsOrBreaks old new r (object_text image)
   unfolding object_text
   gathered-broke r new err broke lt =
@@ -89,7 +89,7 @@ module _ {old mid : Taker} {image : ℕ → Option ℕ} {a : ℕ} {piece : List 
       subst (SendsOrBreaks old new r) (ap (λ (l : List ℕ). l ++ rest) h.joined ∙ all ∙ ap (λ (n : ℕ). text_of_lines (lines_below image n)) whole)
       (broke_off old new r (h.sent ++ piece) rest err (Breaks-then old mid new h.sent piece h.out broke))
 
-  -- the last of them
+  -- the last lines gathered were sent
   pub gathered-all : {T E : Type 0} (r : Result T E) (new : Taker) (end : ℕ) → ((a : ℕ) → end ≤ a → image a ≡ None) → end ≤ a → end ≤ ram_end
       → SendsOrBreaks mid new r piece → SendsOrBreaks old new r (object_text image)
   unfolding object_text

@@ -1,10 +1,10 @@
--- The texts of refusals. This project's profile.
+-- The messages of errors. This project's profile.
 use Rattle.std.specs.Prelude.{ℕ, List, codes}
 use Rattle.a2_text.specs.Refusals.{of_line}
 use Rattle.a2_hex.specs.declared.fault.HexFault.{HexFault}
 use Rattle.a2_hex.specs.declared.fault.HexFault.TheVariants.{Digit, NoAddress, Outside, Memory}
 
--- the line of a refusal, where it is of one, and what it says
+-- the line of an error, if it has one, and the message
 abbrev pub hex_fault_text : HexFault → List ℕ
 hex_fault_text (Digit line) = of_line line (codes "H1 NOT HEX")
 hex_fault_text (NoAddress line) = of_line line (codes "H2 NO ADDRESS")

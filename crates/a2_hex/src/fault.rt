@@ -1,4 +1,4 @@
-//! Why object lines are refused.
+//! Why object lines are rejected.
 
 ghost use Rattle.std.specs.Prelude.{◌≡◌, Some};
 ghost use Rattle.a2_hex.specs.Texts.{hex_fault_text};
@@ -9,21 +9,22 @@ use std::alloc::{AllocError, AllocFailed};
 use std::error::Error;
 use std::fmt;
 
-/// Why object lines are refused. A line counts from 1, and 0 is no line. This project's profile.
+/// Why object lines are rejected. Lines count from 1, and 0 means no line. This project's profile.
 #[derive(Clone, Copy, Debug, PartialEq, Eq, Drop)]
 pub enum HexFault {
-    /// H1: the line with this number is neither blank nor an address or none, `:`, and bytes.
+    /// H1: the line with this number is not blank, and does not have the form of an optional address, `:`, and bytes.
     Digit(usize),
-    /// H2: the line with this number gives no address, and no line before it does.
+    /// H2: the line with this number has no address, and no line before it has one.
     NoAddress(usize),
-    /// H3: a byte of the line with this number would lie at or above $C000.
+    /// H3: a byte of the line with this number would be at or above $C000.
     Outside(usize),
-    /// A growth of memory was refused.
+    /// Memory ran out.
     Memory,
 }
 
 impl HexFault {
-    /// How the refusal is spelt: `LINE `, the line and a blank, where it is of a line, and what it says.
+    /// Returns the text of the error: `LINE `, the line number and a blank if the error belongs to a line, and the
+    /// message.
     pub fn text(&self) -> RefusalText
         ensures { result.bytes ≡ hex_fault_text self.now }
     {

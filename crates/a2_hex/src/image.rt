@@ -8,15 +8,16 @@ use std::alloc::{Allocator, Global};
 use std::boxed::BoxedSlice;
 use std::marker::Model;
 
-/// The end of RAM: the first address, $C000, that is none of it. Apple II Reference Manual (1979), the memory map.
+/// The end of RAM: $C000, the first address that does not belong to it. Apple II Reference Manual (1979), the memory
+/// map.
 pub const RAM_END: u16 = 0xC000;
 
-/// Bytes at addresses of RAM, which are those below $C000: at each address one or none.
+/// Bytes at addresses of RAM, which are the addresses below $C000. Each address has one byte or none.
 #[derive(Drop)]
 pub struct Image<A: Allocator = Global> {
-    // It cannot grow, and lends its allocator to nobody: no call behind `new` takes memory.
+    // This box cannot grow and lends its allocator to nobody, so no call after `new` allocates memory.
     cells: BoxedSlice<Option<u8>, A>,
-    // What is held lies from the first of these addresses up to the second.
+    // All bytes held are from the first of these addresses up to the second.
     start: u16,
     end: u16,
 }
@@ -38,7 +39,7 @@ impl<A: Allocator> Model for Image<A> {
 }
 
 impl<A: Allocator> Image<A> {
-    /// An image with no byte at any address, whose cells lie in memory of `alloc`. Refused only for want of memory.
+    /// Returns an image without bytes, whose cells are in memory of `alloc`. Fails only if memory runs out.
     pub fn new(alloc: A) -> Result<Image<A>, HexFault>
         ensures empty { IfOk result (λ image. (a : ℕ) → held image a ≡ None) }
         ensures refused { OnErr result (result ≡ Err HexFault.Memory) }
@@ -51,7 +52,7 @@ impl<A: Allocator> Image<A> {
         })
     }
 
-    /// The byte at `address`, or none where none was put; at or above $C000 there is none.
+    /// Returns the byte at `address`, or `None` if it has no byte. At or above $C000 there are no bytes.
     pub fn get(&self, address: u16) -> Option<u8>
         ensures held { result ≡ held self.now address }
         ensures image { IsImage (held self.now) }
@@ -64,7 +65,7 @@ impl<A: Allocator> Image<A> {
         }
     }
 
-    // From the first of these addresses up to the second lies what is held.
+    // Returns two addresses; all bytes held are from the first up to the second.
     pub(crate) fn bounds(&self) -> (u16, u16)
         ensures within { IsWithin self.now result.0 result.1 }
         ensures end { result.1 ≤ ram_end }
@@ -72,8 +73,7 @@ impl<A: Allocator> Image<A> {
         (self.start, self.end)
     }
 
-    /// Puts `byte` at `address`, which is below $C000, in place of any that was there, and leaves all other addresses as
-    /// they were.
+    /// Puts `byte` at `address`, which is below $C000, and replaces any byte there. All other addresses are unchanged.
     pub fn set(&mut self, address: u16, byte: u8)
         requires { address < ram_end }
         ensures { (a : ℕ) → held self.new a ≡ put (held self.old) address byte a }
@@ -83,8 +83,8 @@ impl<A: Allocator> Image<A> {
         self.end = self.end.max(address + 1);
     }
 
-    /// Lays the image over `ram`, the 49,152 bytes from address 0 on: at each address where the image has a byte `ram`
-    /// takes it, and elsewhere it keeps its own.
+    /// Lays the image over `ram`, the 49,152 bytes from address 0. Each address at which the image has a byte gets that
+    /// byte; every other address is unchanged.
     pub fn lay_over(&self, ram: &mut [u8])
         requires { length ram.old ≡ ram_end }
         ensures size { length ram.new ≡ ram_end }

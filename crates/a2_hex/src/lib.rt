@@ -1,6 +1,6 @@
-//! Images: bytes at addresses of RAM, and their text.
+//! Images, which are bytes at addresses of RAM, and their text form.
 //!
-//! How it is called is shown in CALLING.md.
+//! CALLING.md shows how to call it.
 #![tactic(auto)]
 
 mod fault;

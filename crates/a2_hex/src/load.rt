@@ -1,4 +1,4 @@
-//! The image that object lines load.
+//! Loading an image from object lines.
 
 ghost use Rattle.std.specs.Prelude.{◌≡◌, ◌≢◌, ◌+◌, ◌≤◌, List, ℕ, length, false, Some, Ok, IfOk, IfErr};
 ghost use Rattle.a2_hex.specs.Images.{held, overlaid};
@@ -10,7 +10,7 @@ use crate::store::{first_byte, store_line};
 use a2_text::{cut, first_word};
 use std::alloc::Allocator;
 
-// Puts bytes at the addresses from this one upwards, and returns the address behind them.
+// Puts bytes at the addresses from this one upwards, and returns the address after them.
 fn lay<A: Allocator>(image: &mut Image<A>, address: u16, bytes: &[u8]) -> u16
     ghost all: { List ℕ }
     requires bytes { hex_bytes bytes.now ≡ Some all }
@@ -55,15 +55,15 @@ fn load_line<A: Allocator>(
     Ok(Some(lay(image, address, store.bytes)))
 }
 
-/// The image that the object lines in `text` load, in memory of `alloc`.
+/// Returns the image that the object lines in `text` load, in memory of `alloc`.
 ///
-/// A line is blank, or an address of 1 to 4 hexadecimal digits or nothing, `:`, and bytes of 1 or 2 digits with blanks
-/// between; without an address it goes on behind the last byte loaded, or at the last address given where it had no
-/// byte. A later byte replaces an earlier one. This project's profile of the Monitor's lines that change memory, Apple
-/// II Reference Manual (1979), chapter 3.
+/// A line is blank, or it is an optional address of 1 to 4 hexadecimal digits, `:`, and bytes of 1 or 2 digits
+/// separated by blanks. Without an address, a line continues after the last byte loaded, or at the last address given
+/// if that had no byte. A later byte replaces an earlier one. This project's profile of the Monitor's lines that change
+/// memory, Apple II Reference Manual (1979), chapter 3.
 ///
-/// Refused with the first line that has another form (`Digit`), or gives no address where no line before it does
-/// (`NoAddress`), or has a byte at or above $C000 (`Outside`); and for want of memory (`Memory`).
+/// Fails at the first line that has another form (`Digit`), that has no address although no line before it has one
+/// (`NoAddress`), or that has a byte at or above $C000 (`Outside`). Also fails if memory runs out (`Memory`).
 pub fn load_lines<A: Allocator + Copy>(alloc: A, text: &[u8]) -> Result<Image<A>, HexFault>
     ensures loaded { IfOk result (λ image. image_of text.now ≡ Ok (held image)) }
     ensures refused { IfErr result (λ fault. fault ≢ HexFault.Memory → image_of text.now ≡ Err fault) }

@@ -5,16 +5,16 @@ ghost use Rattle.a2_hex.specs.ObjectLines as lines;
 
 use a2_text::number_in;
 
-/// The address that 1 to 4 hexadecimal digits of either case say, from 0 to $FFFF; none where `digits` is anything
-/// else, blanks included. This project's profile.
+/// Returns the address, from 0 to $FFFF, that 1 to 4 hexadecimal digits of either case mean. Returns `None` if `digits`
+/// is anything else; blanks are not allowed either. This project's profile.
 pub fn address_of(digits: &[u8]) -> Option<u16>
     ensures { result ≡ lines.hex_address digits.now }
 {
     number_in(16, 4, digits)
 }
 
-/// The byte that 1 or 2 hexadecimal digits of either case say; none where `digits` is anything else, blanks included.
-/// This project's profile.
+/// Returns the byte that 1 or 2 hexadecimal digits of either case mean. Returns `None` if `digits` is anything else;
+/// blanks are not allowed either. This project's profile.
 #[tactic(auto, using(crate::proofs::ByteLaws::byte_of_small), unfolding(crate::specs::ObjectLines::byte_of))]
 pub fn byte_of(digits: &[u8]) -> Option<u8>
     ensures { result ≡ lines.byte_of digits.now }

@@ -9,20 +9,20 @@ ghost use Rattle.a2_hex.specs.ObjectLines.{first_byte_of, hex_bytes, given_befor
 use crate::numbers::{address_of, byte_of};
 use a2_text::{behind_blanks, first_word};
 
-/// A line that stores bytes, as in `300:A9 C1` and `:20 ED`. This project's profile of the Monitor's lines that change
+/// A line that stores bytes, such as `300:A9 C1` or `:20 ED`. This project's profile of the Monitor's lines that change
 /// memory, Apple II Reference Manual (1979), chapter 3.
 #[derive(Clone, Copy, Debug, PartialEq, Eq)]
 pub struct StoreLine<'a> {
-    /// The address of the first byte, where the line gives it.
+    /// The address of the first byte, if the line gives it.
     pub address: Option<u16>,
-    /// The text of the bytes, for `first_byte`.
+    /// The text of the bytes, which `first_byte` reads.
     pub bytes: &'a [u8],
-    /// How many bytes there are.
+    /// The number of bytes.
     pub count: usize,
 }
 
-/// The first byte of `text`, bytes of 1 or 2 hexadecimal digits with blanks between, and what stands behind it, which is
-/// shorter; none where the text is blank or its first word is no byte.
+/// Returns the first byte of `text`, which holds bytes of 1 or 2 hexadecimal digits separated by blanks, and the text
+/// after it, which is shorter. Returns `None` if the text is blank or its first word is not a byte.
 #[tactic(auto, unfolding(crate::specs::ObjectLines::hex_bytes))]
 pub fn first_byte(text: &[u8]) -> Option<(u8, &[u8])>
     ensures bytes { MatchOption result (IfSome (hex_bytes text.now) (λ bytes. bytes ≡ []))
@@ -36,8 +36,8 @@ pub fn first_byte(text: &[u8]) -> Option<(u8, &[u8])>
     Some((byte, behind))
 }
 
-/// How many bytes `text` has, 0 where it is blank; none where one of its words, which blanks part, is no byte of 1 or 2
-/// hexadecimal digits.
+/// Returns how many bytes `text` has, 0 if it is blank. Returns `None` if one of its words, separated by blanks, is not
+/// a byte of 1 or 2 hexadecimal digits.
 #[tactic(auto, unfolding(crate::specs::ObjectLines::hex_bytes))]
 pub fn count_bytes(text: &[u8]) -> Option<usize>
     ensures { result ≡ option_map length (hex_bytes text.now) }
@@ -52,7 +52,7 @@ pub fn count_bytes(text: &[u8]) -> Option<usize>
     Some(count)
 }
 
-// Where the first `:` is.
+// Returns the position of the first `:`.
 fn colon(text: &[u8]) -> Option<usize>
     ensures is { result ≡ position (λ c. c == sign ":") text.now }
     ensures within { IfSome result (λ i. i < length text.now) }
@@ -60,7 +60,8 @@ fn colon(text: &[u8]) -> Option<usize>
     text.iter().position(|c| *c == b':')
 }
 
-// The address before `:`, or none where nothing stands there; or neither.
+// Returns `Some` of the address before `:`, which is `None` if nothing is there. Returns `None` if it is not an
+// address.
 #[tactic(auto, unfolding(crate::specs::ObjectLines::given_before))]
 fn given_before(front: &[u8]) -> Option<Option<u16>>
     ensures { result ≡ given_before front.now }
@@ -72,9 +73,9 @@ fn given_before(front: &[u8]) -> Option<Option<u16>>
     address_of(digits).map(Some)
 }
 
-/// What the line in `text` stores: an address of 1 to 4 hexadecimal digits or none, `:`, and bytes of 1 or 2 digits with
-/// blanks between. Blanks may also stand at both ends and behind `:`, and nowhere else. None where the line has another
-/// form.
+/// Returns what the line in `text` stores: an optional address of 1 to 4 hexadecimal digits, `:`, and bytes of 1 or 2
+/// digits separated by blanks. Other blanks are allowed only at both ends and after `:`. Returns `None` if the line has
+/// another form.
 #[tactic(auto, using(crate::proofs::StoreLaws::store_of_position, std::proofs::lemmas::List::take_rest))]
 pub fn store_line(text: &[u8]) -> Option<StoreLine<'_>>
     ensures none { IsNone result → store_of text.now ≡ None }

@@ -1,4 +1,4 @@
-//! The object lines of an image.
+//! Writing the object lines of an image.
 
 ghost use Rattle.std.specs.Prelude.{◌≡◌, ◌<◌, ◌+◌, ◌*◌, ◌≤◌, ◌++◌, [], ◌∷◌, ℕ, length, Option, Some, Ok, true, false, MatchOption};
 ghost use Rattle.std.specs.List.{flat_map};
@@ -14,13 +14,13 @@ use a2_text::{append, hex_pair, hex_word};
 use arrayvec::ArrayVec;
 use std::alloc::Allocator;
 
-// The most bytes that a line of text has: an address, `:`, eight bytes with blanks between, and a line feed.
+// The greatest length of a line of text: an address, `:`, eight bytes separated by blanks, and a line feed.
 const LINE_LEN: usize = 29;
 
-// The most bytes that go out by one write, where the writer takes them.
+// The most bytes sent in one write, if the writer takes them.
 const PIECE_LEN: usize = 4096;
 
-// The byte at an address, where a line begins there.
+// Returns the byte at an address if a line begins there.
 fn begun<A: Allocator>(image: &Image<A>, address: u16) -> Option<u8>
     ensures { MatchOption result (text.begins_line (held image.now) address ≡ false)
         (λ byte. (text.begins_line (held image.now) address ≡ true) × (held image.now address ≡ Some byte)) }
@@ -29,8 +29,8 @@ fn begun<A: Allocator>(image: &Image<A>, address: u16) -> Option<u8>
     (address % 8 == 0 || image.get(address - 1).is_none()).then_some(byte)
 }
 
-/// Adds the bytes of `image` from `address` up to a gap, but at most `most`, behind `line`, each as two digits with a blank
-/// before it. No address is above `$FFFF`, and the line has room for so many.
+/// Appends the bytes of `image` from `address` up to a gap, but at most `most`, to `line`, each as a blank and two
+/// digits. No address may be above `$FFFF`, and the line must have room for that many bytes.
 pub fn append_run<A: Allocator, const N: usize>(
     image: &Image<A>,
     address: u16,
@@ -51,7 +51,7 @@ pub fn append_run<A: Allocator, const N: usize>(
     }
 }
 
-// The line that begins at an address with this byte, and its line feed.
+// Returns the line that begins at an address with this byte, and its line feed.
 #[tactic(auto, using(crate::proofs::WriteLaws::line_parts))]
 fn line_at<A: Allocator>(image: &Image<A>, address: u16, first: u8) -> ArrayVec<u8, LINE_LEN>
     requires inside { address < ram_end }
@@ -67,7 +67,7 @@ fn line_at<A: Allocator>(image: &Image<A>, address: u16, first: u8) -> ArrayVec<
     line
 }
 
-// Puts a line behind those gathered; where it has no room there, they go out first.
+// Puts a line after those gathered. If there is no room for it, the lines gathered are sent first.
 fn gather<W: Output>(
     piece: &mut ArrayVec<u8, PIECE_LEN>,
     line: &[u8],
@@ -85,11 +85,11 @@ fn gather<W: Output>(
     Ok(())
 }
 
-/// Writes the object lines of `image` to `writer`: addresses upwards; a line is four capital hexadecimal digits, `:`, and
-/// one to eight bytes of two digits with one blank between, and ends in LF; a new line begins at each address divisible
-/// by 8 and after each gap. As many whole lines as 4,096 bytes hold go out together. This project's profile of the
-/// Monitor's lines that change memory, Apple II Reference Manual (1979), chapter 3. Refused where a write fails, and a
-/// front of the text was written then.
+/// Writes the object lines of `image` to `writer`, by rising address. A line is four capital hexadecimal digits, `:`,
+/// one to eight bytes of two digits separated by one blank, and LF. A new line begins at each address divisible by 8
+/// and after each gap. As many whole lines as fit in 4,096 bytes are sent together. This project's profile of the
+/// Monitor's lines that change memory, Apple II Reference Manual (1979), chapter 3. Fails if a write fails; then a
+/// front of the text was sent.
 pub fn write_lines<A: Allocator, W: Output>(
     image: &Image<A>,
     writer: &mut W,
@@ -107,7 +107,7 @@ pub fn write_lines<A: Allocator, W: Output>(
     put(piece.as_slice(), writer)
 }
 
-/// A law: for every image of RAM, the text that `write_lines` writes of it is one that loads to it.
+/// A law: for every image of RAM, the text that `write_lines` writes loads to the same image.
 pub fn written_lines_load()
     ensures { (image : ℕ → Option ℕ) → IsImage image → image_of (text.object_text image) ≡ Ok image }
 {}

@@ -1,4 +1,4 @@
--- How many are kept.
+-- How many checkpoints are kept.
 use Rattle.std.proofs.Common.{◌≡◌, ◌⊎◌, inl, inr, ℕ, zero, suc, ◌+◌, ◌-◌, ◌*◌, ◌/◌, ◌%◌, ◌^◌, ◌<◌, ◌≤◌, min, List, [], ◌∷◌, length, All, AllPairs, refl, subst, arith, pow-suc}
 use Rattle.std.specs.List.{AllByRecursion}
 use Rattle.std.proofs.lemmas.List.Elements.{recursion_from_All}
@@ -7,7 +7,7 @@ use Rattle.a2_history.specs.Spacing.{IsKept, most_of, most_kept}
 use Rattle.a2_history.specs.Places.{IsPlaceKept}
 use Rattle.a2_history.proofs.Placing.{place-kept, kept-place}
 
--- numbers in ascending order, from one on and below another
+-- numbers in ascending order, from one number up to but not including another
 abbrev Rising : ℕ → ℕ → List ℕ → Type 0
 Rising from end [] = Unit {0}
 Rising from end (x ∷ xs) = (from ≤ x) × (x < end) × Rising (x + 1) end xs
@@ -25,7 +25,7 @@ rising-higher : (from higher end : ℕ) (xs : List ℕ) → AllByRecursion (λ x
 rising-higher from higher end [] high is = is
 rising-higher from higher end (x ∷ xs) high is = (high.0, is.1, is.2)
 
--- kept places, of which the even ones are halved, and the odd ones too
+-- kept places, split into the even and the odd ones, both halved
 record Parts (width now from : ℕ) (places : List ℕ) : Type 0 where
   evens : List ℕ
   odds : List ℕ
@@ -112,7 +112,7 @@ count (suc levels) width now places few rise kept =
     let odds : length p.odds ≤ min ((width + 1) / 2) ((now + 1) / 2) = le-min (omega (arith, newest)) (omega (arith, all)) in
     omega (arith, p.both, evens, odds)
 
--- positions in ascending order, in strides
+-- positions in ascending order, counted in strides
 record Strides (width now from : ℕ) (positions : List ℕ) : Type 0 where
   places : List ℕ
   same : length positions ≡ length places

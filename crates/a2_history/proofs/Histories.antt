@@ -1,4 +1,4 @@
--- How going forwards ended.
+-- How moving forwards ended.
 use Rattle.std.proofs.Common.{◌≡◌, ◌⊎◌, inl, inr, ℕ, ◌+◌, ◌-◌, ◌<◌, ◌≤◌, Bool, false, Some, None, [], length, sym, ap, subst, ◌∙◌, arith}
 use Rattle.a2_bus.specs.View.{memory_of}
 use Rattle.a2_services.specs.World.{World}
@@ -14,7 +14,7 @@ use Rattle.a2_history.specs.Courses.{Course, with_logged, arrived, world_on, Non
 use Rattle.a2_history.specs.Going.{IsOn, Advances}
 use Rattle.a2_history.specs.Gone.{IsCauseAt, IsGone}
 
--- a machine that made no step is at its start
+-- A machine that has not executed any step is at its start.
 pub on-new : (course : Course) (state : MachineState) → course ≡ (let fresh : Course = record { origin = state; log = [] } in fresh) → state.steps ≡ 0 → IsOn course state
 unfolding world_on arrived with_logged
 on-new course state is none =
@@ -27,7 +27,7 @@ pub waiting-keys : (state : MachineState) (w : World) → world_of_state state �
 unfolding memory_of
 waiting-keys state w e = ap (λ (v : World). length v.memory.devices.keys) (sym e)
 
--- nothing is seen behind one step more
+-- Nothing is seen after one more step.
 pub passed-next : (seen : World → Bool) (course : Course) (from n : ℕ) (state : MachineState) (r : Bool) → ((k : ℕ) → from < k → k ≤ n → seen (world_on course k) ≡ false)
     → IsOn course state → state.steps ≡ n + 1 → r ≡ seen (world_of_state state) → r ≡ false
     → (k : ℕ) → from < k → k ≤ n + 1 → seen (world_on course k) ≡ false
@@ -43,7 +43,7 @@ passed-next seen course from n state r before on at is not k l m = go (split k m
     go (inl le) = before k l le
     go (inr e) = subst (λ (j : ℕ). seen (world_on course j) ≡ false) (sym e) here
 
--- a run of no step tells the cause
+-- A run of no steps returns the cause.
 pub run-kept : (old new : Device) (cause : Cause) → machine.IsMachineRun 0 old new cause → new ≡ old
 run-kept old new cause run =
     let none : new.state.steps - old.state.steps ≡ 0 = omega (arith, run.end.within) in
@@ -60,7 +60,7 @@ run-cause old new cause run = why (subst (λ d. Why d) (run-kept old new cause r
     why (inl is) = inl is
     why (inr is) = inr (is.0, is.2)
 
--- what was seen or stuck before the end is told
+-- If something was seen or the machine was stuck before the end, that is reported.
 pub gone-some : (seen : World → Bool) (course : Course) (from end to : ℕ) (halt : Halt) → IsGone seen course from end to (Some halt) → NoneStuck course to
     → Advances seen course from end to halt
 gone-some seen course from end to Seen gone went =
@@ -68,7 +68,7 @@ gone-some seen course from end to Seen gone went =
 gone-some seen course from end to (Stopped cause) gone went =
     record { ahead = gone.ahead; within = gone.within; passed = gone.passed; went = went; ends = (gone.why_is.0, inl gone.why_is.1) }
 
--- at the end the machine's cause is
+-- At the end, the machine's cause is reported.
 pub gone-none : (seen : World → Bool) (course : Course) (from end to : ℕ) (state : MachineState) (cause : Cause) → IsGone seen course from end to None
     → IsOn course state → state.guard ≡ course.origin.guard → state.steps ≡ to → IsCauseAt state cause → Advances seen course from end to (Stopped cause)
 gone-none seen course from end to state cause gone on guarded at is =

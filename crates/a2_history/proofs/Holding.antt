@@ -1,4 +1,4 @@
--- What is left of checkpoints when some are dropped.
+-- What remains of the checkpoints when some are dropped.
 use Rattle.std.proofs.Common.{◌≡◌, ◌⊎◌, inl, inr, ℕ, zero, suc, ◌<◌, ◌≤◌, Bool, true, false, List, [], ◌∷◌, ◌++◌, length, remove, slice_index_or, All, true≢false, refl, sym, ap, subst, ◌∙◌, arith}
 use Rattle.std.specs.List.{AllByRecursion, items_where_true}
 use Rattle.std.specs.List.Retain.{IsFiltered, ReturnsInTurn}
@@ -9,7 +9,7 @@ use Rattle.a2_history.specs.Courses.{Course, world_on}
 use Rattle.a2_history.specs.Going.{IsOn, AreOn}
 use Rattle.a2_history.specs.Held.{Thins, IsCopy, Holds}
 
--- one that is not kept
+-- a checkpoint that is not kept
 abbrev pub IsOther : ℕ → ℕ → Device → Type 0
 IsOther width now d = IsKept width now d.state.steps → ⊥
 
@@ -17,7 +17,7 @@ pub thins-same : (width now : ℕ) (ds : List Device) → Thins width now ds ds
 thins-same width now [] = refl
 thins-same width now (d ∷ ds) = inr (ds, refl, thins-same width now ds)
 
--- where the first stays it may go later
+-- If the first checkpoint stays, it may still be dropped later.
 later-first : (width now : ℕ) (d : Device) (ds mid new : List Device)
     → ((next : List Device) → Thins width now mid next → Thins width now ds next)
     → Thins width now (d ∷ mid) new → Thins width now (d ∷ ds) new
@@ -31,7 +31,7 @@ thins-twice width now (d ∷ ds) mid new (inr stays) two =
     later-first width now d ds stays.0 new (λ next. thins-twice width now ds stays.0 next stays.2)
     (subst (λ (xs : List Device). Thins width now xs new) stays.1 two)
 
--- what holds of all holds of those that are left
+-- What holds for all checkpoints holds for those that remain.
 left-all : (P : Device → Type 0) (width now : ℕ) (old new : List Device) → Thins width now old new → AllByRecursion P old → AllByRecursion P new
 left-all P width now [] new left all = subst (λ (ds : List Device). AllByRecursion P ds) (sym left) tt
 left-all P width now (d ∷ ds) new (inl gone) all = left-all P width now ds new gone.1 all.1
@@ -82,7 +82,7 @@ copied course state copy is here = record {
   went = λ k l. here.went k (omega (arith, l, is.steps));
 }
 
--- what is held is on the way of a run, as what was held and the machine are
+-- If the old checkpoints and the machine are on a run, so are the checkpoints held afterwards.
 pub on-held : (course : Course) (most : ℕ) (state : MachineState) (old new : List Device) → Holds most state old new
     → IsOn course state → AreOn course old → AreOn course new
 on-held course most state old new holds here on = go holds.added
@@ -95,7 +95,7 @@ on-held course most state old new holds here on = go holds.added
     go (inr more) = subst (λ (ds : List Device). AreOn course ds) (sym more.2)
         (All-push (λ (d : Device). IsOn course d.state) holds.kept more.0 left (copied course state more.0.state more.1 here))
 
--- what is held, by what was dropped in two steps
+-- What is held after checkpoints were dropped in two stages.
 pub held-by : (most now width : ℕ) (state : MachineState) (old mid kept new : List Device) → now ≡ state.steps → IsWidth most now width
     → Thins width now old mid → Thins width now mid kept → All (λ d. IsKept width now d.state.steps) kept
     → (new ≡ kept) ⊎ ((copy : Device) × IsCopy state copy.state × (new ≡ kept ++ copy ∷ [])) → Holds most state old new

@@ -1,4 +1,4 @@
--- Steps that are made at once, along a run.
+-- Steps that are run in one call, along a run.
 use Rattle.std.specs.Prelude.{IfNone, IfSome, ◌==◌, ◌||◌, nat_le, length, if◌then◌else◌}
 use Rattle.std.proofs.Common.{◌≡◌, ◌⊎◌, inl, inr, ℕ, zero, suc, ◌+◌, ◌-◌, ◌<◌, ◌≤◌, Bool, true, false, true≢false, List, [], ◌∷◌, drop, Option, Some, None, refl, sym, ap, ap₂, ◌∙◌, arith}
 use Rattle.std.proofs.lemmas.Bool.{ne_eqb, cond-false}
@@ -25,14 +25,14 @@ both_false : (u v : Bool) → (u || v) ≡ false → (u ≡ false) × (v ≡ fal
 both_false false v e = (refl, e)
 both_false true v e = absurd (true≢false e)
 
--- one of a log that is typed elsewhere
+-- an entry of a log that was typed elsewhere
 pub quiet-next : (log : List Typed) (i : ℕ) (t : Typed) (k : ℕ) (w : World) → drop i log ≡ t ∷ drop (i + 1) log → (t.position ≡ k → ⊥)
     → with_logged (drop i log) k w ≡ with_logged (drop (i + 1) log) k w
 unfolding with_logged
 quiet-next log i t k w split ne =
     ap (λ xs. with_logged xs k w) split ∙ ap (λ v. with_logged (drop (i + 1) log) k v) (cond-false _ _ _ (ne_eqb t.position k ne))
 
--- keys change nothing that an observer is shown
+-- Keys change nothing that an observer is shown.
 keys-shown : (keys : List ℕ) (v w : World) → shown_between v (with_keys keys w) ≡ shown_between v w
 unfolding with_keys ram_byte
 keys-shown keys v w = go (nat_le (length w.memory.devices.keys + length keys) 4096)
@@ -50,14 +50,14 @@ logged-shown (t ∷ ts) n v w = logged-shown ts n v _ ∙ one (t.position == n)
     one true = keys-shown t.keys v w
     one false = refl
 
--- who is shown the same is the same
+-- Observers that are shown the same become the same.
 shown-alike : {O : Type 0} (seen : O → Shown → O) (f g : ℕ → Shown) (o : O) (n : ℕ) → ((k : ℕ) → k < n → f k ≡ g k)
     → seen_after seen f o n ≡ seen_after seen g o n
 unfolding seen_after
 shown-alike seen f g o zero same = refl
 shown-alike seen f g o (suc n) same = ap₂ seen (shown-alike seen f g o n (λ k l. same k (omega (arith, l)))) (same n (omega arith))
 
--- a burst along a run, on which no keys were typed, and the keys that were typed at its end
+-- a burst along a run with no keys typed during it, followed by the keys that were typed at its end
 module _ (course : Course) (most to : ℕ) (old mid new : Device) (on : IsOn course old.state) (guarded : old.state.guard ≡ course.origin.guard)
     (made : IsBurst most old mid) (quiet : IsQuiet course.log old.state.steps to) (low : old.state.steps + most ≤ to)
     (typed_by : IsTypedBy course.log mid.state new.state) where
@@ -123,7 +123,7 @@ module _ (course : Course) (most to : ℕ) (old mid new : Device) (on : IsOn cou
       is ∙ shown-alike seen (shown_at (code_of old.state) start) (λ k. shown_on course (old.state.steps + k)) before count shown-along
       ∙ ap (seen_after seen (λ k. shown_on course (old.state.steps + k)) before) e
 
--- before a position that was reached some steps are made
+-- Before a position that was reached, some steps are run.
 pub leap-way : (course : Course) (end : ℕ) (old new : Device) (r : Option Cause) → IsOn course old.state → old.state.steps < end
     → NoneStuck course end → IfNone r (IsOn course new.state) → IfNone r (old.state.steps < new.state.steps) → IfNone r (new.state.steps ≤ end)
     → IfSome r (λ cause. stuck (code_of course.origin) (world_of_state old.state) ≡ Some cause)
@@ -132,7 +132,7 @@ leap-way course end old new None on l went made ahead within told = (made, ahead
 leap-way course end old new (Some cause) on l went made ahead within told =
     absurd (none-some cause (sym (went old.state.steps l) ∙ sym (ap (stuck (code_of course.origin)) on.world) ∙ told))
 
--- who counts whether a step alarms and is not alarmed was shown none that does
+-- An observer that records alarms and has recorded none was shown no step that raises one.
 module _ {O : Type 0} (seen : O → Shown → O) (is_alarmed : O → Bool) (alarms : Shown → Bool) (Is : O → Type 0)
     (step : (o : O) (shown : Shown) → Is o → Is (seen o shown) × (is_alarmed (seen o shown) ≡ (is_alarmed o || alarms shown))) where
   stays : (f : ℕ → Shown) (o : O) (n : ℕ) → Is o → Is (seen_after seen f o n)
@@ -154,7 +154,7 @@ module _ {O : Type 0} (seen : O → Shown → O) (is_alarmed : O → Bool) (alar
       go before last (inl a) = before k a
       go before last (inr e) = ap (λ j. alarms (f j)) e ∙ last
 
--- so it is with a watcher
+-- The same holds for a watcher.
 module _ {L : Type 0} (alarms_by : L → Shown → Bool) where
   abbrev pub watched : Watcher L → Shown → Watcher L
   watched watcher shown = record watcher { is_alarmed = watcher.is_alarmed || alarms_by watcher.lookout.now shown }
@@ -166,7 +166,7 @@ module _ {L : Type 0} (alarms_by : L → Shown → Bool) where
       (λ o shown same. (same, ap (λ l. o.is_alarmed || alarms_by l shown) same)) f before n refl
       (sym (ap (λ (o : Watcher L). o.is_alarmed) is) ∙ not)
 
--- where no step alarms nothing is seen
+-- If no step raises an alarm, nothing is seen.
 pub unseen : (seen : World → Bool) (alarms : Shown → Bool) (course : Course) (start from to : ℕ) → Warns seen alarms course start → start ≤ from
     → ((k : ℕ) → start < k → k ≤ from → seen (world_on course k) ≡ false) → NoneStuck course to
     → ((k : ℕ) → k < to - from → alarms (shown_on course (from + k)) ≡ false) → (k : ℕ) → start < k → k ≤ to → seen (world_on course k) ≡ false
@@ -194,7 +194,7 @@ unseen seen alarms course start from to warns high before went calm (suc k) l m 
     go earlier (inl a) = before (suc k) l a
     go earlier (inr a) = told earlier a (seen (world_on course (k + 1))) refl
 
--- steps that were made one by one up to a position within an end
+-- steps that were run one by one up to a position within an end
 pub gone-further : (seen : World → Bool) (course : Course) (from to end here : ℕ) (halt : Halt) → to ≤ end → IsGone seen course from to here (Some halt)
     → IsGone seen course from end here (Some halt)
 gone-further seen course from to end here Seen low gone =
@@ -202,7 +202,7 @@ gone-further seen course from to end here Seen low gone =
 gone-further seen course from to end here (Stopped cause) low gone =
     record { ahead = gone.ahead; within = omega (arith, gone.within, low); passed = gone.passed; why_is = gone.why_is }
 
--- and behind which nothing was seen
+-- the same, with nothing seen after them
 pub gone-unseen : (seen : World → Bool) (course : Course) (start from to here : ℕ)
     → ((k : ℕ) → start < k → k ≤ from → seen (world_on course k) ≡ false) → IsGone seen course from to here None
     → (k : ℕ) → start < k → k ≤ here → seen (world_on course k) ≡ false
@@ -218,7 +218,7 @@ gone-unseen seen course start from to here before gone k l m = go (split k)
         let e : here ≡ k = omega (arith, m, a.1) in
         ap (λ n. seen (world_on course n)) (sym e) ∙ gone.why_is.1 (omega (arith, a.0, e))
 
--- going on from a position, up to which nothing was seen
+-- moving on from a position, up to which nothing was seen
 pub gone-on : (seen : World → Bool) (course : Course) (start from end to : ℕ) (why : Option Halt) → start ≤ from
     → ((k : ℕ) → start < k → k ≤ from → seen (world_on course k) ≡ false) → IsGone seen course from end to why → IsGone seen course start end to why
 gone-on seen course start from end to why high before gone =

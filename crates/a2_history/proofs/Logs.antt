@@ -1,4 +1,4 @@
--- Keys that are typed, and those of a log.
+-- Keys that are typed, and keys from a log.
 use Rattle.std.specs.Prelude.{Result, Ok, Err, IsOk, OnOk, OnErr, ◌↔◌}
 use Rattle.std.proofs.Common.{◌≡◌, ℕ, ◌+◌, ◌<◌, ◌≤◌, Bool, true, false, true≢false, List, [], ◌∷◌, ◌++◌, length, drop, refl, sym, ap, ◌∙◌, arith, cond, eqb, leb}
 use Rattle.std.proofs.lemmas.Bool.{eq-eqb, ne_eqb, le-leb, leb-true, leb-false, cond-false, cond-true}
@@ -48,7 +48,7 @@ typed-is old new keys (Err e) fits ok err = record {
   guard = ap (λ (d : Device). d.state.guard) err;
 }
 
--- one of a log
+-- one entry of a log
 pub typed-here : (t : Typed) (old new : MachineState) → t.position ≡ old.steps → IsTyped t.keys old new → IsTypedBy (t ∷ []) old new
 unfolding with_logged
 typed-here t old new e is = record { world = is.world ∙ sym (cond-true _ _ _ (eq-eqb t.position old.steps e)); steps = is.steps; guard = is.guard }
@@ -57,7 +57,7 @@ pub typed-elsewhere : (t : Typed) (old : MachineState) → (t.position ≡ old.s
 unfolding with_logged
 typed-elsewhere t old ne = record { world = sym (cond-false _ _ _ (ne_eqb t.position old.steps ne)); steps = refl; guard = refl }
 
--- the next of a log
+-- the next entry of a log
 pub logged-next : (log : List Typed) (i : ℕ) (t : Typed) (old new : MachineState) → drop i log ≡ t ∷ drop (i + 1) log → IsTypedBy (t ∷ []) old new
     → with_logged (drop (i + 1) log) new.steps (world_of_state new) ≡ with_logged (drop i log) old.steps (world_of_state old)
 unfolding with_logged
@@ -70,13 +70,13 @@ pub logged-none : (n : ℕ) (w : World) → with_logged [] n w ≡ w
 unfolding with_logged
 logged-none n w = refl
 
--- keys that are noted behind a log
+-- Appending keys to a log types them after the others.
 pub logged-append : (xs ys : List Typed) (n : ℕ) (w : World) → with_logged (xs ++ ys) n w ≡ with_logged ys n (with_logged xs n w)
 unfolding with_logged
 logged-append [] ys n w = refl
 logged-append (t ∷ ts) ys n w = logged-append ts ys n _
 
--- later keys are forgotten
+-- Keys that come later do not matter.
 pub logged-up_to : (log : List Typed) (m n : ℕ) (w : World) → n ≤ m → with_logged (up_to m log) n w ≡ with_logged log n w
 unfolding with_logged
 logged-up_to [] m n w l = refl
@@ -90,7 +90,7 @@ logged-up_to (t ∷ ts) m n w l = go (leb t.position m) refl (λ v. logged-up_to
         let ne : t.position ≡ n → ⊥ = λ bad. omega (arith, above, bad, l) in
         rest w ∙ ap (λ v. with_logged ts n v) (sym (cond-false _ _ _ (ne_eqb t.position n ne)))
 
--- keys typed at a position, in a log
+-- keys typed at a position, as an entry of a log
 pub logged-here : (keys : List ℕ) (n : ℕ) (w : World) → with_logged (record { position = n; keys = keys } ∷ []) n w ≡ with_keys keys w
 unfolding with_logged
 logged-here keys n w = cond-true _ _ _ (eq-eqb n n refl)
@@ -99,7 +99,7 @@ pub logged-not_yet : (keys : List ℕ) (m n : ℕ) (w : World) → n < m → wit
 unfolding with_logged
 logged-not_yet keys m n w l = cond-false _ _ _ (ne_eqb m n (λ e. omega (arith, e, l)))
 
--- the log with keys that are noted
+-- the log after keys were added
 pub noted : (course : Course) (origin : MachineState) (log kept new : List Typed) (p n : ℕ) (keys : List ℕ)
     → (let seen : Course = record { origin = origin; log = log } in seen) ≡ course
     → kept ≡ up_to p log → new ≡ kept ++ record { position = p; keys = keys } ∷ [] → p ≡ n

@@ -13,7 +13,7 @@ spacing-more level = let e : 2 ^ suc level ≡ 2 ^ level * 2 = pow-suc 2 level i
 spacing-some : (level : ℕ) → 0 < spacing level
 spacing-some level = let e : 0 < 2 ^ level = pow_pos level in omega (arith, e)
 
--- the last multiple up to a position
+-- the last multiple that is not above a position
 abbrev last : ℕ → ℕ → ℕ
 last space position = position / space * space
 
@@ -23,7 +23,7 @@ last-within space position some =
     let rest : position % space < space = mod-lt position some in
     (omega (arith, whole), omega (arith, whole, rest))
 
--- it is kept at a level whose width reaches it
+-- A multiple is kept on a level if the width reaches it.
 last-kept : (level more now position : ℕ) → position ≤ now → now - position ≤ more * spacing level
     → IsBefore (more + 1) now position (last (spacing level) position)
 last-kept level more now position within reached =
@@ -43,7 +43,7 @@ abbrev IsNearby : (more now position : ℕ) → Type 0
 IsNearby more now position = (checkpoint : ℕ) × IsBefore (more + 1) now position checkpoint
     × ((position ≤ checkpoint + 1023) ⊎ (more * (position - checkpoint) ≤ 2 * (now - position)))
 
--- where the level below does not reach it, it is near at this one
+-- If the level below does not reach the position, this level is near enough.
 far : (level more now position : ℕ) → position ≤ now → more * spacing level < now - position
     → more * (position - last (spacing (suc level)) position) ≤ 2 * (now - position)
 far level more now position within beyond =
@@ -60,7 +60,7 @@ either level more now position within reached lower (inl beyond) =
     (last (spacing (suc level)) position, last-kept (suc level) more now position within reached, inr (far level more now position within beyond))
 either level more now position within reached lower (inr near) = lower near
 
--- at the lowest level that reaches it
+-- the lowest level that reaches the position
 nearby : (level more now position : ℕ) → position ≤ now → now - position ≤ more * spacing level → IsNearby more now position
 nearby zero more now position within reached =
     let near = last-within (spacing 0) position (spacing-some 0) in
@@ -93,7 +93,7 @@ each-near width now position some within =
     let found = any-nearby (width - 1) now position within in
     (found.0, subst (λ w. IsBefore w now position found.0) whole found.1, found.2)
 
--- of no places none are kept
+-- Of no places, none is kept.
 pub most-none : (levels width : ℕ) → most_of levels width 0 ≡ 0
 unfolding most_of
 most-none zero width = refl
@@ -107,7 +107,7 @@ most-more (suc levels) width places first rest some few is others =
     let half : places < 2 ^ levels * 2 = subst (λ n. places < n) (pow-suc 2 levels) few in
     omega (arith, is, others levels (omega (arith, half)))
 
--- a width of 0 keeps none
+-- A width of 0 keeps nothing.
 pub none-kept : (levels places : ℕ) → most_of levels 0 places ≡ 0
 unfolding most_of
 none-kept zero places = refl
@@ -117,7 +117,7 @@ pub kept-wide : (most now width : ℕ) → most < most_kept width now → 1 ≤ 
 kept-wide most now zero more = absurd (omega (arith, more, none-kept 54 (now / 1024)))
 kept-wide most now (suc width) more = omega arith
 
--- the later, the more are wanted
+-- The later the position, the more checkpoints are to be kept.
 pub most-grows : (levels width places more : ℕ) → places ≤ more → most_of levels width places ≤ most_of levels width more
 unfolding most_of
 most-grows zero width places more le = omega arith
@@ -128,7 +128,7 @@ most-grows (suc levels) width places more le =
     (le_trans (min-le_right ((width + 1) / 2) ((places + 1) / 2)) (omega (arith, le))) in
     omega (arith, rest, first)
 
--- so a width is no greater later
+-- So the width never grows.
 narrows : (most now width later narrower : ℕ) → now ≤ later → IsWidth most now width → IsWidth most later narrower → narrower ≤ width
 narrows most now width later narrower le is will = go (cases_lt width narrower)
   where
@@ -152,7 +152,7 @@ none-again most now width later narrower checkpoint le is will kept =
       newest = omega (arith, kept.newest, product, le);
     }
 
--- up to position 100,000,000 605 are enough for the greatest width
+-- Up to position 100,000,000, room for 605 checkpoints is enough for the largest width.
 enough : most_kept 101 100_000_000 ≡ 605
 unfolding most_of
 enough = refl

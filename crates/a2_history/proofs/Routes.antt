@@ -1,4 +1,4 @@
--- The routines on the way.
+-- The routines along a run.
 use Rattle.std.proofs.Common.{◌≡◌, ◌⊎◌, inl, inr, ℕ, ◌+◌, ◌<◌, ◌≤◌, List, length, Option, Some, None, sym, subst, arith}
 use Rattle.a2_symbols.specs.declared.routines.Entry.{Entry}
 use Rattle.a2_history.specs.Courses.{Course}
@@ -14,7 +14,7 @@ below-next n P here before k lt = go (split k lt)
     go (inl e) = subst P (sym e) here
     go (inr l) = before k l
 
--- the newest place outside so far
+-- the latest position outside so far
 pub outside-start : (course : Course) (most : ℕ) → IsNewestOutside course most 0 None
 outside-start course most = λ k l. absurd (omega (arith, l))
 

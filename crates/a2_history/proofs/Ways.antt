@@ -16,7 +16,7 @@ use Rattle.a2_history.proofs.Logs.{logged-append, logged-up_to, logged-here, log
 pub none-some : {X : Type 0} (x : X) → None ≡ Some x → ⊥
 none-some x e = true≢false (sym (ap is_some e))
 
--- below the greatest number of steps a machine's cause is why it is stuck
+-- Below the step limit, a machine's cause is why it is stuck.
 pub cause-stuck : (d : Device) → d.state.steps < 100_000_000 → cause_of d.state ≡ stuck (code_of d.state) (world_of_state d.state)
 cause-stuck d few = go (stuck (code_of d.state) (world_of_state d.state)) refl
   where
@@ -50,7 +50,7 @@ on-start course old new same none is =
       went = λ k l. absurd (omega (arith, l, at));
     }
 
--- a step
+-- one step
 pub on-step : (course : Course) (old mid new : Device) → IsOn course old.state → old.state.guard ≡ course.origin.guard → old.state.steps < 100_000_000
     → None ≡ cause_of old.state → IsStep old mid → IsTypedBy course.log mid.state new.state → IsOn course new.state
 unfolding world_on arrived
@@ -69,7 +69,7 @@ on-step course old mid new on guarded few none step is =
       went = λ k l. below-next old.state.steps (λ n. stuck (code_of course.origin) (world_on course n) ≡ None) here on.went k (omega (arith, l, at, one));
     }
 
--- why there is none
+-- why no step can be executed
 pub stuck-here : (course : Course) (old : Device) (cause : Cause) → old.state.guard ≡ course.origin.guard → old.state.steps < 100_000_000
     → Some cause ≡ cause_of old.state → stuck (code_of course.origin) (world_of_state old.state) ≡ Some cause
 stuck-here course old cause guarded few told =
@@ -86,7 +86,7 @@ pub stuck-told : (course : Course) (old : Device) (r : Option Cause) → old.sta
 stuck-told course old None guarded few told = tt
 stuck-told course old (Some cause) guarded few told = stuck-here course old cause guarded few told
 
--- before a position that was reached each step is made
+-- Before a position that was reached, each step can be executed.
 pub on-way : (course : Course) (end : ℕ) (old new : Device) (r : Option Cause) → IsOn course old.state → old.state.steps < end → NoneStuck course end
     → IfNone r (IsOn course new.state) → IfNone r (new.state.steps ≡ old.state.steps + 1)
     → IfSome r (λ cause. stuck (code_of course.origin) (world_of_state old.state) ≡ Some cause)
@@ -95,7 +95,7 @@ on-way course end old new None on l went made steps told = (made, steps)
 on-way course end old new (Some cause) on l went made steps told =
     absurd (none-some cause (sym (went old.state.steps l) ∙ sym (ap (stuck (code_of course.origin)) on.world) ∙ told))
 
--- the newest so far
+-- the latest position so far
 pub newest-none : (seen : World → Bool) (course : Course) (from : ℕ) → IsNewest seen course from from None
 newest-none seen course from = λ k l m. absurd (omega (arith, l, m))
 
@@ -108,7 +108,7 @@ newest-next seen course from n None false is l e =
 newest-next seen course from n (Some p) false is l e =
     (is.0, omega (arith, is.1), is.2, λ k m o. below-next n (λ q. p < q → seen (world_on course q) ≡ false) (λ _. e) (λ q r s. is.3 q s r) k o m)
 
--- none in two stretches
+-- If nothing is seen in a second range, the result for the first range holds for both together.
 pub newest-before : (seen : World → Bool) (course : Course) (from mid end : ℕ) (found : Option ℕ) → from ≤ mid → mid ≤ end → IsNewest seen course from mid found
     → IsNewest seen course mid end None → IsNewest seen course from end found
 newest-before seen course from mid end None l m before behind = λ k a b. go k a b (split k)
@@ -133,7 +133,7 @@ pub newest-behind : (seen : World → Bool) (course : Course) (low from end p : 
     → IsNewest seen course low end (Some p)
 newest-behind seen course low from end p l is = (omega (arith, l, is.0), is.1, is.2, is.3)
 
--- keys typed at a position leave all before it as it was
+-- Typing keys at a position changes nothing before it.
 module _ (course : Course) (n : ℕ) (keys : List ℕ) where
   same-logged : (k : ℕ) (w : World) → k < n → with_logged (with_typed n keys course).log k w ≡ with_logged course.log k w
   same-logged k w l =
@@ -187,7 +187,7 @@ pub on-filtered : (course : Course) (test : Device → Bool) (old new : List Dev
 on-filtered course test old new is on =
     subst (λ (xs : List Device). AreOn course xs) (sym is) (All-filter test (λ (d : Device). IsOn course d.state) old on)
 
--- those before a position at which keys are typed
+-- the checkpoints before a position at which keys are typed
 pub on-typed : (course : Course) (n : ℕ) (keys : List ℕ) (ds : List Device) → AreOn course ds → All (λ d. d.state.steps < n) ds
     → AreOn (with_typed n keys course) ds
 on-typed course n keys ds on before = λ k d l. same-on course n keys _ (before k d l) (on k d l)

@@ -1,4 +1,4 @@
--- Steps that are made at once. No public clause cites this file.
+-- Steps that are run in one call. No public clause cites this file.
 use Rattle.std.specs.Prelude.{◌≡◌, ℕ, ◌+◌, ◌-◌, ◌<◌, ◌≤◌, List, None}
 use Rattle.a2_services.specs.World.{World}
 use Rattle.a2_machine.specs.Meaning.{stuck, world_at}
@@ -6,7 +6,7 @@ use Rattle.a2_machine.specs.State.{Device, world_of_state, code_of}
 use Rattle.a2_history.specs.declared.Typed.{Typed}
 use Rattle.a2_history.specs.Courses.{with_logged}
 
--- some steps were made, at most so many
+-- some steps were run, at most this many
 pub record IsBurst (most : ℕ) (old new : Device) : Type 0 where
   pub some : old.state.steps < new.state.steps
   pub most_made : new.state.steps ≤ old.state.steps + most

@@ -1,4 +1,4 @@
--- What is kept, by places: positions in strides. No public clause cites this file.
+-- What is kept, in terms of places, which are positions counted in strides. No public clause cites this file.
 use Rattle.std.specs.Prelude.{◌≡◌, ℕ, ◌-◌, ◌*◌, ◌^◌, ◌<◌}
 
 pub record IsPlaceKept (width now place : ℕ) : Type 0 where

@@ -5,23 +5,25 @@ use Rattle.std.specs.Prelude.{◌≡◌, ℕ, zero, suc, ◌+◌, ◌-◌, ◌*�
 abbrev pub spacing : ℕ → ℕ
 spacing level = 1024 * 2 ^ level
 
--- one at a position is kept where a run has come to another: at some level it is among the newest, as many as the width
+-- the checkpoint at a position is kept when a run has reached `now`: on some level it is among the latest, as many as
+-- the width
 pub record IsKept (width now position : ℕ) : Type 0 where
   pub level : ℕ
   pub number : ℕ
   pub multiple : position ≡ number * spacing level
   pub newest : now - position < width * spacing level
 
--- the most of so many places: at the lowest level alone each second of the newest, and as many of half the places
+-- the largest number kept of some places: on the lowest level every second one of the latest, and on the other levels
+-- as many as for half the places
 unfoldable pub most_of : ℕ → ℕ → ℕ → ℕ
 most_of zero width places = 0
 most_of (suc levels) width places = min ((width + 1) / 2) ((places + 1) / 2) + most_of levels width (places / 2)
 
--- the most that are kept, of all levels at which a number of 64 bits has a place
+-- the largest number kept, on all levels that a 64-bit position can have
 abbrev pub most_kept : ℕ → ℕ → ℕ
 most_kept width now = most_of 54 width (now / 1024)
 
--- the greatest width, of those up to 101, by which at most so many are kept
+-- the largest width, up to 101, that keeps at most the given number of checkpoints
 pub record IsWidth (most now width : ℕ) : Type 0 where
   pub few : most_kept width now ≤ most
   pub within : width ≤ 101

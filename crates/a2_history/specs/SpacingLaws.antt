@@ -1,4 +1,4 @@
--- Laws of what is kept.
+-- Laws of which checkpoints are kept.
 use Rattle.std.specs.Prelude.{◌⊎◌, ℕ, ◌+◌, ◌-◌, ◌*◌, ◌^◌, ◌<◌, ◌≤◌, List, length, All}
 use Rattle.std.specs.List.{AllPairs}
 use Rattle.a2_history.specs.Spacing.{IsKept, most_kept, IsWidth}
@@ -8,7 +8,8 @@ pub record IsBefore (width now position checkpoint : ℕ) : Type 0 where
   pub kept : IsKept width now checkpoint
   pub before : checkpoint ≤ position
 
--- at most 1,023 steps lead from it there, or so many of those from there to where the run has come
+-- from the checkpoint to the position there are at most 1,023 steps, or at most a certain share of those from the
+-- position to the end of the run
 abbrev pub EachIsNear : Type 0
 EachIsNear = (width now position : ℕ) → 0 < width → position ≤ now
     → (checkpoint : ℕ) × IsBefore width now position checkpoint

@@ -1,4 +1,4 @@
-//! Checkpoints: copies of a run's machine at positions that it reached, over the whole of it.
+//! Keeps checkpoints: copies of a run's machine at positions that it reached, spread over the whole run.
 
 ghost use Rattle.std.specs.Prelude.{◌≡◌, ◌⊎◌, ◌≤◌, ◌<◌, ◌++◌, ◌∷◌, [], length, slice_index_or, All, IfSome};
 ghost use Rattle.a2_machine.specs.State.{Device};
@@ -16,7 +16,7 @@ use std::marker::Model;
 #[derive(Drop)]
 pub struct Checkpoints<A: Allocator = Global> {
     held: Vec<Machine<A>, A>,
-    // The most that are held.
+    // The largest number of checkpoints that may be held.
     most: usize,
 }
 
@@ -31,8 +31,8 @@ impl<A: Allocator> Model for Checkpoints<A> {
     ghost invariant = { λ c. length c.held.items ≤ c.most };
 }
 
-// The steps from one that is made to the next: `STRIDE`, doubled as long as that is at most a fiftieth of the steps so far. A
-// copy takes the time of thousands of steps.
+// Returns the steps from one new checkpoint to the next. This is `STRIDE`, doubled as often as it stays at most a
+// fiftieth of the steps so far. A copy takes as long as thousands of steps.
 fn stride_at(position: u64) -> u64
     ensures { 0 < result }
 {
@@ -43,7 +43,7 @@ fn stride_at(position: u64) -> u64
     stride
 }
 
-// Whether one is to be made at a position: a multiple of the stride there, behind all that are held.
+// Returns whether a checkpoint is due at a position: a multiple of the stride there, after all that are held.
 fn is_due<A: Allocator>(held: &[Machine<A>], position: u64) -> bool {
     let is_behind = match held.last() {
         Some(newest) => newest.steps() < position,
@@ -52,7 +52,7 @@ fn is_due<A: Allocator>(held: &[Machine<A>], position: u64) -> bool {
     is_behind && position % stride_at(position) == 0
 }
 
-// The index of the first that is not kept any more.
+// Returns the index of the first checkpoint that need not be kept any more.
 fn first_other<A: Allocator>(held: &[Machine<A>], width: u64, now: u64) -> Option<usize>
     ensures within { IfSome result (λ index. index < length held.now) }
     ensures other { IfSome result (λ index. (d : Device) → IsKept width now (slice_index_or held.now index d).state.steps → ⊥) }
@@ -65,7 +65,7 @@ fn first_other<A: Allocator>(held: &[Machine<A>], width: u64, now: u64) -> Optio
     None
 }
 
-// Takes one away that is not kept any more, if there is one.
+// Removes one checkpoint that need not be kept any more, if there is one.
 fn take_other<A: Allocator>(
     held: &mut Vec<Machine<A>, A>,
     width: u64,
@@ -77,7 +77,7 @@ fn take_other<A: Allocator>(
     Some(held.remove(index))
 }
 
-// Drops those that are not kept any more.
+// Drops the checkpoints that need not be kept any more.
 fn drop_others<A: Allocator>(held: &mut Vec<Machine<A>, A>, width: u64, now: u64)
     ensures thinned { Thins width now held.old.items held.new.items }
     ensures wanted { All (λ d. IsKept width now d.state.steps) held.new.items }
@@ -85,7 +85,8 @@ fn drop_others<A: Allocator>(held: &mut Vec<Machine<A>, A>, width: u64, now: u64
     held.retain(|kept| is_kept(width, now, kept.steps()));
 }
 
-// A copy of a machine, in another's place if there is one. None where there is no memory for it.
+// Returns a copy of a machine, made in the memory of another if there is one. Returns `None` if there is no memory
+// for it.
 fn copy_of<A: Allocator + Copy>(
     alloc: A,
     spare: Option<Machine<A>>,
@@ -101,7 +102,7 @@ fn copy_of<A: Allocator + Copy>(
     Some(copy)
 }
 
-// Adds one, where fewer than the most are held and there is memory.
+// Adds a checkpoint, if there is memory and fewer than `most` are held.
 fn add<A: Allocator>(held: &mut Vec<Machine<A>, A>, copy: Machine<A>, most: usize)
     requires { length held.old.items ≤ most }
     ensures added { (held.new.items ≡ held.old.items) ⊎ (held.new.items ≡ held.old.items ++ copy ∷ []) }
@@ -112,8 +113,8 @@ fn add<A: Allocator>(held: &mut Vec<Machine<A>, A>, copy: Machine<A>, most: usiz
     }
 }
 
-// Drops those that are not kept where a machine has come to, and adds a copy of it, where there is memory. It takes the place of
-// one that is dropped: a new one would take longer.
+// Drops the checkpoints that are not kept at a machine's position, and adds a copy of the machine if there is memory.
+// The copy reuses the memory of a dropped checkpoint, since allocating takes longer.
 fn hold<A: Allocator + Copy>(
     alloc: A,
     held: &mut Vec<Machine<A>, A>,
@@ -134,7 +135,7 @@ fn hold<A: Allocator + Copy>(
 }
 
 impl<A: Allocator + Copy> Checkpoints<A> {
-    /// None, and at most so many later.
+    /// Creates an empty set, which holds at most `most` checkpoints.
     pub fn new(alloc: A, most: usize) -> Checkpoints<A>
         ensures { result ≡ [] }
     {
@@ -144,7 +145,7 @@ impl<A: Allocator + Copy> Checkpoints<A> {
         }
     }
 
-    /// Makes one where the position is one for it, and drops those that are not kept any more.
+    /// Makes a checkpoint if one is due at the machine's position, and drops those that need not be kept any more.
     pub fn keep(&mut self, alloc: A, machine: &Machine<A>)
         ensures { (course : Course) → IsOn course machine.now.state → AreOn course self.old → AreOn course self.new }
     {
@@ -155,14 +156,14 @@ impl<A: Allocator + Copy> Checkpoints<A> {
 }
 
 impl<A: Allocator> Checkpoints<A> {
-    /// How many are held.
+    /// Returns how many checkpoints are held.
     pub fn len(&self) -> usize
         ensures { result ≡ length self.now }
     {
         self.held.len()
     }
 
-    /// The one at an index below their number, counted from 0 on.
+    /// Returns the checkpoint at an index, which counts from 0 and is below [`Checkpoints::len`].
     pub fn at(&self, index: usize) -> &Machine<A>
         requires { index < length self.now }
         ensures { (course : Course) → AreOn course self.now → IsOn course result.now.state }
@@ -170,7 +171,7 @@ impl<A: Allocator> Checkpoints<A> {
         &self.held[index]
     }
 
-    /// The newest whose position is not behind this one.
+    /// Returns the latest checkpoint that is not after a position.
     pub fn newest_before(&self, position: u64) -> Option<&Machine<A>>
         ensures on { IfSome result (λ kept. (course : Course) → AreOn course self.now → IsOn course kept.now.state) }
         ensures before { IfSome result (λ kept. kept.now.state.steps ≤ position) }
@@ -184,7 +185,7 @@ impl<A: Allocator> Checkpoints<A> {
         None
     }
 
-    /// Forgets those from a position on.
+    /// Forgets the checkpoints at and after a position.
     pub fn forget_from(&mut self, position: u64)
         ensures on { (course : Course) → AreOn course self.old → AreOn course self.new }
         ensures before { All (λ d. d.state.steps < position) self.new }

@@ -1,4 +1,4 @@
-//! A run: where it starts, and the keys that were typed on the way.
+//! Represents a run by its start and the keys typed during it.
 
 ghost use Rattle.std.specs.Prelude.{◌≡◌, ◌+◌, ◌-◌, ◌<◌, ◌≤◌, ◌∷◌, [], None, Some, length, if◌then◌else◌, IfSome, IfNone, IfOk};
 ghost use Rattle.std.specs.Prelude.{IfErr, OnOk, OnErr};
@@ -19,13 +19,13 @@ use a2_machine::{Cause, Machine};
 use std::alloc::{AllocError, Allocator, Global};
 use std::marker::Model;
 
-/// A run: a machine at its start, and the keys that were typed on the way.
+/// A run: a machine at its start, and the keys that were typed during it.
 pub struct Course<A: Allocator = Global> {
     origin: Machine<A>,
     log: Vec<Typed, A>,
 }
 
-// Not derived, for the prover alone: it follows this as one call, and a derived one field by field.
+// Not derived, only for the prover: it sees this as one call, but a derived `Drop` field by field.
 impl<A: Allocator> Drop for Course<A> {
     fn drop(self) {
         let Course { origin: _, log: _ } = self;
@@ -43,14 +43,14 @@ impl<A: Allocator> Model for Course<A> {
     ghost invariant = { λ c. c.origin.state.steps ≡ 0 };
 }
 
-// Types keys, where they fit.
+// Types keys, if they fit.
 fn type_fitting<A: Allocator>(machine: &mut Machine<A>, keys: &Keys)
     ensures { IsTyped keys.now machine.old.state machine.new.state }
 {
     let _ = machine.type_keys(keys);
 }
 
-// Types keys where they were typed at the machine's position.
+// Types keys if they were typed at the machine's position.
 fn type_again<A: Allocator>(machine: &mut Machine<A>, typed: &Typed)
     ensures { IsTypedBy (typed.now ∷ []) machine.old.state machine.new.state }
 {
@@ -59,7 +59,7 @@ fn type_again<A: Allocator>(machine: &mut Machine<A>, typed: &Typed)
     }
 }
 
-// Types those keys of a log that were typed at the machine's position, where they fit.
+// Types those keys of a log that were typed at the machine's position, if they fit.
 fn type_logged<A: Allocator>(machine: &mut Machine<A>, log: &[Typed])
     ensures { IsTypedBy log.now machine.old.state machine.new.state }
 {
@@ -68,7 +68,7 @@ fn type_logged<A: Allocator>(machine: &mut Machine<A>, log: &[Typed])
     }
 }
 
-// The first position behind another at which keys of a log were typed; an end at the latest.
+// Returns the first position after `from` at which keys of a log were typed, or `end` if that is earlier.
 fn quiet_end(log: &[Typed], from: u64, end: u64) -> u64
     requires { from < end }
     ensures ahead { from < result }
@@ -84,7 +84,7 @@ fn quiet_end(log: &[Typed], from: u64, end: u64) -> u64
     quiet
 }
 
-// Makes some steps, at most so many, each of which the observer sees; or answers why there is none.
+// Runs some steps, at most `most`, all of which the observer sees, or returns why no step can be run.
 fn burst<A: Allocator, O: Observer>(
     machine: &mut Machine<A>,
     most: u32,
@@ -106,7 +106,7 @@ fn burst<A: Allocator, O: Observer>(
     Some(cause)
 }
 
-// What was found so far: this position, where something is seen there.
+// Returns this position if something is seen there, otherwise what was found so far.
 fn newer(found: Option<u64>, position: u64, is_seen: bool) -> Option<u64>
     ensures { result ≡ (if is_seen then Some position else found) }
 {
@@ -114,7 +114,8 @@ fn newer(found: Option<u64>, position: u64, is_seen: bool) -> Option<u64>
 }
 
 impl<A: Allocator + Copy> Course<A> {
-    /// That of a machine which has made no step, without keys typed later. Refused only for want of memory.
+    /// Creates the run of a machine that has not executed any step, with no keys typed later. Fails only if memory is
+    /// short.
     pub fn new(alloc: A, machine: &Machine<A>) -> Result<Course<A>, AllocError>
         requires { machine.now.state.steps ≡ 0 }
         ensures { IfOk result (λ c. c ≡ record { origin = machine.now.state; log = [] }) }
@@ -129,7 +130,7 @@ impl<A: Allocator + Copy> Course<A> {
 }
 
 impl<A: Allocator> Course<A> {
-    /// Puts a machine at the start.
+    /// Puts a machine at the start of the run.
     pub fn restart(&self, machine: &mut Machine<A>)
         ensures on { IsOn self.now machine.new.state }
         ensures steps { machine.new.state.steps ≡ 0 }
@@ -139,7 +140,7 @@ impl<A: Allocator> Course<A> {
         type_logged(machine, self.log.as_slice());
     }
 
-    /// Makes one step, and types the keys that were typed behind it; or answers why there is none.
+    /// Executes one step and types the keys that were typed after it, or returns why no step can be executed.
     pub fn make_step(&self, machine: &mut Machine<A>) -> Option<Cause>
         requires on { IsOn self.now machine.old.state }
         requires guard { machine.old.state.guard ≡ self.now.origin.guard }
@@ -157,9 +158,9 @@ impl<A: Allocator> Course<A> {
         cause
     }
 
-    /// Makes some steps, up to an end at the latest, each of which the observer sees, and types the keys that were typed behind
-    /// the last; or answers why there is none. No keys were typed behind the others, and it goes beyond no position where a
-    /// checkpoint may be made.
+    /// Runs some steps, not beyond `end`, all of which the observer sees, and types the keys that were typed after
+    /// the last one. Returns why no step can be run, if so. No keys were typed after the other steps, and the call
+    /// never passes a position at which a checkpoint may be made.
     pub fn leap<O: Observer>(
         &self,
         machine: &mut Machine<A>,
@@ -189,7 +190,7 @@ impl<A: Allocator> Course<A> {
         None
     }
 
-    /// Brings a machine forwards to a position that was reached.
+    /// Brings a machine forwards to a position that was reached before.
     pub fn bring(&self, machine: &mut Machine<A>, position: u64)
         requires on { IsOn self.now machine.old.state }
         requires guard { machine.old.state.guard ≡ self.now.origin.guard }
@@ -202,13 +203,14 @@ impl<A: Allocator> Course<A> {
     {
         let mut from = machine.steps();
         while from < position {
-            // No world on the way is stuck, so some steps are made.
+            // No world before the position is stuck, so at least one step is run.
             let _ = self.leap(machine, position, &mut NoObserver);
             from = machine.steps();
         }
     }
 
-    /// The newest position, from that of the machine on and before an end that was reached, at which something is seen.
+    /// Returns the latest position, from the machine's own up to but not including `end`, at which something is seen.
+    /// `end` was reached before.
     pub fn newest_seen<S: Sight>(
         &self,
         machine: &mut Machine<A>,
@@ -226,14 +228,14 @@ impl<A: Allocator> Course<A> {
         let mut found = None;
         for position in machine.steps()..end {
             found = newer(found, position, sight.is_seen(machine));
-            // No world on the way is stuck, so all steps are made.
+            // No world before the end is stuck, so every step is executed.
             let _ = self.make_step(machine);
         }
         found
     }
 
-    /// Types keys at a machine, behind those that wait, and notes them at its position; those that were typed later are
-    /// forgotten. Refused, with nothing changed, where more than 4,096 would wait, and for want of memory.
+    /// Types keys after those that wait, and logs them at the machine's position; keys that were typed later are
+    /// forgotten. Fails without any change if more than 4,096 keys would wait, or if memory is short.
     pub fn type_keys(&mut self, machine: &mut Machine<A>, keys: Keys) -> Result<(), TypingFault>
         requires { IsOn self.old machine.old.state }
         ensures typed { OnOk result (IsTyped keys machine.old.state machine.new.state) }

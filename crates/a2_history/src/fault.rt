@@ -1,10 +1,10 @@
-//! Why keys are not typed.
+//! Says why keys were not typed.
 
-/// Why keys are not typed.
+/// The reason why keys were not typed.
 #[derive(Clone, Copy)]
 pub enum TypingFault {
-    /// More than 4,096 would wait.
+    /// More than 4,096 keys would wait.
     Full,
-    /// A growth of memory was refused.
+    /// Memory is short.
     Memory,
 }

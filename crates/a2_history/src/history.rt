@@ -1,4 +1,4 @@
-//! A run and the way through it.
+//! Moves forwards and backwards through a run.
 
 ghost use Rattle.std.specs.Prelude.{◌≡◌, ◌+◌, ◌<◌, ◌≤◌, ℕ, min, [], length, IfOk, IfErr, OnOk, OnErr};
 ghost use Rattle.a2_machine.specs.State.{world_of_state};
@@ -20,25 +20,28 @@ use a2_symbols::Entry;
 use std::alloc::{AllocError, Allocator, Global};
 use std::marker::Model;
 
-/// The greatest position: the most steps of a history.
+/// The largest position, which is the largest number of steps in a history.
 const HISTORY_MAX_STEPS: u64 = 100_000_000;
 
-/// How far a scout stays behind, in steps: a copy takes what some 250 steps of a run take, and these are made again once, to
-/// where an alarmed burst began.
+/// How far a scout may fall behind, in steps. A copy takes as long as about 250 steps of a run. The steps up to the
+/// start of a burst that raised an alarm are replayed once.
 const MOST_BEHIND: u64 = 8 * STRIDE;
 
-/// A run, and a position in it: how many steps lead there from the start, at most 100,000,000. Contracts see the machine at the
-/// start, the keys that were typed with their positions, and the position; the world at each position is a function of these.
+/// A run and a position in it.
+///
+/// The position is the number of steps from the start, at most 100,000,000. Contracts see the machine at the start,
+/// the keys that were typed with their positions, and the position. The world at each position is a function of
+/// these.
 pub struct History<A: Allocator = Global> {
     alloc: A,
     course: Course<A>,
     machine: Machine<A>,
-    // A machine that looks at earlier worlds, and stays behind where steps are made in bursts.
+    // A machine that visits earlier worlds, and stays behind while steps are run in bursts.
     scout: Machine<A>,
     checkpoints: Checkpoints<A>,
 }
 
-// Not derived, for the prover alone: it follows this as one call, and a derived one field by field.
+// Not derived, only for the prover: it sees this as one call, but a derived `Drop` field by field.
 impl<A: Allocator> Drop for History<A> {
     fn drop(self) {
         let History {
@@ -67,10 +70,11 @@ impl<A: Allocator> Model for History<A> {
 }
 
 impl<A: Allocator + Copy> History<A> {
-    /// The history of a machine that has made no step, at its start, with at most `most` checkpoints later, of which each takes
-    /// some 124,000 bytes. They are made at each 1,024 steps, and later at each fiftieth to hundredth of the steps so far; of
-    /// these are held those that `is_kept` keeps where the farthest position is that was reached. Refused only for want of
-    /// memory.
+    /// Creates the history of a machine that has not executed any step, at its start. Fails only if memory is short.
+    ///
+    /// The history later holds at most `most` checkpoints, each of about 124,000 bytes. They are made every 1,024
+    /// steps, and later at intervals of a hundredth to a fiftieth of the steps so far. Of these, the history holds
+    /// those that `is_kept` keeps for the farthest position reached.
     pub fn new(alloc: A, machine: Machine<A>, most: usize) -> Result<History<A>, AllocError>
         requires { machine.state.steps ≡ 0 }
         ensures { IfOk result (λ h. h ≡ record { course = record { origin = machine.state; log = [] }; position = 0 }) }
@@ -87,10 +91,14 @@ impl<A: Allocator + Copy> History<A> {
         })
     }
 
-    /// Makes steps up to the first behind which `sight` is seen, which is not looked for before the first step; up to a world
-    /// that is stuck; or `limit` of them, and none beyond position 100,000,000. Answers which it was, `Cause::Limit` only where
-    /// no other cause holds. Keys that were typed on the way are typed again. The steps are made in bursts, and worlds are looked
-    /// at only where `lookout` alarms: so it wants that each step alarms behind which something is newly seen.
+    /// Runs steps until one of three things happens, and returns which:
+    /// - a step after which `sight` is seen (the world before the first step does not count);
+    /// - a world that is stuck;
+    /// - `limit` steps or position 100,000,000.
+    ///
+    /// It returns `Cause::Limit` only if no other cause applies. Keys that were typed in this part of the run are
+    /// typed again. The steps are run in bursts, and worlds are examined only if `lookout` raises an alarm. So
+    /// `lookout` must raise one at each step after which something is newly seen.
     pub fn advance<S: Sight, L: Lookout>(&mut self, limit: u32, sight: &S, lookout: &L) -> Halt
         requires { Warns (S.is_seen sight.now) (L.alarms lookout.now) self.old.course self.old.position }
         ensures course { self.new.course ≡ self.old.course }
@@ -117,7 +125,7 @@ impl<A: Allocator + Copy> History<A> {
     }
 }
 
-// Why a machine is stuck; `Cause::Limit` where it is not.
+// Returns why a machine is stuck, or `Cause::Limit` if it is not.
 fn cause_at<A: Allocator>(machine: &mut Machine<A>) -> Cause
     ensures cause { IsCauseAt machine.old.state result }
     ensures kept { machine.new ≡ machine.old }
@@ -125,7 +133,7 @@ fn cause_at<A: Allocator>(machine: &mut Machine<A>) -> Cause
     machine.run(0)
 }
 
-// Makes steps up to an end, or before to a world that is seen or stuck: why it ended there.
+// Runs steps up to an end, or to an earlier world that is seen or stuck, and returns why it stopped there.
 fn go_on<A: Allocator + Copy, S: Sight>(
     alloc: A,
     course: &Course<A>,
@@ -156,7 +164,7 @@ fn go_on<A: Allocator + Copy, S: Sight>(
     None
 }
 
-// Puts a machine at a position that was reached.
+// Puts a machine at a position that was reached before.
 fn put_at<A: Allocator>(
     course: &Course<A>,
     machine: &mut Machine<A>,
@@ -178,7 +186,7 @@ fn put_at<A: Allocator>(
     course.bring(machine, position);
 }
 
-// Puts a machine where another is.
+// Puts a machine where another one is.
 fn put_as<A: Allocator>(machine: &mut Machine<A>, other: &Machine<A>)
     ensures on { (course : Seen) → IsOn course other.now.state → IsOn course machine.new.state }
     ensures steps { machine.new.state.steps ≡ other.now.state.steps }
@@ -187,7 +195,7 @@ fn put_as<A: Allocator>(machine: &mut Machine<A>, other: &Machine<A>)
     machine.restore(other);
 }
 
-// Puts a scout where a machine is, once that is so far ahead.
+// Puts a scout where a machine is, if the machine is far enough ahead.
 fn follow<A: Allocator>(scout: &mut Machine<A>, machine: &Machine<A>)
     requires { scout.old.state.steps ≤ machine.now.state.steps }
     ensures on { (course : Seen) → IsOn course scout.old.state → IsOn course machine.now.state → IsOn course scout.new.state }
@@ -199,8 +207,8 @@ fn follow<A: Allocator>(scout: &mut Machine<A>, machine: &Machine<A>)
     }
 }
 
-// Makes the steps from a position on to that of a machine again, one by one: in bursts to where they begin, from where a scout
-// stayed.
+// Replays the steps from a position to a machine's position one by one. The machine first goes back to where the
+// scout stayed, and runs in bursts from there to the first of these steps.
 fn go_again<A: Allocator + Copy, S: Sight>(
     alloc: A,
     course: &Course<A>,
@@ -228,7 +236,7 @@ fn go_again<A: Allocator + Copy, S: Sight>(
     go_on(alloc, course, machine, checkpoints, to, sight)
 }
 
-// The same in bursts. Where a step of one alarms its steps are made again, one by one.
+// Runs up to an end in bursts. If a step of a burst raises an alarm, the burst's steps are replayed one by one.
 fn burst_on<A: Allocator + Copy, S: Sight, L: Lookout>(
     alloc: A,
     course: &Course<A>,
@@ -274,7 +282,7 @@ fn burst_on<A: Allocator + Copy, S: Sight, L: Lookout>(
     None
 }
 
-// The newest position, from that of a machine on and before an end, at which something is seen.
+// Returns the latest position, from a machine's own up to but not including an end, at which something is seen.
 fn look_from<A: Allocator, S: Sight>(
     course: &Course<A>,
     scout: &mut Machine<A>,
@@ -294,8 +302,8 @@ fn look_from<A: Allocator, S: Sight>(
     course.newest_seen(scout, end, sight)
 }
 
-// The newest position before an end that was reached at which something is seen, from the newest checkpoint on, and back to the
-// start.
+// Returns the latest position before an end that was reached at which something is seen. It searches from the latest
+// checkpoint on, then from earlier ones, back to the start.
 fn look_back<A: Allocator, S: Sight>(
     course: &Course<A>,
     scout: &mut Machine<A>,
@@ -326,7 +334,7 @@ fn look_back<A: Allocator, S: Sight>(
 }
 
 impl<A: Allocator> History<A> {
-    /// The machine at the position.
+    /// Returns the machine at the position.
     pub fn machine(&self) -> &Machine<A>
         ensures world { world_of_state result.now.state ≡ here self.now }
         ensures steps { result.now.state.steps ≡ self.now.position }
@@ -335,7 +343,7 @@ impl<A: Allocator> History<A> {
         &self.machine
     }
 
-    /// How many steps lead from the start to where it stands, 0 to 100,000,000.
+    /// Returns the number of steps from the start to the current position, 0 to 100,000,000.
     pub fn position(&self) -> u64
         ensures position { result ≡ self.now.position }
         ensures most { result ≤ 100_000_000 }
@@ -344,12 +352,14 @@ impl<A: Allocator> History<A> {
         self.machine.steps()
     }
 
-    /// How many checkpoints are held beside the start, at most as many as it was made with. No clause says how many.
+    /// Returns how many checkpoints are held in addition to the start, at most the number given to [`History::new`].
+    /// No contract says how many.
     pub fn kept(&self) -> usize {
         self.checkpoints.len()
     }
 
-    /// Goes back to `position`, which is not behind its own: to the newest checkpoint that is not behind that, and on from there.
+    /// Goes back to `position`, which is not after the current one: restores the latest checkpoint not after it, and
+    /// runs forwards from there.
     pub fn go_back(&mut self, position: u64)
         requires { position ≤ self.old.position }
         ensures { self.new ≡ record self.old { position = position } }
@@ -357,8 +367,8 @@ impl<A: Allocator> History<A> {
         put_at(&self.course, &mut self.machine, &self.checkpoints, position);
     }
 
-    /// The newest position before its own, from the start on, at which `sight` is seen; none where it is seen at none of them. It
-    /// stands where it stood.
+    /// Returns the latest position before the current one, and not before the start, at which `sight` is seen, or
+    /// `None` if there is none. The position does not change.
     pub fn newest<S: Sight>(&mut self, sight: &S) -> Option<u64>
         ensures newest { IsNewest (S.is_seen sight.now) self.old.course 0 self.old.position result }
         ensures kept { self.new ≡ self.old }
@@ -369,8 +379,9 @@ impl<A: Allocator> History<A> {
 }
 
 impl<A: Allocator + Copy> History<A> {
-    /// Types `keys` at its position, behind those that wait; keys that were typed at later positions are forgotten. Refused, with
-    /// nothing changed, by `TypingFault::Full` where more than 4,096 would wait, and by `TypingFault::Memory` for want of memory.
+    /// Types `keys` at the current position, after those that wait; keys that were typed at later positions are
+    /// forgotten. Fails without any change: with `TypingFault::Full` if more than 4,096 keys would wait, and with
+    /// `TypingFault::Memory` if memory is short.
     pub fn type_keys(&mut self, keys: Keys) -> Result<(), TypingFault>
         ensures typed { OnOk result (self.new ≡ record self.old { course = with_typed self.old.position keys self.old.course }) }
         ensures here { OnOk result (here self.new ≡ with_keys keys (here self.old)) }
@@ -385,9 +396,9 @@ impl<A: Allocator + Copy> History<A> {
         Ok(())
     }
 
-    /// The routines that were entered on the way to its position and not left, the outermost first: a JSR enters one, and the
-    /// first step behind which the stack pointer is not below that before the JSR leaves it. It stays where it was. Refused only
-    /// for want of memory.
+    /// Returns the routines that were entered before the current position and not left, the outermost first. A JSR
+    /// enters one. The first step after which the stack pointer is not below its value before the JSR leaves it. The
+    /// position does not change. Fails only if memory is short.
     pub fn entered(&mut self) -> Result<Vec<Entry, A>, AllocError>
         ensures entered { IfOk result (λ entries. entries.items ≡ entered_on self.old.course self.old.position) }
         ensures kept { self.new ≡ self.old }
@@ -397,8 +408,8 @@ impl<A: Allocator + Copy> History<A> {
         Ok(way.entries)
     }
 
-    /// The newest position before its own at which no more routines were entered than at its own; none at the start. It stands
-    /// where it stood. Refused only for want of memory.
+    /// Returns the latest position before the current one with no more routines entered than now, or `None` at the
+    /// start. The position does not change. Fails only if memory is short.
     pub fn newest_outside(&mut self) -> Result<Option<u64>, AllocError>
         ensures newest { IfOk result (λ found.
             IsNewestOutside self.old.course (length (entered_on self.old.course self.old.position)) self.old.position found) }

@@ -1,6 +1,6 @@
-//! A run that is gone along in both directions: forwards step by step, back to any position that was reached.
+//! Moves through a run in both directions: forwards step by step, and back to any position reached before.
 //!
-//! How it is called is shown in CALLING.md.
+//! CALLING.md shows how to call this crate.
 #![tactic(auto)]
 
 mod checkpoints;
@@ -31,11 +31,11 @@ pub struct Typed {
     pub keys: Keys,
 }
 
-/// Why going forwards ended.
+/// Why moving forwards ended.
 #[derive(Clone, Copy)]
 pub enum Halt {
-    /// What was looked for is seen.
+    /// What was searched for is seen.
     Seen,
-    /// The machine is stuck by this cause, or, by `Cause::Limit`, as many steps as were asked for were made.
+    /// The machine is stuck for this cause, or, with `Cause::Limit`, the requested number of steps was executed.
     Stopped(Cause),
 }

@@ -1,4 +1,4 @@
-//! What is looked out for in the steps of a burst.
+//! Watches the steps of a burst for an alarm.
 
 ghost use Rattle.std.specs.Prelude.{◌≡◌, ◌||◌, Bool, false, slice_get};
 ghost use Rattle.a2_burst.specs.Shown.{Shown};
@@ -6,13 +6,13 @@ ghost use Rattle.a2_burst.specs.Shown.{Shown};
 use crate::Nothing;
 use a2_burst::{Look, Observer};
 
-/// What is looked out for in the steps of a burst, which is not ended for it: where no step alarms, nothing new is seen behind
-/// one.
+/// A condition to watch for in the steps of a burst. The burst does not end because of it. If no step raises an
+/// alarm, nothing new is seen after any of them.
 pub trait Lookout {
-    /// Whether a step, as an observer is shown it, is one that alarms.
+    /// Whether a step, as an observer is shown it, raises an alarm.
     ghost alarms: { Self → Shown → Bool };
 
-    /// Whether a step is one of these, by what is seen of it and the 49,152 bytes of RAM behind it.
+    /// Returns whether a step raises an alarm, given what is seen of it and the 49,152 bytes of RAM after it.
     fn alarms(&self, look: Look, ram: &[u8]) -> bool
         ensures { result ≡ alarms self.now (record { look = look; ram = slice_get ram.now }) };
 }
@@ -26,7 +26,7 @@ impl Lookout for Nothing {
     }
 }
 
-/// An observer that keeps whether a step alarmed.
+/// An observer that remembers whether a step raised an alarm.
 #[derive(Drop)]
 pub struct Watcher<'a, L: Lookout> {
     pub lookout: &'a L,
@@ -38,7 +38,7 @@ impl<L: Lookout> Observer for Watcher<'_, L> {
 
     #[inline(always)]
     fn see(&mut self, look: Look, ram: &[u8]) {
-        // (nothing is kept, or asked for, of a step that does not alarm)
+        // The flag is read and written only for a step that raises an alarm.
         if self.lookout.alarms(look, ram) {
             self.is_alarmed = true;
         }

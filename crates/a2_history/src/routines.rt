@@ -1,4 +1,4 @@
-//! The routines that a course entered and did not leave.
+//! Finds the routines that a run has entered and not left.
 
 ghost use Rattle.std.specs.Prelude.{◌≡◌, ◌≤◌, IfOk};
 ghost use Rattle.a2_history.specs.Courses.{NoneStuck};
@@ -9,17 +9,17 @@ use a2_machine::Machine;
 use a2_symbols::{Entry, enter, leave};
 use std::alloc::{AllocError, Allocator};
 
-/// What a way through a run came by.
+/// What was found on the way through a run.
 #[derive(Drop)]
 pub struct Way<A: Allocator> {
     /// The routines that were entered and not left, the outermost first.
     pub entries: Vec<Entry, A>,
-    /// The newest position at which no more than so many were.
+    /// The latest position with at most the given number of routines.
     pub outside: Option<u64>,
 }
 
-/// Goes along a run from its start to an end that was reached: the routines that are entered there, and the newest position
-/// before it at which no more than `most` were. Refused only for want of memory.
+/// Goes through a run from its start to an end that was reached. Returns the routines entered there, and the latest
+/// position before it with at most `most` of them. Fails only if memory is short.
 pub fn way_to<A: Allocator + Copy>(
     alloc: A,
     course: &Course<A>,
@@ -42,7 +42,7 @@ pub fn way_to<A: Allocator + Copy>(
             outside = Some(position);
         }
         enter(&mut entries, scout)?;
-        // No world on the way is stuck, so all steps are made.
+        // No world before the end is stuck, so every step is executed.
         let _ = course.make_step(scout);
         leave(&mut entries, scout);
     }

@@ -1,4 +1,4 @@
-//! What is looked for in the worlds of a run.
+//! Describes what is searched for in the worlds of a run.
 
 ghost use Rattle.std.specs.Prelude.{◌≡◌, Bool, false};
 ghost use Rattle.a2_services.specs.World.{World};
@@ -7,17 +7,17 @@ ghost use Rattle.a2_machine.specs.State.{world_of_state};
 use a2_machine::Machine;
 use std::alloc::Allocator;
 
-/// What is looked for in the worlds of a run.
+/// A condition to search for in the worlds of a run.
 pub trait Sight {
-    /// Whether a world is one of these.
+    /// Whether the condition holds in a world.
     ghost is_seen: { Self → World → Bool };
 
-    /// Whether a machine's world is one of these.
+    /// Returns whether the condition holds in a machine's world.
     fn is_seen<A: Allocator>(&self, machine: &Machine<A>) -> bool
         ensures { result ≡ is_seen self.now (world_of_state machine.now.state) };
 }
 
-/// What is seen in no world.
+/// The condition that holds in no world.
 #[derive(Clone, Copy)]
 pub struct Nothing;
 

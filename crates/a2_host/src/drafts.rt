@@ -1,5 +1,5 @@
-//! Files that are written whole or not at all. A draft is a file of its own beside the one that it is to be, and takes its place by a new
-//! name.
+//! Files that are written whole or not at all. A draft is a separate file next to the target file; renaming it replaces
+//! the target.
 
 ghost use Rattle.std.specs.Prelude.{◌≡◌, None};
 ghost use Rattle.a2_host.specs.Desks.{Files, Begins, Finishes};
@@ -10,41 +10,41 @@ use std::io::{BufWriter, Write};
 use std::os::unix::fs::MetadataExt;
 use std::{fs, str};
 
-/// Where files are written whole or not at all.
+/// A place where files are written whole or not at all.
 pub trait Desk {
     type Draft: Output + Drop;
 
-    /// The texts of the files by their names, where they are known.
+    /// The contents of the files by name, if they are known.
     ghost files: { Self → Files };
 
-    /// Begins a text for the file of this name, which stays as it is, if there is one. Refused where none can be begun beside
-    /// it, and where the name is that of something else than a file.
+    /// Begins new content for the file `name`; an existing file is unchanged until `finish`. Fails if no draft can be
+    /// created next to it, or if `name` belongs to something other than a file.
     fn begin(&mut self, name: &str) -> Result<Self::Draft, WriteFault>
         ensures { Begins Self.Draft.taker (files self.old) (files self.new) result };
 
-    /// Makes what `draft` took the file of this name. Where that fails the file stays as it is.
+    /// Makes the content of `draft` the file `name`. If that fails, the file is unchanged.
     fn finish(&mut self, name: &str, draft: Self::Draft) -> Result<(), WriteFault>
         ensures { Finishes name.now (Self.Draft.taker draft) (files self.old) (files self.new) result };
 
-    /// Gives `draft` up: all files stay as they are.
+    /// Discards `draft`; all files are unchanged.
     fn give_up(&mut self, draft: Self::Draft)
         ensures { files self.new ≡ files self.old };
 
-    /// Whether two names are those of one file, as far as can be told.
+    /// Returns whether two names belong to the same file, as far as this can be found out.
     fn are_one(&self, name: &str, other: &str) -> bool;
 }
 
 // How many names are tried for a draft.
 const NAMES: u32 = 100;
 
-/// The files of the system.
+/// The files of the operating system.
 #[derive(Drop)]
 pub struct HostDesk<'a> {
     rt: &'a HostRuntime,
 }
 
 impl<'a> HostDesk<'a> {
-    /// The files that `rt` reaches. What they hold is not known.
+    /// Returns the files that `rt` reaches. Their contents are not known.
     pub fn new(rt: &'a HostRuntime) -> HostDesk<'a>
         ensures { ⟦<HostDesk<'a> as Desk>⟧.files result ≡ None }
     {
@@ -52,7 +52,7 @@ impl<'a> HostDesk<'a> {
     }
 }
 
-/// A draft: a file that is to take the place of another.
+/// A draft: a file that is to replace another one.
 #[derive(Drop)]
 pub struct HostDraft {
     lines: BufWriter<File>,
@@ -76,7 +76,7 @@ impl Output for HostDraft {
     }
 }
 
-// Whether something of this name is there that is no file.
+// Returns whether something with this name exists that is not a file.
 fn is_no_file(rt: &HostRuntime, name: &str) -> bool {
     match fs::metadata(rt, name) {
         Ok(found) => !found.is_file(),
@@ -84,7 +84,7 @@ fn is_no_file(rt: &HostRuntime, name: &str) -> bool {
     }
 }
 
-// A new file beside that of this name, and its own name.
+// Creates a new file next to the one with this name, and returns its name and the file.
 fn beside(rt: &HostRuntime, name: &str) -> Result<(String, File), WriteFault> {
     for number in 0..NAMES {
         let Ok(other) = format!(in rt.alloc(); "{name}.{number}.part") else {
@@ -97,7 +97,7 @@ fn beside(rt: &HostRuntime, name: &str) -> Result<(String, File), WriteFault> {
     Err(WriteFault)
 }
 
-// Lets go of what stands in the buffer: dropped as it is, it would be written.
+// Discards the bytes in the buffer; simply dropping the buffer would write them.
 fn let_go(lines: BufWriter<File>) {
     let _ = lines.into_parts();
 }

@@ -1,6 +1,6 @@
-//! What a program takes from its host: its words, files that it reads, files that it writes whole, and where it tells a fault.
+//! A program's arguments, the files that it reads, the files that it writes whole, and where it reports errors.
 //!
-//! How it is called is shown in CALLING.md.
+//! CALLING.md shows how to call it.
 #![tactic(auto)]
 
 ghost use Rattle.std.specs.Prelude.{◌≡◌, ◌++◌, IfSome, None, codes};
@@ -16,20 +16,20 @@ use std::alloc::AllocError;
 use std::fs::File;
 use std::{env, fs, io};
 
-/// Where files are opened.
+/// A place where files are opened.
 pub trait Shelf {
     type Reader: Input + Drop;
 
-    /// The texts that names open, where they are known; and how many calls of `open` were made and failed, at most
-    /// 2^64 - 1 each, where the count stays.
+    /// The contents that each name opens, if they are known, and how many calls of `open` were executed and how many
+    /// failed. Each count stays at 2^64 - 1.
     ghost shelved: { Self → Shelved };
 
-    /// Opens the file of this name for reading from its first byte on. Refused where it cannot be opened.
+    /// Opens the file `name` for reading from its first byte. Fails if it cannot be opened.
     fn open(&mut self, name: &str) -> Result<Self::Reader, ReadFault>
         ensures { Opens Self.Reader.giver name.now (shelved self.old) (shelved self.new) result };
 }
 
-/// The files of the system, as a shelf that counts its calls.
+/// The files of the operating system, as a shelf that counts its calls.
 #[derive(Drop)]
 pub struct HostFiles<'a> {
     rt: &'a HostRuntime,
@@ -38,7 +38,7 @@ pub struct HostFiles<'a> {
 }
 
 impl<'a> HostFiles<'a> {
-    /// The files that `rt` reaches. What they hold is not known.
+    /// Returns the files that `rt` reaches. Their contents are not known.
     pub fn new(rt: &'a HostRuntime) -> HostFiles<'a>
         ensures { ⟦<HostFiles<'a> as Shelf>⟧.shelved result ≡ record { texts = None; calls = 0; failures = 0 } }
     {
@@ -67,12 +67,12 @@ impl Shelf for HostFiles<'_> {
     }
 }
 
-/// Why there are no words of a command line.
+/// Why the arguments of the command line could not be read.
 #[derive(Clone, Copy, Debug, PartialEq, Eq)]
 pub enum HostWordsFault {
-    /// A word is no text.
+    /// An argument is not valid text.
     NotText,
-    /// A growth of memory was refused.
+    /// Memory ran out.
     Memory,
 }
 
@@ -86,7 +86,8 @@ impl From<AllocError> for HostWordsFault {
     }
 }
 
-/// The words of the command line, the program's name first. Refused where a word is no text, and for want of memory.
+/// Returns the arguments of the command line, the program's name first. Fails if an argument is not valid text, or if
+/// memory runs out.
 pub fn words_of(rt: &HostRuntime) -> Result<Vec<String>, HostWordsFault> {
     match env::args(rt) {
         Ok(words) => Ok(words.collect(rt.alloc())?),
@@ -97,7 +98,7 @@ pub fn words_of(rt: &HostRuntime) -> Result<Vec<String>, HostWordsFault> {
     }
 }
 
-// A text and LF, where these fit in 64 bytes.
+// Returns a text and LF, or `None` if they do not fit in 64 bytes.
 fn line_of(text: &str) -> Option<ArrayString<64>>
     ensures { IfSome result (λ line. line.bytes ≡ text.now ++ codes "\n") }
 {
@@ -107,8 +108,8 @@ fn line_of(text: &str) -> Option<ArrayString<64>>
     Some(line)
 }
 
-/// Writes `text` and LF to `complaints`, by one write where it takes that and the text has at most 63 bytes. Where a write
-/// fails, a front of the line went out, and nothing tells of it.
+/// Writes `text` and LF to `complaints`. If the text has at most 63 bytes, this is one write, unless the writer takes
+/// less at a time. If a write fails, only a front of the line was sent, and the failure is not reported.
 pub fn tell<E: Output>(text: &str, complaints: &mut E)
     ensures { TellsLine (E.taker complaints.old) (E.taker complaints.new) text.now }
 {

@@ -1,4 +1,4 @@
--- What an old text becomes. This project's profile.
+-- The result of an import. This project's profile.
 use Rattle.std.specs.Prelude.{◌≡◌, ◌<◌, ℕ, List, Option, Ok, Err}
 use Rattle.a2_hex.specs.Images.{held, ram_end}
 use Rattle.a2_syntax.specs.Bare.{BareLine}
@@ -9,7 +9,7 @@ use Rattle.a2_import.specs.declared.fault.ListingFault.{ListingFault}
 use Rattle.a2_import.specs.declared.fault.ListingFault.TheVariants as faults
 use Rattle.a2_import.specs.Listing.{listed}
 
--- a text is a source that assembles to these bytes, and to no others
+-- a text is a source that assembles to exactly these bytes
 abbrev pub AssemblesTo : (ℕ → Option ℕ) → List ℕ → Type 0
 AssemblesTo bytes text =
     (source : List BareLine) × (program : Assembled) × IsSource text source × IsProgram source program
@@ -19,7 +19,7 @@ AssemblesTo bytes text =
 abbrev pub SaysListing : List ℕ → List ℕ → Type 0
 SaysListing listing text = (bytes : ℕ → Option ℕ) × (listed listing ≡ Ok bytes) × AssemblesTo bytes text
 
--- why a listing is refused: for a line that has no bytes; or nothing is said
+-- why a listing cannot be imported: a line has no bytes; for the other errors nothing is promised
 abbrev pub IsListingFault : List ℕ → ListingFault → Type 0
 IsListingFault listing (faults.Row fault) = listed listing ≡ Err fault
 IsListingFault listing fault = Unit {0}

@@ -8,12 +8,12 @@ use Rattle.a2_text.specs.Words.{words}
 use Rattle.a2_hex.specs.ObjectLines.{image_of}
 use Rattle.a2_hex.specs.declared.fault.HexFault.{HexFault}
 
--- the words up to an operation, which has three characters, a blank before each
+-- the words before an operation, which has three characters, with a blank before each
 abbrev pub up_to_operation : List (List ℕ) → List ℕ
 up_to_operation [] = []
 up_to_operation (word ∷ others) = if length word == 3 then [] else 32 ∷ (word ++ up_to_operation others)
 
--- the object line of a line: `-` stands behind its address, and behind that its bytes; a line without `-` is one already
+-- the object line for a line: a `-` separates its address from its bytes; a line without `-` is already an object line
 abbrev pub object_line : List ℕ → List ℕ
 object_line line =
     option_map_or (λ at. take at line ++ (sign ":" ∷ up_to_operation (words (drop (at + 1) line))))

@@ -1,4 +1,4 @@
-//! Lines of data.
+//! Statements that define data.
 
 use crate::dialect::Dialect;
 use crate::parts::{Marked, text_in};
@@ -8,7 +8,7 @@ use crate::token::span;
 use a2_text::decimal;
 use std::alloc::{AllocError, Allocator};
 
-// How an item of a list is written.
+// The form of an item in a list.
 #[derive(Clone, Copy)]
 enum Item {
     Byte,
@@ -16,7 +16,7 @@ enum Item {
     Text,
 }
 
-// The operation of such an item, and the blank behind it.
+// The operation for an item of this form, and the blank after it.
 fn operation_of(item: Item) -> &'static [u8] {
     match item {
         Item::Byte => b"DFB ",
@@ -25,7 +25,7 @@ fn operation_of(item: Item) -> &'static [u8] {
     }
 }
 
-// How an item is written.
+// The form of an item.
 fn item_of(list: List, dialect: Dialect, text: &[u8]) -> Item {
     match (list, text.first()) {
         (List::Bytes, Some(b'"')) if dialect == Dialect::Ca65 => Item::Text,
@@ -35,7 +35,7 @@ fn item_of(list: List, dialect: Dialect, text: &[u8]) -> Item {
 }
 
 impl<'a, A: Allocator + Copy> Reading<'a, A> {
-    // Appends a byte, whose mark is that of an immediate operand where it has one.
+    // Appends a byte; a mark selects the byte as it does for an immediate operand.
     fn put_byte_of(&mut self, list: List, text: &[u8]) -> Result<(), AllocError> {
         match (list, text) {
             (List::High, _) => self.put_high(text),
@@ -46,7 +46,7 @@ impl<'a, A: Allocator + Copy> Reading<'a, A> {
         }
     }
 
-    // Appends an item; a text has bit 7 clear.
+    // Appends an item; the bytes of a text have bit 7 clear.
     fn put_item(&mut self, item: Item, list: List, text: &[u8]) -> Result<(), AllocError> {
         match item {
             Item::Byte => self.put_byte_of(list, text),
@@ -55,7 +55,7 @@ impl<'a, A: Allocator + Copy> Reading<'a, A> {
         }
     }
 
-    // Appends what stands before an item: a comma behind items of its kind, and else the front of a line of its own.
+    // Appends what comes before an item: a comma after an item of the same form, otherwise the start of a new line.
     fn put_before(&mut self, last: Option<Item>, item: Item) -> Result<(), AllocError> {
         match (last, item) {
             (Some(Item::Byte), Item::Byte) | (Some(Item::Word), Item::Word) => self.put(&[b","]),
@@ -63,7 +63,7 @@ impl<'a, A: Allocator + Copy> Reading<'a, A> {
         }
     }
 
-    /// Appends lines of the items of a list; a list of none is no line, and has no label.
+    /// Appends the lines for the items of a list. An empty list gives no line and has no label.
     pub(crate) fn put_list(&mut self, list: List, operand: &[u8]) -> Result<(), AllocError> {
         if operand.is_empty() {
             self.front = self.start;
@@ -86,7 +86,7 @@ impl<'a, A: Allocator + Copy> Reading<'a, A> {
         Ok(())
     }
 
-    /// Appends a line of bytes that are written in hexadecimal digits, with commas among them or without.
+    /// Appends a line of bytes given in hexadecimal digits, with or without commas between them.
     pub(crate) fn put_hex(&mut self, digits: &[u8]) -> Result<(), AllocError> {
         self.put_front(b"DFB ")?;
         let mut begins = true;
@@ -105,7 +105,7 @@ impl<'a, A: Allocator + Copy> Reading<'a, A> {
         Ok(())
     }
 
-    // Whether bit 7 of a text is set.
+    // Whether the bytes of a text have bit 7 set.
     fn is_high(&self, text: &Marked<'_>) -> bool {
         match self.dialect {
             Dialect::Sc => text.minus,
@@ -114,13 +114,13 @@ impl<'a, A: Allocator + Copy> Reading<'a, A> {
         }
     }
 
-    // Appends a line of a text, whose bit 7 is set or clear.
+    // Appends a line with a text whose bytes have bit 7 set or clear.
     fn put_characters(&mut self, high: bool, text: &[u8]) -> Result<(), AllocError> {
         self.put_front(b"ASC ")?;
         self.put_quoted(if high { b'"' } else { b'\'' }, text)
     }
 
-    /// Appends a line of a text between marks, and one of the bytes behind it.
+    /// Appends a line with a delimited text, and one with the bytes after it.
     pub(crate) fn put_text(&mut self, operand: &[u8]) -> Result<(), AllocError> {
         let found = text_in(operand);
         self.put_characters(self.is_high(&found), found.text)?;
@@ -131,7 +131,7 @@ impl<'a, A: Allocator + Copy> Reading<'a, A> {
         self.put_hex(behind)
     }
 
-    /// Appends lines of a text whose last character has the other bit 7.
+    /// Appends lines with a text whose last byte has bit 7 inverted.
     pub(crate) fn put_ended(&mut self, operand: &[u8]) -> Result<(), AllocError> {
         let found = text_in(operand);
         let high = self.is_high(&found);
@@ -142,7 +142,7 @@ impl<'a, A: Allocator + Copy> Reading<'a, A> {
         self.put_characters(!high, last)
     }
 
-    /// Appends a line of the length of a text, and the text.
+    /// Appends a line with the length of a text, and the text.
     pub(crate) fn put_counted(&mut self, operand: &[u8]) -> Result<(), AllocError> {
         self.put_front(b"DFB ")?;
         let count = decimal(text_in(operand).text.len() as u64);

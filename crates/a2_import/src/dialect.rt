@@ -1,9 +1,9 @@
-//! The languages that old texts are written in.
+//! The dialects of old source texts.
 
-/// An assembler whose texts are brought over.
+/// An assembler whose sources can be imported.
 #[derive(Clone, Copy, Debug, PartialEq, Eq)]
 pub enum Dialect {
-    /// The S-C assembler.
+    /// The S-C Assembler.
     Sc,
     Lisa,
     Merlin,
@@ -12,11 +12,11 @@ pub enum Dialect {
     Ca65,
 }
 
-/// What an old text is.
+/// The kind of an old text.
 #[derive(Clone, Copy, Debug, PartialEq, Eq)]
 pub enum Old {
-    /// A listing of the Monitor.
+    /// A listing printed by the Monitor.
     Listing,
-    /// A source of an assembler.
+    /// A source for an assembler.
     Source(Dialect),
 }

@@ -1,4 +1,4 @@
-//! Why an old text is no source.
+//! Errors of an import.
 
 ghost use Rattle.std.specs.Prelude.{◌≡◌};
 
@@ -6,16 +6,16 @@ use a2_hex::HexFault;
 use a2_syntax::Fault;
 use std::alloc::AllocError;
 
-/// Why a listing is no source. Lines count from 1, and 0 is no line.
+/// Why a listing cannot be imported. Lines count from 1; 0 means no line.
 #[derive(Clone, Copy, Debug, PartialEq, Eq)]
 pub enum ListingFault {
-    /// The line has no bytes, or lies outside RAM.
+    /// The line has no bytes, or some of its addresses are not in RAM.
     Row(HexFault),
-    /// What would be written for the line is refused as a source.
+    /// The source that would be written for the line has an error.
     Refused(usize, Fault),
-    /// What would be written has other bytes.
+    /// The source that would be written has other bytes.
     Unlike,
-    /// A growth of memory was refused.
+    /// Memory ran out.
     Memory,
 }
 
@@ -29,12 +29,12 @@ impl From<AllocError> for ListingFault {
     }
 }
 
-/// Why a source of an old assembler is not brought over.
+/// Why a source of an old assembler cannot be imported.
 #[derive(Clone, Copy, Debug, PartialEq, Eq)]
 pub enum ImportFault {
-    /// What would be written is refused as a source, as it is too large; the line, if any, is one of that.
+    /// The text that would be written is not a valid source, because it is too large. The line, if any, is a line of that text.
     Refused(Fault),
-    /// A growth of memory was refused.
+    /// Memory ran out.
     Memory,
 }
 

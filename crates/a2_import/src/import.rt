@@ -1,4 +1,4 @@
-//! A source of an old assembler, as one of this language.
+//! Importing a source of an old assembler.
 
 ghost use Rattle.std.specs.Prelude.{IfOk};
 ghost use Rattle.a2_import.specs.Imported.{IsSomeSource};
@@ -11,18 +11,18 @@ use a2_syntax::{Fault, parse};
 use a2_text::cut;
 use std::alloc::{AllocError, Allocator, Global};
 
-/// How a line came over otherwise than it was.
+/// How an imported line differs from the old one.
 #[derive(Clone, Copy, Debug, PartialEq, Eq)]
 pub enum NoteKind {
-    /// `<NAME+1` is the low byte of the sum, where it was the sum of the low byte and 1.
+    /// `<NAME+1` is now the low byte of the sum; it was the low byte of NAME, plus 1.
     Differs,
-    /// It says nothing here, and stays as a comment.
+    /// The line has no meaning in this language and was kept as a comment.
     Nothing,
-    /// It is not known here, or cannot be said, and stays as a comment.
+    /// The line is unknown or cannot be expressed in this language, and was kept as a comment.
     Unknown,
 }
 
-/// What is told of a line.
+/// A note about a line.
 #[derive(Clone, Copy, Debug, PartialEq, Eq)]
 pub struct Note {
     /// The line of the old text, counted from 1.
@@ -30,21 +30,21 @@ pub struct Note {
     pub kind: NoteKind,
 }
 
-/// What an old text became.
+/// The result of an import.
 pub struct Imported<A: Allocator = Global> {
     pub text: Vec<u8, A>,
-    /// In the order of the lines, at most one for each.
+    /// The notes, in the order of the lines, at most one for each line.
     pub notes: Vec<Note, A>,
 }
 
-// Not derived, for the prover alone: it follows this as one call, and a derived one field by field.
+// Not derived, only for the prover: it treats this as one call, and a derived `drop` field by field.
 impl<A: Allocator> Drop for Imported<A> {
     fn drop(self) {
         let Imported { text: _, notes: _ } = self;
     }
 }
 
-// The source in a line, which begins in a column where something is printed before it; none where nothing is.
+// The source in a line. In a printed text it begins in this column. Returns `None` if nothing of the line is source.
 fn source_in(dialect: Dialect, column: Option<usize>, line: &[u8]) -> Option<&[u8]> {
     match column {
         Some(column) => {
@@ -58,7 +58,7 @@ fn source_in(dialect: Dialect, column: Option<usize>, line: &[u8]) -> Option<&[u
 }
 
 impl<'a, A: Allocator + Copy> Reading<'a, A> {
-    /// Notes how a line came over.
+    /// Adds a note about a line.
     pub(crate) fn note(&mut self, line: usize, kind: NoteKind) -> Result<(), AllocError> {
         self.notes.push(Note { line, kind })?;
         Ok(())
@@ -69,7 +69,7 @@ impl<'a, A: Allocator + Copy> Reading<'a, A> {
         self.put(&[b"; ", line.trim_ascii(), b"\n"])
     }
 
-    // Brings a line over that nothing is printed before.
+    // Imports a line of a text that was not printed by an assembler.
     fn put_source(&mut self, number: usize, line: &'a [u8]) -> Result<(), AllocError> {
         match line.first() {
             Some(b'*' | b';') => self.put(&[line, b"\n"]),
@@ -78,7 +78,7 @@ impl<'a, A: Allocator + Copy> Reading<'a, A> {
         }
     }
 
-    // Brings a line over, whose source begins in a column where something is printed before it.
+    // Imports a line; in a printed text, its source begins in this column.
     fn put_line(
         &mut self,
         number: usize,
@@ -96,7 +96,7 @@ impl<'a, A: Allocator + Copy> Reading<'a, A> {
     }
 }
 
-// What lines become.
+// The result of importing these lines.
 fn made_of<A: Allocator + Copy>(
     alloc: A,
     dialect: Dialect,
@@ -110,12 +110,12 @@ fn made_of<A: Allocator + Copy>(
     Ok(reading.into_made())
 }
 
-/// A source of an old assembler as one of this language, and a note for each line that says another thing now, nothing, or could
-/// not be brought over; the last two stay as comments. Line numbers go, and what an assembler printed before its lines. A local
-/// label has a name of its own, of the label before it. Each line that is written is in the grammar; names and values are not
-/// looked at.
+/// Returns a source of an old assembler as a source of this language, with a note for each line that changed its meaning, has
+/// no meaning here, or could not be imported. Lines of the last two kinds are kept as comments. Line numbers are removed, and
+/// so is the text that an assembler printed before its lines. A local label becomes a name of its own, which contains the label
+/// before it. Every line that is written is in the grammar; names and values are not checked.
 ///
-/// Refused by `Refused` where what would be written is too large; and for want of memory.
+/// Fails with `Refused` if the result would be too large, or if memory runs out.
 pub fn import_source<A: Allocator + Copy>(
     alloc: A,
     dialect: Dialect,

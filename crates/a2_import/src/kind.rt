@@ -1,4 +1,4 @@
-//! What an old text is.
+//! Detecting the kind of an old text.
 
 use crate::dialect::{Dialect, Old};
 use crate::print::{behind_print, is_row};
@@ -6,7 +6,7 @@ use crate::rules::told_by;
 use a2_text::{cut, first_word, split_word};
 use std::alloc::{AllocError, Allocator};
 
-// The assembler that a line tells of, by one of its first two words.
+// The assembler to which one of the first two words of a line belongs.
 fn told_by_line(line: &[u8]) -> Option<Dialect> {
     let source = behind_print(line).unwrap_or(line);
     if source.starts_with(b"*") || source.starts_with(b";") {
@@ -17,7 +17,7 @@ fn told_by_line(line: &[u8]) -> Option<Dialect> {
     told_by(word).or(told_by(next))
 }
 
-// Whether the first line that is not blank is one of a listing of the Monitor.
+// Whether the first line that is not blank belongs to a listing of the Monitor.
 fn is_listing(lines: &[&[u8]]) -> bool {
     for line in lines {
         if first_word(line).is_some() {
@@ -27,7 +27,7 @@ fn is_listing(lines: &[&[u8]]) -> bool {
     false
 }
 
-// What the text of these lines is.
+// The kind of a text with these lines.
 fn told_by_lines(lines: &[&[u8]]) -> Old {
     if is_listing(lines) {
         return Old::Listing;
@@ -40,8 +40,9 @@ fn told_by_lines(lines: &[&[u8]]) -> Old {
     Old::Source(Dialect::Merlin)
 }
 
-/// What a text is, as its first line tells that has a word or a mark of one assembler alone: a listing of the Monitor where its
-/// first line is one, and a source of Merlin where no line tells. Refused only for want of memory.
+/// Returns the kind of a text. If its first line belongs to a listing of the Monitor, it is a listing. Otherwise the first line
+/// with a word or a mark that only one assembler has decides; if there is no such line, it is a source of Merlin. Fails only if
+/// memory runs out.
 pub fn guess<A: Allocator>(alloc: A, text: &[u8]) -> Result<Old, AllocError> {
     let lines = cut(alloc, text)?;
     Ok(told_by_lines(lines.as_slice()))

@@ -1,6 +1,6 @@
-//! Old texts as sources of this language.
+//! Imports old texts, sources of five old assemblers and listings of the Monitor, as sources of this language.
 //!
-//! How it is called is shown in CALLING.md.
+//! CALLING.md shows how to call it.
 #![tactic(auto)]
 
 mod data;

@@ -1,4 +1,4 @@
-//! A listing of the Monitor, as a source.
+//! Importing a listing of the Monitor.
 
 ghost use Rattle.std.specs.Prelude.{◌≡◌, true, IfOk, IfErr};
 ghost use Rattle.a2_hex.specs.Images.{held};
@@ -25,7 +25,8 @@ fn bytes_of<A: Allocator>(alloc: A, text: &[u8]) -> Result<Vec<u8, A>, AllocErro
     Ok(bytes)
 }
 
-// Appends the lines of a line that stores bytes, and gives the next address. `next` is the one that lines lie at as they are.
+// Appends the source lines for a line that stores bytes, and returns the address after them. `next` is the address at which
+// source lines without an `ORG` would be placed.
 fn put_store<A: Allocator + Copy>(
     alloc: A,
     draft: &mut Draft<A>,
@@ -40,7 +41,7 @@ fn put_store<A: Allocator + Copy>(
     draft.put_bytes(next, number, bytes.as_slice(), address)
 }
 
-// Appends the lines of a source that has the bytes of object lines.
+// Appends the lines of a source that has the bytes of these object lines.
 fn put_lines<A: Allocator + Copy>(
     alloc: A,
     draft: &mut Draft<A>,
@@ -55,7 +56,7 @@ fn put_lines<A: Allocator + Copy>(
     draft.put_names(lines.len())
 }
 
-// The lines of a source that has the bytes of object lines.
+// The lines of a source that has the bytes of these object lines.
 fn draft_of<A: Allocator + Copy>(alloc: A, object: &[u8]) -> Result<Draft<A>, AllocError> {
     let lines = cut(alloc, object)?;
     let mut draft = Draft::new(alloc);
@@ -63,7 +64,7 @@ fn draft_of<A: Allocator + Copy>(alloc: A, object: &[u8]) -> Result<Draft<A>, Al
     Ok(draft)
 }
 
-// Whether a text is a source that assembles to the bytes of an image; or why it is none.
+// Whether a text is a source that assembles to the bytes of an image, or the error if it is not a valid source.
 fn says<A: Allocator + Copy>(alloc: A, text: &[u8], image: &Image<A>) -> Result<bool, Fault>
     ensures { IfOk result (λ is. is ≡ true → AssemblesTo (held image.now) text.now) }
 {
@@ -72,17 +73,18 @@ fn says<A: Allocator + Copy>(alloc: A, text: &[u8], image: &Image<A>) -> Result<
     Ok(are_same(program.image(), image))
 }
 
-/// A source that assembles to the bytes of a listing, and to no others, for a listing as the Monitor writes it: a line has an
-/// address of 1 to 4 hexadecimal digits, `-`, bytes of 1 or 2 digits, and an operation of three characters with its operand,
-/// which is not looked at. An object line, `ADDRESS:BYTES`, is such a line too, and a blank line says nothing. Apple II
-/// Reference Manual (1979), chapter 3.
+/// Returns a source that assembles to exactly the bytes of a listing in the Monitor's form. A line of a listing has an address
+/// of 1 to 4 hexadecimal digits, `-`, bytes of 1 or 2 digits, and an operation of three characters with its operand, which is
+/// ignored. An object line, `ADDRESS:BYTES`, is also accepted, and blank lines are ignored. Apple II Reference Manual (1979),
+/// chapter 3.
 ///
-/// Bytes that are one whole instruction are written so, and others as data. An instruction of three bytes whose address is
-/// below $0100, for which there is one of two, has a name for it that a line at the end defines.
+/// Bytes that form one whole instruction are written as an instruction, all others as data. If an instruction has three bytes
+/// for an address below $0100 and a form of two bytes exists, it is written with a name that a line at the end defines.
 ///
-/// Refused by `Row` with the first line that has no bytes, or one at or above $C000; by `Refused` with the line whose bytes
-/// cannot be said by a source, as they lie where an earlier line has some, or with line 0 where there is no instruction, or
-/// the source would be too large; by `Unlike` where the source would have other bytes; and for want of memory.
+/// Fails with `Row` and the first line that has no bytes or has a byte at or above $C000. Fails with `Refused` and a line whose
+/// bytes a source cannot express because an earlier line has bytes at the same addresses; the line is 0 if there is no
+/// instruction or the source would be too large. Fails with `Unlike` if the source would have other bytes. Also fails if memory
+/// runs out.
 pub fn import_listing<A: Allocator + Copy>(
     alloc: A,
     text: &[u8],

@@ -9,10 +9,10 @@ ghost use Rattle.a2_import.specs.Listing as listing;
 use a2_text::{cut, first_word};
 use std::alloc::{AllocError, Allocator};
 
-// How many characters an operation has.
+// The length of an operation in characters.
 const OPERATION: usize = 3;
 
-// Where the first `-` is.
+// The position of the first `-`.
 fn dash(text: &[u8]) -> Option<usize>
     ensures is { result ≡ position (λ c. c == sign "-") text.now }
     ensures within { IfSome result (λ i. i < length text.now) }
@@ -20,7 +20,7 @@ fn dash(text: &[u8]) -> Option<usize>
     text.iter().position(|c| *c == b'-')
 }
 
-// Appends the words up to an operation, a blank before each.
+// Appends the words before an operation, with a blank before each.
 fn put_bytes<A: Allocator>(object: &mut Vec<u8, A>, text: &[u8]) -> Result<(), AllocError>
     ensures { IfOk result (λ _. object.new.items ≡ object.old.items ++ listing.up_to_operation (words text.now)) }
 {
@@ -36,7 +36,7 @@ fn put_bytes<A: Allocator>(object: &mut Vec<u8, A>, text: &[u8]) -> Result<(), A
     Ok(())
 }
 
-// Appends the object line of a line.
+// Appends the object line for a line.
 fn put_object_line<A: Allocator>(object: &mut Vec<u8, A>, line: &[u8]) -> Result<(), AllocError>
     ensures { IfOk result (λ _. object.new.items ≡ object.old.items ++ listing.object_line line.now) }
 {
@@ -50,7 +50,7 @@ fn put_object_line<A: Allocator>(object: &mut Vec<u8, A>, line: &[u8]) -> Result
     }
 }
 
-// Appends the object line of a line, and LF.
+// Appends the object line for a line, and LF.
 fn put_line<A: Allocator>(object: &mut Vec<u8, A>, line: &[u8]) -> Result<(), AllocError>
     ensures { IfOk result (λ _. object.new.items ≡ object.old.items ++ listing.object_row line.now) }
 {
@@ -59,7 +59,7 @@ fn put_line<A: Allocator>(object: &mut Vec<u8, A>, line: &[u8]) -> Result<(), Al
     Ok(())
 }
 
-// Appends the object lines of lines.
+// Appends the object lines for these lines.
 fn put_lines<A: Allocator>(object: &mut Vec<u8, A>, lines: &[&[u8]]) -> Result<(), AllocError>
     ensures { IfOk result (λ _. object.new.items ≡ object.old.items ++ flat_map listing.object_row (map (λ x. x.now) lines.now)) }
 {
@@ -69,7 +69,7 @@ fn put_lines<A: Allocator>(object: &mut Vec<u8, A>, lines: &[&[u8]]) -> Result<(
     Ok(())
 }
 
-/// The object lines of a listing, one for each line.
+/// Returns the object lines of a listing, one for each line.
 pub(crate) fn object_lines<A: Allocator + Copy>(
     alloc: A,
     text: &[u8],

@@ -1,11 +1,11 @@
-//! Operands as this language spells them.
+//! Operands in the syntax of this language.
 
 use crate::dialect::Dialect;
 use crate::reading::Reading;
 use crate::token::{Token, first_token};
 use std::alloc::{AllocError, Allocator};
 
-// What an expression is the low or the high byte of, without the brackets of ca65.
+// The expression whose low or high byte is taken, without the parentheses of ca65.
 fn unbracketed(dialect: Dialect, text: &[u8]) -> &[u8] {
     match text {
         [b'(', inner @ .., b')'] if dialect == Dialect::Ca65 => inner,
@@ -13,7 +13,7 @@ fn unbracketed(dialect: Dialect, text: &[u8]) -> &[u8] {
     }
 }
 
-// Whether an expression stands for its low byte where its value may be above 255: `#NAME` does in S-C and LISA.
+// Whether an expression stands for its low byte although its value may be above 255, as `#NAME` does in S-C and LISA.
 fn is_low(dialect: Dialect, text: &[u8]) -> bool {
     match text {
         [c, ..] if matches!(dialect, Dialect::Sc | Dialect::Lisa) => {
@@ -29,7 +29,7 @@ impl<'a, A: Allocator + Copy> Reading<'a, A> {
         self.put(&[&[quote], text, &[quote]])
     }
 
-    // Appends a piece.
+    // Appends a token.
     fn put_token(&mut self, found: Token<'_>) -> Result<(), AllocError> {
         match found {
             Token::Name(first, name) => {
@@ -43,7 +43,7 @@ impl<'a, A: Allocator + Copy> Reading<'a, A> {
         }
     }
 
-    /// Appends an expression piece by piece.
+    /// Appends an expression, token by token.
     pub(crate) fn put_tokens(&mut self, text: &[u8]) -> Result<(), AllocError> {
         let mut rest = text;
         while let Some((found, behind)) = first_token(self.dialect, rest) {
@@ -53,7 +53,7 @@ impl<'a, A: Allocator + Copy> Reading<'a, A> {
         Ok(())
     }
 
-    // Appends a mark, and an expression.
+    // Appends a mark and an expression.
     fn put_marked(&mut self, mark: &[u8], text: &[u8]) -> Result<(), AllocError> {
         self.text.extend_from_slice(mark)?;
         self.put_tokens(text)
@@ -64,7 +64,7 @@ impl<'a, A: Allocator + Copy> Reading<'a, A> {
         self.put_marked(b">", text)
     }
 
-    /// Appends an expression of which a byte may be meant: `<` and `>` before it say so, in EDASM the other way round.
+    /// Appends an expression that may select a byte with `<` or `>` before it; in EDASM the two are exchanged.
     pub(crate) fn put_byte(&mut self, text: &[u8]) -> Result<(), AllocError> {
         let swaps = self.dialect == Dialect::Edasm;
         match text {
@@ -81,7 +81,7 @@ impl<'a, A: Allocator + Copy> Reading<'a, A> {
         }
     }
 
-    /// Appends the low byte of an expression, where it may have two.
+    /// Appends the low byte of an expression if its value may have two bytes.
     pub(crate) fn put_low(&mut self, text: &[u8]) -> Result<(), AllocError> {
         if is_low(self.dialect, text) {
             self.text.push(b'<')?;
@@ -104,7 +104,7 @@ impl<'a, A: Allocator + Copy> Reading<'a, A> {
     }
 }
 
-// Whether `<` or `>` stands before something else than a bracket.
+// Whether a `<` or `>` has anything other than a parenthesis after it.
 fn is_unbracketed(text: &[u8]) -> bool {
     let mut is_marked = false;
     for c in text {
@@ -116,7 +116,7 @@ fn is_unbracketed(text: &[u8]) -> bool {
     false
 }
 
-/// Whether an operand says another byte in ca65 than here: `<NAME+1` is there the low byte of NAME, and 1 more.
+/// Returns whether an operand selects a different byte in ca65 than here: there `<NAME+1` is the low byte of NAME, plus 1.
 pub(crate) fn differs(dialect: Dialect, text: &[u8]) -> bool {
     dialect == Dialect::Ca65
         && is_unbracketed(text)

@@ -1,4 +1,4 @@
-//! The parts of a line of an old text.
+//! Splitting a line of an old text into its parts.
 
 ghost use Rattle.std.specs.Prelude.{◌≤◌, length};
 
@@ -9,30 +9,30 @@ use crate::token::span;
 use a2_opcode::{Mnemonic, Mode, row_for};
 use a2_text::{behind_blanks, split_word};
 
-/// The parts of a line, each empty where it is not there.
+/// The parts of a line; a part that is missing is empty.
 #[derive(Clone, Copy)]
 pub(crate) struct Parts<'a> {
-    /// With the mark of a local one, and without the colon behind it.
+    /// The label, with the mark of a local label and without a colon after it.
     pub label: &'a [u8],
     pub operation: &'a [u8],
-    /// What that becomes here, where it is known.
+    /// What the operation becomes here, if it is known.
     pub turn: Option<Turn>,
     pub operand: &'a [u8],
-    /// With the `;` before it, where it has one.
+    /// The comment, with the `;` before it if it has one.
     pub comment: &'a [u8],
 }
 
 impl<'a> Parts<'a> {
-    /// Whether the operation defines the name before it.
+    /// Returns whether the operation defines the name before it.
     pub(crate) fn is_equate(self) -> bool {
         matches!(self.turn, Some(Turn::As(name)) if name == b"EQU".as_slice())
     }
 }
 
-// What ends a word: a blank, or a comment.
+// The bytes that end a word: a blank, or the start of a comment.
 const WORD_ENDS: &[u8] = b" \t;";
 
-// Whether an instruction has this mode.
+// Whether an instruction has this addressing mode.
 fn has(operation: &[u8], mode: Mode) -> bool {
     match Mnemonic::named(operation) {
         Some(mnemonic) => row_for(mnemonic, mode).is_some(),
@@ -40,7 +40,7 @@ fn has(operation: &[u8], mode: Mode) -> bool {
     }
 }
 
-/// A text between marks: whether `-` stands before it, its mark, what stands between them, and what stands behind.
+/// A delimited text: whether it has a `-` before it, its delimiter, the text between the delimiters, and the text after them.
 #[derive(Clone, Copy)]
 pub(crate) struct Marked<'a> {
     pub minus: bool,
@@ -49,7 +49,7 @@ pub(crate) struct Marked<'a> {
     pub behind: &'a [u8],
 }
 
-/// The text between marks at the front of an operand; without any, no text.
+/// Returns the delimited text at the beginning of an operand, or an empty text without a delimiter.
 pub(crate) fn text_in(operand: &[u8]) -> Marked<'_>
     ensures { length result.behind.now ≤ length operand.now }
 {
@@ -72,7 +72,7 @@ pub(crate) fn text_in(operand: &[u8]) -> Marked<'_>
     }
 }
 
-// How long an operand is that is a text between marks.
+// The length of an operand that is a delimited text.
 fn text_len(there: &[u8]) -> usize
     ensures { result ≤ length there.now }
 {
@@ -80,14 +80,14 @@ fn text_len(there: &[u8]) -> usize
     there.len().saturating_sub(rest.len())
 }
 
-// Whether what stands so many blanks behind an operation is a comment.
+// Whether the text after an operation, with this many blanks between them, is a comment.
 fn is_comment(dialect: Dialect, operation: &[u8], gap: usize, there: &[u8]) -> bool {
     there.starts_with(b";")
         || has(operation, Mode::Implied)
         || dialect == Dialect::Sc && gap > 1 && has(operation, Mode::Accumulator)
 }
 
-// How long the operand of an operation is.
+// The length of the operand of an operation.
 fn operand_len(dialect: Dialect, turn: Option<Turn>, there: &[u8]) -> usize
     ensures { result ≤ length there.now }
 {
@@ -97,7 +97,7 @@ fn operand_len(dialect: Dialect, turn: Option<Turn>, there: &[u8]) -> usize
     }
 }
 
-// The parts of a line whose label begins in column 1, and whose operand ends before a blank.
+// The parts of a line in a dialect in which labels begin in column 1 and operands end before a blank.
 fn in_columns(dialect: Dialect, line: &[u8]) -> Parts<'_> {
     let (label, rest) = before(line, WORD_ENDS);
     let (operation, rest) = before(behind_blanks(rest), WORD_ENDS);
@@ -124,7 +124,7 @@ fn is_equals(word: &[u8]) -> bool {
     matches!(word, [b'='] | [b':', b'='])
 }
 
-// The parts of a line whose label ends with a colon, or stands before `=`, and whose comment begins with `;`.
+// The parts of a line in a dialect in which a label ends with a colon or comes before `=`, and a comment begins with `;`.
 fn with_colons(line: &[u8]) -> Parts<'_> {
     let (code, comment) = line.split_at(span(Dialect::Ca65, line, b";"));
     let (word, rest) = split_word(code);
@@ -144,7 +144,7 @@ fn with_colons(line: &[u8]) -> Parts<'_> {
     }
 }
 
-/// The parts of a line.
+/// Returns the parts of a line.
 pub(crate) fn parts_of(dialect: Dialect, line: &[u8]) -> Parts<'_> {
     match dialect {
         Dialect::Ca65 => with_colons(line),

@@ -1,14 +1,14 @@
-//! Pieces of a text.
+//! Appending and splitting texts.
 
 ghost use Rattle.std.specs.Prelude.{◌≤◌, length};
 
 use a2_text::front_len;
 use std::alloc::{AllocError, Allocator};
 
-/// What stands before an operation where there is no label.
+/// The blanks before an operation without a label.
 pub(crate) const BLANKS: &[u8] = b"        ";
 
-/// Appends pieces, one behind another.
+/// Appends several texts, one after another.
 pub(crate) fn append<A: Allocator>(
     out: &mut Vec<u8, A>,
     pieces: &[&[u8]],
@@ -19,7 +19,7 @@ pub(crate) fn append<A: Allocator>(
     Ok(())
 }
 
-/// What stands in a text before the first of these bytes, and what stands from there on.
+/// Splits a text at the first of these bytes, which belongs to the second part.
 pub(crate) fn before<'a>(text: &'a [u8], stops: &[u8]) -> (&'a [u8], &'a [u8])
     ensures { length result.1.now ≤ length text.now }
 {

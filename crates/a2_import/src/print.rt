@@ -1,10 +1,10 @@
-//! Line numbers, and what an assembler prints before its lines.
+//! Line numbers and the text that an assembler prints before its lines.
 
 ghost use Rattle.std.specs.Prelude.{◌≤◌, length};
 
 use a2_text::{behind_blanks, first_word, front_len, is_blank, number_in};
 
-// The most bytes that are printed before a line.
+// The greatest number of bytes printed before a line.
 const BYTES: usize = 3;
 
 // Whether a text is empty or begins with a blank.
@@ -15,7 +15,7 @@ fn ends(text: &[u8]) -> bool {
     }
 }
 
-// What stands behind a byte of two hexadecimal digits.
+// The text after a byte of two hexadecimal digits.
 fn behind_byte(text: &[u8]) -> Option<&[u8]> {
     match text {
         [a, b, rest @ ..] if a.is_ascii_hexdigit() && b.is_ascii_hexdigit() && ends(rest) => Some(
@@ -25,7 +25,7 @@ fn behind_byte(text: &[u8]) -> Option<&[u8]> {
     }
 }
 
-// Whether a word is an address of four hexadecimal digits, and whether a mark stands behind it.
+// Whether an address of four hexadecimal digits has a mark after it; `None` if the word is not an address.
 fn address(word: &[u8]) -> Option<bool> {
     let (digits, is_marked) = match word {
         [digits @ .., b':' | b'-'] => (digits, true),
@@ -38,7 +38,7 @@ fn address(word: &[u8]) -> Option<bool> {
     }
 }
 
-/// What stands behind the address at the front of a line and the bytes behind it.
+/// Returns the text after the address at the beginning of a line and the bytes that follow it.
 pub(crate) fn behind_bytes(line: &[u8]) -> Option<&[u8]> {
     let (word, behind) = first_word(line)?;
     let is_marked = address(word)?;
@@ -59,7 +59,7 @@ pub(crate) fn behind_bytes(line: &[u8]) -> Option<&[u8]> {
     if is_printed { Some(rest) } else { None }
 }
 
-/// What stands behind the line number at the front of a line, and the blank behind it.
+/// Returns the text after the line number at the beginning of a line and one blank.
 pub(crate) fn behind_number(line: &[u8]) -> Option<&[u8]> {
     let here = behind_blanks(line);
     let (digits, rest) = here.split_at(front_len(here, |c| c.is_ascii_digit()));
@@ -72,7 +72,7 @@ pub(crate) fn behind_number(line: &[u8]) -> Option<&[u8]> {
     }
 }
 
-/// What stands behind what is printed before a line: an address and bytes, or neither, and a line number.
+/// Returns the text after what is printed before a line: a line number, or an address, bytes and a line number.
 pub(crate) fn behind_print(line: &[u8]) -> Option<&[u8]> {
     match behind_bytes(line) {
         Some(rest) => behind_number(rest),
@@ -80,7 +80,7 @@ pub(crate) fn behind_print(line: &[u8]) -> Option<&[u8]> {
     }
 }
 
-// Where the source of a printed line begins, where it has one.
+// The column where the source of a printed line begins, if it has any.
 fn column_in(line: &[u8]) -> Option<usize> {
     let source = behind_blanks(behind_print(line)?);
     if source.is_empty() {
@@ -89,7 +89,7 @@ fn column_in(line: &[u8]) -> Option<usize> {
     Some(line.len().saturating_sub(source.len()))
 }
 
-// Whether an address, bytes and a line number stand before one of the lines.
+// Whether an address, bytes and a line number come before at least one of the lines.
 fn are_printed(lines: &[&[u8]]) -> bool {
     for line in lines {
         if let Some(rest) = behind_bytes(line) {
@@ -101,8 +101,8 @@ fn are_printed(lines: &[&[u8]]) -> bool {
     false
 }
 
-/// The column, counted from 0, in which the sources of printed lines begin, where labels stand; none where lines are not
-/// printed.
+/// Returns the column, counted from 0, where the sources of printed lines begin and where labels are, or `None` if the lines
+/// are not printed.
 pub(crate) fn column_of(lines: &[&[u8]]) -> Option<usize> {
     if !are_printed(lines) {
         return None;
@@ -116,7 +116,7 @@ pub(crate) fn column_of(lines: &[&[u8]]) -> Option<usize> {
     least
 }
 
-/// Whether a line has an address and bytes alone.
+/// Returns whether a line has only an address and bytes.
 pub(crate) fn is_bytes(line: &[u8]) -> bool {
     match behind_bytes(line) {
         Some(rest) => rest.trim_ascii().is_empty(),
@@ -124,7 +124,7 @@ pub(crate) fn is_bytes(line: &[u8]) -> bool {
     }
 }
 
-/// Whether a line is one of a listing of the Monitor.
+/// Returns whether a line belongs to a listing of the Monitor.
 pub(crate) fn is_row(line: &[u8]) -> bool {
     match (first_word(line), behind_bytes(line)) {
         (Some((word, _)), Some(rest)) => word.ends_with(b"-") && behind_number(rest).is_none(),

@@ -1,4 +1,4 @@
-//! A source of an old assembler: what its lines said so far, and what they became.
+//! The state of an import: what the lines so far defined, and their results.
 
 use crate::dialect::Dialect;
 use crate::import::{Imported, Note};
@@ -8,26 +8,26 @@ use crate::token::local_mark;
 use a2_text::decimal;
 use std::alloc::{AllocError, Allocator};
 
-/// A source of an old assembler: what its lines said so far, and what they became.
+/// The state of an import: what the lines so far defined, and their results.
 pub(crate) struct Reading<'a, A: Allocator> {
     pub alloc: A,
     pub dialect: Dialect,
-    /// Whether texts have bit 7 set in EDASM.
+    /// Whether texts have bit 7 set, in EDASM.
     pub high: bool,
-    // The last label that is no local one, nor an equate's; before the first one, what stands for it.
+    // The last label that is neither local nor defined by an equate; before the first such label, a default for it.
     scope: &'a [u8],
-    // How often each digit was a label.
+    // How often each digit was used as a label.
     counts: [u16; 10],
-    /// Where the lines of the statement begin.
+    /// The position in `text` where the lines of the statement begin.
     pub start: usize,
-    /// Where its label ends.
+    /// The position in `text` where its label ends.
     pub front: usize,
-    /// The lines here, so far.
+    /// The lines of the new source so far.
     pub text: Vec<u8, A>,
     pub notes: Vec<Note, A>,
 }
 
-// Not derived, for the prover alone: it follows this as one call, and a derived one field by field.
+// Not derived, only for the prover: it treats this as one call, and a derived `drop` field by field.
 impl<'a, A: Allocator> Drop for Reading<'a, A> {
     fn drop(self) {
         let Reading {
@@ -44,12 +44,12 @@ impl<'a, A: Allocator> Drop for Reading<'a, A> {
     }
 }
 
-// The place of a digit.
+// The index of a digit.
 fn place(digit: u8) -> usize {
     usize::from(digit.saturating_sub(b'0'))
 }
 
-// The digit that a label is, or of no name, 0.
+// The digit that a label consists of; 0 for a label without a name.
 fn digit_of(dialect: Dialect, label: &[u8]) -> Option<u8> {
     match (dialect, label) {
         (Dialect::Lisa, [b'^', digit]) if digit.is_ascii_digit() => Some(*digit),
@@ -59,7 +59,7 @@ fn digit_of(dialect: Dialect, label: &[u8]) -> Option<u8> {
 }
 
 impl<'a, A: Allocator + Copy> Reading<'a, A> {
-    /// Of no lines.
+    /// Returns the state before the first line.
     pub(crate) fn new(alloc: A, dialect: Dialect) -> Reading<'a, A> {
         Reading {
             alloc,
@@ -74,7 +74,7 @@ impl<'a, A: Allocator + Copy> Reading<'a, A> {
         }
     }
 
-    /// What the lines became.
+    /// Returns the result of the lines.
     pub(crate) fn into_made(self) -> Imported<A> {
         let Reading {
             alloc: _,
@@ -90,12 +90,12 @@ impl<'a, A: Allocator + Copy> Reading<'a, A> {
         Imported { text, notes }
     }
 
-    /// Appends pieces, one behind another.
+    /// Appends several texts, one after another.
     pub(crate) fn put(&mut self, pieces: &[&[u8]]) -> Result<(), AllocError> {
         append(&mut self.text, pieces)
     }
 
-    /// Begins a line of the statement with an operation: the first behind its label.
+    /// Begins a line of the statement with an operation; the first one follows the label.
     pub(crate) fn put_front(&mut self, operation: &[u8]) -> Result<(), AllocError> {
         if self.text.len() > self.front {
             return self.put(&[b"\n", BLANKS, operation]);
@@ -114,21 +114,21 @@ impl<'a, A: Allocator + Copy> Reading<'a, A> {
         Ok(())
     }
 
-    /// Appends the name of a local label of the last label.
+    /// Appends the name of a local label, which contains the last label.
     pub(crate) fn put_local(&mut self, name: &[u8]) -> Result<(), AllocError> {
         let scope = self.scope;
         self.put_name(scope)?;
         self.put(&[b"_", name])
     }
 
-    /// Appends the name of the last label of a digit, or, so many further on, of a later one.
+    /// Appends the name of the last label with this digit, or of a later one, this many further on.
     pub(crate) fn put_digit(&mut self, digit: u8, further: u16) -> Result<(), AllocError> {
         let count = self.counts.get(place(digit)).copied().unwrap_or(0);
         let number = decimal(u64::from(count.saturating_add(further)));
         self.put(&[b"L", &[digit], b"_", number.as_slice()])
     }
 
-    // Appends the label of a statement as it is spelt here, and takes it up.
+    // Appends the label of a statement in the form it has here, and remembers it.
     fn put_label(&mut self, parts: &Parts<'a>) -> Result<(), AllocError> {
         let label = parts.label;
         if let Some(digit) = digit_of(self.dialect, label) {

@@ -1,4 +1,4 @@
-//! A row of a listing, as lines of a source.
+//! Writing one line of a listing as lines of a source.
 
 ghost use Rattle.std.specs.Prelude.{◌≡◌, ◌<◌, length, IfSome};
 
@@ -7,22 +7,22 @@ use a2_opcode::{Instr, Mode, decode, list_line, row_for};
 use a2_text::{hex_pair, hex_word};
 use std::alloc::{AllocError, Allocator};
 
-// Where the operand begins in a line of a listing.
+// The column where the operand begins in a line of a listing.
 const OPERAND: usize = 25;
 
-// So many bytes of data stand in a line.
+// The number of data bytes on a line.
 const BYTES: usize = 8;
 
-/// The lines of a source so far.
+/// The lines of the source so far.
 pub(crate) struct Draft<A: Allocator> {
     text: Vec<u8, A>,
-    // The line of the listing that each of them is of.
+    // The line of the listing that each of them comes from.
     origins: Vec<usize, A>,
-    // Which addresses below $0100 are named.
+    // The addresses below $0100 that have a name.
     named: [bool; 256],
 }
 
-// Not derived, for the prover alone: it follows this as one call, and a derived one field by field.
+// Not derived, only for the prover: it treats this as one call, and a derived `drop` field by field.
 impl<A: Allocator> Drop for Draft<A> {
     fn drop(self) {
         let Draft {
@@ -33,7 +33,7 @@ impl<A: Allocator> Drop for Draft<A> {
     }
 }
 
-// The instruction that these bytes are, and no more of them.
+// The instruction that exactly these bytes form.
 fn whole(bytes: &[u8], address: u16) -> Option<Instr>
     ensures { IfSome result (λ _. 0 < length bytes.now) }
 {
@@ -45,7 +45,7 @@ fn whole(bytes: &[u8], address: u16) -> Option<Instr>
     }
 }
 
-// Whether an instruction has three bytes where its operand's value alone would give it two.
+// Whether an instruction has three bytes although the value of its operand would give it two.
 fn is_long(instr: Instr) -> bool {
     let short = match instr.mode {
         Mode::Absolute => Mode::ZeroPage,
@@ -56,14 +56,14 @@ fn is_long(instr: Instr) -> bool {
     instr.value < 256 && row_for(instr.mnemonic, short).is_some()
 }
 
-// The address behind so many bytes.
+// The address this many bytes further on.
 fn address_behind(address: u16, count: usize) -> Option<u16> {
     let count = u16::try_from(count).ok()?;
     address.checked_add(count)
 }
 
 impl<A: Allocator + Copy> Draft<A> {
-    /// No lines.
+    /// Returns an empty source.
     pub(crate) fn new(alloc: A) -> Draft<A> {
         Draft {
             text: Vec::new(alloc),
@@ -72,25 +72,25 @@ impl<A: Allocator + Copy> Draft<A> {
         }
     }
 
-    // Ends a line that is of this line of the listing.
+    // Ends a line that comes from this line of the listing.
     fn end_line(&mut self, number: usize) -> Result<(), AllocError> {
         self.text.push(b'\n')?;
         self.origins.push(number)?;
         Ok(())
     }
 
-    // A line of these pieces.
+    // Appends a line made of these texts.
     fn put_line(&mut self, number: usize, pieces: &[&[u8]]) -> Result<(), AllocError> {
         append(&mut self.text, pieces)?;
         self.end_line(number)
     }
 
-    // The line that says where those behind it lie.
+    // Appends the line that sets the address of the lines after it.
     fn put_origin(&mut self, number: usize, address: u16) -> Result<(), AllocError> {
         self.put_line(number, &[BLANKS, b"ORG $", &hex_word(address)])
     }
 
-    // The line of an instruction, as the Monitor lists it.
+    // Appends the line of an instruction, in the form in which the Monitor lists it.
     fn put_instruction(
         &mut self,
         number: usize,
@@ -114,7 +114,7 @@ impl<A: Allocator + Copy> Draft<A> {
         self.put_line(number, &[BLANKS, name, gap, operand])
     }
 
-    // The line of some bytes that are data.
+    // Appends the line of some bytes of data.
     fn put_data(&mut self, number: usize, bytes: &[u8]) -> Result<(), AllocError> {
         let mut front: &[u8] = b"        DFB $";
         for byte in bytes {
@@ -125,7 +125,7 @@ impl<A: Allocator + Copy> Draft<A> {
         self.end_line(number)
     }
 
-    // The lines of a row: of an instruction where its bytes are one, and else of data.
+    // Appends the lines for one line of the listing: an instruction if its bytes form one, otherwise data.
     fn put_row(&mut self, number: usize, bytes: &[u8], address: u16) -> Result<(), AllocError> {
         if let Some(instr) = whole(bytes, address) {
             return self.put_instruction(number, instr, bytes, address);
@@ -136,7 +136,8 @@ impl<A: Allocator + Copy> Draft<A> {
         Ok(())
     }
 
-    /// The lines of bytes at an address, and the address behind them. `next` is where they would lie as they are.
+    /// Appends the lines for bytes at an address, and returns the address after them. `next` is the address at which lines
+    /// without an `ORG` would be placed.
     pub(crate) fn put_bytes(
         &mut self,
         next: Option<u16>,
@@ -151,7 +152,7 @@ impl<A: Allocator + Copy> Draft<A> {
         Ok(address_behind(address, bytes.len()))
     }
 
-    /// The lines that define what is named: a name whose definition stands below its use has always two bytes.
+    /// Appends the lines that define the names. A name that is defined after its use always takes two bytes.
     pub(crate) fn put_names(&mut self, number: usize) -> Result<(), AllocError> {
         for low in 0..=255u8 {
             if self.named[usize::from(low)] {
@@ -162,20 +163,20 @@ impl<A: Allocator + Copy> Draft<A> {
         Ok(())
     }
 
-    /// The text of the lines.
+    /// Returns the text of the lines.
     pub(crate) fn text(&self) -> &[u8]
         ensures { result.now ≡ self.now.text.items }
     {
         self.text.as_slice()
     }
 
-    /// The line of the listing that a line of the text is of; 0 where that is none.
+    /// Returns the line of the listing that a line of the text comes from, or 0 if it comes from none.
     pub(crate) fn origin(&self, line: u16) -> usize {
         let index = usize::from(line).wrapping_sub(1);
         self.origins.as_slice().get(index).copied().unwrap_or(0)
     }
 
-    /// The text of the lines, and no more.
+    /// Returns the text of the lines and drops the rest.
     pub(crate) fn into_text(self) -> Vec<u8, A>
         ensures { result.items ≡ self.text.items }
     {

@@ -1,56 +1,56 @@
-//! What the operations of old assemblers become.
+//! Translation of the operations of old assemblers.
 
 use crate::dialect::Dialect;
 use a2_opcode::Mnemonic;
 use a2_text::first_word;
 
-/// How the items of a list are meant.
+/// The meaning of the items of a list.
 #[derive(Clone, Copy)]
 pub(crate) enum List {
-    /// Bytes, and in ca65 texts.
+    /// Bytes, and in ca65 also texts.
     Bytes,
-    /// Low bytes.
+    /// The low byte of each item.
     Low,
-    /// High bytes.
+    /// The high byte of each item.
     High,
     Words,
-    /// Words, but low bytes behind `#` and high ones behind `/`.
+    /// 16-bit words, but the low byte of an item after `#` and the high byte of one after `/`.
     Marked,
 }
 
-/// What an operation becomes.
+/// The translation of an operation.
 #[derive(Clone, Copy)]
 pub(crate) enum Turn {
-    /// This one, with its operand.
+    /// This operation, with the same operand.
     As(&'static [u8]),
     List(List),
-    /// A list, and a 0 behind it.
+    /// A list, followed by a 0.
     Ended(List),
     /// Bytes in hexadecimal digits.
     Hex,
-    /// A text between marks.
+    /// A delimited text.
     Text,
-    /// A text whose last character has the other bit 7.
+    /// A text whose last byte has bit 7 inverted.
     LastTurned,
-    /// A text, its length before it.
+    /// A text with its length before it.
     Counted,
-    /// Whether texts have bit 7 set.
+    /// A directive that sets whether texts have bit 7 set.
     Msb,
-    /// It says nothing here.
+    /// The operation has no meaning here.
     Nothing,
 }
 
-// Words, in capitals with blanks between them, and what they say.
+// Words in capitals, separated by blanks, and their meaning.
 type Row<T> = (&'static [u8], T);
 
-// What all assemblers have alike.
+// The operations that all assemblers have.
 static ALIKE: [Row<Turn>; 3] = [
     (b"ORG", Turn::As(b"ORG")),
     (b"EQU", Turn::As(b"EQU")),
     (b"DS", Turn::As(b"DS")),
 ];
 
-// What LISA and Merlin have alike, of which the first two are of S-C too, and the next two of EDASM.
+// The operations that LISA and Merlin share. S-C also has the first two, and EDASM the next two.
 static SHARED: [Row<Turn>; 6] = [
     (b"BLT", Turn::As(b"BCC")),
     (b"BGE", Turn::As(b"BCS")),
@@ -113,7 +113,7 @@ static CA65: [Row<Turn>; 7] = [
     ),
 ];
 
-// The words, of two characters at least, that one assembler alone has.
+// The words that only one assembler has. They have at least two characters.
 static SIGNS: [Row<Dialect>; 5] = [
     (b".OR .EQ .DA .AS .AT .HS .BS .TF .EN", Dialect::Sc),
     (b"EPZ BYT ADR HBY DFS BTR BFL XOR NLS", Dialect::Lisa),
@@ -125,7 +125,7 @@ static SIGNS: [Row<Dialect>; 5] = [
     ),
 ];
 
-// Whether a word is one of these, in either case; blanks stand between them.
+// Whether a word is one of these, in either case; they are separated by blanks.
 fn is_among(word: &[u8], words: &[u8]) -> bool {
     let mut rest = words;
     while let Some((first, behind)) = first_word(rest) {
@@ -137,7 +137,7 @@ fn is_among(word: &[u8], words: &[u8]) -> bool {
     false
 }
 
-// What a word says by these rows.
+// The meaning of a word in these rows.
 fn found<T: Copy>(rows: &[Row<T>], word: &[u8]) -> Option<T> {
     for (words, said) in rows {
         if is_among(word, words) {
@@ -147,7 +147,8 @@ fn found<T: Copy>(rows: &[Row<T>], word: &[u8]) -> Option<T> {
     None
 }
 
-/// What an operation becomes; one of the processor is itself, but where the assembler has another meaning of it.
+/// Returns the translation of an operation. A mnemonic of the processor stays the same, unless the assembler gives it another
+/// meaning.
 pub(crate) fn turn_of(dialect: Dialect, word: &[u8]) -> Option<Turn> {
     let (own, shared): (&[Row<Turn>], &[Row<Turn>]) = match dialect {
         Dialect::Sc => (&SC, &SHARED[..2]),
@@ -166,7 +167,7 @@ pub(crate) fn turn_of(dialect: Dialect, word: &[u8]) -> Option<Turn> {
     Some(Turn::As(mnemonic.name().as_bytes()))
 }
 
-/// The assembler that a word tells of.
+/// Returns the assembler to which a word belongs.
 pub(crate) fn told_by(word: &[u8]) -> Option<Dialect> {
     let [first, next, ..] = word else {
         return None;

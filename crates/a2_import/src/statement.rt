@@ -1,4 +1,4 @@
-//! A statement of an old text, as lines of this language.
+//! Importing a statement of an old text.
 
 use crate::import::NoteKind;
 use crate::operand::differs;
@@ -21,7 +21,7 @@ fn is_source<A: Allocator + Copy>(alloc: A, text: &[u8]) -> Result<bool, AllocEr
     }
 }
 
-// The blank before a part of a line, where there is one.
+// A blank before a part of a line, or nothing if the part is empty.
 fn gap(part: &[u8]) -> &[u8] {
     if part.is_empty() { b"" } else { b" " }
 }
@@ -34,7 +34,7 @@ impl<'a, A: Allocator + Copy> Reading<'a, A> {
         self.put_operand(operand)
     }
 
-    // Appends the lines of a statement behind its label, without a line feed behind the last.
+    // Appends the lines of a statement after its label. The last one does not get a line feed yet.
     fn put_lines(&mut self, parts: &Parts<'_>) -> Result<(), AllocError> {
         let operand = parts.operand;
         match parts.turn {
@@ -52,7 +52,7 @@ impl<'a, A: Allocator + Copy> Reading<'a, A> {
         }
     }
 
-    // Appends the comment of a statement; where that became nothing, behind blanks.
+    // Appends the comment of a statement, after blanks if the statement itself produced nothing.
     fn put_comment(&mut self, comment: &[u8]) -> Result<(), AllocError> {
         if comment.is_empty() {
             return Ok(());
@@ -66,7 +66,8 @@ impl<'a, A: Allocator + Copy> Reading<'a, A> {
         ])
     }
 
-    // Ends the lines of a statement where they are in the grammar, and else takes them back up to the label; says which.
+    // Ends the lines of a statement if they are in the grammar; otherwise removes them up to the label. Returns whether they
+    // were kept.
     fn end(&mut self) -> Result<bool, AllocError> {
         let text = self.text.as_slice();
         let (_, lines) = text.split_at(self.start.min(text.len()));
@@ -79,7 +80,7 @@ impl<'a, A: Allocator + Copy> Reading<'a, A> {
         Ok(is_source)
     }
 
-    // Appends the label by itself, with all that stands behind it as a comment.
+    // Appends the rest of a statement as a comment after its label.
     fn put_alone(&mut self, parts: &Parts<'_>) -> Result<(), AllocError> {
         self.put_front(b"; ")?;
         self.put(&[
@@ -91,7 +92,7 @@ impl<'a, A: Allocator + Copy> Reading<'a, A> {
         ])
     }
 
-    // Brings a statement over, and says whether that can be said; notes where it says another thing.
+    // Imports a statement and returns whether it can be expressed here. Adds a note if its meaning differs.
     fn put_said(&mut self, number: usize, parts: &Parts<'_>) -> Result<bool, AllocError> {
         self.put_lines(parts)?;
         self.put_comment(parts.comment)?;
@@ -103,7 +104,7 @@ impl<'a, A: Allocator + Copy> Reading<'a, A> {
         Ok(is_said)
     }
 
-    // Appends a line as a comment; its label stays one, where that says the same.
+    // Appends a line as a comment. Its label stays a label if its meaning is the same.
     fn keep(&mut self, line: &[u8], parts: &Parts<'_>) -> Result<(), AllocError> {
         if !parts.label.is_empty() && !parts.is_equate() {
             self.put_alone(parts)?;
@@ -115,7 +116,7 @@ impl<'a, A: Allocator + Copy> Reading<'a, A> {
         self.put_aside(line)
     }
 
-    /// Brings the statement of a line over.
+    /// Imports the statement of a line.
     pub(crate) fn put_statement(
         &mut self,
         number: usize,

@@ -1,4 +1,4 @@
-//! The pieces of an operand.
+//! The tokens of an operand.
 
 ghost use Rattle.std.specs.Prelude.{◌≤◌, ◌<◌, length, IfSome};
 
@@ -6,44 +6,44 @@ use crate::dialect::Dialect;
 use crate::pieces::before;
 use a2_text::front_len;
 
-/// A piece of an operand.
+/// A token of an operand.
 #[derive(Clone, Copy)]
 pub(crate) enum Token<'a> {
-    /// A name, its first byte apart.
+    /// A name; its first byte is separate.
     Name(u8, &'a [u8]),
     /// The name of a local label, without its mark.
     Local(&'a [u8]),
-    /// The last label of this digit, as `<1` of LISA, or so many further on, a later one.
+    /// The last label with this digit, as in `<1` of LISA, or a later one, this many further on.
     Digit(u8, u16),
-    /// A text, or a character, and the quotes that it stands between here.
+    /// A text or a character, with the quote to use for it here.
     Quoted(u8, &'a [u8]),
     Byte(u8),
 }
 
-// Whether a byte may stand in a name behind its first.
+// Whether a byte can be part of a name after the first byte.
 fn is_of_name(dialect: Dialect, c: u8) -> bool {
     c.is_ascii_alphanumeric() || c == b'_' || c == b'.' && dialect == Dialect::Sc
 }
 
-// How many bytes of a name stand at the front.
+// The number of bytes at the beginning of a text that belong to a name.
 fn name_len(dialect: Dialect, text: &[u8]) -> usize
     ensures { result ≤ length text.now }
 {
     front_len(text, |c| is_of_name(dialect, c))
 }
 
-/// What begins the name of a local label.
+/// Returns the mark that begins the name of a local label.
 pub(crate) fn local_mark(dialect: Dialect) -> u8 {
     match dialect {
         Dialect::Sc => b'.',
         Dialect::Merlin => b':',
         Dialect::Ca65 => b'@',
-        // none does there
+        // they have no such mark
         Dialect::Lisa | Dialect::Edasm => 0,
     }
 }
 
-// A label of a digit, or of no name, that stands behind or ahead.
+// A label that is a digit or has no name, and lies before or after this line.
 fn turned(dialect: Dialect, first: u8, rest: &[u8]) -> Option<Token<'_>> {
     match (dialect, first, rest.first().copied()) {
         (Dialect::Lisa, b'<', Some(digit @ b'0'..=b'9')) => Some(Token::Digit(digit, 0)),
@@ -54,14 +54,14 @@ fn turned(dialect: Dialect, first: u8, rest: &[u8]) -> Option<Token<'_>> {
     }
 }
 
-// Whether bit 7 of a character is set by what stands behind it, as ca65 writes it, and what stands behind that.
+// The text after a suffix that sets bit 7 of a character, in the syntax of ca65, or `None` without such a suffix.
 fn raised(rest: &[u8]) -> Option<&[u8]>
     ensures { IfSome result (λ behind. length behind.now ≤ length rest.now) }
 {
     rest.strip_prefix(b"|$80").or(rest.strip_prefix(b"|128"))
 }
 
-// A character whose quote stood before it, and what stands behind it.
+// The character after a quote, and the text after it.
 fn character(quote: u8, text: &[u8]) -> (Token<'_>, &[u8])
     ensures { length result.1.now ≤ length text.now }
 {
@@ -79,7 +79,7 @@ fn character(quote: u8, text: &[u8]) -> (Token<'_>, &[u8])
     }
 }
 
-// A text up to a quote, and what stands behind that.
+// The text up to a quote, and the text after that.
 fn text_up_to(quote: u8, text: &[u8]) -> (Token<'_>, &[u8])
     ensures { length result.1.now ≤ length text.now }
 {
@@ -90,7 +90,7 @@ fn text_up_to(quote: u8, text: &[u8]) -> (Token<'_>, &[u8])
     }
 }
 
-// The piece that begins with a byte, of which this stands behind it, and what stands behind the piece.
+// The token that begins with this byte, followed by the rest of the text; and the text after the token.
 fn piece(dialect: Dialect, first: u8, rest: &[u8]) -> (Token<'_>, &[u8])
     ensures { length result.1.now ≤ length rest.now }
 {
@@ -112,7 +112,7 @@ fn piece(dialect: Dialect, first: u8, rest: &[u8]) -> (Token<'_>, &[u8])
     }
 }
 
-/// The first piece of a text and what stands behind it, none where nothing is left.
+/// Returns the first token of a text and the text after it, or `None` at the end.
 pub(crate) fn first_token(dialect: Dialect, text: &[u8]) -> Option<(Token<'_>, &[u8])>
     ensures { IfSome result (λ (_, behind). length behind.now < length text.now) }
 {
@@ -120,7 +120,7 @@ pub(crate) fn first_token(dialect: Dialect, text: &[u8]) -> Option<(Token<'_>, &
     Some(piece(dialect, *first, rest))
 }
 
-/// How many bytes stand before the first of these, outside quotes.
+/// Returns the number of bytes before the first of these bytes outside quotes.
 pub(crate) fn span(dialect: Dialect, text: &[u8], stops: &[u8]) -> usize
     ensures { result ≤ length text.now }
 {

@@ -1,4 +1,4 @@
--- A machine that was booted, with keys typed, is at its start.
+-- A machine that was booted and had keys typed is in its initial state.
 use Rattle.std.specs.Prelude.{◌≡◌, ◌↔◌, ℕ, ◌+◌, ◌<◌, ◌≤◌, List, [], length, Option, Result, Ok, Err, IsOk, OnOk, true, false}
 use Rattle.std.proofs.Common.{ap, arith}
 use Rattle.std.proofs.lemmas.List.{get_or-replicate}
@@ -14,7 +14,7 @@ none_wait : (state : MachineState) (image : ℕ → Option ℕ) (entry : ℕ) �
 unfolding memory_of start_memory
 none_wait state image entry e = ap (λ w. length w.memory.devices.keys) e
 
--- with the keys typed all is at its start
+-- after the keys are typed, the machine is in its initial state
 pub typed_start : {T E : Type 0} (image : ℕ → Option ℕ) (entry : ℕ) (keys : List ℕ) (old new : Device) (result : Result T E)
     → world_of_state old.state ≡ start_world image entry []
     → (IsOk result ↔ (length old.state.bus.devices.keys + length keys ≤ 4096))

@@ -1,4 +1,4 @@
--- What a machine's marks say of an address.
+-- What a machine's marks mean for an address.
 use Rattle.std.specs.Prelude.{◌≡◌, ℕ, zero, suc, ◌%◌, ◌<◌, ◌≤◌, ◌==◌, nat_le, ◌||◌, not, List, length, slice_index, replicate, Bool, true, false, refl}
 use Rattle.std.proofs.Common.{sym, ap, ◌∙◌, arith}
 use Rattle.std.proofs.lemmas.Bool.Decides.{nat_tests}
@@ -47,7 +47,7 @@ pub admitted-ends : (on : Bool) (marks : List ℕ) (marked : Marked) → IsCodeG
 admitted-ends on marks marked guard a low is =
     guard.ends a low (admits-is on marks marked a guard (omega (arith, low)) ∙ is)
 
--- the first marks of a program
+-- the initial marks of a program
 module _ (marks : List ℕ) (first : (a : ℕ) → a < 65536 → slice_index marks a ≡ first_mark false a) where
   pub first_begins : (a : ℕ) → a < ram_end → begins marks a ≡ false
   first_begins a low = grind (arith, nat_tests, first a, low)
@@ -69,7 +69,7 @@ pub none_blocked : (service : Service) → is_blocked (replicate (length service
 none_blocked Cout = refl
 none_blocked _ = refl
 
--- a mark below 2 says that no code lies there
+-- a mark below 2 means that there is no code
 unlaid : (mark : ℕ) → nat_le 2 mark ≡ false → is_set 2 mark ≡ false
 unlaid zero e = refl
 unlaid (suc zero) e = refl
@@ -80,7 +80,7 @@ nowhere : (on : Bool) (marks : List ℕ) (a : ℕ) → ram_end ≤ a → is_amon
 unfolding guard_of
 nowhere on marks a high = grind (arith, nat_tests, among_below ram_end (lies marks) a, high)
 
--- plain steps may rest on a guard's marks
+-- plain steps can rely on a guard's marks
 pub plain-marks : (on : Bool) (marks : List ℕ) (marked : Marked) → IsCodeGuard on marks marked → ArePlainMarks (guard_if on marks) marks
 plain-marks on marks marked guard = record {
   are = guard.marks_are;

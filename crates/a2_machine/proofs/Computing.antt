@@ -1,4 +1,4 @@
--- One word that opens every definition that a step computes by: under `unfolding computing` a part of a run whose
+-- A single name that unfolds every definition needed to compute a step: under `unfolding computing`, a part of a run whose
 -- addresses are known is one `refl`.
 use Rattle.std.specs.Prelude.{◌≡◌, Some}
 use Rattle.std.proofs.Common.{arith}
@@ -19,7 +19,7 @@ unfoldable pub computing : Type 1
 unfolding walked next next_at stuck stuck_at statements row table service_at refusal_of stores_of performed after_effect returned called effect_of memory_access ram_byte with_ram cell_at reach effect served
 computing = Type 0
 
--- where a last RTS goes, a run returns
+-- at the address to which the last RTS returns, a run returns
 pub returns_there : (code : Code) (w : World) → w.registers.pc ≡ 0xFF69 → stuck code w ≡ Some Returned
 unfolding stuck stuck_at
 returns_there code w at = grind (arith, at)

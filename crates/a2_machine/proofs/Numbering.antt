@@ -1,4 +1,4 @@
--- Services by their numbers, and one more of them asked where it stores.
+-- Services by their numbers, and adding one more service to the table of blocked ones.
 use Rattle.std.specs.Prelude.{◌≡◌, ℕ, ◌+◌, ◌<◌, Bool, false, ◌&&◌, ◌||◌, nat_lt, List, map, length, slice_index_or, slice_set, refl}
 use Rattle.std.specs.List.{range_with_len}
 use Rattle.std.proofs.Common.{sym, ap, ◌∙◌, arith}
@@ -28,12 +28,12 @@ number_is i within =
     sym (get_or-map number services i Cout 0 within) ∙ ap (λ ns. slice_index_or ns i 0) numbers
     ∙ get_or-range_with_len 0 (length services) i 0 within ∙ (let e : 0 + i ≡ i = omega arith in e)
 
--- and each stands at its own
+-- and each service is at its own number
 service_is : (service : Service) → service_in (number service) ≡ service
 service_is Cout = refl
 service_is _ = refl
 
--- those before a number are asked
+-- the services before a number have been added
 abbrev AreAsked : List Bool → (Service → Bool) → ℕ → ℕ → Type 0
 AreAsked blocked was count address = (s : Service) → slice_index_or blocked (number s) false ≡ (was s || (nat_lt (number s) count && reach s address))
 

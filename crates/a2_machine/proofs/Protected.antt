@@ -1,4 +1,4 @@
--- Protected addresses: only which they are matters, not how they are listed.
+-- Protected addresses: only the set of them matters, not how they are listed.
 use Rattle.std.specs.Prelude.{◌≡◌, ◌≤◌, ℕ, zero, suc, ◌+◌, Bool, true, false, ◌||◌, ◌&&◌, ◌==◌, nat_lt, nat_le, List, [], ◌∷◌, ◌++◌, if◌then◌else◌, Option, Some, None, refl, is_some}
 use Rattle.std.specs.List.{list_any, list_all}
 use Rattle.std.proofs.Common.{sym, ap, ap₂, ◌∙◌, arith}
@@ -19,12 +19,12 @@ use Rattle.a2_machine.proofs.Walks.{walked}
 abbrev pub SameMembers : List ℕ → List ℕ → Type 0
 SameMembers p q = (a : ℕ) → is_among p a ≡ is_among q a
 
--- one that is among numbers and passes is found
+-- a number in the list that passes the test is found
 any-found : (p : ℕ → Bool) (ns : List ℕ) (a : ℕ) → is_among ns a ≡ true → p a ≡ true → list_any p ns ≡ true
 any-found p [] a among is = cc
 any-found p (n ∷ ns) a among is = grind (arith, nat_tests, any-found p ns a, among, is)
 
--- what one list has that passes, the other has
+-- if each member of one list is in the other, a member that passes in one is found in the other
 carried : (f : ℕ → Bool) (p q : List ℕ) → ((a : ℕ) → is_among p a ≡ true → is_among q a ≡ true) → list_any f p ≡ true → list_any f q ≡ true
 carried f [] q into h = cc
 carried f (n ∷ p) q into h =
@@ -34,7 +34,7 @@ carried f (n ∷ p) q into h =
 same_any : (f : ℕ → Bool) (p q : List ℕ) → SameMembers p q → list_any f p ≡ list_any f q
 same_any f p q same = grind (arith, carried f p q (λ k h. sym (same k) ∙ h), carried f q p (λ k h. same k ∙ h))
 
--- so are steps and parts of runs
+-- the same holds for steps and parts of runs
 pub same_cause : (at : ℕ → Option Instr) (p q : List ℕ) → SameMembers p q → (w : World) → stuck (statements at p) w ≡ stuck (statements at q) w
 unfolding stuck stuck_at statements
 same_cause at p q same w = let alike : is_among p ≡ is_among q = λ i a. same a i in grind (arith, alike, same_any)
@@ -67,7 +67,7 @@ below : (p : List ℕ) (a : ℕ) → list_all (λ n. nat_lt n ram_end) p ≡ tru
 below [] a h high = refl
 below (n ∷ p) a h high = grind (arith, nat_tests, below p a, h, high)
 
--- the guard's list and this one have the same members, where code lies in RAM
+-- the guard's list and this one have the same members if the code is in RAM
 pub guarded : (all : List Statement) → list_all (λ n. nat_lt n ram_end) (code_bytes all) ≡ true → SameMembers (addresses_below ram_end (is_code all)) (code_bytes all)
 guarded all low a =
     grind (arith, nat_tests, among_below ram_end (is_code all) a, code-bytes all a, below (code_bytes all) a low)

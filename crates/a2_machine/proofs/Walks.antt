@@ -1,4 +1,4 @@
--- Parts of runs: so many steps, none of which is stuck. They follow one another, and make a run's end.
+-- Parts of runs: a number of steps, none of which is stuck. They can be joined, and they lead to a run's end.
 use Rattle.std.specs.Prelude.{◌≡◌, ◌≤◌, ℕ, zero, suc, ◌+◌, ◌-◌, ◌*◌, Option, Some, None, refl}
 use Rattle.std.proofs.Common.{ap, ◌∙◌, subst, arith}
 use Rattle.std.proofs.lemmas.Option.{same_Some}
@@ -8,7 +8,7 @@ use Rattle.a2_machine.specs.Meaning.{Code, IsEnd, stuck, next}
 use Rattle.a2_machine.proofs.RunFrom.{run_from}
 use Rattle.a2_machine.proofs.Runs.{run-is_end}
 
--- the world after so many steps, if none of them is stuck
+-- the world after this many steps, if none of them is stuck
 unfoldable pub walked : Code → World → ℕ → Option World
 walked code world zero = Some world
 walked code world (suc n) = elim (stuck code world) [ Some cause ↦ None | None ↦ walked code (next code world) n ]
@@ -21,7 +21,7 @@ then code w v u (suc m) n a b =
     let e : suc m + n ≡ suc (m + n) = omega arith in
     ap (walked code w) e ∙ grind (arith, then code (next code w) v u m n, a, b)
 
--- a run goes on where a part of it ends
+-- a run continues where a part of it ends
 goes_on : (code : Code) (w v : World) (n done rest : ℕ) → walked code w n ≡ Some v → run_from code w done (n + rest) ≡ run_from code v (done + n) rest
 unfolding walked run_from
 goes_on code w v zero done rest h =
@@ -36,7 +36,7 @@ unfolding run_from
 stopped code v cause done zero h = grind (arith, h)
 stopped code v cause done _ h = grind (arith, h)
 
--- a part that leads to a world that is stuck is a run's end, with each limit that allows its steps
+-- a part that leads to a stuck world is a run's end, for each limit that allows its steps
 pub ends : (code : Code) (w v : World) (n limit : ℕ) (cause : Cause) → walked code w n ≡ Some v → stuck code v ≡ Some cause → n ≤ limit
     → IsEnd code w limit (record { world = v; steps = n; cause = cause })
 ends code w v n limit cause h stops within =
@@ -45,16 +45,16 @@ ends code w v n limit cause h stops within =
     let same = goes_on code w v n 0 (limit - n) h ∙ stopped code v cause (0 + n) (limit - n) stops in
     rw (all, none) at (rw same at (run-is_end code w (n + (limit - n))))
 
--- Parts of runs by what holds where they end
+-- Parts of runs described by a property of the world where they end
 
--- so many steps lead to a world of which this holds
+-- this many steps lead to a world with this property
 abbrev pub Leads : Code → World → ℕ → (World → Type 0) → Type 0
 Leads code w n Q = (v : World) × (walked code w n ≡ Some v) × Q v
 
 pub and_then : (code : Code) (w : World) (m n : ℕ) (P Q : World → Type 0) → Leads code w m P → ((v : World) → P v → Leads code v n Q) → Leads code w (m + n) Q
 and_then code w m n P Q (v, walk, holds) later = let on = later v holds in (on.0, then code w v on.0 m n walk on.1, on.2)
 
--- a loop: a count goes down by one each round, and each round takes as many steps
+-- a loop: a count goes down by one each round, and every round takes the same number of steps
 pub rounds : (code : Code) (P : ℕ → World → Type 0) (round : ℕ) → ((k : ℕ) (w : World) → P (suc k) w → Leads code w round (P k))
     → (n : ℕ) (w : World) → P n w → Leads code w (n * round) (P 0)
 unfolding walked

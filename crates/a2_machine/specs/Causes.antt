@@ -1,9 +1,9 @@
--- The causes' rows: the name of each, and whether a run that stops so came to its end by itself. This project's profile.
+-- The table of causes: the name of each, and whether a program that stops with it ended by itself. This project's profile.
 use Rattle.std.specs.Prelude.{ℕ, List, Bool, true, false, codes}
 use Rattle.a2_machine.specs.declared.causes.Cause.{Cause}
 use Rattle.a2_machine.specs.declared.causes.Cause.TheVariants.{Returned, CodeWrite, Window, Keys, OffStatement, Rom, Opcode, Brk, Decimal, Limit}
 
--- as the cause line has it, and whether it is a run's own end
+-- the name in the cause line, and whether the program ended by itself
 pub record CauseRow : Type 0 where
   pub name : List ℕ
   pub is_own_end : Bool

@@ -1,37 +1,37 @@
-//! The causes of a stop: a row for each, with its name, whether a run that stops so came to its end by itself, and its sentence.
+//! The causes of a stop: for each its name, whether the program ended by itself, and a sentence that explains it.
 
 ghost use Rattle.std.specs.Prelude.{◌≡◌};
 ghost use Rattle.a2_machine.specs.Causes as by;
 
-/// Why a run stops, in the order in which the causes are looked for before each step. A step that is stopped changes
-/// nothing. This project's profile.
+/// Why a run stops, in the order in which the causes are checked before each step. A step that is stopped changes nothing. This
+/// project's profile.
 #[derive(Clone, Copy, Debug, PartialEq, Eq)]
 pub enum Cause {
-    /// PC is $FF69, where a last RTS goes.
+    /// PC is $FF69, the address to which the last RTS returns.
     Returned,
-    /// Guarded: the service at PC may store into code; or, looked for behind `Decimal`, the instruction would store or
-    /// push into code.
+    /// Only with a guard: the service at PC may store into code, or the instruction would store or push into code. For an
+    /// instruction this is checked after `Decimal`.
     CodeWrite,
-    /// The window, the cursor, or the row or column of a block does not lie as the service at PC needs it.
+    /// The position of the window, the cursor or a block does not fit the service at PC.
     Window,
-    /// The keys that the service at PC needs are not there.
+    /// The keys that the service at PC needs are not waiting.
     Keys,
-    /// Guarded: no instruction statement begins at PC.
+    /// Only with a guard: no instruction statement begins at PC.
     OffStatement,
-    /// A byte of the instruction would lie at or above $C000.
+    /// A byte of the instruction would be at or above $C000.
     Rom,
-    /// The byte at PC is no documented opcode.
+    /// The byte at PC is not a documented opcode.
     Opcode,
     /// The instruction is BRK.
     Brk,
-    /// ADC or SBC with the flag D set.
+    /// The instruction is ADC or SBC, and the flag D is set.
     Decimal,
-    /// None of these holds, and as many steps as the limit allows are made.
+    /// No other cause holds, and as many steps were executed as the limit allows.
     Limit,
 }
 
-// Makes something of each cause's row: what it is, its name in the cause line, whether it is a run's own end, and what it means
-// where PC stands. `tests/film-page` reads names and sentences here.
+// Passes the table of causes to a macro: each cause, its name in the cause line, whether the program ended by itself, and what
+// the cause means at the address in PC. `tests/film-page` reads names and sentences from here.
 macro_rules! causes {
     ($make:ident $($of:ident)?) => {
         $make!($($of)?;
@@ -72,27 +72,27 @@ macro_rules! sentences {
 }
 
 impl Cause {
-    /// How many causes there are.
+    /// The number of causes.
     pub const COUNT: usize = causes!(all).len();
 
-    /// Each cause, in their order.
+    /// All causes, in the order in which they are checked.
     pub const ALL: [Cause; Cause::COUNT] = causes!(all);
 
-    /// Its name, as the cause line has it: `CODE WRITE`. This project's profile.
+    /// Returns the name used in the cause line, such as `CODE WRITE`. This project's profile.
     pub fn name(self) -> &'static [u8]
         ensures { result.now ≡ by.cause_name self }
     {
         causes!(names self)
     }
 
-    /// Whether a run that stops so came to its end by itself. This project's profile.
+    /// Returns whether a program that stops with this cause ended by itself. This project's profile.
     pub fn is_own_end(self) -> bool
         ensures { result ≡ by.is_own_end self }
     {
         causes!(own_ends self)
     }
 
-    /// What it means at the place where PC stands, in words for people.
+    /// Returns a sentence that explains to the user what the cause means at the address in PC.
     pub fn sentence(self) -> &'static [u8] {
         causes!(sentences self)
     }

@@ -1,4 +1,4 @@
-//! The guard as a machine keeps it: a byte of marks for each address.
+//! The guard as a machine stores it: one byte of marks for each address.
 
 ghost use Rattle.std.specs.Prelude.{◌≡◌, ℕ, ◌+◌, ◌<◌, ◌≤◌, ◌==◌, ◌&&◌, ◌||◌, nat_le, nat_lt, Bool, List, length, slice_index, if◌then◌else◌, true, is_some, IfOk, Some, None};
 ghost use Rattle.a2_asm.specs.Programs.{begins_at, is_code};
@@ -18,43 +18,45 @@ use a2_services::{Service, reach};
 use std::alloc::{AllocError, Allocator, Global};
 use std::marker::Model;
 
-/// The end of the addresses from which on three bytes are in RAM.
+/// The first address from which fewer than three bytes are in RAM.
 const WHOLE_END: usize = RAM_END as usize - 2;
 
-/// How many addresses there are.
+/// The number of addresses.
 pub const ADDRESSES: usize = 0x1_0000;
 
-/// The bytes of what a long run notes: of each address a mark and a kind.
+/// The size of the notes of a long run in bytes: a mark and a kind for each address.
 pub const NOTES: usize = 2 * ADDRESSES;
 
 // The bits of a mark.
 
-/// An instruction may begin there, and three bytes from there on are in RAM.
+/// An instruction may begin here, and three bytes from here on are in RAM.
 const BEGINS: u8 = 1;
 
-/// A byte of code lies there.
+/// A byte of code is here.
 const CODE: u8 = 2;
 
-/// No RAM is there.
+/// There is no RAM here.
 const ABOVE: u8 = 4;
 
-/// An instruction may begin there, and of three bytes from there on some are not in RAM.
+/// An instruction may begin here, and fewer than three bytes from here on are in RAM.
 const BEGINS_LAST: u8 = 8;
 
-/// What marks come with: which services may store into code, by their numbers, and the end of the addresses where instructions begin.
+/// What is stored along with the marks: which services may store into code, by their numbers, and the end of the addresses
+/// where instructions begin.
 #[derive(Clone, Copy)]
 pub struct Marked {
     pub blocked: [bool; Service::COUNT],
     pub end: u16,
 }
 
-/// That of no guard.
+/// The value without a guard.
 const UNGUARDED: Marked = Marked {
     blocked: [false; Service::COUNT],
     end: RAM_END,
 };
 
-/// The guard, or none. Contracts see it as an option of the addresses at which instructions begin and lie.
+/// A guard, or no guard. Contracts see it as an option of the addresses where instructions begin and of the addresses of their
+/// bytes.
 #[derive(Drop)]
 pub struct CodeGuard<A: Allocator = Global> {
     marks: Vec<u8, A>,
@@ -76,7 +78,7 @@ impl<A: Allocator> Model for CodeGuard<A> {
     ghost invariant = { λ w. IsCodeGuard w.on w.marks.items w.marked };
 }
 
-// Whether an instruction may begin where a mark stands.
+// Whether an instruction may begin at an address with this mark.
 #[inline(always)]
 fn has_begin(mark: u8) -> bool
     ensures { result ≡ begins_by mark }
@@ -84,7 +86,7 @@ fn has_begin(mark: u8) -> bool
     mark & BEGINS != 0 || mark & BEGINS_LAST != 0
 }
 
-// The services that may store at an address are blocked too.
+// Also blocks the services that may store at an address.
 fn block(blocked: &mut [bool; Service::COUNT], address: u16)
     ensures { (service : Service) → is_blocked blocked.new service
         ≡ (is_blocked blocked.old service || reach_of service address) }
@@ -94,7 +96,7 @@ fn block(blocked: &mut [bool; Service::COUNT], address: u16)
     }
 }
 
-// The same mark for each address from one on.
+// Sets the same mark for every address from one on.
 fn fill_from(marks: &mut [u8], start: usize, mark: u8)
     requires size { length marks.old ≡ 65536 }
     requires within { start ≤ 65536 }
@@ -104,7 +106,7 @@ fn fill_from(marks: &mut [u8], start: usize, mark: u8)
     marks[start..].fill(mark);
 }
 
-// The first marks of the addresses from which on three bytes are not in RAM: the last two of RAM, and those above.
+// Sets the initial marks of the addresses from which fewer than three bytes are in RAM: the last two of RAM, and those above.
 fn start_last(marks: &mut [u8], free: bool)
     requires size { length marks.old ≡ 65536 }
     requires before { (a : ℕ) → a < whole_end → slice_index marks.old a ≡ first_mark free a }
@@ -117,7 +119,8 @@ fn start_last(marks: &mut [u8], free: bool)
     marks[WHOLE_END + 1] = last;
 }
 
-// Makes all marks the first ones: with no guard, where an instruction may begin anywhere, or for a program's.
+// Sets all marks to their initial values: those without a guard, where an instruction may begin anywhere, or those for a
+// program.
 fn start_marks(marks: &mut [u8], free: bool)
     requires { length marks.old ≡ 65536 }
     ensures size { length marks.new ≡ 65536 }
@@ -127,7 +130,7 @@ fn start_marks(marks: &mut [u8], free: bool)
     start_last(marks, free);
 }
 
-// An instruction begins at an address, where that is in RAM.
+// Marks that an instruction begins at an address, if the address is in RAM.
 fn mark_begin(marks: &mut [u8], address: usize)
     requires started { AreStarted marks.old }
     requires in_ram { address < ram_end }
@@ -142,7 +145,7 @@ fn mark_begin(marks: &mut [u8], address: usize)
     };
 }
 
-// A byte of code lies at an address.
+// Marks that a byte of code is at an address.
 fn mark_code(marks: &mut [u8], address: usize)
     requires started { AreStarted marks.old }
     requires in_ram { address < ram_end }
@@ -153,7 +156,7 @@ fn mark_code(marks: &mut [u8], address: usize)
     marks[address] |= CODE;
 }
 
-// The same, and the services that may store there are blocked.
+// Does the same, and blocks the services that may store there.
 #[tactic(auto, using(crate::proofs::Marking::any_added))]
 fn mark_byte(marks: &mut [u8], blocked: &mut [bool; Service::COUNT], address: usize)
     requires started { AreStarted marks.old }
@@ -168,7 +171,7 @@ fn mark_byte(marks: &mut [u8], blocked: &mut [bool; Service::COUNT], address: us
     block(blocked, address as u16);
 }
 
-// Bytes of code lie from one address on, up to another.
+// Marks the bytes of code from one address up to another.
 fn mark_bytes(marks: &mut [u8], blocked: &mut [bool; Service::COUNT], start: usize, end: usize)
     requires started { AreStarted marks.old }
     requires order { start ≤ end }
@@ -184,7 +187,7 @@ fn mark_bytes(marks: &mut [u8], blocked: &mut [bool; Service::COUNT], start: usi
     }
 }
 
-// An instruction of so many bytes is marked; what lies behind RAM is left out.
+// Marks an instruction of this many bytes; bytes beyond RAM are left out.
 #[tactic(auto, using(crate::proofs::Guarding::same_addresses))]
 fn mark_instruction(marks: &mut [u8], marked: &mut Marked, address: u16, bytes: u16)
     requires started { AreStarted marks.old }
@@ -209,7 +212,7 @@ fn mark_instruction(marks: &mut [u8], marked: &mut Marked, address: u16, bytes: 
     }
 }
 
-// The marks of a program's instruction statements, and what comes with them.
+// Sets the marks for a program's instruction statements, and returns what belongs to them.
 #[tactic(auto, using(crate::proofs::Marking::any_none, crate::proofs::CodeGuarding::first_started, crate::proofs::CodeGuarding::first_lies, crate::proofs::CodeGuarding::first_begins, crate::proofs::CodeGuarding::first_ends, crate::proofs::CodeGuarding::none_blocked))]
 fn mark_statements(marks: &mut [u8], statements: &[Statement]) -> Marked
     requires { length marks.old ≡ 65536 }
@@ -232,7 +235,7 @@ fn mark_statements(marks: &mut [u8], statements: &[Statement]) -> Marked
     marked
 }
 
-// The same in a machine's own marks.
+// Does the same in a machine's own marks.
 fn mark_all<A: Allocator>(marks: &mut Vec<u8, A>, statements: &[Statement]) -> Marked
     requires { length marks.old.items ≡ 65536 }
     ensures started { AreStarted marks.new.items }
@@ -244,7 +247,7 @@ fn mark_all<A: Allocator>(marks: &mut Vec<u8, A>, statements: &[Statement]) -> M
     mark_statements(marks.as_mut_slice(), statements)
 }
 
-// The marks of no guard.
+// Sets the marks to those without a guard.
 fn free_all<A: Allocator>(marks: &mut Vec<u8, A>)
     requires { length marks.old.items ≡ 65536 }
     ensures size { length marks.new.items ≡ 65536 }
@@ -253,7 +256,7 @@ fn free_all<A: Allocator>(marks: &mut Vec<u8, A>)
     start_marks(marks.as_mut_slice(), true);
 }
 
-// So many bytes that are alike.
+// Returns this many copies of a byte.
 fn filled<A: Allocator>(alloc: A, byte: u8, count: usize) -> Result<Vec<u8, A>, AllocError>
     ensures size { IfOk result (λ bytes. length bytes.items ≡ count) }
     ensures alike { IfOk result (λ bytes. (a : ℕ) → a < count → slice_index bytes.items a ≡ byte) }
@@ -261,7 +264,7 @@ fn filled<A: Allocator>(alloc: A, byte: u8, count: usize) -> Result<Vec<u8, A>, 
     vec![in alloc; byte; count]
 }
 
-// The marks of no guard, where all but the last are the same.
+// Returns the marks without a guard: all equal except the last ones.
 fn free_marks<A: Allocator>(alloc: A) -> Result<Vec<u8, A>, AllocError>
     ensures size { IfOk result (λ marks. length marks.items ≡ 65536) }
     ensures first { IfOk result (λ marks. (a : ℕ) → a < 65536 → slice_index marks.items a ≡ first_mark true a) }
@@ -272,7 +275,7 @@ fn free_marks<A: Allocator>(alloc: A) -> Result<Vec<u8, A>, AllocError>
 }
 
 impl<A: Allocator> CodeGuard<A> {
-    /// No guard. Refused only for want of memory.
+    /// Returns a value without a guard. Fails only if memory runs out.
     pub fn new(alloc: A) -> Result<CodeGuard<A>, AllocError>
         ensures { IfOk result (λ guard. guard ≡ None) }
     {
@@ -283,7 +286,7 @@ impl<A: Allocator> CodeGuard<A> {
         })
     }
 
-    /// The guard of a program.
+    /// Sets the guard of a program.
     #[tactic(auto, using(crate::proofs::Guarding::guard_same, crate::proofs::CodeGuarding::started_marks, crate::proofs::CodeGuarding::started_above), unfolding(crate::specs::Marks::guard_of))]
     pub fn set<C: Allocator>(&mut self, program: &Program<C>)
         ensures { self.new ≡ Some (guard_of_program program.now) }
@@ -292,7 +295,7 @@ impl<A: Allocator> CodeGuard<A> {
         self.on = true;
     }
 
-    /// No guard any more.
+    /// Removes the guard.
     pub fn free(&mut self)
         ensures { self.new ≡ None }
     {
@@ -314,14 +317,14 @@ impl<A: Allocator> CodeGuard<A> {
         self.on = other.on;
     }
 
-    /// Whether there is a guard.
+    /// Returns whether there is a guard.
     pub fn guards(&self) -> bool
         ensures { result ≡ is_some self.now }
     {
         self.on
     }
 
-    /// Whether an instruction may begin at an address.
+    /// Returns whether an instruction may begin at an address.
     #[inline(always)]
     pub fn admits(&self, address: u16) -> bool
         ensures { result ≡ admits_of self.now address }
@@ -329,7 +332,7 @@ impl<A: Allocator> CodeGuard<A> {
         has_begin(self.marks[address as usize])
     }
 
-    /// The end of the addresses of RAM at which an instruction may begin, 0 to $C000.
+    /// Returns the end of the addresses of RAM where an instruction may begin, 0 to $C000.
     #[inline(always)]
     pub fn end(&self) -> u16
         ensures { (a : ℕ) → a < ram_end → admits_of self.now a ≡ true → a < result }
@@ -337,7 +340,7 @@ impl<A: Allocator> CodeGuard<A> {
         self.marked.end
     }
 
-    /// The marks, a byte for each address, on which plain steps may rest.
+    /// Returns the marks, one byte for each address, which a burst of plain steps can rely on.
     #[inline(always)]
     pub fn marks(&self) -> &[u8]
         ensures { ArePlainMarks self.now result.now }
@@ -345,7 +348,7 @@ impl<A: Allocator> CodeGuard<A> {
         self.marks.as_slice()
     }
 
-    /// Whether a service may store at a protected address.
+    /// Returns whether a service may store at a protected address.
     pub fn blocks(&self, service: Service) -> bool
         ensures { result ≡ list_any (reach_of service) (protected_by self.now) }
     {

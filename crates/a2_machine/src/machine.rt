@@ -1,4 +1,4 @@
-//! The machine: a board with a processor, its guard, and its counts.
+//! The machine: a processor on a board, with its guard and its counts.
 
 ghost use Rattle.std.specs.Prelude.{◌≡◌, ◌≢◌, ◌+◌, ◌-◌, ◌*◌, ◌^◌, ◌<◌, ◌≤◌, ◌↔◌, ℕ, [], true, false, None, Some, Ok, IfOk, IfNone, IfSome, OnOk, OnErr, OnSome, IsOk, length, slice_range};
 ghost use Rattle.a2_stream.specs.Stream.{SendsOrBreaks};
@@ -35,13 +35,13 @@ use a2_stream::{Output, WriteFault};
 use std::alloc::{AllocError, Allocator, Global};
 use std::marker::Model;
 
-/// The most steps that a machine makes from a start.
+/// The greatest number of steps that a machine executes from a start.
 const MACHINE_MAX_STEPS: u64 = 1_000_000_000_000;
 
-/// Where PC stands with no program, $0300 (this project's profile).
+/// The address in PC if there is no program, $0300 (this project's profile).
 pub const FIRST_ENTRY: u16 = 0x0300;
 
-// The cause that stopped a run, where no breakpoint did.
+// The cause that stopped a run without breakpoints.
 fn cause_in(stop: Stop) -> Cause
     requires { stop ≢ Breakpoint }
     ensures { StopCause result ≡ stop }
@@ -53,14 +53,14 @@ fn cause_in(stop: Stop) -> Cause
 }
 
 /// A modelled Apple II: the NMOS 6502 with 48K of RAM, keyboard, display switches and the Monitor's services. Apple II
-/// Reference Manual (1979); guard, counts and limits are this project's profile. Contracts see its registers, its board,
-/// the cycles and steps since its start, its guard, and how many steps it ever made.
+/// Reference Manual (1979); guard, counts and limits are this project's profile. Contracts see its registers, its board, the
+/// cycles and steps since its start, its guard, and the number of steps it has ever executed.
 pub struct Machine<A: Allocator = Global> {
     board: Board<A>,
     guard: CodeGuard<A>,
-    // Room for what a long run notes, or none.
+    // Space for the notes of a long run, or empty.
     notes: Vec<u8, A>,
-    // The guard that was taken away last: what a free run is likely to keep to.
+    // The guard that was removed last: a free run probably still keeps to its statements.
     likely: Option<CodeGuard<A>>,
     regs: Regs,
     cycles: u64,
@@ -68,7 +68,7 @@ pub struct Machine<A: Allocator = Global> {
     made: u64,
 }
 
-// Not derived, for the prover alone: it follows this as one call, and a derived one field by field.
+// Not derived, only for the prover: it treats this as one call, and a derived `drop` field by field.
 impl<A: Allocator> Drop for Machine<A> {
     fn drop(self) {
         let Machine {
@@ -101,8 +101,8 @@ impl<A: Allocator> Model for Machine<A> {
 }
 
 impl<A: Allocator + Copy> Machine<A> {
-    /// The machine as it is switched on, in memory of `alloc`: nothing loaded, no keys, PC $0300, no guard, no steps and
-    /// no cycles, and every row marked. This project's profile. Refused only for want of memory.
+    /// Returns the machine as it is when switched on, in memory of `alloc`: nothing loaded, no keys, PC $0300, no guard, no
+    /// steps, no cycles, and every row marked. This project's profile. Fails only if memory runs out.
     pub fn new(alloc: A) -> Result<Machine<A>, AllocError>
         ensures world { IfOk result (λ m. world_of_state m.state ≡ start_world (λ _. None) 768 []) }
         ensures steps { IfOk result (λ m. m.state.steps ≡ 0) }
@@ -116,9 +116,9 @@ impl<A: Allocator + Copy> Machine<A> {
         Ok(machine)
     }
 
-    /// The machine as [`Machine::new`] makes it, in 192 KB less: without the room in which a long [`Machine::run`] notes what makes
-    /// it fast, and that for a guard which was taken away. It makes the same steps. For copies of a machine that runs. This project's
-    /// profile. Refused only for want of memory.
+    /// Returns the same machine as [`Machine::new`], but 192 KB smaller. It lacks the space for the notes that make a long
+    /// [`Machine::run`] fast, and the space for a guard that was removed. It executes the same steps. Use it for copies of a
+    /// running machine. This project's profile. Fails only if memory runs out.
     pub fn for_copies(alloc: A) -> Result<Machine<A>, AllocError>
         ensures world { IfOk result (λ m. world_of_state m.state ≡ start_world (λ _. None) 768 []) }
         ensures steps { IfOk result (λ m. m.state.steps ≡ 0) }
@@ -138,9 +138,9 @@ impl<A: Allocator + Copy> Machine<A> {
         })
     }
 
-    /// The machine as it is switched on, in memory of `alloc`, with `image` laid over its RAM, PC at `entry` ($0000 to $FFFF) and
-    /// `keys` waiting: no guard, no steps and no cycles, and every row marked. This project's profile. Refused only for want of
-    /// memory.
+    /// Returns the machine as it is when switched on, in memory of `alloc`, with `image` loaded into its RAM, PC at `entry`
+    /// ($0000 to $FFFF) and `keys` waiting. It has no guard, no steps and no cycles, and every row is marked. This project's
+    /// profile. Fails only if memory runs out.
     #[tactic(auto, using(crate::proofs::Booting::switched_marked))]
     pub fn booted<C: Allocator>(
         alloc: A,
@@ -156,7 +156,8 @@ impl<A: Allocator + Copy> Machine<A> {
     {
         let mut machine = Machine::new(alloc)?;
         machine.boot(image, entry);
-        // For the prover alone: a list of keys has no more than fit, so that all of these are taken where none wait.
+        // Only for the prover: a list of keys never holds more keys than fit, so all of these are accepted when none are
+        // waiting.
         let _ = keys.bytes();
         let _ = machine.type_keys(keys);
         Ok(machine)
@@ -164,9 +165,9 @@ impl<A: Allocator + Copy> Machine<A> {
 }
 
 impl<A: Allocator> Machine<A> {
-    /// Makes this the machine as it is switched on, whatever it was, with `image` laid over its RAM and PC at `entry`
-    /// ($0000 to $FFFF): no keys, no guard, no steps and no cycles, and every row marked. Only `made` goes on counting. This
-    /// project's profile.
+    /// Resets this machine to the state after switching it on, with `image` loaded into its RAM and PC at `entry` ($0000 to
+    /// $FFFF): no keys, no guard, no steps, no cycles, and every row marked. Only `made` keeps counting. This project's
+    /// profile.
     pub fn boot<C: Allocator>(&mut self, image: &Image<C>, entry: u16)
         ensures world { world_of_state self.new.state ≡ start_world (held image.now) entry [] }
         ensures steps { self.new.state.steps ≡ 0 }
@@ -181,8 +182,9 @@ impl<A: Allocator> Machine<A> {
         self.steps = 0;
     }
 
-    /// Guards `program` from the next step on, in place of any earlier guard: an instruction begins only where one of
-    /// its instruction statements does, and nothing is stored at the addresses of their bytes. This project's profile.
+    /// Guards `program` from the next step on, and replaces any earlier guard. An instruction may begin only where an
+    /// instruction statement of the program does, and nothing can be stored at the addresses of the statements' bytes. This
+    /// project's profile.
     pub fn guard<C: Allocator>(&mut self, program: &Program<C>)
         ensures { self.new ≡ (let s = self.old.state in
             record self.old { state = record s { guard = Some (guard_of_program program.now) } }) }
@@ -190,8 +192,8 @@ impl<A: Allocator> Machine<A> {
         self.guard.set(program);
     }
 
-    /// Takes the guard away, if there is one: an instruction may begin anywhere, and code may be stored to. A [`Machine::run`] is
-    /// then as fast as a guarded one, as long as it keeps to what was guarded. This project's profile.
+    /// Removes the guard, if there is one: an instruction may begin anywhere, and code can be overwritten. A [`Machine::run`]
+    /// is as fast as a guarded one as long as it keeps to the statements that were guarded. This project's profile.
     pub fn free(&mut self)
         ensures { self.new ≡ (let s = self.old.state in record self.old { state = record s { guard = None } }) }
     {
@@ -203,7 +205,7 @@ impl<A: Allocator> Machine<A> {
         self.guard.free();
     }
 
-    /// Types `keys`, in order, behind those that wait. Refused exactly where more than 4,096 would wait, and then
+    /// Types `keys`, in order, after the keys that are already waiting. Fails exactly if more than 4,096 would be waiting; then
     /// nothing changes. This project's profile.
     pub fn type_keys(&mut self, keys: &Keys) -> Result<(), KeysFull>
         ensures room { IsOk result ↔ (length self.old.state.bus.devices.keys + length keys.now ≤ 4096) }
@@ -214,7 +216,7 @@ impl<A: Allocator> Machine<A> {
         self.board.type_keys(keys)
     }
 
-    /// The registers as they stand before the next step. Bits 5 and 4 of the flags, which are none, are clear, whatever was
+    /// Returns the registers before the next step. Bits 5 and 4 of the flags byte, which are not flags, are clear, whatever was
     /// called before.
     pub fn regs(&self) -> Regs
         ensures value { result ≡ self.now.state.regs }
@@ -223,36 +225,37 @@ impl<A: Allocator> Machine<A> {
         self.regs
     }
 
-    /// The steps made since the start, 0 to 1,000,000,000,000: an instruction or the call of a service is one.
+    /// Returns the number of steps since the start, 0 to 1,000,000,000,000. A step is an instruction or a call of a service.
     pub fn steps(&self) -> u64
         ensures { result ≡ self.now.state.steps }
     {
         self.steps
     }
 
-    /// The cycles of the processor that these steps took: for an instruction those of the *MCS6500 Microcomputer Family
-    /// Programming Manual* (1976), for a service those of [`a2_services::Service`]; at most 167,293 a step.
+    /// Returns the number of processor cycles that these steps took, at most 167,293 for one step. For an instruction they are
+    /// those of the *MCS6500 Microcomputer Family Programming Manual* (1976), for a service those of [`a2_services::Service`].
     pub fn cycles(&self) -> u64
         ensures { result ≡ self.now.state.cycles }
     {
         self.cycles
     }
 
-    /// The steps that this machine ever made, those before a `boot` too. At 2^64 - 1 the count stays.
+    /// Returns the number of steps this machine has ever executed, including those before a `boot`. The count stops at 2^64 -
+    /// 1.
     pub fn made(&self) -> u64
         ensures { result ≡ self.now.made }
     {
         self.made
     }
 
-    /// What the processor reads and writes: RAM, keyboard and switches as they stand before the next step.
+    /// Returns what the processor reads and writes: RAM, keyboard and switches before the next step.
     pub fn space(&self) -> &AddressSpace<A>
         ensures { result.now ≡ self.now.state.bus }
     {
         self.board.space()
     }
 
-    /// What a screen shows now: the bytes of both text pages, those between the cells too, and the switches.
+    /// Returns what a screen shows now: the bytes of both text pages, including those between the cells, and the switches.
     pub fn view(&self) -> View<'_>
         ensures bytes1 { result.page1.now ≡ slice_range self.now.state.bus.bytes 0x0400 0x0800 }
         ensures bytes2 { result.page2.now ≡ slice_range self.now.state.bus.bytes 0x0800 0x0C00 }
@@ -263,8 +266,9 @@ impl<A: Allocator> Machine<A> {
         self.board.view()
     }
 
-    /// Whether `row`, 0 to 23 from the top, may have changed since the screen was last printed by this machine: a cell of it
-    /// was poked, the machine was booted, or what was last printed of it is not what the shown page has there now.
+    /// Returns whether `row`, 0 to 23 from the top, may have changed since this machine last printed the screen. A row is
+    /// marked if one of its cells was poked, if the machine was booted, or if the shown page differs from what was last printed
+    /// of the row.
     pub fn marked(&self, row: u8) -> bool
         requires { row < 24 }
         ensures { (result ≡ true) ↔ IsMarked self.now.state.bus self.now.state.picture row }
@@ -272,8 +276,8 @@ impl<A: Allocator> Machine<A> {
         self.board.marked(row)
     }
 
-    /// Writes to `writer` what [`a2_page::print`] writes of the view, in the same lines, and clears all marks. Refused where
-    /// a write fails: what went out then is a front of these lines, and no row is marked.
+    /// Writes to `writer` what [`a2_page::print`] writes of the view, in the same lines, and clears all marks. Fails if a write
+    /// fails: then only the beginning of these lines was written, and no row is marked.
     pub fn print<W: Output>(&mut self, writer: &mut W) -> Result<(), WriteFault>
         ensures kept { self.new ≡ after_print self.old }
         ensures sent { let memory = memory_of self.old.state.bus in SendsOrBreaks (W.taker writer.old) (W.taker writer.new) result
@@ -282,8 +286,8 @@ impl<A: Allocator> Machine<A> {
         self.board.print(writer)
     }
 
-    /// Writes to `writer` what [`a2_page::print_attributes`] writes of the view, in the same lines, and clears all marks.
-    /// Refused where a write fails: what went out then is a front of these lines, and no row is marked.
+    /// Writes to `writer` what [`a2_page::print_attributes`] writes of the view, in the same lines, and clears all marks. Fails
+    /// if a write fails: then only the beginning of these lines was written, and no row is marked.
     pub fn print_attributes<W: Output>(&mut self, writer: &mut W) -> Result<(), WriteFault>
         ensures kept { self.new ≡ after_print self.old }
         ensures sent { let memory = memory_of self.old.state.bus in SendsOrBreaks (W.taker writer.old) (W.taker writer.new) result
@@ -292,7 +296,8 @@ impl<A: Allocator> Machine<A> {
         self.board.print_attributes(writer)
     }
 
-    /// Puts this machine where `other` is: registers, board, cycles and steps since the start. Guard and `made` stay.
+    /// Copies the registers, the board, and the cycles and steps since the start from `other`. The guard and `made` are
+    /// unchanged.
     pub fn restore<C: Allocator>(&mut self, other: &Machine<C>)
         ensures { self.new ≡ (let guard = self.old.state.guard in let s = other.now.state in
             record self.old { state = record s { guard = guard } }) }
@@ -303,7 +308,8 @@ impl<A: Allocator> Machine<A> {
         self.steps = other.steps;
     }
 
-    /// Makes this machine equal to `other` in all but `made`: registers, board, cycles and steps since the start, guard.
+    /// Makes this machine equal to `other` in everything but `made`: registers, board, cycles and steps since the start, and
+    /// guard.
     pub fn copy_from<C: Allocator>(&mut self, other: &Machine<C>)
         ensures { self.new ≡ record self.old { state = other.now.state } }
     {
@@ -311,19 +317,19 @@ impl<A: Allocator> Machine<A> {
         self.guard.copy_from(&other.guard);
     }
 
-    /// The byte of RAM at `address` ($0000 to $FFFF), with no effect on any device; none at or above $C000. Apple II
-    /// Reference Manual (1979), the memory map.
+    /// Returns the byte of RAM at `address` ($0000 to $FFFF), without an effect on any device, or `None` at or above $C000.
+    /// Apple II Reference Manual (1979), the memory map.
     #[tactic(auto, using(crate::proofs::Storing::peeked))]
     pub fn peek(&self, address: u16) -> Option<u8>
         ensures value { result ≡ peek_of (memory_of self.now.state.bus) address }
-        // All of RAM is there.
+        // RAM always has its full size.
         ensures size { length self.now.state.bus.bytes ≡ ram_end }
     {
         self.board.peek(address)
     }
 
-    /// Puts `byte` into RAM at `address`, which is below $C000, whatever the guard. No step is made; the row of a cell
-    /// there, on either page, is marked, and all else stays. This project's profile.
+    /// Stores `byte` in RAM at `address`, which must be below $C000, whatever the guard is. No step is executed. If the address
+    /// belongs to a cell of either page, its row is marked; everything else is unchanged. This project's profile.
     #[tactic(auto, using(crate::proofs::Storing::stored))]
     pub fn poke(&mut self, address: u16, byte: u8)
         requires { address < ram_end }
@@ -335,8 +341,9 @@ impl<A: Allocator> Machine<A> {
         self.board.write(address, byte);
     }
 
-    /// Puts PC at `address` ($0000 to $FFFF) and the stack as it is at the start: S = $FD, and at $01FE and $01FF the bytes
-    /// $68 and $FF, which send a last RTS to $FF69. No step is made, and all else stays. This project's profile.
+    /// Sets PC to `address` ($0000 to $FFFF) and the stack to its initial state: S = $FD, and the bytes $68 and $FF at $01FE
+    /// and $01FF, with which the last RTS returns to $FF69. No step is executed, and everything else is unchanged. This
+    /// project's profile.
     #[tactic(auto, using(crate::proofs::Storing::stack_unmarked))]
     pub fn set_pc(&mut self, address: u16)
         ensures world { world_of_state self.new.state ≡ called_at address (world_of_state self.old.state) }
@@ -350,8 +357,8 @@ impl<A: Allocator> Machine<A> {
         self.board.write(LAST_RETURN + 1, high);
     }
 
-    /// Puts these registers in place of its own, PC, S and flags among them; bits 5 and 4 of the flags, which are none, are
-    /// clear then. No step is made, and all else stays, RAM and guard too. This project's profile.
+    /// Sets all registers, including PC, S and the flags; bits 5 and 4 of the flags byte, which are not flags, are cleared. No
+    /// step is executed, and everything else is unchanged, including RAM and the guard. This project's profile.
     pub fn set_regs(&mut self, regs: Regs)
         ensures registers { registers_of self.new.state.regs ≡ registers_of regs }
         ensures left { self.new ≡ (let s = self.old.state in record self.old { state = record s { regs = self.new.state.regs } }) }
@@ -368,14 +375,14 @@ impl<A: Allocator> Machine<A> {
         self.regs = Regs { p, ..regs };
     }
 
-    // How many steps a call with this limit may make.
+    // The number of steps that a call with this limit may execute.
     fn most_within(&self, limit: u64) -> u64
         ensures { result ≡ steps_left limit self.now.state }
     {
         limit.min(MACHINE_MAX_STEPS - self.steps)
     }
 
-    // Counts steps that were made.
+    // Counts executed steps.
     fn count(&mut self, done: StepsMade)
         requires steps { self.old.state.steps + done.made ≤ most_steps }
         requires cycles { done.cycles ≤ most_cost * done.made }
@@ -389,7 +396,8 @@ impl<A: Allocator> Machine<A> {
         self.made = self.made.saturating_add(done.made);
     }
 
-    // Makes at most so many steps, fewer only where the machine is stuck or a step came to a breakpoint: that then.
+    // Executes at most this many steps. Executes fewer only if the machine is stuck or a step reached a breakpoint, and then
+    // returns that.
     fn make<B: Breakpoints, O: Observer>(
         &mut self,
         limit: u64,
@@ -413,7 +421,7 @@ impl<A: Allocator> Machine<A> {
         done.stop
     }
 
-    // The same with no breakpoints and no observer.
+    // Does the same without breakpoints and without an observer.
     fn make_alone(&mut self, limit: u64) -> Option<Stop>
         ensures { Rattle.a2_machine.specs.State.IsMaking (λ address. false) limit self.old self.new result }
     {
@@ -430,7 +438,7 @@ impl<A: Allocator> Machine<A> {
         done.stop
     }
 
-    // Why a run ends here: the machine is stuck, or no more steps are to be made.
+    // Why a run ends here: the machine is stuck, or no more steps are allowed.
     fn stop(&self) -> Cause
         ensures stuck { IfSome (stuck (code_of self.now.state) (world_of_state self.now.state)) (λ cause. result ≡ cause) }
         ensures limit { IfNone (stuck (code_of self.now.state) (world_of_state self.now.state)) (result ≡ Limit) }
@@ -438,9 +446,8 @@ impl<A: Allocator> Machine<A> {
         cause_at(&Live::of(&self.regs), self.board.space(), &self.guard).unwrap_or(Cause::Limit)
     }
 
-    /// Makes one step, of an instruction or a service, and answers `None`; or answers the first of [`Cause`] that holds,
-    /// and changes nothing. `Cause::Limit` is the answer only where 1,000,000,000,000 steps are made. This project's
-    /// profile.
+    /// Executes one step, which is an instruction or a service, and returns `None`. If a [`Cause`] holds, returns the first one
+    /// instead, and nothing changes. Returns `Cause::Limit` only after 1,000,000,000,000 steps. This project's profile.
     #[tactic(auto, using(crate::proofs::Making::cause_none, crate::proofs::Making::cause_last))]
     pub fn step(&mut self) -> Option<Cause>
         ensures cause { result ≡ cause_of self.old.state }
@@ -461,9 +468,9 @@ impl<A: Allocator> Machine<A> {
         Some(self.stop())
     }
 
-    /// Makes steps until a cause holds or `limit` steps are made in this call (0 to 2^32 - 1, and no more than are left
-    /// to 1,000,000,000,000 since the start), and answers the first of [`Cause`] that then holds: `Cause::Limit` only
-    /// where no other does. This project's profile.
+    /// Executes steps until a cause holds or this call has executed `limit` steps, and returns the first [`Cause`] that holds
+    /// then: `Cause::Limit` only if no other one does. The limit is 0 to 2^32 - 1; at most 1,000,000,000,000 steps are executed
+    /// from the start. This project's profile.
     pub fn run(&mut self, limit: u32) -> Cause
         ensures { IsMachineRun limit self.old self.new result }
     {
@@ -473,8 +480,8 @@ impl<A: Allocator> Machine<A> {
         self.stop()
     }
 
-    /// Makes steps as [`Machine::run`] does, each of which `observer` sees as it is made, the calls of services too, and
-    /// answers what `run` answers. This project's profile.
+    /// Executes steps as [`Machine::run`] does, and returns what it returns. `observer` sees each step as it is executed,
+    /// including calls of services. This project's profile.
     pub fn run_observed<O: Observer>(&mut self, limit: u32, observer: &mut O) -> Cause
         ensures run { IsMachineRun limit self.old self.new result }
         ensures seen { observer.new ≡ seen_after O.seen (shown_at (code_of self.old.state) (world_of_state self.old.state))
@@ -483,16 +490,16 @@ impl<A: Allocator> Machine<A> {
         cause_in(self.run_by(limit, &NoBreakpoints, observer))
     }
 
-    /// Makes steps as [`Machine::run`] does, but ends after a step that comes to one of `breakpoints`, and answers
-    /// [`Stop::Breakpoint`], whatever cause holds there, `Cause::Limit` too. PC is not looked at before the first step.
-    /// Where no step comes to a breakpoint the answer is the cause that `run` answers. This project's profile.
+    /// Executes steps as [`Machine::run`] does, but stops after a step that reaches one of `breakpoints`. It then returns
+    /// [`Stop::Breakpoint`], whatever cause holds there, including `Cause::Limit`. PC is not checked before the first step. If
+    /// no step reaches a breakpoint, it returns the cause that `run` returns. This project's profile.
     pub fn run_to<B: Breakpoints>(&mut self, limit: u32, breakpoints: &B) -> Stop
         ensures { IsRunTo (B.is_breakpoint breakpoints.now) limit self.old self.new result }
     {
         self.run_by(limit, breakpoints, &mut NoObserver)
     }
 
-    // The run of `run_to`, each step of which the observer sees.
+    // Runs as `run_to` does, and shows each step to the observer.
     fn run_by<B: Breakpoints, O: Observer>(
         &mut self,
         limit: u32,

@@ -1,4 +1,4 @@
-//! One step over registers and address space: a service, or an instruction beside the guard.
+//! One step on registers and address space: a service, or an instruction under the guard.
 
 ghost use Rattle.std.specs.Prelude.{◌≡◌, ℕ, ◌<◌, ◌≤◌};
 ghost use Rattle.a2_bus.specs.Memory.{ram_end};
@@ -20,7 +20,7 @@ use a2_services::live::{call, refusal};
 use a2_services::{Served, Service, service_at};
 use std::alloc::Allocator;
 
-// What a guarded step did: one of so many cycles was made, or none for a cause.
+// The outcome of a guarded step: its cycles, or the cause for which it was not executed.
 #[inline(always)]
 fn outcome_of(step: GuardedStep) -> Result<u32, Cause>
     ensures { TellsStep step result }
@@ -35,7 +35,7 @@ fn outcome_of(step: GuardedStep) -> Result<u32, Cause>
     }
 }
 
-// The same of a call.
+// The same for a call of a service.
 #[inline(always)]
 fn outcome_of_call(answer: Served) -> Result<u32, Cause>
     ensures { TellsCall answer result }
@@ -47,7 +47,7 @@ fn outcome_of_call(answer: Served) -> Result<u32, Cause>
     }
 }
 
-// The service that is to be called at an address above RAM, or the cause that stands before any call.
+// The service to call at an address above RAM, or the cause that prevents any call.
 #[inline(always)]
 #[tactic(auto, using(crate::proofs::Calls::stuck_above), unfolding(crate::specs::Meaning::stuck_at))]
 fn call_at<C: Allocator>(pc: u16, guard: &CodeGuard<C>) -> Result<Service, Cause>
@@ -65,7 +65,7 @@ fn call_at<C: Allocator>(pc: u16, guard: &CodeGuard<C>) -> Result<Service, Cause
     }
 }
 
-// One step where PC is above RAM.
+// Executes one step with PC above RAM.
 #[inline(always)]
 #[tactic(auto, using(crate::proofs::Costs::called_cost))]
 fn make_step_above<A: Allocator, C: Allocator>(
@@ -78,7 +78,7 @@ fn make_step_above<A: Allocator, C: Allocator>(
     ensures cost { cost_of result ≤ most_cost }
     ensures cycles { live.new.cycles ≡ live.old.cycles }
 {
-    // For the prover alone: a byte is below 256.
+    // Only for the prover: a byte is below 256.
     let _a: u8 = live.a;
     match call_at(live.pc, guard) {
         Ok(service) => outcome_of_call(call(service, live, space)),
@@ -86,8 +86,8 @@ fn make_step_above<A: Allocator, C: Allocator>(
     }
 }
 
-/// One step: a service where PC is one, else the instruction at PC; or the first cause of a stop, and nothing changes. Its
-/// cycles are told, and not counted.
+/// Executes one step: the service at PC, or otherwise the instruction at PC. If a cause stops it, returns the first cause, and
+/// nothing changes. Returns the step's cycles but does not count them.
 #[inline(always)]
 #[tactic(auto, using(crate::proofs::Calls::off_statement))]
 pub fn make_step<A: Allocator, C: Allocator>(
@@ -105,16 +105,16 @@ pub fn make_step<A: Allocator, C: Allocator>(
     if !guard.admits(live.pc) {
         return Err(Cause::OffStatement);
     }
-    // For the prover alone: a look at RAM tells how long it is.
+    // Only for the prover: this read shows how long RAM is.
     let _ = space.peek(live.pc);
-    // (of a copy, so that the caller's registers may stand in those of the host)
+    // Works on a copy, so that the caller's registers can stay in host registers.
     let mut next = *live;
     let step = live_step(&mut next, space, guard);
     *live = next;
     outcome_of(step)
 }
 
-// Why there is no step, where PC is above RAM.
+// Why no step is possible with PC above RAM.
 #[tactic(auto, using(crate::proofs::Calls::unstuck))]
 fn cause_above<A: Allocator, C: Allocator>(
     live: &Live,
@@ -130,7 +130,7 @@ fn cause_above<A: Allocator, C: Allocator>(
     }
 }
 
-/// Why there would be no step here; none where it would be made. Nothing changes.
+/// Returns why no step is possible here, or `None` if one is. Nothing changes.
 #[tactic(auto, using(crate::proofs::Calls::off_statement, crate::proofs::Outcomes::unrefused_here))]
 pub fn cause_at<A: Allocator, C: Allocator>(
     live: &Live,
@@ -145,7 +145,7 @@ pub fn cause_at<A: Allocator, C: Allocator>(
     if !guard.admits(live.pc) {
         return Some(Cause::OffStatement);
     }
-    // For the prover alone: a look at RAM tells how long it is.
+    // Only for the prover: this read shows how long RAM is.
     let _ = space.peek(live.pc);
     outcome_of(live_refusal(live, space, guard)?).err()
 }

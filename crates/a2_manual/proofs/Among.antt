@@ -1,4 +1,4 @@
--- What holds of one of a list's elements.
+-- What holds for one of the elements of a list.
 use Rattle.std.proofs.Common.{◌≡◌, ◌⊎◌, ◌<◌, ℕ, zero, suc, List, [], ◌∷◌, length, inl, inr, refl, Any, Option, Some, None, MatchOption, arith}
 use Rattle.std.specs.List.{slice_index_or}
 

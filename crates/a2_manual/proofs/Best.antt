@@ -1,4 +1,4 @@
--- The nearest of some names is found from the first to the last.
+-- The nearest of some names is found by comparing them from first to last.
 use Rattle.std.proofs.Common.{◌≡◌, ◌<◌, ◌≤◌, ℕ, ltb, eqb, List, [], ◌∷◌, ◌++◌, fold, inl, inr, refl, sym, ap, subst, ◌∙◌, All, Option, Some, None, MatchOption, Bor, arith}
 use Rattle.std.specs.List.{slice_split, flat_map, before_first}
 use Rattle.std.specs.Option.{option_copied}
@@ -10,7 +10,7 @@ use Rattle.a2_manual.specs.Topics.{topics, names}
 use Rattle.a2_manual.specs.Nearest.{distance, all_names, IsNearest}
 use Rattle.a2_manual.specs.Nearer.{Best, nearer, nearest_from}
 
--- a name is the first of some that is so far
+-- a name is the first one at this distance
 abbrev IsFirst : (List ℕ → ℕ) → List (List ℕ) → ℕ → List ℕ → Type 0
 IsFirst far known bound found =
     (bound ≡ far found) × (bound < 3) × ((front : List (List ℕ)) × (behind : List (List ℕ)) × (known ≡ front ++ found ∷ behind) × All (λ other. bound < far other) front)
@@ -61,14 +61,14 @@ answer name known (Some x) bound h = (
   omega (arith, h.1.0, h.1.1),
 )
 
--- what was found of all names
+-- what was found after all names were compared
 pub nearest-found : (name : List ℕ) (known : List (List ℕ)) (found : Option (Bor (List ℕ))) (bound : ℕ)
     → record { found = option_copied found; bound = bound } ≡ fold (λ b k. nearer b k (distance name k)) (record { found = None; bound = 3 }) known
     → MatchOption found (All (λ other. 2 < distance name other) known) (λ x. IsNearest name known x.now × (distance name x.now ≤ 2))
 nearest-found name known found bound e =
     answer name known found bound (subst (IsBest (distance name) known) (sym e) (best-all (distance name) [] known (record { found = None; bound = 3 }) (All-nil _, refl)))
 
--- the names of the last topic were looked at
+-- the names of the last topic were compared
 pub last-topic : (capitals left manual topic head : List ℕ) (start before after : Best) → topics left ≡ topic ∷ [] → head ≡ before_first (λ c. eqb c 0x0A) topic
     → after ≡ nearest_from capitals before (slice_split (λ c. eqb c 0x2C) head)
     → nearest_from capitals before (flat_map names (topics left)) ≡ nearest_from capitals start (all_names manual)

@@ -1,10 +1,10 @@
--- The nearest of the names that were looked at. No public clause cites this file.
+-- The nearest of the names compared so far. No public clause cites this file.
 use Rattle.std.specs.Prelude.{ℕ, List, fold, Option, Some, nat_lt, if◌then◌else◌}
 use Rattle.std.specs.Option.{option_copied}
 use Rattle.a2_manual.specs.Nearest.{edits}
 use Rattle.a2_manual.specs.declared.nearness.Nearest.{Nearest}
 
--- the nearest name, if any was near, and the distance below which a nearer one is
+-- the nearest name, if any was near, and the distance that a nearer one must be below
 pub record Best : Type 0 where
   pub found : Option (List ℕ)
   pub bound : ℕ
@@ -12,10 +12,10 @@ pub record Best : Type 0 where
 abbrev pub best_of : Nearest → Best
 best_of nearest = record { found = option_copied nearest.found; bound = nearest.bound }
 
--- the nearer of a name at a distance and what was found before it
+-- the nearer of a name at a distance and the nearest one before it
 abbrev pub nearer : Best → List ℕ → ℕ → Best
 nearer best known far = if nat_lt far best.bound then record { found = Some known; bound = far } else best
 
--- the nearest of these names and what was found before them
+-- the nearest of these names and the nearest one before them
 abbrev pub nearest_from : List ℕ → Best → List (List ℕ) → Best
 nearest_from capitals best names = fold (λ best known. nearer best known (edits capitals known)) best names

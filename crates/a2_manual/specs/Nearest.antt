@@ -1,19 +1,19 @@
--- The name of a manual that is nearest to another. This project's profile.
+-- The name in a manual that is nearest to another name. This project's profile.
 use Rattle.std.specs.Prelude.{◌≡◌, ℕ, ◌<◌, ◌≤◌, List, ◌∷◌, ◌++◌, length, map, nat_eq, All}
 use Rattle.std.specs.List.{flat_map}
 use Rattle.std.specs.Char.{to_ascii_uppercase}
 use Rattle.strsim.specs.Edits.{levenshtein_row}
 use Rattle.a2_manual.specs.Topics.{topics, names}
 
--- the names of a manual, in their order
+-- the names in a manual, in their order
 abbrev pub all_names : List ℕ → List (List ℕ)
 all_names manual = flat_map names (topics manual)
 
--- how many bytes are put in, left out or changed from capitals to a name
+-- how many bytes are inserted, left out or changed between a name in capitals and a known name
 abbrev pub edits : List ℕ → List ℕ → ℕ
 edits capitals known = levenshtein_row nat_eq capitals known (length known)
 
--- the same from a name, whose small letters count as capitals
+-- the same for a name in either case, whose small letters count as capitals
 abbrev pub distance : List ℕ → List ℕ → ℕ
 distance name known = edits (map to_ascii_uppercase name) known
 

@@ -1,5 +1,5 @@
--- What a manual says of names. A manual is topics with tildes between them; the first line of a topic is its names, with
--- commas between them, and its other lines are what is said of these. This project's profile.
+-- What a manual says about names. A manual consists of topics separated by tildes. The first line of a topic is its
+-- names, separated by commas; its other lines are what it says about them. This project's profile.
 use Rattle.std.specs.Prelude.{◌≡◌, ◌⊎◌, ◌==◌, ℕ, List, [], ◌∷◌, map, Any}
 use Rattle.std.specs.List.{slice_split, before_first, after_first}
 use Rattle.std.specs.Char.{to_ascii_lowercase}
@@ -13,7 +13,7 @@ names topic = slice_split (λ c. c == 0x2C) (before_first (λ c. c == 0x0A) topi
 abbrev pub said : List ℕ → List ℕ
 said topic = after_first (λ c. c == 0x0A) topic
 
--- two words are the same, be their letters small or capital
+-- two words are the same if case is ignored
 abbrev pub Spells : List ℕ → List ℕ → Type 0
 Spells name known = map to_ascii_lowercase known ≡ map to_ascii_lowercase name
 
@@ -24,7 +24,7 @@ HasName name topic = Any (Spells name) (names topic)
 abbrev pub IsKnown : List ℕ → List (List ℕ) → Type 0
 IsKnown name topics = Any (HasName name) topics
 
--- the first of these topics that has the name says this
+-- this is what the first of these topics that has the name says
 abbrev pub IsSaid : List ℕ → List (List ℕ) → List ℕ → Type 0
 IsSaid name [] text = ⊥
 IsSaid name (topic ∷ more) text = (HasName name topic × (text ≡ said topic)) ⊎ (¬ (HasName name topic) × IsSaid name more text)

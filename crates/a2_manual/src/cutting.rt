@@ -1,11 +1,12 @@
-//! The cut of a text at a byte.
+//! Cutting a text at a byte.
 
 ghost use Rattle.std.specs.Prelude.{◌≡◌, ◌==◌, ◌<◌, [], ◌∷◌, length, MatchOption, IfSome};
 ghost use Rattle.std.specs.List.{slice_split, before_first, after_first};
 
 use a2_text::front_len;
 
-// What stands before the first such byte of a text, and what stands behind it, or none where the text has no such byte.
+// Returns the text before the first `mark` and the text after it, or `None` in place of the latter if the text has no
+// `mark`.
 pub(crate) fn cut_at(text: &[u8], mark: u8) -> (&[u8], Option<&[u8]>)
     ensures front { result.0.now ≡ before_first (λ c. c == mark) text.now }
     ensures behind { MatchOption result.1 (after_first (λ c. c == mark) text.now ≡ []) (λ rest. rest.now ≡ after_first (λ c. c == mark) text.now) }

@@ -1,4 +1,4 @@
-//! What a manual says of a name.
+//! What a manual says about a name.
 
 ghost use Rattle.std.specs.Prelude.{◌≡◌, ◌==◌, ◌↔◌, IsTrue, Any, MatchOption};
 ghost use Rattle.std.specs.List.{slice_split};
@@ -6,7 +6,7 @@ ghost use Rattle.a2_manual.specs.Topics.{topics, said as said_of, Spells, HasNam
 
 use crate::cutting::cut_at;
 
-// Whether one of these names is spelt so, in either case.
+// Returns whether one of these names is spelled this way, in either case.
 fn has_name(names: &[u8], name: &[u8]) -> bool
     ensures { IsTrue result ↔ Any (Spells name.now) (slice_split (λ c. c == 0x2C) names.now) }
 {
@@ -23,7 +23,7 @@ fn has_name(names: &[u8], name: &[u8]) -> bool
     }
 }
 
-// What a topic says where it has this name, and else none.
+// Returns what a topic says if it has this name, and `None` otherwise.
 fn said_by<'a>(topic: &'a [u8], name: &[u8]) -> Option<&'a [u8]>
     ensures { MatchOption result (¬ (HasName name.now topic.now))
         (λ text. HasName name.now topic.now × (text.now ≡ said_of topic.now)) }
@@ -36,8 +36,8 @@ fn said_by<'a>(topic: &'a [u8], name: &[u8]) -> Option<&'a [u8]>
     }
 }
 
-/// What `manual` says of a name, spelt in either case: the lines of the first topic that has it. None where no topic has
-/// it. A manual is such a text as `manual()`. This project's profile.
+/// Returns what `manual` says about a name, spelled in either case: the lines of the first topic that has it. Returns
+/// `None` if no topic has it. A manual is a text in the form of `manual()`. This project's profile.
 pub fn topic<'a>(manual: &'a [u8], name: &[u8]) -> Option<&'a [u8]>
     ensures { MatchOption result (¬ (IsKnown name.now (topics manual.now)))
         (λ text. IsSaid name.now (topics manual.now) text.now) }

@@ -1,6 +1,6 @@
-//! What the manual says of a name: of a refusal, a cause, an operation, a service or a location.
+//! What the manual says about an error, a stop cause, an operation, a service or a location.
 //!
-//! How it is called is shown in CALLING.md.
+//! CALLING.md shows how to call it.
 #![tactic(auto)]
 
 mod cutting;
@@ -11,7 +11,8 @@ mod topics;
 pub use finding::topic;
 pub use nearness::near;
 
-/// The manual's topics, as one text, in which `topic` and `near` look. `tests/topics` compares it with docs/manual.
+/// Returns the topics of the manual as one text, which `topic` and `near` search. `tests/topics` compares it with
+/// docs/manual.
 pub fn manual() -> &'static [u8] {
     topics::MANUAL
 }

@@ -1,4 +1,4 @@
-//! The name of a manual that is nearest to another.
+//! The name in a manual that is nearest to another name.
 
 ghost use Rattle.std.specs.Prelude.{◌≡◌, ◌<◌, ◌≤◌, ◌==◌, map, All, IfOk, MatchOption};
 ghost use Rattle.std.specs.List.{slice_split};
@@ -10,14 +10,14 @@ use crate::cutting::cut_at;
 use std::alloc::{AllocError, Allocator};
 use strsim::generic_levenshtein;
 
-// The nearest name so far, and the distance that the next one has to be below.
+// The nearest name so far, and the distance that the next one must be below.
 #[derive(Clone, Copy, Drop)]
 struct Nearest<'a> {
     found: Option<&'a [u8]>,
     bound: usize,
 }
 
-// The nearer of a name and what was found before it.
+// Returns the nearer of a name and the nearest one before it.
 fn nearer<'a>(best: Nearest<'a>, known: &'a [u8], distance: usize) -> Nearest<'a>
     ensures { best_of result ≡ nearer_of (best_of best.entry) known.now distance }
 {
@@ -31,7 +31,7 @@ fn nearer<'a>(best: Nearest<'a>, known: &'a [u8], distance: usize) -> Nearest<'a
     }
 }
 
-// The nearest of these names to capitals and what was found before them.
+// Returns the nearest of these names and the nearest one before them, compared with a name in capitals.
 fn nearest_of<'a, A: Allocator + Copy>(
     alloc: A,
     names: &'a [u8],
@@ -53,7 +53,7 @@ fn nearest_of<'a, A: Allocator + Copy>(
     }
 }
 
-// The bytes of a name, its small letters as capitals.
+// Returns the bytes of a name, with small letters as capitals.
 fn capitals_of<A: Allocator>(alloc: A, name: &[u8]) -> Result<Vec<u8, A>, AllocError>
     ensures { IfOk result (λ v. v.items ≡ map to_ascii_uppercase name.now) }
 {
@@ -63,9 +63,9 @@ fn capitals_of<A: Allocator>(alloc: A, name: &[u8]) -> Result<Vec<u8, A>, AllocE
     Ok(capitals)
 }
 
-/// The first of a manual's names that are nearest to a name, spelt in either case: at most 2 bytes have to be put in, left
-/// out or changed to come from one to the other. None where all are farther. Refused only for want of memory. A manual is
-/// such a text as `manual()`. This project's profile.
+/// Returns the first of the names in a manual that are nearest to a name, spelled in either case. At most 2 bytes may
+/// be inserted, left out or changed to get from one name to the other. Returns `None` if all names are farther away.
+/// Fails only if memory runs out. A manual is a text in the form of `manual()`. This project's profile.
 pub fn near<'a, A: Allocator + Copy>(
     alloc: A,
     manual: &'a [u8],
@@ -75,7 +75,7 @@ pub fn near<'a, A: Allocator + Copy>(
         (λ found. IsNearest name.now (all_names manual.now) found.now × (distance name.now found.now ≤ 2))) }
 {
     let capitals = capitals_of(alloc, name)?;
-    // What is 3 away is too far.
+    // A distance of 3 is too far.
     let mut best = Nearest {
         found: None,
         bound: 3,

@@ -1,4 +1,4 @@
--- A machine's run from a program's start ends where the program's run does.
+-- A machine's run from the start of a program ends where the program's run ends.
 use Rattle.std.specs.Prelude.{◌≡◌, ℕ, ◌-◌, ◌^◌, ◌<◌, List, Bool, Option, refl}
 use Rattle.std.proofs.Common.{ap, subst, arith}
 use Rattle.a2_bus.specs.Memory.{Memory}
@@ -50,7 +50,7 @@ ended_is program keys limit free old new cause low sound started run = record {
     steps : new.state.steps - old.state.steps ≡ new.state.steps
     steps = omega (arith, started.steps)
 
--- what is written of the memory of such a machine is of the text's run
+-- what is written of such a machine's memory is what is written for the text's run
 pub memory-of_end : (written : Memory → List ℕ) (text keys : List ℕ) (limit : ℕ) (free : Bool) (program : Assembled) (state : MachineState) (cause : Cause)
     → IsProgramOf text program → IsEnded program keys limit free state cause → IsMemoryOf written text keys limit free cause (written (memory_of state.bus))
 memory-of_end written text keys limit free program state cause made ended = record {

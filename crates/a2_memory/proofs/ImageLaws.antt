@@ -1,4 +1,4 @@
--- The image of a memory's RAM, a byte at a time.
+-- The image of a memory's RAM, one byte at a time.
 use Rattle.std.specs.Prelude.{◌==◌, nat_lt}
 use Rattle.std.proofs.Common.{◌≡◌, ◌≢◌, ◌⊎◌, ℕ, ◌+◌, ◌<◌, ◌≤◌, true, false, Option, Some, None, inl, inr, sym, ap, ◌∙◌, arith}
 use Rattle.std.specs.Option.{unwrap_or}
@@ -13,7 +13,7 @@ same-number a b e = grind (arith, nat_tests, e)
 other-number : (a b : ℕ) → a ≢ b → (a == b) ≡ false
 other-number a b ne = grind (arith, nat_tests, ne)
 
--- a byte more of RAM
+-- one more byte of RAM
 pub image-below : (image new : ℕ → Option ℕ) (memory : Memory) (n byte : ℕ) → n < ram_end → ((a : ℕ) → new a ≡ put image n byte a)
     → byte ≡ unwrap_or (peek memory n) 0 → ((a : ℕ) → a < n → image a ≡ peek memory a) → (a : ℕ) → a < n + 1 → new a ≡ peek memory a
 image-below image new memory n byte low is byte_is before a lt = go (split a n lt)
@@ -39,7 +39,7 @@ image-above image new n byte is none a high =
     let ne : a ≢ n = omega (arith, high) in
     is a ∙ cond-false (a == n) (Some byte) (image a) (other-number a n ne) ∙ none a (omega (arith, high))
 
--- all of it
+-- all of RAM
 pub image-all : (image : ℕ → Option ℕ) (memory : Memory) (n : ℕ) → n ≡ ram_end → ((a : ℕ) → a < n → image a ≡ peek memory a)
     → ((a : ℕ) → n ≤ a → image a ≡ None) → (a : ℕ) → image a ≡ peek memory a
 image-all image memory n all below above a = go (cases_lt a ram_end)

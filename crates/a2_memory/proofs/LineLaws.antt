@@ -1,4 +1,4 @@
--- The line of the Monitor with two addresses of four digits shows the bytes between them.
+-- The Monitor line with two four-digit addresses shows the bytes between them.
 use Rattle.std.specs.Prelude.{if◌then◌else◌}
 use Rattle.std.proofs.Common.{◌≡◌, ℕ, ◌+◌, ◌/◌, ◌%◌, ◌<◌, Bool, true, false, eqb, ltb, ◌&&◌, List, [], ◌∷◌, ◌++◌, length, take, drop, Option, Some, None, refl, sym, ap, ap₂, ◌∙◌, arith}
 use Rattle.std.specs.Option.{option_map}
@@ -15,7 +15,7 @@ use Rattle.a2_hex.specs.ObjectLines.{hex_address}
 use Rattle.a2_monitor.specs.Commands.{Command, command_of, examines, has_letter, text_before, behind, range_by, range_of, single_of, transfer_of}
 use Rattle.a2_monitor.proofs.ParseLaws.{one_word}
 
--- the digits are neither blanks nor signs
+-- the digits are neither spaces nor signs
 not_blank : (n : ℕ) → is_blank (hex_digit n) ≡ false
 not_blank n = grind (arith, nat_tests)
 
@@ -28,17 +28,17 @@ not_colon n = grind (arith, nat_tests)
 not_less : (n : ℕ) → eqb (hex_digit n) 60 ≡ false
 not_less n = grind (arith, nat_tests)
 
--- what passes no digit passes none of an address
+-- if a test passes no digit, it passes none in an address
 none-pass : (p : ℕ → Bool) (a : ℕ) (rest : List ℕ) → ((n : ℕ) → p (hex_digit n) ≡ false) → list_any p (hex_word a ++ rest) ≡ list_any p rest
 none-pass p a rest none = rw (none (a / 256 / 16), none (a / 256 % 16), none (a % 256 / 16), none (a % 256 % 16)) refl
 
--- and it first passes the sign behind it
+-- and it first passes the sign after the address
 passes-behind : (p : ℕ → Bool) (a c : ℕ) (rest : List ℕ) → ((n : ℕ) → p (hex_digit n) ≡ false) → p c ≡ true
     → position_or_len p (hex_word a ++ c ∷ rest) ≡ 4
 passes-behind p a c rest none passed =
     rw (none (a / 256 / 16), none (a / 256 % 16), none (a % 256 / 16), none (a % 256 % 16), passed) refl
 
--- what four digits stand for
+-- the value of four digits
 digit-is : (n : ℕ) → n < 16 → is_digit_in 16 (hex_digit n) ≡ true
 digit-is n h = agree_below_at (λ n. is_digit_in 16 (hex_digit n)) (λ _. true) 16 n refl h
 
@@ -61,7 +61,7 @@ address-word a h =
     let small : ltb (value_of_digits 16 (hex_word a)) 65536 ≡ true = lt-ltb _ 65536 (omega (arith, v)) in
     cond-true (list_all (is_digit_in 16) (hex_word a) && ltb (value_of_digits 16 (hex_word a)) 65536) (Some (value_of_digits 16 (hex_word a))) None (and_from _ _ all small) ∙ ap Some v
 
--- no byte of it is a blank, so it is one word
+-- no byte of the line is a space, so the line is one word
 pub one-word : (a b : ℕ) → words (hex_word a ++ 46 ∷ hex_word b) ≡ (hex_word a ++ 46 ∷ hex_word b) ∷ []
 one-word a b =
     let line : List ℕ = hex_word a ++ 46 ∷ hex_word b in

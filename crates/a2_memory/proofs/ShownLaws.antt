@@ -16,7 +16,7 @@ use Rattle.a2_monitor.specs.Answers.{IsAnswered, LineAnswers, line_refusal}
 use Rattle.a2_memory.specs.declared.part.Part.{Part}
 use Rattle.a2_memory.specs.Parts.{shown_part}
 
--- a part is never refused
+-- a part never causes an error
 never-refused : (first last next : ℕ) → first ≤ last → last < ram_end → command_refusal (examines (record { first = first; last = last })) next ≡ None
 unfolding command_refusal
 never-refused first last next ordered inside =
@@ -59,7 +59,7 @@ module _ (line : List ℕ) (first last : ℕ) (old new : Sitting) (says : comman
   part_shown a b (Err Backward) h = absurd (refused-not Backward h.0)
   part_shown a b (Err Outside) h = absurd (refused-not Outside h.0)
 
--- a piece more of a list of pieces went out
+-- one more piece of a list of pieces was written
 pub sends-more : {X : Type 0} (f : X → List ℕ) (xs : List X) (i : ℕ) (d : X) (a b c : Taker) → i < length xs
     → Sends a b (flat_map f (take i xs)) → Sends b c (f (get_or xs i d)) → Sends a c (flat_map f (take (i + 1) xs))
 sends-more f xs i d a b c low sent more = subst (Sends a c) whole (Sends-then a b c _ _ sent more)

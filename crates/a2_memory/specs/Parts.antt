@@ -6,11 +6,11 @@ use Rattle.a2_symbols.specs.declared.places.Span.{Span}
 use Rattle.a2_monitor.specs.Sittings.{examined}
 use Rattle.a2_memory.specs.declared.part.Part.{Part}
 
--- the first address of a part and its last
+-- the first and the last address of a part
 abbrev pub bounds_of : Part → ℕ × ℕ
 bounds_of part = (part.first, part.last)
 
--- those of a span that does not go backwards and is all in RAM
+-- the same for a span, if it does not go backwards and is entirely in RAM
 abbrev pub bounds_in : Span → Option (ℕ × ℕ)
 bounds_in span = if nat_le span.first span.last && nat_lt span.last ram_end then Some (span.first, span.last) else None
 
@@ -18,6 +18,6 @@ bounds_in span = if nat_le span.first span.last && nat_lt span.last ram_end then
 unfoldable pub shown_part : Memory → Part → List ℕ
 shown_part memory part = examined memory (record { first = part.first; last = part.last })
 
--- and of each, one after another
+-- the same for each part, one after another
 abbrev pub shown_parts : Memory → List Part → List ℕ
 shown_parts memory parts = flat_map (shown_part memory) parts

@@ -1,4 +1,4 @@
--- What is written of memory behind a text's run. This project's profile.
+-- What is written of memory after the run of a text. This project's profile.
 use Rattle.std.specs.Prelude.{◌≡◌, ℕ, Bool, List}
 use Rattle.a2_asm.specs.Assembled.{Assembled}
 use Rattle.a2_bus.specs.Memory.{Memory, peek}
@@ -9,8 +9,8 @@ use Rattle.a2_run.specs.Meaning.{IsProgramOf, code_of_run, start_of_run}
 use Rattle.a2_memory.specs.declared.part.Part.{Part}
 use Rattle.a2_memory.specs.Parts.{shown_parts}
 
--- the run of a text with these keys waiting, the one that `IsRun` speaks of, ends by this cause, and this is written of the memory
--- of its last world
+-- the run of a text with these keys waiting, as in `IsRun`, ends by this cause, and this is written of the memory of
+-- its last world
 pub record IsMemoryOf (written : Memory → List ℕ) (text keys : List ℕ) (limit : ℕ) (free : Bool) (cause : Cause) (output : List ℕ) : Type 0 where
   pub program : Assembled
   pub is_program : IsProgramOf text program
@@ -19,10 +19,10 @@ pub record IsMemoryOf (written : Memory → List ℕ) (text keys : List ℕ) (li
   pub cause_is : cause ≡ end.cause
   pub output_is : output ≡ written end.world.memory
 
--- parts of it
+-- parts of memory
 abbrev pub shows : List Part → Memory → List ℕ
 shows parts memory = shown_parts memory parts
 
--- the object lines of all of RAM
+-- all of RAM as object code lines
 abbrev pub ram_lines : Memory → List ℕ
 ram_lines memory = object_text (peek memory)

@@ -1,4 +1,4 @@
-//! Where a run ends.
+//! Runs a program up to its end.
 
 ghost use Rattle.std.specs.Prelude.{IfOk};
 ghost use Rattle.a2_memory.specs.Ended.{IsEnded};
@@ -9,8 +9,8 @@ use a2_machine::{Cause, Machine};
 use a2_run::started;
 use std::alloc::{AllocError, Allocator};
 
-/// Runs `program` with these keys waiting: the machine as the run leaves it, and the cause of its end. `limit` is the most steps,
-/// `free` runs without the guard. Refused only for want of memory. This project's profile.
+/// Runs `program` with these keys waiting. Returns the machine at the end of the run, and the cause of the end.
+/// `limit` is the most steps; `free` runs without the guard. Fails only if memory runs out. This project's profile.
 pub fn ended<A: Allocator + Copy>(
     alloc: A,
     program: &Program<A>,
@@ -20,7 +20,7 @@ pub fn ended<A: Allocator + Copy>(
 ) -> Result<(Machine<A>, Cause), AllocError>
     ensures { IfOk result (λ answer. IsEnded program.now keys.now limit free answer.0.state answer.1) }
 {
-    // For the prover alone: a law of every program, by which the guarded bytes run as its statements.
+    // Only for the prover: a law of every program, by which the guarded bytes run as the program's statements.
     program.is_sound();
     let mut machine = started(alloc, program, keys, free)?;
     let cause = machine.run(limit);

@@ -9,7 +9,7 @@ use a2_hex::{Image, RAM_END};
 use a2_machine::Machine;
 use std::alloc::{AllocError, Allocator};
 
-/// The image that has all bytes of a machine's RAM. Refused only for want of memory.
+/// Returns the image of all bytes of a machine's RAM. Fails only if memory runs out.
 pub fn image_of<A: Allocator, B: Allocator>(
     alloc: A,
     machine: &Machine<B>,

@@ -1,6 +1,6 @@
-//! Memory behind a run: parts of it as the Monitor shows them, and all of RAM as object lines.
+//! Shows memory after a run: parts of it as the Monitor displays them, or all of RAM as object code lines.
 //!
-//! How it is called is shown in CALLING.md.
+//! CALLING.md shows how to use this crate.
 #![tactic(auto)]
 
 mod ends;

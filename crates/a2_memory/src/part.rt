@@ -3,7 +3,7 @@
 ghost use Rattle.std.specs.Prelude.{◌<◌, ◌≤◌};
 ghost use Rattle.a2_bus.specs.Memory.{ram_end};
 
-/// Addresses of RAM, from one up to another, as [`Part::of`] gives them.
+/// A range of RAM addresses, created by [`Part::of`].
 #[derive(Clone, Copy, Debug)]
 pub struct Part {
     pub(crate) first: u16,

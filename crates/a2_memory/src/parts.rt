@@ -1,4 +1,4 @@
-//! Parts of RAM, as the Monitor shows them.
+//! Writes parts of RAM as the Monitor displays them.
 
 ghost use Rattle.std.specs.Prelude.{◌≡◌, ◌<◌, ◌+◌, ◌++◌, codes, option_map};
 ghost use Rattle.a2_text.specs.Digits.{hex_word};
@@ -18,7 +18,7 @@ use arrayvec::ArrayVec;
 use std::alloc::Allocator;
 
 impl Part {
-    /// The addresses of a span, or none where it goes backwards or is not all below $C000.
+    /// Returns the addresses of a span, or `None` if it goes backwards or is not entirely below $C000.
     pub fn of(span: Span) -> Option<Part>
         ensures { option_map bounds_of result ≡ bounds_in span }
     {
@@ -33,10 +33,10 @@ impl Part {
     }
 }
 
-// The line of the Monitor that shows a part.
+// The Monitor line that shows a part.
 type Line = ArrayVec<u8, 9>;
 
-// The line of a part, as `0300.030F`.
+// Returns the line for a part, such as `0300.030F`.
 fn line_of(part: Part) -> Line
     ensures { result.items ≡ (hex_word part.first ++ codes ".") ++ hex_word part.last }
 {
@@ -63,8 +63,9 @@ fn write_part<A: Allocator, W: Output>(
     }
 }
 
-/// Writes parts of a machine's RAM, each as the Monitor shows it: a line for its first address and for each that is divisible by
-/// 8, as `0300- A9 C1`. Refused where a write fails, which is the last one made: a front of this went out.
+/// Writes parts of a machine's RAM as the Monitor displays them: a line for the first address and for each address
+/// that is divisible by 8, such as `0300- A9 C1`. If a write fails, nothing more is written, so the output is a
+/// prefix of the whole. Returns an error in that case.
 pub fn write_parts<A: Allocator, W: Output>(
     machine: Machine<A>,
     parts: &[Part],

@@ -1,4 +1,4 @@
-//! Memory behind the run of a source.
+//! Memory after the run of a source.
 
 ghost use Rattle.std.specs.Prelude.{◌≡◌, false};
 ghost use Rattle.a2_run.specs.Answers.{Answers, OfSource, is_read_fault};
@@ -16,9 +16,9 @@ use a2_run::{RunFault, program_of};
 use a2_stream::Output;
 use std::alloc::Allocator;
 
-/// Assembles and runs a source with these keys waiting, and writes parts of RAM as the run leaves it, as [`write_parts`] does.
-/// `limit` is the most steps, `free` runs without the guard. The cause is that of the run's end. Refused where the source
-/// is, where a write fails, and for want of memory. This project's profile.
+/// Assembles and runs a source with these keys waiting, and writes parts of RAM at the end of the run, like
+/// [`write_parts`]. Returns the cause of the end. `limit` is the most steps; `free` runs without the guard. Fails if
+/// the source has an error, a write fails or memory runs out. This project's profile.
 pub fn memory_source<A: Allocator + Copy, W: Output>(
     alloc: A,
     source: &[u8],
@@ -38,9 +38,9 @@ pub fn memory_source<A: Allocator + Copy, W: Output>(
     Ok(cause)
 }
 
-/// Assembles and runs a source with these keys waiting, and writes the object lines of all of RAM as the run leaves it, eight
-/// bytes a line. `limit` is the most steps, `free` runs without the guard. The cause is that of the run's end. Refused where the
-/// source is, where a write fails, and for want of memory. This project's profile.
+/// Assembles and runs a source with these keys waiting. Writes all of RAM at the end of the run as object code lines,
+/// eight bytes a line. Returns the cause of the end. `limit` is the most steps; `free` runs without the guard. Fails
+/// if the source has an error, a write fails or memory runs out. This project's profile.
 pub fn image_source<A: Allocator + Copy, W: Output>(
     alloc: A,
     source: &[u8],

@@ -1,4 +1,4 @@
--- Worked examples of the definitions, by computation.
+-- Worked examples of the definitions, checked by computation.
 use Rattle.std.specs.Prelude.{◌≡◌, ℕ, ◌==◌, [], ◌∷◌, codes, Some, None, if◌then◌else◌, refl}
 use Rattle.a2_hex.specs.ObjectLines.{store_of, given_before, hex_bytes, byte_of}
 use Rattle.a2_opcode.specs.Encoding.{fetched, decoded}
@@ -15,7 +15,7 @@ use Rattle.a2_monitor.specs.Sittings.{command_refusal, examined, differences, li
 abbrev range : ℕ → ℕ → Range
 range first last = record { first = first; last = last }
 
--- What lines say
+-- The meaning of lines
 
 examine_line : command_of (codes " 300.30f ") ≡ Some (examines (range 0x300 0x30F))
 unfolding command_of
@@ -49,9 +49,9 @@ two_words_line : command_of (codes "300 .30F") ≡ None
 unfolding command_of
 two_words_line = refl
 
--- What commands answer and leave
+-- What commands answer, and the state after them
 
--- three bytes at $0300, and else zeros
+-- three bytes at $0300, and zeros elsewhere
 abbrev memory_with : Devices → Memory
 memory_with devices = record {
   page1 = [];
@@ -65,7 +65,7 @@ module _ (devices : Devices) where
   unfolding examined ram_byte cell_at
   examine_example = refl
 
-  -- a new line at each address that is divisible by 8
+  -- a new line begins at each address divisible by 8
   lines_example : examined (memory_with devices) (range 0x306 0x309) ≡ codes "0306- 00 00\n0308- 00 00\n"
   unfolding examined ram_byte cell_at
   lines_example = refl
@@ -75,7 +75,7 @@ module _ (devices : Devices) where
   unfolding moved with_stored_bytes with_ram ram_byte cell_at
   move_example = refl
 
-  -- it ends in the range
+  -- the destination ends in the range
   down_example : bytes_at (moved (memory_with devices) (range 0x301 0x303) 0x300) 0x300 4 ≡ 0x22 ∷ 0x33 ∷ 0 ∷ 0 ∷ []
   unfolding moved with_stored_bytes with_ram ram_byte cell_at
   down_example = refl
@@ -88,7 +88,7 @@ module _ (devices : Devices) where
   unfolding listed ram_byte cell_at fetched row_of table listing decoded
   list_example = refl
 
--- What is refused
+-- Lines that are rejected
 
 backward_example : command_refusal (examines (range 0x30F 0x300)) 0 ≡ Some Backward
 unfolding command_refusal

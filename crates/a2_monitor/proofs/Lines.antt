@@ -1,4 +1,4 @@
--- What a line's command does is what the line answers.
+-- What the command of a line does is what the line answers.
 use Rattle.std.specs.Result.{IsErrAnd}
 use Rattle.std.proofs.Common.{◌≡◌, ◌≢◌, ℕ, List, Some, None, Result, Ok, Err, refl, ◌∙◌}
 use Rattle.a2_stream.specs.Stream.{Taker, Sends, Breaks}

@@ -40,7 +40,7 @@ answered (goes at) old =
 turned_down : (line : List ℕ) (old : Sitting) (why : MonFault) → line_refusal line old ≡ Some why → (text : List ℕ) × (new : Sitting) × IsReply line old text new
 turned_down line old why h = (monitor_fault_text why ++ codes "\n", old, inr (record { fault = why; refused = h; told = refl; kept = refl }))
 
--- and so has each line
+-- so each line has a reply
 pub each-reply : (line : List ℕ) (old : Sitting) → (text : List ℕ) × (new : Sitting) × IsReply line old text new
 each-reply line old = go (command_of line) refl
   where
@@ -55,7 +55,7 @@ each-reply line old = go (command_of line) refl
     go None h = turned_down line old fault.Syntax (refusal_is line old None h)
     go (Some command) h = done command h (command_refusal command old.next) refl
 
--- a command has one answer
+-- a command has only one answer
 abbrev Same : List ℕ → List ℕ → Sitting → Sitting → Type 0
 Same text words new other = (text ≡ words) × (new ≡ other)
 
@@ -70,7 +70,7 @@ one-answer (examines range) old new other text words a b = (a.0 ∙ sym b.0, a.1
 one-answer (stores store) old new other text words a b = (a.0 ∙ sym b.0, a.1 ∙ sym b.1)
 one-answer _ old new other text words a b = (a.0 ∙ sym b.0, a.1 ∙ sym b.1)
 
--- a line that is answered is not refused
+-- a line that is answered is not rejected
 answered-allowed : (line : List ℕ) (old new : Sitting) (text : List ℕ) → IsAnswered line old text new → line_refusal line old ≡ None
 answered-allowed line old new text a = refusal_is line old (Some a.command) a.says ∙ a.done.allowed
 

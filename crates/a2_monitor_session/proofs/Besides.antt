@@ -1,4 +1,4 @@
--- Lines that something is told beside, one after another.
+-- Lines with notes, one after another.
 use Rattle.std.proofs.Common.{◌≡◌, ℕ, ◌+◌, ◌<◌, not, eqb, Bool, true, false, List, [], ◌∷◌, ◌++◌, length, take, drop, get_or, refl, sym, ap, ap₂, ◌∙◌, subst, arith, append_assoc}
 use Rattle.std.specs.Prelude.{All, codes}
 use Rattle.std.specs.List.{flat_map, prefix_len}
@@ -13,7 +13,7 @@ use Rattle.a2_monitor_session.specs.Besides.{IsPlain, Row, IsRow, line_alone, li
 abbrev pub in_line : ℕ → Bool
 in_line c = not (eqb c 10)
 
--- nothing ends a line before its end
+-- the beginning of a text up to the end of its first line contains no end of a line
 pub front-plain : (text : List ℕ) → IsPlain (take (prefix_len in_line text) text)
 front-plain text = All-from_get_or (λ c. eqb c 10 ≡ false) (take n text) 0 plain
   where
@@ -29,7 +29,7 @@ no-not : (b : Bool) → not b ≡ false → b ≡ true
 no-not true h = refl
 no-not false h = cc
 
--- a text with a line's end is a line, its end, and a rest
+-- a text with an end of a line is a line, its end, and a rest
 pub line-and-rest : (text : List ℕ) → prefix_len in_line text < length text
     → take (prefix_len in_line text) text ++ (codes "\n" ++ drop (prefix_len in_line text + 1) text) ≡ text
 line-and-rest text l =
@@ -39,7 +39,7 @@ line-and-rest text l =
     ∙ ap (λ xs. take n text ++ xs) (sym (drop_more text n 0 l))
     ∙ take-append-drop n text
 
--- these lines of a text, and a rest, with what is told beside them
+-- these lines of a text with their notes, and a rest
 pub record Sofar (text whole rest : List ℕ) : Type 0 where
   pub rows : List Row
   pub are_rows : All IsRow rows

@@ -1,4 +1,4 @@
--- What a look at a screen has, and when another screen is the same.
+-- The copy of a screen, and when another screen is the same.
 use Rattle.std.specs.Prelude.{◌↔◌, slice_index_or, ◌&&◌}
 use Rattle.std.proofs.Common.{◌≡◌, ℕ, ◌<◌, Bool, true, false, [], refl, sym, ap, ap₂, ◌∙◌, subst}
 use Rattle.std.proofs.lemmas.Bool.{and_parts, and_from}
@@ -22,7 +22,7 @@ pub look_is : (view : View) (state : MachineState) (rows : Grid) → IsView view
 unfolding memory_of
 look_is view state rows is e = ap₂ screen_with (e ∙ page_seen view state.bus is) is.switches
 
--- a picture without marks fits a page that has its rows
+-- a cached picture without marks fits a page exactly if it has the page's rows
 pub fits_is : (rows : Grid) (kept : KeptPicture) (page : Grid) → kept ≡ after_refresh rows
     → FitsPage kept page ↔ ((row : ℕ) → row < 24 → slice_index_or rows row [] ≡ slice_index_or page row [])
 fits_is rows kept page e = (
@@ -33,7 +33,7 @@ fits_is rows kept page e = (
     unmarked : (row : ℕ) → row < 24 → is_row_marked kept row ≡ false
     unmarked row l = ap (λ (k : KeptPicture). is_row_marked k row) e ∙ get_or-replicate 24 row false false l
 
--- so a look tells whether a screen is the same
+-- so the copy shows whether a screen is the same
 pub same_is : (old : Screen) (kept : KeptPicture) (view : View) (state : MachineState) (fits : Bool) → IsView view state.bus
     → kept ≡ after_refresh old.rows → old.switches ≡ view.switches → (fits ≡ true) ↔ FitsPage kept (shown_by view)
     → (fits ≡ true) ↔ IsSameScreen old (screen_of (world_of_state state))
@@ -50,7 +50,7 @@ pub same_switches : (old : Screen) (view : View) (state : MachineState) → IsVi
 unfolding memory_of
 same_switches old view state is same = same.0 ∙ sym is.switches
 
--- what the test of two switches is
+-- the test that two switches are equal
 abbrev pub has_same : Switches → Switches → Bool
 has_same a b = beq a.text b.text && (beq a.mixed b.mixed && (beq a.page2 b.page2 && beq a.hires b.hires))
 

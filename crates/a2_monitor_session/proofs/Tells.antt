@@ -1,4 +1,4 @@
--- What is told of a run, and of a line that calls none.
+-- The report of a run, and the answer to a line that calls no program.
 use Rattle.std.specs.Prelude.{◌↔◌, if◌then◌else◌, not, Option, Some, None, Result, Ok, Err, OnOk, is_ok}
 use Rattle.std.proofs.Common.{◌≡◌, inr, ℕ, ◌-◌, Bool, true, List, ◌++◌, refl, sym, ap, ◌∙◌, subst}
 use Rattle.a2_machine.specs.declared.causes.Cause.{Cause}
@@ -10,7 +10,7 @@ use Rattle.a2_monitor_session.specs.Monitors.{IsHelp, IsLineAnswer, IsAnswer}
 use Rattle.a2_monitor_session.specs.Presses.{pressed}
 use Rattle.a2_monitor_session.specs.Screens.{IsSameScreen, screen_of, screen_where}
 
--- what stands behind a run
+-- the report after a run
 abbrev pub told_lines : Bool → Bool → List ℕ → Cause → Attended → List ℕ
 told_lines is_same waits notice cause new =
     let sitting = sitting_of new.session in screen_where (not is_same) sitting.world ++ ending waits notice sitting cause
@@ -37,11 +37,11 @@ told begin limit notice old new cause is_same waits made left run same waits_is 
       live = refl;
     })
 
--- what a line is answered where a program waits so
+-- the answer to a line, given whether a program is waiting
 abbrev answered : List ℕ → Attended → List ℕ → Attended → Option ℕ → Type 0
 answered line old text new wait = elim wait [ None ↦ IsLineAnswer line old text new | Some limit ↦ IsPressTold limit (pressed line) old text new ]
 
--- a line that asks for no help and calls nothing, where no program waits
+-- a line that neither asks for help nor calls a program, if no program is waiting
 pub replied : (line : List ℕ) (old kept new : Attended) (text : List ℕ) → old ≡ kept → old.wait ≡ None → (IsHelp line → ⊥)
     → address_called (command_of line) ≡ None → IsReply line (sitting_of old.session) text (sitting_of new.session)
     → new.wait ≡ old.wait → new.is_live ≡ old.is_live → IsAnswer line kept text new
@@ -49,7 +49,7 @@ replied line old kept new text is none no_help no_call reply wait live =
     subst (λ (a : Attended). IsAnswer line a text new) is
     (subst (answered line old text new) (sym none) (inr (inr (no_help, no_call, reply, wait, live))))
 
--- what holds where a call answered
+-- a fact that holds if a call succeeded
 pub on_ok : {T E : Type 0} → (r : Result T E) (P : Type 0) → is_ok r ≡ true → OnOk r P → P
 on_ok (Ok _) P h p = p
 on_ok (Err _) P h p = cc

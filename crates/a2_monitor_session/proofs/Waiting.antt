@@ -1,4 +1,4 @@
--- A run that waits for keys, and goes on when they are typed.
+-- A run that waits for keys and continues when they are typed.
 use Rattle.std.proofs.Common.{◌≡◌, ◌⊎◌, inl, inr, ℕ, zero, suc, ◌+◌, ◌-◌, ◌<◌, ◌≤◌, min, List, [], ◌∷◌, ◌++◌, map, refl, sym, ap, ap₂, ◌∙◌, subst, arith, append_assoc, Some, None}
 use Rattle.std.proofs.lemmas.List.{append-nil}
 use Rattle.a2_services.specs.World.{World}
@@ -18,7 +18,7 @@ use Rattle.a2_monitor_session.proofs.Runs.{run_more}
 abbrev code : Code
 code = bytes None
 
--- a world behind so many steps of a run at which keys were typed, none of them behind more
+-- a world after this many steps of a run with typed keys, none of them typed after more steps
 record Reached (start : World) (log : List Typed) (n : ℕ) (world : World) : Type 0 where
   holds : world ≡ world_with_keys code start log n
   went : (k : ℕ) → k < n → stuck code (world_with_keys code start log k) ≡ None
@@ -78,7 +78,7 @@ module _ (start : World) (log : List Typed) (n key : ℕ) where
 two : (m n : ℕ) → (m < n) ⊎ (n ≤ m)
 two m n = grind (arith)
 
--- a run on
+-- the run continues
 module _ (start : World) (log : List Typed) (n : ℕ) (world : World) (at : Reached start log n world) where
   more : (k m : ℕ) → m ≡ n + k → world_with_keys code start log m ≡ world_at code world k
   more k m e = with-more code start log n k m e (λ i l h. at.past i l) ∙ ap (λ w. world_at code w k) (sym at.holds)
@@ -108,7 +108,7 @@ module _ (start : World) (log : List Typed) (n : ℕ) (world : World) (at : Reac
       why (inl e) = inl e
       why (inr (none, made, is)) = inr (none, ap (λ m. n + m) made ∙ sum, is)
 
--- how far it goes
+-- the number of steps never goes down
 pub goes-more : (keys : List ℕ) (start : World) (limit : ℕ) (old new : Sitting) (cause : Cause) → GoesOn keys start limit old new cause → old.steps ≤ new.steps
 goes-more [] start limit old new cause h = run_more start limit old new cause h
 goes-more (key ∷ keys) start limit old new cause (wait, run, rest) =
@@ -116,7 +116,7 @@ goes-more (key ∷ keys) start limit old new cause (wait, run, rest) =
     let then : wait.steps ≤ new.steps = goes-more keys _ _ (with_keys (key ∷ []) wait) new cause rest in
     omega (arith, first, then)
 
--- the end of a run from a session to another, behind so many steps
+-- the end of a run from one session to another, after this many steps
 abbrev end_of : ℕ → ℕ → Sitting → Cause → End
 end_of n before sitting cause = record { world = sitting.world; steps = n + (sitting.steps - before); cause = cause }
 

@@ -1,14 +1,14 @@
--- What is told beside the lines of the Monitor's answers. This project's profile.
+-- The notes beside the lines of the Monitor's answers. This project's profile.
 use Rattle.std.specs.Prelude.{◌≡◌, ◌⊎◌, ℕ, ◌==◌, false, List, ◌++◌, codes, All}
 use Rattle.std.specs.List.{flat_map}
 use Rattle.a2_monitor_session.specs.Calls.{Attended}
 use Rattle.a2_monitor_session.specs.Monitors.{IsAnswer}
 
--- no line ends within
+-- the text contains no end of a line
 abbrev pub IsPlain : List ℕ → Type 0
 IsPlain text = All (λ c. (c == 10) ≡ false) text
 
--- a line, and what is told beside it
+-- a line and the note beside it
 pub record Row : Type 0 where
   pub line : List ℕ
   pub told : List ℕ
@@ -16,14 +16,14 @@ pub record Row : Type 0 where
 abbrev pub IsRow : Row → Type 0
 IsRow row = IsPlain row.line × IsPlain row.told
 
--- the line alone, and with what is told beside it
+-- the line without its note, and with it
 abbrev pub line_alone : Row → List ℕ
 line_alone row = row.line ++ codes "\n"
 
 abbrev pub line_whole : Row → List ℕ
 line_whole row = row.line ++ row.told ++ codes "\n"
 
--- a text is another, of which something is told behind lines, each before its end
+-- a text is another one with notes after some of its lines, each before the end of the line
 pub record IsBeside (own text : List ℕ) : Type 0 where
   pub rows : List Row
   pub are_rows : All IsRow rows
@@ -31,10 +31,10 @@ pub record IsBeside (own text : List ℕ) : Type 0 where
   pub own_is : own ≡ flat_map line_alone rows ++ rest
   pub text_is : text ≡ flat_map line_whole rows ++ rest
 
--- the same, or a line that says that there was no memory for it
+-- the same, or a line that reports that there was no memory for it
 abbrev pub IsToldOrNot : List ℕ → List ℕ → Type 0
 IsToldOrNot own text = IsBeside own text ⊎ (text ≡ codes "NO MEMORY FOR THE ANSWER\n")
 
--- the Monitor's own answer to a line, told so, and what that leaves
+-- the Monitor's own answer to a line, with these notes, and its effect
 abbrev pub IsAnswerBeside : List ℕ → Attended → List ℕ → Attended → Type 0
 IsAnswerBeside line old text new = (own : List ℕ) × IsAnswer line old own new × IsToldOrNot own text

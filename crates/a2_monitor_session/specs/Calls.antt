@@ -1,4 +1,4 @@
--- A program that the Monitor calls at a terminal, and the keys that it waits for. This project's profile.
+-- A program that the Monitor calls at a terminal, and the keys it waits for. This project's profile.
 use Rattle.std.specs.Prelude.{◌≡◌, ◌⊎◌, ◌↔◌, ℕ, ◌+◌, ◌-◌, ◌<◌, ◌≤◌, Bool, true, false, not, List, [], ◌∷◌, ◌++◌, length, codes, Option, Some, None, if◌then◌else◌}
 use Rattle.a2_services.specs.World.{World}
 use Rattle.a2_machine.specs.declared.causes.Cause.{Cause}
@@ -9,28 +9,29 @@ use Rattle.a2_monitor_session.specs.declared.press.Press.{Press}
 use Rattle.a2_monitor_session.specs.declared.press.Press.TheVariants.{Key, Stop, Nothing}
 use Rattle.a2_monitor_session.specs.Screens.{IsSameScreen, screen_of, screen_where}
 
--- a session, whether keys can be typed, and, where a program that was called waits for one, the steps that it may still make
+-- a session, whether keys can be typed, and, if a program that was called is waiting for one, the number of steps it may still
+-- execute
 pub record Attended : Type 0 where
   pub session : KeptSession
   pub is_live : Bool
   pub wait : Option ℕ
 
--- a program waits where it wants a key that can be typed
+-- a program waits if it needs a key and keys can be typed
 abbrev pub waits_by : Bool → Cause → Bool
 waits_by is_live Keys = is_live
 waits_by is_live _ = false
 
--- what is told of a run's end, or, by a notice, that its program waits
+-- the report of a run's end, or the notice that its program is waiting
 abbrev pub ending : Bool → List ℕ → Sitting → Cause → List ℕ
 ending waits notice sitting cause = if waits then notice else end_lines sitting.world sitting.steps cause
 
--- where a run begins: its first world, and the session before it
+-- the start of a run: its first world, and the session before it
 pub record Begin : Type 0 where
   pub world : World
   pub sitting : Sitting
 
--- a free run of at most so many steps: before its end the screen is shown where it is not as before; a program that waits may
--- make as many steps as are left
+-- a free run of at most this many steps; before the report of its end, the screen is shown if it changed; a waiting program may
+-- execute the steps that are left
 pub record IsTold (begin : Begin) (limit : ℕ) (notice : List ℕ) (is_live : Bool) (text : List ℕ) (new : Attended) : Type 0 where
   pub cause : Cause
   pub run : IsFreeRun begin.world limit begin.sitting (sitting_of new.session) cause
@@ -47,14 +48,14 @@ IsCallTold at old text new =
     let begin : Begin = record { world = called_at at sitting.world; sitting = sitting } in
     IsTold begin steps_of_call (codes "IT WAITS FOR A KEY; CTRL-] STOPS IT\n") old.is_live text new
 
--- it waits, and a key is typed
+-- it is waiting, and a key is typed
 abbrev pub IsKeyTold : ℕ → ℕ → Attended → List ℕ → Attended → Type 0
 IsKeyTold limit key old text new =
     let sitting = with_keys (key ∷ []) (sitting_of old.session) in
     let begin : Begin = record { world = sitting.world; sitting = sitting } in
     IsTold begin limit [] old.is_live text new
 
--- it waits, and this is pressed; no key has room behind 4,096
+-- it is waiting, and this is pressed; there is no space for a key after 4,096 keys
 abbrev pub IsPressTold : ℕ → Press → Attended → List ℕ → Attended → Type 0
 IsPressTold limit (Key key) old text new =
     ((length (sitting_of old.session).world.memory.devices.keys + 1 ≤ 4096) × IsKeyTold limit key old text new)

@@ -1,4 +1,4 @@
--- What the Monitor answers at a terminal, and with what it begins. This project's profile.
+-- The answers of the Monitor at a terminal, and its start. This project's profile.
 use Rattle.std.specs.Prelude.{◌≡◌, ◌⊎◌, ℕ, List, [], map, codes, Option, Some, None, Ok, Err}
 use Rattle.a2_text.specs.Bytes.{capital}
 use Rattle.a2_hex.specs.declared.fault.HexFault.{HexFault}
@@ -20,7 +20,8 @@ use Rattle.a2_monitor_session.specs.Presses.{pressed}
 abbrev pub IsHelp : List ℕ → Type 0
 IsHelp line = map capital line ≡ codes "HELP"
 
--- what a line is answered where no program waits, and what it leaves: help changes nothing, and a call is told as its run goes
+-- the answer to a line if no program is waiting, and its effect: help changes nothing, and a call is reported as its run
+-- proceeds
 abbrev pub IsLineAnswer : List ℕ → Attended → List ℕ → Attended → Type 0
 IsLineAnswer line old text new =
     (IsHelp line × (new ≡ old))
@@ -28,21 +29,21 @@ IsLineAnswer line old text new =
     ⊎ ((IsHelp line → ⊥) × (address_called (command_of line) ≡ None) × IsReply line (sitting_of old.session) text (sitting_of new.session)
     × (new.wait ≡ old.wait) × (new.is_live ≡ old.is_live))
 
--- while a program waits a line is a key
+-- while a program is waiting, a line is a key
 abbrev pub IsAnswer : List ℕ → Attended → List ℕ → Attended → Type 0
 IsAnswer line old text new =
     elim old.wait [ None ↦ IsLineAnswer line old text new | Some limit ↦ IsPressTold limit (pressed line) old text new ]
 
--- a session at its start, with this world
+-- a session at its start with this world
 abbrev pub begun_with : World → Sitting
 begun_with world = record { world = world; steps = 0; next = 0 }
 
--- the session with which a text is begun: object lines, or else a source
+-- the session at the start with a text: object lines, or otherwise a source
 abbrev pub IsBegun : List ℕ → Sitting → Type 0
 IsBegun text sitting =
     ((image : ℕ → Option ℕ) × (image_of text ≡ Ok image) × (sitting ≡ begun_with (start_world image 0x0300 [])))
     ⊎ ((why : HexFault) × (image_of text ≡ Err why) × (program : Assembled) × IsProgramOf text program × (sitting ≡ begun_with (start_of_run program [])))
 
--- a text is no object lines, and is refused as a source; or there was no memory
+-- a text is not object lines and, as a source, has errors; or memory ran out
 abbrev pub IsTurnedDown : List ℕ → RunFault → Type 0
 IsTurnedDown text fault = (fault ≡ Memory) ⊎ ((why : HexFault) × (image_of text ≡ Err why) × RefusesText text fault)

@@ -1,4 +1,4 @@
--- What a machine's screen shows.
+-- The contents of a machine's screen.
 use Rattle.std.specs.Prelude.{◌≡◌, ℕ, ◌<◌, Bool, List, [], slice_index_or, if◌then◌else◌}
 use Rattle.a2_page.specs.Grid.{Grid}
 use Rattle.a2_page.specs.Picture.{shown_page, picture}
@@ -15,7 +15,7 @@ screen_of world =
     let memory = world.memory in let switches = memory.devices.switches in
     record { rows = shown_page switches memory.page1 memory.page2; switches = switches }
 
--- by the same switches, the same 24 rows
+-- the same switches and the same 24 rows
 abbrev pub IsSameScreen : Screen → Screen → Type 0
 IsSameScreen old new =
     (old.switches ≡ new.switches) × ((row : ℕ) → row < 24 → slice_index_or old.rows row [] ≡ slice_index_or new.rows row [])

@@ -1,4 +1,4 @@
--- What the run of a program is that was called, and waits for a key again and again. This project's profile.
+-- The run of a program that was called and waits for a key again and again. This project's profile.
 use Rattle.std.specs.Prelude.{◌≡◌, ℕ, ◌-◌, min, List, [], ◌∷◌, map, None}
 use Rattle.a2_services.specs.World.{World}
 use Rattle.a2_machine.specs.declared.causes.Cause.{Cause}
@@ -9,14 +9,14 @@ use Rattle.a2_timed_keys.specs.declared.strokes.Typed.{Typed}
 use Rattle.a2_timed_keys.specs.Typed.{IsTypedEnd}
 use Rattle.a2_monitor.specs.Sittings.{Sitting, IsFreeRun, with_keys}
 
--- a free run of at most so many steps, which waits for each of these keys, and goes on when that is typed
+-- a free run of at most this many steps, which waits for each of these keys and continues when it is typed
 abbrev pub GoesOn : List ℕ → World → ℕ → Sitting → Sitting → Cause → Type 0
 GoesOn [] start limit old new cause = IsFreeRun start limit old new cause
 GoesOn (key ∷ keys) start limit old new cause =
     (wait : Sitting) × IsFreeRun start limit old wait Keys
     × GoesOn keys (with_keys (key ∷ []) wait).world (limit - (wait.steps - old.steps)) (with_keys (key ∷ []) wait) new cause
 
--- it is the one run at which these keys are typed, each behind some number of its steps
+-- it is the one run in which each of these keys is typed after some number of its steps
 abbrev pub WaitingIsTyping : Type 0
 WaitingIsTyping =
     (keys : List ℕ) (start : World) (limit : ℕ) (old new : Sitting) (cause : Cause) → GoesOn keys start limit old new cause

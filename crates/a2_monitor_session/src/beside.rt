@@ -1,4 +1,4 @@
-//! The Monitor at a terminal, with what a source tells beside its lines.
+//! The Monitor at a terminal, with the lines and names of a source beside its answers.
 
 ghost use Rattle.std.specs.Prelude.{◌≡◌, ◌++◌, List, ℕ, codes, None, is_some, All, IfOk, IfErr};
 ghost use Rattle.a2_stream.specs.Stream.{SendsOrBreaks};
@@ -17,19 +17,19 @@ use std::alloc::{AllocError, Allocator, Global};
 use std::cell::Cell;
 use std::marker::Model;
 
-/// What tells that an answer was not kept.
+/// The message if there is no memory for the answer.
 const NO_MEMORY: &[u8] = b"NO MEMORY FOR THE ANSWER\n";
 
-/// The Monitor over what a text holds, as [`Monitor`] answers, where the text is a source with names and lines of it beside the
-/// lines of an answer. Contracts see the Monitor.
+/// The Monitor on the contents of a text. It answers as [`Monitor`] does; if the text is a source, its names and lines are
+/// shown beside the lines of an answer. Contracts see the Monitor.
 pub struct Annotated<'k, 't, A: Allocator = Global> {
     monitor: Monitor<'k, A>,
-    // None over object lines.
+    // `None` if the text is object lines.
     source: Option<Source<'t, A>>,
     alloc: A,
 }
 
-// Not derived, for the prover alone: it follows this as one call, and a derived one field by field.
+// Not derived, only for the prover: it treats this as one call, and a derived `drop` field by field.
 impl<'k, 't, A: Allocator> Drop for Annotated<'k, 't, A> {
     fn drop(self) {
         let Annotated {
@@ -55,7 +55,7 @@ fn first_line(text: &[u8]) -> &[u8]
     &text[..front_len(text, |c| c != b'\n')]
 }
 
-// Appends a line, what a source tells beside it, and its end.
+// Appends a line, the note of the source beside it, and LF.
 fn append_row<A: Allocator + Copy>(
     alloc: A,
     source: &Source<'_, A>,
@@ -67,12 +67,12 @@ fn append_row<A: Allocator + Copy>(
 {
     let told = beside(alloc, source, line)?;
     whole.extend_from_slice(line)?;
-    // (for the prover: no line and no name has a line's end)
+    // For the prover: neither a line nor a name contains the end of a line.
     whole.extend_from_slice(first_line(told.as_slice()))?;
     whole.extend_from_slice(b"\n")
 }
 
-// A text with what a source tells beside each of its lines.
+// A text with the notes of the source beside its lines.
 fn with_source_beside<A: Allocator + Copy>(
     alloc: A,
     source: &Source<'_, A>,
@@ -94,7 +94,7 @@ fn with_source_beside<A: Allocator + Copy>(
     Ok(whole)
 }
 
-// Writes a text with what a source tells beside each of its lines, or that there is no memory for that.
+// Writes a text with the notes of the source beside its lines, or a message if there is no memory for that.
 fn put_beside<A: Allocator + Copy, W: Output>(
     alloc: A,
     source: &Source<'_, A>,
@@ -110,8 +110,8 @@ fn put_beside<A: Allocator + Copy, W: Output>(
 }
 
 impl<'k, 't, A: Allocator + Copy> Annotated<'k, 't, A> {
-    /// The same as [`Monitor::with`]: over what `text` holds, object lines, or, where it is none, a source. Refused where the
-    /// source is, and for want of memory.
+    /// Returns the same as [`Monitor::with`], on the contents of `text`: object lines, or otherwise a source. Fails if the
+    /// source has errors or memory runs out.
     pub fn with(
         alloc: A,
         keyboard: Option<&'k Cell<bool>>,
@@ -147,7 +147,7 @@ impl<A: Allocator + Copy> Partner for Annotated<'_, '_, A> {
         let Some(source) = &self.source else {
             return self.monitor.answer(line, writer);
         };
-        // What a program shows goes out as it comes.
+        // The output of a program is written at once.
         if self.monitor.is_waiting() || called_in(line).is_some() {
             return self.monitor.answer(line, writer);
         }

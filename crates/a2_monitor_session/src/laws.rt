@@ -1,9 +1,10 @@
-//! A law of programs that wait for keys. The call does nothing: its contract is the law.
+//! A theorem about programs that wait for keys. The call does nothing: its contract is the theorem.
 
 ghost use Rattle.a2_monitor_session.specs.Waits.{WaitingIsTyping};
 
-/// A program that the Monitor calls, which waits for keys and goes on when they are typed, makes the one run at which these keys
-/// are typed behind the steps where it waits: as [`a2_timed_keys::ended_typed`] has it, with the same limit over all.
+/// Suppose that the Monitor calls a program that waits for keys and continues when they are typed. Its run is the one run in
+/// which these keys are typed after the steps at which it waits, as defined by [`a2_timed_keys::ended_typed`], with the same
+/// limit for the whole run.
 pub fn waiting_is_typing()
     ensures { WaitingIsTyping }
 {}

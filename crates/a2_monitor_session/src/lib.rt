@@ -1,6 +1,6 @@
-//! The Monitor at a terminal: its lines, answered one after another.
+//! The Monitor at a terminal: answers its lines one after another.
 //!
-//! How it is called is shown in CALLING.md.
+//! CALLING.md shows how to call it.
 #![tactic(auto)]
 
 mod beside;

@@ -1,4 +1,4 @@
-//! What a screen showed, to tell later whether it shows something else.
+//! A copy of a screen, to find out later whether the screen has changed.
 
 ghost use Rattle.std.specs.Prelude.{◌≡◌, ◌↔◌, true};
 ghost use Rattle.a2_stream.specs.Stream.{SendsOrBreaks};
@@ -13,7 +13,7 @@ use a2_stream::{Output, WriteFault};
 use std::alloc::Allocator;
 use std::marker::Model;
 
-/// What a screen showed. Contracts see its rows of cells and its switches.
+/// The contents of a screen. Contracts see its rows of cells and its switches.
 #[derive(Drop)]
 pub(crate) struct Look {
     picture: Picture,
@@ -33,7 +33,7 @@ impl Model for Look {
 }
 
 impl Look {
-    /// What the screen of a machine shows now.
+    /// Returns the current contents of a machine's screen.
     pub(crate) fn at<A: Allocator>(machine: &Machine<A>) -> Look
         ensures { result ≡ screen_of (world_of_state machine.now.state) }
     {
@@ -46,7 +46,7 @@ impl Look {
         }
     }
 
-    /// Whether the screen of a machine shows the same.
+    /// Returns whether a machine's screen still has these contents.
     pub(crate) fn is_at<A: Allocator>(&self, machine: &Machine<A>) -> bool
         ensures { (result ≡ true) ↔ IsSameScreen self.now (screen_of (world_of_state machine.now.state)) }
     {
@@ -55,7 +55,7 @@ impl Look {
     }
 }
 
-/// Writes the picture of a machine's screen, where it is asked for.
+/// Writes the picture of a machine's screen, if requested.
 pub(crate) fn put_screen<A: Allocator, W: Output>(
     machine: &Machine<A>,
     is_asked: bool,

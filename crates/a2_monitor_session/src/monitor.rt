@@ -31,7 +31,7 @@ use std::alloc::{AllocError, Allocator, Global};
 use std::cell::Cell;
 use std::marker::Model;
 
-// The forms of lines, in words.
+// The help text: the forms of all lines.
 const HELP: &[u8] = b"300            shows the byte there
 300.30F        shows bytes
 300:A9 C1      stores bytes; :20 ED goes on behind them
@@ -43,24 +43,26 @@ quit, Ctrl-D   ends
 Numbers are hexadecimal.
 ";
 
-/// What tells that a program waits.
+/// The message that a program is waiting.
 const WAITS: &[u8] = b"IT WAITS FOR A KEY; CTRL-] STOPS IT\n";
 
-/// What tells that a key was not typed.
+/// The message that a key was not typed.
 const FULL: &[u8] = b"4096 KEYS WAIT\n";
 
-/// The Monitor at a terminal: a session whose lines are answered, a refused one by the text of its refusal. `help`, in either
-/// case, tells the forms. Behind a run stands the picture of its screen, where that changed. Where keys can be typed, a program
-/// that is called and wants one waits for it: each line is then a key, as the terminal gives it, until the run ends. Contracts
-/// see the session, whether keys can be typed, and the steps that a program which waits may still make.
+/// The Monitor at a terminal: a session that answers lines, and an invalid line with the text of its error. `help`, in either
+/// case, lists the forms of lines. A run is followed by the picture of its screen, if that changed.
+///
+/// If keys can be typed, a program that is called and needs a key waits for it. Each line is then one key, as the terminal
+/// sends it, until the run ends. Contracts see the session, whether keys can be typed, and the number of steps that a waiting
+/// program may still execute.
 pub struct Monitor<'a, A: Allocator = Global> {
     session: Session<A>,
-    // What says to whoever reads the terminal that a key is wanted, and no line.
+    // Tells the reader of the terminal that a key is needed instead of a line.
     keyboard: Option<&'a Cell<bool>>,
     wait: Option<u32>,
 }
 
-// Not derived, for the prover alone: it follows this as one call, and a derived one field by field.
+// Not derived, only for the prover: it treats this as one call, and a derived `drop` field by field.
 impl<'a, A: Allocator> Drop for Monitor<'a, A> {
     fn drop(self) {
         let Monitor {
@@ -90,7 +92,7 @@ fn is_help(line: &[u8]) -> bool
     }
 }
 
-// Does what a line says, and writes its answer or the text of its refusal.
+// Executes a line, and writes its answer or the text of its error.
 fn reply<A: Allocator, W: Output>(
     session: &mut Session<A>,
     line: &[u8],
@@ -108,15 +110,15 @@ fn reply<A: Allocator, W: Output>(
     put_all(&[fault.text().as_bytes(), b"\n"], writer)
 }
 
-/// A machine with what a text holds.
+/// A machine loaded with the contents of a text.
 #[derive(Drop)]
 struct Loaded<A: Allocator> {
     machine: Machine<A>,
-    // That of a source; none where the text is object lines.
+    // The program of a source; `None` if the text is object lines.
     program: Option<Program<A>>,
 }
 
-// A machine with a source's program.
+// A machine loaded with the program of a source.
 fn with_source<A: Allocator + Copy>(alloc: A, text: &[u8]) -> Result<Loaded<A>, RunFault>
     ensures made { IfOk result (λ loaded. (program : Assembled) × IsProgramOf text.now program
         × IsStarted true program [] loaded.machine.state) }
@@ -129,7 +131,7 @@ fn with_source<A: Allocator + Copy>(alloc: A, text: &[u8]) -> Result<Loaded<A>, 
     })
 }
 
-// A machine with what a text holds: object lines, or else a source.
+// A machine loaded with the contents of a text: object lines, or otherwise a source.
 fn with_text<A: Allocator + Copy>(alloc: A, text: &[u8]) -> Result<Loaded<A>, RunFault>
     ensures begun { IfOk result (λ loaded. IsBegun text.now
         (record { world = world_of_state loaded.machine.state; steps = loaded.machine.state.steps; next = 0 })) }
@@ -150,8 +152,8 @@ fn with_text<A: Allocator + Copy>(alloc: A, text: &[u8]) -> Result<Loaded<A>, Ru
 }
 
 impl<'a, A: Allocator + Copy> Monitor<'a, A> {
-    /// The Monitor over a machine as it is switched on. Keys can be typed where there is a `keyboard`: it holds, behind each
-    /// answer, whether the next line is a key. Refused only for want of memory.
+    /// Returns the Monitor on a machine that was just switched on. Keys can be typed if there is a `keyboard`: after each
+    /// answer it holds whether the next line is a key. Fails only if memory runs out.
     pub fn new(alloc: A, keyboard: Option<&'a Cell<bool>>) -> Result<Monitor<'a, A>, AllocError>
         ensures session { IfOk result (λ monitor. sitting_of monitor.session ≡ start_sitting) }
         ensures live { IfOk result (λ monitor. monitor.is_live ≡ is_some keyboard.entry) }
@@ -165,8 +167,8 @@ impl<'a, A: Allocator + Copy> Monitor<'a, A> {
         })
     }
 
-    /// The same with what `text` holds: object lines, or, where it is none, a source. Refused where the source is, and for
-    /// want of memory.
+    /// Returns the same with the contents of `text`: object lines, or otherwise a source. Fails if the source has errors or
+    /// memory runs out.
     pub fn with(
         alloc: A,
         keyboard: Option<&'a Cell<bool>>,
@@ -181,7 +183,7 @@ impl<'a, A: Allocator + Copy> Monitor<'a, A> {
         Ok(monitor)
     }
 
-    // The same with the program, where the text is a source.
+    // Returns the same with the program, if the text is a source.
     pub(crate) fn with_program(
         alloc: A,
         keyboard: Option<&'a Cell<bool>>,
@@ -202,14 +204,14 @@ impl<'a, A: Allocator + Copy> Monitor<'a, A> {
     }
 }
 
-/// What stood before a run.
+/// The state before a run.
 #[derive(Drop)]
 struct Before {
     look: Look,
     steps: u64,
 }
 
-// What stands there before a run.
+// The state of a session before a run.
 fn standing<A: Allocator>(session: &Session<A>) -> Before
     ensures look { result.look ≡ screen_of (sitting_of session.now).world }
     ensures steps { result.steps ≡ (sitting_of session.now).steps }
@@ -221,7 +223,7 @@ fn standing<A: Allocator>(session: &Session<A>) -> Before
     }
 }
 
-// Writes how a run ended, or that its program waits.
+// Writes how a run ended, or that its program is waiting.
 fn put_ending<A: Allocator, W: Output>(
     session: &Session<A>,
     waits: bool,
@@ -239,7 +241,7 @@ fn put_ending<A: Allocator, W: Output>(
     }
 }
 
-// Writes what is told behind a run: the screen where it changed, and how the run ended, or that its program waits.
+// Writes the report after a run: the screen if it changed, and how the run ended or that its program is waiting.
 #[tactic(auto, using(a2_stream::proofs::Joined::broke_off, a2_stream::proofs::Joined::went_on))]
 fn put_run<A: Allocator, W: Output>(
     session: &Session<A>,
@@ -256,7 +258,7 @@ fn put_run<A: Allocator, W: Output>(
     put_ending(session, waits, notice, cause, writer)
 }
 
-// Whether a program that stopped so waits, where keys can be typed.
+// Whether a program that stopped with this cause is waiting, if keys can be typed.
 fn waits_by(is_live: bool, cause: Cause) -> bool
     ensures { result ≡ Rattle.a2_monitor_session.specs.Calls.waits_by is_live cause }
 {
@@ -266,7 +268,7 @@ fn waits_by(is_live: bool, cause: Cause) -> bool
     }
 }
 
-// The steps that are left of so many to a program that waits.
+// The number of steps of the limit that a waiting program has left.
 fn left_where(waits: bool, limit: u32, made: u64) -> Option<u32>
     requires { made ≤ limit }
     ensures { result ≡ (if waits then Some (limit - made) else None) }
@@ -279,14 +281,14 @@ fn left_where(waits: bool, limit: u32, made: u64) -> Option<u32>
 }
 
 impl<A: Allocator> Monitor<'_, A> {
-    /// Whether a program waits for a key, so that the next line is one.
+    /// Returns whether a program is waiting for a key, so that the next line is one.
     pub(crate) fn is_waiting(&self) -> bool
         ensures { result ≡ is_some self.now.wait }
     {
         self.wait.is_some()
     }
 
-    // Notes whether a program waits, and how many steps it may still make.
+    // Stores whether a program is waiting, and how many steps it may still execute.
     fn note(&mut self, wait: Option<u32>)
         ensures { self.new ≡ record self.old { wait = wait } }
     {
@@ -296,7 +298,7 @@ impl<A: Allocator> Monitor<'_, A> {
         }
     }
 
-    // Tells of a run, behind which it stands.
+    // Reports a run that has just stopped.
     fn follow<W: Output>(
         &mut self,
         before: &Before,
@@ -330,7 +332,7 @@ impl<A: Allocator> Monitor<'_, A> {
         self.follow(&before, MONITOR_MAX_STEPS, cause, WAITS, writer)
     }
 
-    // Types a key at a program that waits, and lets it go on.
+    // Types a key for a waiting program, and continues its run.
     fn type_key<W: Output>(&mut self, key: u8, limit: u32, writer: &mut W) -> Result<(), WriteFault>
         requires { key < 128 }
         ensures { (text : List ℕ) × IsPressTold limit (Key key) self.old text self.new
@@ -344,7 +346,7 @@ impl<A: Allocator> Monitor<'_, A> {
         self.follow(&before, limit, cause, b"", writer)
     }
 
-    // Does what is pressed while a program waits.
+    // Handles a key that is pressed while a program is waiting.
     fn press<W: Output>(
         &mut self,
         line: &[u8],

@@ -1,4 +1,4 @@
-//! What a line says while a program waits for a key.
+//! The meaning of a line while a program is waiting for a key.
 
 ghost use Rattle.std.specs.Prelude.{◌≡◌};
 ghost use Rattle.a2_monitor_session.specs.Presses.{pressed, HasCode};
@@ -8,18 +8,18 @@ use a2_tty::{Stroke, first_stroke};
 /// The key that ends a line.
 const RETURN: u8 = 0x0D;
 
-/// What is pressed while a program waits for a key.
+/// What was pressed while a program was waiting for a key.
 #[derive(Clone, Copy, Debug, PartialEq, Eq)]
 pub(crate) enum Press {
-    /// A key of the Apple's, 0 to 127.
+    /// A key of the Apple, 0 to 127.
     Key(u8),
-    /// What stops the program.
+    /// The key that stops the program.
     Stop,
-    /// Nothing that there is a key for.
+    /// Something that is not a key of the Apple.
     Nothing,
 }
 
-/// What the bytes of a key are, which the terminal gave, without what stands for a line's end; that alone is RETURN.
+/// Returns the meaning of the bytes that the terminal sent for a key, without the end of the line. An empty line is RETURN.
 pub(crate) fn press_of(line: &[u8]) -> Press
     ensures value { result ≡ pressed line.now }
     ensures code { HasCode result }

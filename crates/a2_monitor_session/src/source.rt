@@ -1,14 +1,14 @@
-//! What a source tells beside a line of the Monitor's. Which names and lines these are is words, and no clause says them.
+//! The notes of a source beside the Monitor's lines. No contract describes which names and lines these are.
 
 use a2_asm::{Names, Program, Statement};
 use a2_hex::{Image, address_of, byte_of};
 use a2_text::{decimal, hex_word};
 use std::alloc::{AllocError, Allocator};
 
-// Where the number of a line ends: a line of `300L` has at most 32 bytes, and a number 5.
+// The column where the number of a source line ends: a line of `300L` has at most 32 bytes, and a number has 5.
 const NUMBER_END: usize = 38;
 
-// Where names begin: a line with eight bytes ends two before.
+// The column where names begin, two columns after a line with eight bytes.
 const NAMES_AT: usize = 31;
 
 const BLANKS: &[u8] = b"                                ";
@@ -19,7 +19,7 @@ pub(crate) struct Source<'a, A: Allocator> {
     pub lines: Vec<&'a [u8], A>,
 }
 
-// Not derived, for the prover alone: it follows this as one call, and a derived one field by field.
+// Not derived, only for the prover: it treats this as one call, and a derived `drop` field by field.
 impl<'a, A: Allocator> Drop for Source<'a, A> {
     fn drop(self) {
         let Source {
@@ -29,13 +29,13 @@ impl<'a, A: Allocator> Drop for Source<'a, A> {
     }
 }
 
-// What leads from the end of so many bytes, and so many more, to a column.
+// The blanks from a number of bytes, given as a sum of two, up to a column.
 fn gap(column: usize, used: usize, more: usize) -> &'static [u8] {
     let left = column.saturating_sub(used).saturating_sub(more);
     &BLANKS[..left.min(BLANKS.len())]
 }
 
-// The address at the begin of a line, and what stands behind its dash.
+// The address at the beginning of a line, and the text after its dash.
 fn parted(line: &[u8]) -> Option<(u16, &[u8])> {
     match line {
         [a, b, c, d, b'-', shown @ ..] => Some((address_of(&[*a, *b, *c, *d])?, shown)),
@@ -43,7 +43,7 @@ fn parted(line: &[u8]) -> Option<(u16, &[u8])> {
     }
 }
 
-// The byte that a blank and two digits show.
+// The byte shown by a blank and two digits.
 fn shown_byte(piece: &[u8]) -> Option<u8> {
     match piece {
         [b' ', digits @ ..] => byte_of(digits),
@@ -51,7 +51,7 @@ fn shown_byte(piece: &[u8]) -> Option<u8> {
     }
 }
 
-// How many bytes are shown at the front of a text.
+// The number of bytes shown at the beginning of a text.
 fn count_shown(text: &[u8]) -> u16 {
     let mut count: u16 = 0;
     for piece in text.chunks(3) {
@@ -63,7 +63,7 @@ fn count_shown(text: &[u8]) -> u16 {
     count
 }
 
-// Whether no byte that is shown from an address on is another than a source laid there.
+// Whether all bytes that are shown from an address on are those of the source.
 fn is_laid<A: Allocator>(image: &Image<A>, address: u16, text: &[u8]) -> bool {
     let mut at = address;
     for piece in text.chunks(3) {
@@ -78,7 +78,7 @@ fn is_laid<A: Allocator>(image: &Image<A>, address: u16, text: &[u8]) -> bool {
     true
 }
 
-// The statement that begins at an address, if it has a byte.
+// The statement that begins at an address, if it has any bytes.
 fn statement_from(statements: &[Statement], address: u16) -> Option<Statement> {
     for statement in statements {
         if statement.addr == address && statement.length > 0 {
@@ -88,7 +88,7 @@ fn statement_from(statements: &[Statement], address: u16) -> Option<Statement> {
     None
 }
 
-// Appends the line of the statement that begins where the Monitor lists, by its number and text.
+// Appends the number and text of the source line whose statement begins at the listed address.
 fn append_line<A: Allocator>(
     source: &Source<'_, A>,
     address: u16,
@@ -115,7 +115,7 @@ fn append_line<A: Allocator>(
     Ok(())
 }
 
-// Appends a name, with its address where the line begins elsewhere, in the column of names or behind others.
+// Appends a name in the column of names or after other names, with its address if that differs from the address of the line.
 fn append_name<A: Allocator>(
     name: &str,
     address: u16,
@@ -137,7 +137,7 @@ fn append_name<A: Allocator>(
     Ok(())
 }
 
-// Appends the names that have an address.
+// Appends the names of an address.
 fn append_names_at<A: Allocator>(
     names: &Names<A>,
     address: u16,
@@ -156,7 +156,7 @@ fn append_names_at<A: Allocator>(
     Ok(())
 }
 
-// Appends the names that have one of so many addresses from one on.
+// Appends the names of this many addresses from one on.
 fn append_names<A: Allocator>(
     names: &Names<A>,
     address: u16,
@@ -171,9 +171,9 @@ fn append_names<A: Allocator>(
     Ok(())
 }
 
-/// What a source tells beside a line of the Monitor's: behind one of `300L` the line of the source whose statement begins there,
-/// where none of the bytes that are shown is another than the source laid there; behind one with bytes the names that have one of
-/// their addresses. Refused only for want of memory.
+/// Returns the note of a source beside a line of the Monitor. Beside a line of `300L` it is the source line whose statement
+/// begins there, if all bytes shown are those of the source. Beside a line with bytes it is the names of their addresses. Fails
+/// only if memory runs out.
 pub(crate) fn beside<A: Allocator + Copy>(
     alloc: A,
     source: &Source<'_, A>,
@@ -184,7 +184,7 @@ pub(crate) fn beside<A: Allocator + Copy>(
         return Ok(told);
     };
     match shown {
-        // Of a listing the bytes stand two columns further.
+        // In a listing the bytes begin two columns further right.
         [b' ', b' ', bytes @ ..] => append_line(source, address, bytes, line.len(), &mut told)?,
         _ => {
             let count = count_shown(shown);

@@ -1,4 +1,4 @@
--- What tests of numbers say.
+-- What the results of number comparisons mean.
 use Rattle.std.proofs.Common.{◌≡◌, ℕ, ◌<◌, true, arith}
 use Rattle.std.specs.Prelude.{nat_eq, nat_lt}
 use Rattle.std.proofs.lemmas.Bool.Decides.{nat_tests}

@@ -1,4 +1,4 @@
--- Where a memory shows an instruction's bytes, the instruction is fetched.
+-- An instruction is fetched from a memory that shows its bytes.
 use Rattle.std.specs.Prelude.{◌≡◌, ℕ, zero, suc, ◌+◌, ◌-◌, ◌%◌, ◌<◌, ◌≤◌, List, [], ◌∷◌, length, Option, Some, None, IfSome, MatchOption, slice_get, refl}
 use Rattle.std.proofs.Common.{ap, ap₂, ◌∙◌, subst, arith}
 use Rattle.a2_opcode.specs.declared.Row.{Row}
@@ -9,7 +9,7 @@ use Rattle.a2_opcode.specs.Encoding.{value_of, operand_bytes, encoded, decoded, 
 use Rattle.a2_opcode.proofs.Lookup.{row-only, row_of-own}
 use Rattle.a2_opcode.proofs.RoundTrip.{coded, decodes-back, operand-length, value-back}
 
--- a memory that shows bytes without wrap
+-- a memory that shows bytes without wrapping
 pub shows-below : (peek : ℕ → Option ℕ) (at : ℕ) (bytes : List ℕ) → at + length bytes ≤ 65536
     → ((k : ℕ) → k < length bytes → peek (at + k) ≡ slice_get bytes k) → Shows peek at bytes
 shows-below peek at bytes room shown k lt =
@@ -39,7 +39,7 @@ row_found peek at found =
 abbrev opcode_found : (ℕ → Option ℕ) → ℕ → Option ℕ → Fetched
 opcode_found peek at found = elim found [ None ↦ no_byte | Some opcode ↦ row_found peek at (row_of opcode) ]
 
--- an instruction is fetched from where its bytes stand
+-- an instruction is fetched from the place of its bytes
 pub fetched-back : (i : Instr) (at : ℕ) (bytes : List ℕ) → at < 65536 → i.value < 65536 → encoded i at ≡ Some bytes → IsFetchedFrom i at bytes
 unfolding fetched
 fetched-back i at bytes a v e peek shown =
@@ -55,7 +55,7 @@ fetched-back i at bytes a v e peek shown =
           ∙ rw (is.row_is.mode_is, ← operand-length i.mode at i.value) (ap (operand_found is.row at) rest ∙ rw (is.row_is.mode_is, value-back i.mode at i.value a v is.fits)),
     )
 
--- what is answered of an instruction, if it has bytes
+-- what is proved about the bytes of an instruction, if it has any
 abbrev pub IsEncoding : Instr → ℕ → Option (ArrayVec ℕ) → Type 0
 IsEncoding i at result = MatchOption result (encoded i at ≡ None) (λ b. encoded i at ≡ Some b.items)
 

@@ -1,4 +1,4 @@
--- The table's look-ups: what they find, that they find each row, and that the arrays are the lists of them.
+-- Looking up rows in the table: what is found, that each row is found, and that the arrays hold the same rows.
 use Rattle.std.specs.Prelude.{◌≡◌, ℕ, ◌<◌, List, [], ◌∷◌, Bool, true, ◌&&◌, nat_eq, map, length, find, slice_get, slice_index_or, Contains, Option, Some, None, IfSome, option_map, refl}
 use Rattle.std.specs.List.{range_with_len, position_or_len}
 use Rattle.std.proofs.Common.{sym, ap, ◌∙◌, arith}
@@ -27,7 +27,7 @@ rows_count : length table ≡ 151
 unfolding table
 rows_count = refl
 
--- a mnemonic stands at its number
+-- a mnemonic is at the index of its number
 pub mnemonic-at : (m : Mnemonic) → slice_index_or MNEMONICS (tag_of mnemonics m) Adc ≡ m
 mnemonic-at Adc = refl
 mnemonic-at _ = refl
@@ -49,7 +49,7 @@ mode_few : (m : Mode) → tag_of mode_type m < 13
 mode_few Implied = omega arith
 mode_few _ = omega arith
 
--- what is found is in the table and passes the test
+-- a row that is found is in the table and passes the test
 found-is : (p : Row → Bool) (r : Row) → find p table ≡ Some r → Contains table r × (p r ≡ true)
 found-is p r e =
     let k : ℕ = position_or_len p table in
@@ -71,7 +71,7 @@ row_of-is opcode r e =
     let (listed, passes) = found-is (λ s. nat_eq s.opcode opcode) r e in
     record { listed = listed; opcode_is = same-key r.opcode opcode passes }
 
--- each row is found by its form and by its opcode: computed of all rows
+-- each row is found by its form and by its opcode, as computing all rows shows
 own : (look : Row → Option Row) → map look table ≡ map Some table → (r : Row) → Contains table r → look r ≡ Some r
 own look same r (k, inside, is) =
     ap look (sym is) ∙ sym (get_or-map look table k r None inside) ∙ ap (λ l. slice_index_or l k None) same ∙ get_or-map Some table k r None inside ∙ ap Some is
@@ -90,7 +90,7 @@ row-own r at = own (λ r. row r.mnemonic r.mode) all-by-form r at
 pub row_of-own : (r : Row) → Contains table r → row_of r.opcode ≡ Some r
 row_of-own r at = own (λ r. row_of r.opcode) all-by-opcode r at
 
--- so no two share one, and no other is found
+-- so no two rows share one, and no other row is found
 pub distinct_opcodes : DistinctOpcodes
 distinct_opcodes r s at_r at_s same = (let r_own = row_of-own r at_r in let s_own = row_of-own s at_s in cc)
 
@@ -103,7 +103,7 @@ row_of-only opcode r is = rw (← is.opcode_is) (row_of-own r is.listed)
 pub row-only : (mnemonic : Mnemonic) (mode : Mode) (r : Row) → IsRowFor mnemonic mode r → row mnemonic mode ≡ Some r
 row-only mnemonic mode r is = rw (← is.mnemonic_is, ← is.mode_is) (row-own r is.listed)
 
--- what an answer that is the look-up says
+-- what a result equal to the look-up means
 pub row_of-told : (opcode : ℕ) (found : Option Row) → found ≡ row_of opcode → IfSome found (IsRowOf opcode)
 row_of-told opcode None e = tt
 row_of-told opcode (Some r) e = row_of-is opcode r (sym e)
@@ -112,7 +112,7 @@ pub row-told : (mnemonic : Mnemonic) (mode : Mode) (found : Option Row) → foun
 row-told mnemonic mode None e = tt
 row-told mnemonic mode (Some r) e = row-is mnemonic mode r (sym e)
 
--- the arrays
+-- The arrays
 
 rows_listed : ROWS ≡ map row_of (range_with_len 0 256)
 unfolding row_of table
@@ -135,7 +135,7 @@ opcode-at mnemonic mode =
       mode-at mode,
     )
 
--- a form's row is that of its opcode, if it has one
+-- the row of a form is the row of its opcode, if it has one
 pub row-by-opcode : (mnemonic : Mnemonic) (mode : Mode) (opcode : Option ℕ) → opcode ≡ opcode_in_table mnemonic mode → elim opcode [ None ↦ None | Some opcode ↦ row_of opcode ] ≡ row mnemonic mode
 row-by-opcode mnemonic mode opcode e = rw e (by (row mnemonic mode) refl)
   where

@@ -1,4 +1,4 @@
--- A name is that of one mnemonic.
+-- A name belongs to only one mnemonic.
 use Rattle.std.specs.Prelude.{◌≡◌, ℕ, ◌<◌, true, List, slice_index_or, refl}
 use Rattle.std.proofs.Common.{◌%◌, ltb, sym, ap, ◌∙◌, arith}
 use Rattle.std.proofs.lemmas.Bool.{agree_below_at, ltb-true}
@@ -11,7 +11,7 @@ use Rattle.a2_opcode.specs.Entries.{weight_of, place_by}
 use Rattle.a2_opcode.specs.Names.{name_of}
 use Rattle.a2_opcode.proofs.Lookup.{mnemonic-at}
 
--- each mnemonic stands where its letters say
+-- each mnemonic is at the index that its letters give
 place_by-name : (m : Mnemonic) → place_by (name_of m) ≡ tag_of mnemonics m
 unfolding place_by
 place_by-name Adc = refl
@@ -23,7 +23,7 @@ at-name letters m e = ap (λ k. slice_index_or MNEMONICS k Adc) (ap place_by (sy
 pub same_name : (m n : Mnemonic) → name_of m ≡ name_of n → m ≡ n
 same_name m n e = sym (at-name _ m e) ∙ at-name _ n (λ i. name_of n)
 
--- every place is a mnemonic's
+-- every index is that of a mnemonic
 pub place_by-few : (letters : List ℕ) → place_by letters < 56
 unfolding place_by
 place_by-few letters =

@@ -1,4 +1,4 @@
--- An instruction's bytes decode to it, and what bytes decode to has these bytes.
+-- The bytes of an instruction decode to it, and the instruction decoded from bytes has these bytes.
 use Rattle.std.specs.Prelude.{◌≡◌, ℕ, ◌+◌, ◌-◌, ◌%◌, ◌<◌, ◌≤◌, List, [], ◌∷◌, length, take, Bool, true, false, nat_le, if◌then◌else◌, Option, Some, None, slice_index, refl}
 use Rattle.std.proofs.Common.{cond, ap, ◌∙◌, inl, inr, arith}
 use Rattle.std.proofs.lemmas.Bool.{cases_lt}
@@ -12,18 +12,18 @@ use Rattle.a2_opcode.specs.Table.{row, row_of, length_of, IsRowFor}
 use Rattle.a2_opcode.specs.Encoding.{branch_target, branch_distance, is_near, can_have, value_of, operand_bytes, encoded, decoded}
 use Rattle.a2_opcode.proofs.Lookup.{row-is, row-own, row_of-is, row_of-own}
 
--- a branch's byte leads to its target
+-- the byte of a branch leads to its target
 target-back : (at value : ℕ) → at < 65536 → value < 65536 → is_near (branch_distance at value) ≡ true
     → branch_target at (branch_distance at value % 256) ≡ value
 target-back at value a v h = (let few : branch_distance at value < 65536 = omega arith in grind (arith, nat_tests))
 
--- the value that an operand's bytes stand for is the one they were made of
+-- the bytes of an operand give the value they were made from
 pub value-back : (mode : Mode) (at value : ℕ) → at < 65536 → value < 65536 → can_have mode at value ≡ true
     → value_of mode at (operand_bytes mode at value) ≡ value
 value-back Relative at value a v h = target-back at value a v h
 value-back _ at value a v h = grind (arith, nat_tests)
 
--- an operand has the bytes that its mode takes
+-- an operand has as many bytes as its mode takes
 pub operand-length : (mode : Mode) (at value : ℕ) → length (operand_bytes mode at value) ≡ length_of mode - 1
 operand-length Implied at value = refl
 operand-length _ at value = refl
@@ -71,7 +71,7 @@ pub coded : (i : Instr) (at : ℕ) (bytes : List ℕ) → encoded i at ≡ Some 
 unfolding encoded
 coded i at bytes e = coded-row i at bytes (row i.mnemonic i.mode) refl e
 
--- what an instruction's bytes decode to
+-- what the bytes of an instruction decode to
 pub decodes-back : (i : Instr) (at : ℕ) (bytes : List ℕ) → at < 65536 → i.value < 65536 → encoded i at ≡ Some bytes
     → decoded bytes at ≡ Some i
 unfolding decoded
@@ -81,20 +81,20 @@ decodes-back i at bytes a v e =
     ∙ ap (decoded_by is.row.opcode (operand_bytes i.mode at i.value) at) (row_of-own is.row is.row_is.listed)
     ∙ rw (is.row_is.mnemonic_is, is.row_is.mode_is, long-enough i.mode at i.value is.row.opcode, value-back i.mode at i.value a v is.fits)
 
--- a branch's byte, from its target
+-- the target of a branch, computed from its byte, is near
 branch-near : (at offset : ℕ) → at < 65536 → offset < 256 → is_near (branch_distance at (branch_target at offset)) ≡ true
 branch-near at offset a b = grind (arith, nat_tests)
 
 branch-back : (at offset : ℕ) → at < 65536 → offset < 256 → branch_distance at (branch_target at offset) % 256 ≡ offset
 branch-back at offset a b = grind (arith, nat_tests)
 
--- what bytes say is a value that an operand may have
+-- the value that bytes give is one that an operand may have
 value-fits : (mode : Mode) (at : ℕ) (operand : List ℕ) → at < 65536 → slice_index operand 0 < 256
     → can_have mode at (value_of mode at operand) ≡ true
 value-fits Relative at operand a b = branch-near at (slice_index operand 0) a b
 value-fits _ at operand a b = grind (arith, nat_tests)
 
--- an operand's bytes, from the value that they say
+-- the value that an operand's bytes give has these bytes
 operand-back : (mode : Mode) (at : ℕ) (operand : List ℕ) → at < 65536 → slice_index operand 0 < 256 → length_of mode ≤ length operand + 1
     → operand_bytes mode at (value_of mode at operand) ≡ take (length_of mode - 1) operand
 operand-back Relative at [] a b h = absurd (omega arith)
@@ -103,7 +103,7 @@ operand-back mode at [] a b h = grind arith
 operand-back mode at (x ∷ []) a b h = grind arith
 operand-back mode at (x ∷ y ∷ operand) a b h = grind arith
 
--- the front of a list from a byte on
+-- the opcode and its operand are the front of the list
 front : (mode : Mode) (opcode : ℕ) (operand : List ℕ) → opcode ∷ take (length_of mode - 1) operand ≡ take (length_of mode) (opcode ∷ operand)
 front Implied opcode operand = refl
 front _ opcode operand = refl
@@ -124,7 +124,7 @@ encodes-row opcode operand at i a b (Some r) is e = elim (cases_lt (length opera
       ∙ rw (value-fits r.mode at operand a b, row_is.opcode_is, operand-back r.mode at operand a b long, front r.mode opcode operand))
 ]
 
--- the bytes of what bytes decode to
+-- the bytes of the instruction that was decoded from bytes
 pub encodes-back : (bytes : List ℕ) (at : ℕ) (i : Instr) → at < 65536 → ((k : ℕ) → slice_index bytes k < 256)
     → decoded bytes at ≡ Some i → encoded i at ≡ Some (take (length_of i.mode) bytes)
 unfolding decoded

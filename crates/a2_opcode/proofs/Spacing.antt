@@ -1,4 +1,4 @@
--- Bytes written with one blank between.
+-- Bytes written with one blank between them.
 use Rattle.std.proofs.Common.{◌≡◌, ℕ, ◌+◌, ◌*◌, ◌-◌, ◌<◌, ◌≤◌, List, [], ◌∷◌, ◌++◌, length, map, take, get_or, refl, sym, ap, ◌∙◌, arith, append_assoc, length-append}
 use Rattle.std.proofs.lemmas.List.{take_more, length-take-le}
 use Rattle.std.specs.List.{join_with_byte}
@@ -7,7 +7,7 @@ use Rattle.a2_text.specs.Digits.{hex_pair}
 abbrev pub spaced : List ℕ → List ℕ
 spaced xs = join_with_byte 32 (map hex_pair xs)
 
--- one byte more
+-- one more byte at the end
 spaced-push : (x : ℕ) (xs : List ℕ) (y : ℕ) → spaced (x ∷ (xs ++ y ∷ [])) ≡ spaced (x ∷ xs) ++ (32 ∷ hex_pair y)
 spaced-push x [] y = refl
 spaced-push x (z ∷ xs) y = ap (λ l. hex_pair x ++ (32 ∷ l)) (spaced-push z xs y) ∙ sym (append_assoc (hex_pair x) (32 ∷ spaced (z ∷ xs)) (32 ∷ hex_pair y))
@@ -22,13 +22,13 @@ spaced-more start text new bytes i some h so_far is =
     rw (is, so_far, take_more bytes i 0 h, push-some (take i bytes) (get_or bytes i 0) (omega (arith, length-take-le i bytes)))
     (append_assoc (start ++ spaced (take i bytes)) (32 ∷ []) (hex_pair (get_or bytes i 0)) ∙ append_assoc start (spaced (take i bytes)) (32 ∷ hex_pair (get_or bytes i 0)))
 
--- its length
+-- the length of spaced bytes
 pub length_of_spaced : (xs : List ℕ) → length (spaced xs) ≡ 3 * length xs - 1
 length_of_spaced [] = refl
 length_of_spaced (x ∷ []) = refl
 length_of_spaced (x ∷ y ∷ xs) = omega (arith, length_of_spaced (y ∷ xs))
 
--- how long a text is with so many bytes written behind it
+-- the length of a text after the first i of some bytes were appended to it
 pub length-so-far : (text start xs : List ℕ) (i : ℕ) → i ≤ length xs → text ≡ start ++ spaced (take i xs)
     → length text ≡ length start + (3 * i - 1)
 length-so-far text start xs i h e =

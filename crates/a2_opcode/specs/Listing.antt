@@ -1,4 +1,4 @@
--- A line of a listing: this project's profile, in the manner of the Apple II Reference Manual (1979).
+-- A line of a listing: this project's profile, modelled on the Apple II Reference Manual (1979).
 use Rattle.std.specs.Prelude.{ℕ, ◌-◌, List, [], ◌++◌, length, take, map, replicate, codes, Option, Some, None}
 use Rattle.std.specs.List.{join_with_byte}
 use Rattle.a2_text.specs.Digits.{hex_pair, hex_word}
@@ -25,22 +25,22 @@ operand_text IndirectIndexed value = codes "($" ++ hex_pair value ++ codes "),Y"
 operand_text Indirect value = codes "($" ++ hex_word value ++ codes ")"
 operand_text Relative value = codes "$" ++ hex_word value
 
--- three blanks and the operand, where there is one
+-- three blanks and the operand, if there is one
 abbrev pub operand_column : Mode → ℕ → List ℕ
 operand_column Implied value = []
 operand_column mode value = codes "   " ++ operand_text mode value
 
--- the bytes with one blank between, filled with blanks to eight places
+-- the bytes separated by one blank, padded with blanks to eight characters
 abbrev pub bytes_column : List ℕ → List ℕ
 bytes_column bytes =
     let text = join_with_byte 32 (map hex_pair bytes) in
     text ++ replicate (8 - length text) 32
 
--- what stands before the mnemonic
+-- the columns before the mnemonic
 abbrev pub columns_before : ℕ → List ℕ → List ℕ
 columns_before at bytes = hex_word at ++ codes "-   " ++ bytes_column bytes ++ codes "   "
 
--- the line of bytes at an address, by what they decode to, and how many of them it shows
+-- the line for bytes at an address, given what they decode to
 abbrev pub line_text : List ℕ → ℕ → Option Instr → List ℕ
 line_text bytes at None = columns_before at (take 1 bytes) ++ codes "???"
 line_text bytes at (Some i) =

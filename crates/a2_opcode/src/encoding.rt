@@ -1,4 +1,4 @@
-//! Instructions and their bytes, as chapters 4 to 6 of the MCS6500 Programming Manual have them.
+//! Instructions and their bytes, as described in chapters 4 to 6 of the MCS6500 Programming Manual.
 
 ghost use Rattle.std.specs.Prelude.{◌≡◌, ◌+◌, ◌%◌, ◌<◌, ◌≤◌, true, false, None, Some, [], ◌∷◌, ◌++◌, length, take, slice_index, IfSome, MatchOption};
 ghost use Rattle.arrayvec.specs.ArrayVec.{array_vec_len};
@@ -10,7 +10,7 @@ use crate::{Instr, Mode, row_for, row_of};
 use arrayvec::ArrayVec;
 
 impl Mode {
-    /// How many bytes an instruction of the mode takes, 1 to 3.
+    /// Returns how many bytes an instruction of the mode has, 1 to 3.
     pub fn length(self) -> u8
         ensures { result ≡ length_of self }
     {
@@ -22,8 +22,9 @@ impl Mode {
     }
 }
 
-/// Where a branch at `address` ($0000 to $FFFF) goes if it is taken: `offset`, the byte behind its opcode, is the distance from the
-/// following instruction, -128 to 127, modulo 65,536. MCS6500 Programming Manual, chapter 4.
+/// Returns the target of a branch at `address` ($0000 to $FFFF), which is where it goes if it is taken. `offset`, the
+/// byte after its opcode, is the distance from the next instruction, -128 to 127. The target is modulo 65,536. MCS6500
+/// Programming Manual, chapter 4.
 #[inline(always)]
 pub fn branch_target(address: u16, offset: u8) -> u16
     ensures { result ≡ branch_target_of address offset }
@@ -34,7 +35,7 @@ pub fn branch_target(address: u16, offset: u8) -> u16
         .wrapping_add(distance.cast_unsigned())
 }
 
-// The byte of a branch, if its target is near enough.
+// Returns the offset byte of a branch, if its target is near enough.
 fn branch_offset(address: u16, target: u16) -> Option<u8>
     ensures { MatchOption result (is_near (branch_distance address target) ≡ false)
         (λ b. (is_near (branch_distance address target) ≡ true) × (b ≡ branch_distance address target % 256)) }
@@ -47,7 +48,7 @@ fn branch_offset(address: u16, target: u16) -> Option<u8>
     }
 }
 
-// An operand's value, from the bytes behind the opcode.
+// Returns the value of an operand, from the bytes after the opcode.
 fn value(mode: Mode, address: u16, operand: &[u8]) -> u16
     requires { length_of mode ≤ length operand.now + 1 }
     ensures { result ≡ value_of mode address operand.now }
@@ -62,7 +63,7 @@ fn value(mode: Mode, address: u16, operand: &[u8]) -> u16
     }
 }
 
-// An opcode with the bytes of its operand.
+// Returns an opcode followed by the bytes of its operand.
 fn joined(opcode: u8, operand: &[u8]) -> ArrayVec<u8, 3>
     requires { length operand.now ≤ 2 }
     ensures { result.items ≡ opcode ∷ operand.now }
@@ -75,7 +76,7 @@ fn joined(opcode: u8, operand: &[u8]) -> ArrayVec<u8, 3>
     bytes
 }
 
-// An opcode with the bytes of an operand's value, if the operand may have it.
+// Returns an opcode followed by the bytes of an operand's value, if the operand may have that value.
 fn with_operand(opcode: u8, mode: Mode, address: u16, value: u16) -> Option<ArrayVec<u8, 3>>
     ensures { MatchOption result (can_have mode address value ≡ false)
         (λ b. (can_have mode address value ≡ true) × (b.items ≡ opcode ∷ operand_bytes mode address value)) }
@@ -92,36 +93,38 @@ fn with_operand(opcode: u8, mode: Mode, address: u16, value: u16) -> Option<Arra
     }
 }
 
-/// The bytes of an instruction at an address.
+/// Returns the bytes of an instruction at an address.
 ///
-/// The opcode, then the operand's bytes, low byte first; a branch's byte is its target's distance from the following
-/// instruction. None where the table has no row for its mnemonic and mode, where its value is out of range (0 alone for
-/// the implied and accumulator modes, 0 to 255 for the immediate and the zero-page modes), and where the distance of a
-/// branch's target from the following instruction, modulo 65,536, is outside -128 to 127.
+/// They are the opcode and then the bytes of the operand, low byte first. The operand byte of a branch is the distance
+/// of its target from the next instruction. Returns `None` in these cases:
+/// - The table has no row for the mnemonic and mode.
+/// - The value is out of range: only 0 for the implied and accumulator modes, 0 to 255 for the immediate and zero-page
+///   modes.
+/// - The distance of a branch's target from the next instruction, modulo 65,536, is outside -128 to 127.
 #[tactic(auto, unfolding(crate::specs::Encoding::encoded))]
 pub fn encode(instr: Instr, address: u16) -> Option<ArrayVec<u8, 3>>
     ensures bytes { MatchOption result (encoded instr address ≡ None) (λ b. encoded instr address ≡ Some b.items) }
     ensures length { IfSome result (λ b. length b.items ≡ length_of instr.mode) }
-    // what is decoded from the bytes is the instruction
+    // the bytes decode to the instruction
     ensures decodes { IfSome result (λ b. decoded b.items address ≡ Some instr) }
-    // and so is what is fetched from a memory that shows them
+    // the instruction is also fetched from a memory that shows the bytes
     ensures fetched { IfSome result (λ b. IsFetchedFrom instr address b.items) }
 {
     let row = row_for(instr.mnemonic, instr.mode)?;
     with_operand(row.opcode, instr.mode, address, instr.value)
 }
 
-/// The instruction that bytes at an address begin with; bytes behind it are ignored, and a branch's target is modulo
-/// 65,536.
+/// Returns the instruction that the bytes at an address begin with; bytes after it are ignored. The target of a branch
+/// is modulo 65,536.
 ///
-/// None where there is no byte, where the first is no documented opcode, and where its operand is not whole.
+/// Returns `None` if there is no byte, if the first byte is not a documented opcode, or if its operand is incomplete.
 #[tactic(auto, unfolding(crate::specs::Encoding::decoded))]
 pub fn decode(bytes: &[u8], address: u16) -> Option<Instr>
     ensures value { result ≡ decoded bytes.now address }
     ensures whole { IfSome result (λ i. length_of i.mode ≤ length bytes.now) }
-    // the instruction's bytes are the front of the bytes
+    // the instruction's bytes are the front of the given bytes
     ensures encodes { IfSome result (λ i. encoded i address ≡ Some (take (length_of i.mode) bytes.now)) }
-    // and it is fetched from a memory that shows them
+    // the instruction is also fetched from a memory that shows these bytes
     ensures fetched { IfSome result (λ i. IsFetchedFrom i address (take (length_of i.mode) bytes.now)) }
 {
     let (opcode, operand) = bytes.split_first()?;

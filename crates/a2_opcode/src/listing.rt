@@ -67,7 +67,7 @@ fn put_spaced(text: &mut ArrayString<32>, bytes: &[u8])
     }
 }
 
-// Appends what stands before the mnemonic, 19 characters.
+// Appends the columns before the mnemonic, 19 characters.
 fn put_columns(text: &mut ArrayString<32>, address: u16, bytes: &[u8])
     requires empty { text.old.bytes ≡ [] }
     requires some { 1 ≤ length bytes.now }
@@ -102,7 +102,7 @@ fn put_word_between(text: &mut ArrayString<32>, before: &str, value: u16, after:
     text.push_str(after);
 }
 
-// Appends the operand behind three blanks, where there is one.
+// Appends three blanks and the operand, if there is one.
 fn put_operand(text: &mut ArrayString<32>, mode: Mode, value: u16)
     requires fits { (at : ℕ) × (can_have mode at value ≡ true) }
     requires room { array_string_len text.old + 10 ≤ 32 }
@@ -124,11 +124,12 @@ fn put_operand(text: &mut ArrayString<32>, mode: Mode, value: u16)
     }
 }
 
-/// The line of a listing for the bytes at an address, without a line feed, and how many of them it shows.
+/// Returns the line of a listing for the bytes at an address, without a line feed, and how many of the bytes it shows.
 ///
-/// Four digits of the address, `-`, three blanks, the instruction's bytes with one blank between, filled with blanks
-/// to eight places, three blanks, the mnemonic, and, where there is an operand, three blanks and the operand; of a
-/// branch its target. Bytes that are no whole documented instruction show the first of them as `???`.
+/// The line begins with the four digits of the address, `-` and three blanks. The bytes of the instruction follow,
+/// separated by one blank and padded with blanks to eight characters. Then come three blanks, the mnemonic and, if
+/// there is an operand, three blanks and the operand. The operand of a branch is its target. If the bytes do not begin
+/// with a complete documented instruction, the line shows the first byte and `???`.
 #[tactic(auto, unfolding(crate::specs::Listing::listing, crate::specs::Listing::listing_length))]
 pub fn list_line(bytes: &[u8], address: u16) -> Listed
     requires { 0 < length bytes.now }

@@ -1,4 +1,4 @@
-//! The mnemonics' names.
+//! The names of the mnemonics.
 
 ghost use Rattle.std.specs.Prelude.{◌≡◌, ◌<◌, map, Some, IfSome};
 ghost use Rattle.a2_text.specs.Bytes.{capital as capital_of};
@@ -13,15 +13,15 @@ macro_rules! mnemonics {
     ($($mnemonic:ident)*) => { [$(Mnemonic::$mnemonic),*] };
 }
 
-// The mnemonics in the order of the alphabet.
+// The mnemonics in alphabetical order.
 static MNEMONICS: [Mnemonic; 56] = mnemonics!(
     Adc And Asl Bcc Bcs Beq Bit Bmi Bne Bpl Brk Bvc Bvs Clc Cld Cli Clv Cmp Cpx Cpy Dec
     Dex Dey Eor Inc Inx Iny Jmp Jsr Lda Ldx Ldy Lsr Nop Ora Pha Php Pla Plp Rol Ror Rti
     Rts Sbc Sec Sed Sei Sta Stx Sty Tax Tay Tsx Txa Txs Tya
 );
 
-// Where the mnemonic with a name stands among all, by its letters as `place_of` weighs them, in which no two have the same
-// weight; 0 where none has.
+// The index of the mnemonic among all of them, for each weight that `place_of` computes from its letters. No two
+// mnemonics have the same weight. A weight of no mnemonic has index 0.
 static PLACES: [u8; 256] = [
     0, 0, 0, 0, 0, 0, 0, 0, 0, 0, 0, 0, 0, 0, 0, 41, 0, 0, 0, 20, 0, 0, 0, 0, 0, 0, 0, 0, 0, 0, 0,
     0, 0, 0, 0, 4, 0, 0, 0, 0, 0, 0, 0, 53, 0, 42, 0, 0, 0, 5, 0, 29, 0, 55, 0, 0, 0, 0, 0, 0, 0,
@@ -34,7 +34,7 @@ static PLACES: [u8; 256] = [
     0, 28, 0, 0, 3, 0, 0, 0, 0, 40, 0, 0, 0, 32, 47, 0, 0,
 ];
 
-// Where the one mnemonic stands that may have these letters.
+// Returns the index of the only mnemonic that may have these letters.
 fn place_of(letters: [u8; 3]) -> usize
     ensures is { result ≡ place_by letters }
     ensures within { result < 56 }
@@ -44,7 +44,7 @@ fn place_of(letters: [u8; 3]) -> usize
     usize::from(PLACES[weight % 256])
 }
 
-// The mnemonic with a name in capitals.
+// Returns the mnemonic whose name is these capital letters.
 fn spelled(letters: [u8; 3]) -> Option<Mnemonic>
     ensures found { IfSome result (λ m. name_of m ≡ letters) }
     ensures only { (m : DeclaredMnemonic) → name_of m ≡ letters → result ≡ Some m }
@@ -64,7 +64,7 @@ macro_rules! spellings {
 }
 
 impl Mnemonic {
-    /// The three capital letters of the mnemonic.
+    /// Returns the three capital letters of the mnemonic.
     pub fn name(self) -> &'static str
         ensures { result.now ≡ name_of self }
     {
@@ -80,7 +80,7 @@ impl Mnemonic {
         )
     }
 
-    /// The mnemonic whose name a text is, in either case, if it is one.
+    /// Returns the mnemonic whose name is `text`, in either case, or `None` if there is no such mnemonic.
     pub fn named(text: &[u8]) -> Option<Mnemonic>
         ensures found { IfSome result (λ m. name_of m ≡ map capital_of text.now) }
         ensures only { (m : DeclaredMnemonic) → name_of m ≡ map capital_of text.now → result ≡ Some m }

@@ -5,7 +5,7 @@ use Rattle.a2_page.specs.Grid.{Grid, scrolled}
 use Rattle.a2_page.specs.Text.{plotted, block_lines, text_lines, attribute_lines}
 use Rattle.a2_page.specs.Picture.{picture, attribute_rows}
 
--- a small screen of 4 rows of 5 scrolls in a window of 2 columns and 3 rows
+-- a small screen of 4 rows of 5 columns scrolls in a window of 2 columns and 3 rows
 scroll_example :
     scrolled (record { left = 1; width = 2; top = 1; bottom = 4 })
     ((1 ∷ 2 ∷ 3 ∷ 4 ∷ 5 ∷ []) ∷ (6 ∷ 7 ∷ 8 ∷ 9 ∷ 10 ∷ []) ∷ (11 ∷ 12 ∷ 13 ∷ 14 ∷ 15 ∷ []) ∷ (16 ∷ 17 ∷ 18 ∷ 19 ∷ 20 ∷ []) ∷ [])
@@ -25,7 +25,7 @@ text_example = refl
 attribute_example : attribute_lines ((0x01 ∷ 0x41 ∷ 0xC1 ∷ []) ∷ []) ≡ codes "IF.\n"
 attribute_example = refl
 
--- Small screens of 21 rows, of which the last says A
+-- Small screens of 21 rows, whose last row shows A
 
 abbrev small_screen : Grid
 small_screen = replicate 20 (0x12 ∷ []) ++ (0xC1 ∷ []) ∷ []

@@ -1,4 +1,4 @@
--- Rows of a page that is kept.
+-- Rows of a kept copy of a page.
 use Rattle.std.specs.Prelude.{◌≡◌, ◌⊎◌, ℕ, ◌+◌, ◌<◌, ◌≤◌, List, [], length, slice_index, slice_index_or, slice_set, drop, ◌↔◌, Bool, true, false, Option, Some, None, option_map, refl}
 use Rattle.std.proofs.Common.{sym, ap, ◌∙◌, arith, inl, inr}
 use Rattle.std.proofs.lemmas.List.{ext_get_or, places, get_or-set_same, get_or-set_other}
@@ -13,7 +13,7 @@ use Rattle.a2_page.proofs.Finding.{cell_at-stands}
 use Rattle.a2_page.proofs.GridLemmas.{same_or_not, row-set, IsGrid-set}
 use Rattle.a2_page.proofs.PageRows.{page_grid-is_grid, page_grid-byte, page_grid_is}
 
--- a page with a row of another's in place of its own
+-- a page with one of its rows replaced by a row of another page
 pub row_taken : (bytes cells : List ℕ) (row start : ℕ) → row < 24 → length bytes ≡ 1024 → length cells ≡ 40 → start ≡ row_offset row
     → page_grid (put_mid start 40 bytes cells) ≡ slice_set (page_grid bytes) row cells
 row_taken bytes cells row start row_ok size forty at =
@@ -32,7 +32,7 @@ row_taken bytes cells row start row_ok size forty at =
         at_drop : (xs : List ℕ) → slice_index xs place ≡ slice_index (drop place xs) 0
         at_drop xs = grind (arith, places)
 
--- rows that are the page's below one of them, and wherever there is no mark
+-- the rows below a number, and all rows without a mark, are those of the page
 abbrev pub Reached : ℕ → List Bool → Grid → Grid → Type 0
 Reached k marks rows page =
     (r : ℕ) → r < 24 → (r < k) ⊎ (slice_index_or marks r false ≡ false) → slice_index_or rows r [] ≡ slice_index_or page r []
@@ -56,7 +56,7 @@ reached-all marks bytes page reached =
     let high = (page_grid-is_grid bytes).height in
     ext_get_or [] _ _ (high ∙ sym (page_grid-is_grid page).height) (λ i lt. let small : i < 24 = omega arith in reached i small (inl small))
 
--- the rows below one of them are compared with a page's, and the marks of the others are as they were
+-- the rows below a number are compared with a page, and the marks of the other rows are unchanged
 pub record ComparedTo (k : ℕ) (page : Grid) (old new : KeptPicture) : Type 0 where
   pub rows : new.rows ≡ old.rows
   pub marked : (r : ℕ) → r < k → r < 24 → (is_row_marked new r ≡ true) ↔ IsStale old page r

@@ -1,4 +1,4 @@
--- The rows of a page's bytes, and lines of them.
+-- The rows of the bytes of a page, and the lines for them.
 use Rattle.std.specs.Prelude.{◌≡◌, ℕ, ◌+◌, ◌<◌, ◌≤◌, List, [], ◌++◌, length, slice_index, slice_index_or, slice_range, take, drop}
 use Rattle.std.proofs.Common.{sym, ◌∙◌, arith}
 use Rattle.std.proofs.lemmas.List.{ext_get_or, drop_more, drop_all, get_or-take, length-take}
@@ -13,7 +13,7 @@ use Rattle.a2_page.specs.declared.picture.Mark.TheVariants.{Block}
 use Rattle.a2_page.specs.Marks.{character}
 use Rattle.a2_page.proofs.Parts.{same_cells, grid_of-byte, grid_of-is_grid, range-at, range_long}
 
--- the byte of a cell among the page's bytes
+-- the byte of a cell among the bytes of the page
 abbrev byte_at : List ℕ → ℕ → ℕ → ℕ
 byte_at bytes row column = slice_index bytes (row_offset row + column)
 
@@ -26,7 +26,7 @@ pub page_grid-byte : (bytes : List ℕ) (row column : ℕ) → row < 24 → colu
 unfolding page_grid
 page_grid-byte bytes row column row_ok column_ok = grid_of-byte (byte_at bytes) row column row_ok column_ok
 
--- a grid with these bytes in its cells is the page's
+-- a grid with these bytes in its cells is the grid of the page
 pub page_grid_is : (bytes : List ℕ) (grid : Grid) → IsGrid grid
     → ((row column : ℕ) → row < 24 → column < 40 → slice_index bytes (row_offset row + column) ≡ byte_in grid row column)
     → page_grid bytes ≡ grid
@@ -34,7 +34,7 @@ page_grid_is bytes grid g same =
     same_cells (page_grid bytes) grid (page_grid-is_grid bytes) g
     (λ row column row_ok column_ok. page_grid-byte bytes row column row_ok column_ok ∙ same row column row_ok column_ok)
 
--- and so is a grid that agrees with a memory at the addresses of the page's cells
+-- so is a grid that agrees with a memory at the addresses of the page's cells
 pub page_grid-of_memory : (memory : List ℕ) (page : Page) (grid : Grid) → IsGrid grid → base_of page + 1024 ≤ length memory
     → ((row column : ℕ) → row < 24 → column < 40 → slice_index memory (address_of page row column) ≡ byte_in grid row column)
     → page_grid (slice_range memory (base_of page) (base_of page + 1024)) ≡ grid
@@ -45,7 +45,7 @@ page_grid-of_memory memory page grid g fits same =
     (omega arith) (omega arith)
     ∙ same row column row_ok column_ok)
 
--- a row's bytes stand together
+-- the bytes of a row are contiguous
 pub row_is : (bytes : List ℕ) (row start : ℕ) → row < 24 → length bytes ≡ 1024 → start ≡ row_offset row
     → slice_range bytes start (start + 40) ≡ slice_index_or (page_grid bytes) row []
 row_is bytes row start row_ok size e =
@@ -62,7 +62,7 @@ text_rows-next show bytes row cells lt is = rw (drop_more (page_grid bytes) row 
 pub text_rows-end : (show : ℕ → ℕ) (bytes : List ℕ) (row : ℕ) → 24 ≤ row → lines_of show (drop row (page_grid bytes)) ≡ []
 text_rows-end show bytes row le = rw (drop_all row (page_grid bytes) (omega (arith, (page_grid-is_grid bytes).height)))
 
--- the two lines of blocks of the next row above one, and the lines after them
+-- the two lines of blocks of the next row above `end`, and the lines after them
 pub block_rows-next : (bytes : List ℕ) (end row : ℕ) (cells : List ℕ) → end ≤ 24 → row < end → cells ≡ slice_index_or (page_grid bytes) row []
     → block_lines (drop row (take end (page_grid bytes)))
     ≡ row_line (character (Block Above)) cells

@@ -1,4 +1,4 @@
--- A block that takes a colour is half of one byte that is written.
+-- Setting the colour of one block writes half of one byte.
 use Rattle.std.specs.Prelude.{◌≡◌, ℕ, zero, suc, ◌+◌, ◌*◌, ◌/◌, ◌%◌, List, [], ◌∷◌, map, slice_index, slice_set, refl}
 use Rattle.std.proofs.Common.{ap, ◌∙◌, arith}
 use Rattle.a2_page.specs.declared.Half.{Half}
@@ -6,7 +6,7 @@ use Rattle.a2_page.specs.declared.Half.TheVariants.{Above, Below}
 use Rattle.a2_page.specs.Grid.{Grid, byte_in, with_byte}
 use Rattle.a2_page.specs.Text.{block, with_block, blocks_of, cells_of, joined, plotted}
 
--- the row of blocks that is a half of a row of cells
+-- the number of the row of blocks that is one half of a row of cells
 abbrev half_of : ℕ → Half → ℕ
 half_of zero Above = 0
 half_of zero Below = 1
@@ -46,7 +46,7 @@ block_at Below [] column = refl
 block_at half (byte ∷ row) zero = refl
 block_at half (byte ∷ row) (suc column) = block_at half row column
 
--- All rows, two of blocks for one of cells
+-- All rows: two rows of blocks for each row of cells
 
 cells_again : (cells : Grid) → cells_of (blocks_of cells) ≡ cells
 cells_again [] = refl
@@ -66,7 +66,7 @@ half_shown zero Above column (cell ∷ cells) = block_at Above cell column
 half_shown zero Below column (cell ∷ cells) = block_at Below cell column
 half_shown (suc row) half column (cell ∷ cells) = half_shown row half column cells
 
--- A row of blocks is the upper half of its row of cells where its number is even, else the lower one
+-- A row of blocks is the upper half of its row of cells if its number is even, and otherwise the lower half
 
 even_row : (row : ℕ) → row % 2 ≡ 0 → row ≡ half_of (row / 2) Above
 even_row row even = omega (arith, even, half_is (row / 2) Above)

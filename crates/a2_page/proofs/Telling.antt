@@ -1,4 +1,4 @@
--- A picture that is told of each change goes on to fit.
+-- A picture still fits if each change is reported to it.
 use Rattle.std.specs.Prelude.{◌≡◌, ◌≢◌, ℕ, ◌<◌, true, false, [], ◌∷◌, length, slice_index_or, slice_set, Option, Some, None, refl}
 use Rattle.std.proofs.Common.{sym, ◌∙◌, inl, inr}
 use Rattle.std.proofs.lemmas.List.{get_or-set_same, get_or-set_other, length-set, length-replicate, get_or-replicate}
@@ -12,11 +12,11 @@ use Rattle.a2_page.specs.Told.{Screen, shown_on, byte_stored, switches_set, with
 use Rattle.a2_page.proofs.Finding.{cell_at-stands}
 use Rattle.a2_page.proofs.GridLemmas.{same_or_not}
 
--- with a mark at one row
+-- the picture with a mark at one row
 abbrev with_mark : ℕ → KeptPicture → KeptPicture
 with_mark row kept = record kept { marks = slice_set kept.marks row true }
 
--- a page that differs in that row alone
+-- the pages differ only in that row
 abbrev SameBut : ℕ → Grid → Grid → Type 0
 SameBut row old new = (r : ℕ) → r ≢ row → slice_index_or new r [] ≡ slice_index_or old r []
 
@@ -27,7 +27,7 @@ fits-marked kept row old new row_ok size same fits r r_ok clear = elim (same_or_
   | inr other ↦ fits r r_ok (sym (get_or-set_other kept.marks row r true false other) ∙ clear) ∙ sym (same r other)
 ]
 
--- the shown page behind a store at a cell
+-- the shown page after a store at a cell
 shown_but : (page : Page) (row column byte : ℕ) (screen : Screen) → SameBut row (shown_on screen) (shown_on (with_cell page row column byte screen))
 shown_but One row column byte screen r other = elim (cases_Bool screen.switches.page2) [
   | inl second ↦ rw second
@@ -53,7 +53,7 @@ fits-stored address byte screen kept size fits (Some cell) is = (
   fits-marked kept cell.row (shown_on screen) _ (cell_at-stands address cell is).row_ok size (shown_but cell.page cell.row cell.column byte screen) fits,
 )
 
--- every row is marked, so nothing is asked of it
+-- every row is marked, so nothing is required of the page
 pub fits-switched : (kept : KeptPicture) (page : Grid) → FitsPage (after_switch kept) page
 fits-switched kept page r r_ok clear = (let marked = get_or-replicate 24 r true false r_ok in cc)
 

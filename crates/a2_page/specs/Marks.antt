@@ -1,4 +1,4 @@
--- The ways in which a byte of a page is written as one character.
+-- The ways to write a byte of a page as one character.
 use Rattle.std.specs.Prelude.{ℕ}
 use Rattle.a2_page.specs.Text.{glyph, attribute_mark, block, block_digit}
 use Rattle.a2_page.specs.declared.picture.Mark.{Mark}

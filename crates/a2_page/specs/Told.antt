@@ -1,4 +1,4 @@
--- A picture that is kept and is told of each store and of each setting of the switches. This project's profile.
+-- A kept picture to which every store and every setting of the switches is reported. This project's profile.
 use Rattle.std.specs.Prelude.{◌≡◌, ℕ, List, [], ◌∷◌, length, Some, None}
 use Rattle.a2_page.specs.declared.Page.{Page}
 use Rattle.a2_page.specs.declared.Page.TheVariants.{One, Two}
@@ -8,7 +8,7 @@ use Rattle.a2_page.specs.Grid.{Grid, with_byte}
 use Rattle.a2_page.specs.Kept.{KeptPicture, FitsPage, with_row_marked, after_switch}
 use Rattle.a2_page.specs.Picture.{shown_page}
 
--- what a screen is made of
+-- the parts that decide what a screen shows
 pub record Screen : Type 0 where
   pub switches : Switches
   pub page1 : Grid
@@ -26,13 +26,13 @@ abbrev pub with_cell : Page → ℕ → ℕ → ℕ → Screen → Screen
 with_cell One row column byte screen = record screen { page1 = with_byte screen.page1 row column byte }
 with_cell Two row column byte screen = record screen { page2 = with_byte screen.page2 row column byte }
 
--- the screen behind a change
+-- the screen after a change
 abbrev pub changed : Change → Screen → Screen
 changed (byte_stored address byte) screen =
     elim (cell_at address) as (λ _. Screen) [ Some cell ↦ with_cell cell.page cell.row cell.column byte screen | None ↦ screen ]
 changed (switches_set switches) screen = record screen { switches = switches }
 
--- and a picture that was told of it
+-- the picture after the change is reported to it
 abbrev pub told : Change → KeptPicture → KeptPicture
 told (byte_stored address byte) kept = with_row_marked address kept
 told (switches_set switches) kept = after_switch kept
@@ -45,7 +45,7 @@ abbrev pub all_told : List Change → KeptPicture → KeptPicture
 all_told [] kept = kept
 all_told (change ∷ changes) kept = all_told changes (told change kept)
 
--- a picture of 24 marks that fits, and is told of all that changes, goes on to fit
+-- a picture with 24 marks that fits still fits after any changes, if each of them is reported to it
 abbrev pub ToldPicturesFit : Type 0
 ToldPicturesFit =
     (changes : List Change) (screen : Screen) (kept : KeptPicture) → length kept.marks ≡ 24 → FitsPage kept (shown_on screen)

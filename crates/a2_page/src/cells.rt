@@ -5,7 +5,7 @@ ghost use Rattle.a2_page.specs.Cells.{address_of, base_of, cell_at, row_offset a
 
 use crate::Page;
 
-// How far behind its page's start a row begins.
+// Returns the offset of a row from the start of its page.
 pub(crate) fn row_offset(row: u8) -> u16
     requires { row < 24 }
     ensures { result ≡ row_offset_of row }
@@ -13,8 +13,8 @@ pub(crate) fn row_offset(row: u8) -> u16
     128 * u16::from(row % 8) + 40 * u16::from(row / 8)
 }
 
-/// The address, from $0400 to $0BF7, of the cell of `page` in `row`, 0 to 23 from the top, and `column`, 0 to 39 from the
-/// left. Apple II Reference Manual (1979), page 16.
+/// Returns the address, from $0400 to $0BF7, of a cell of `page`. `row` is 0 to 23 from the top, and `column` is 0 to
+/// 39 from the left. Apple II Reference Manual (1979), page 16.
 pub fn address(page: Page, row: u8, column: u8) -> u16
     requires row { row < 24 }
     requires column { column < 40 }
@@ -27,8 +27,9 @@ pub fn address(page: Page, row: u8, column: u8) -> u16
     base + row_offset(row) + u16::from(column)
 }
 
-/// The page, the row from 0 to 23 and the column from 0 to 39 of the cell at `address`, or `None` where no cell is:
-/// outside both pages, and at the last eight bytes of each 128 in them. Apple II Reference Manual (1979), page 16.
+/// Returns the page, the row (0 to 23) and the column (0 to 39) of the cell at `address`, or `None` if there is no cell
+/// there. There are no cells outside the two pages, nor in the last eight of each 128 bytes in them. Apple II Reference
+/// Manual (1979), page 16.
 #[tactic(auto, using(crate::proofs::CellAt::nothing_before, crate::proofs::CellAt::nothing_after))]
 pub fn cell(address: u16) -> Option<(Page, u8, u8)>
     ensures { result ≡ option_map (λ cell. (cell.page, cell.row, cell.column)) (cell_at address) }
@@ -40,7 +41,7 @@ pub fn cell(address: u16) -> Option<(Page, u8, u8)>
     }
 }
 
-// The cell so many bytes behind a page's start.
+// Returns the cell at this offset from the start of a page.
 #[tactic(auto, using(crate::proofs::CellAt::found_behind, crate::proofs::CellAt::gap_behind))]
 fn cell_behind(page: Page, offset: u16) -> Option<(Page, u8, u8)>
     requires { offset < 1024 }
@@ -50,12 +51,12 @@ fn cell_behind(page: Page, offset: u16) -> Option<(Page, u8, u8)>
     if place >= 120 {
         return None;
     }
-    // Each 128 bytes hold three rows, which stand eight apart on the screen.
+    // Each 128 bytes hold three rows, which are eight rows apart on the screen.
     let row = offset / 128 + 8 * (place / 40);
     Some((page, row as u8, (place % 40) as u8))
 }
 
-/// A law: `cell` finds each cell at its own address, and whatever it finds is a cell that has this address.
+/// A law: `cell` finds each cell at its own address, and every cell it finds has that address.
 pub fn cell_and_address_are_inverse()
     ensures each { FindsEachCell }
     ensures only { FindsOnlyCells }

@@ -5,7 +5,8 @@ ghost use Rattle.a2_page.specs.Text as text;
 
 use crate::{Attribute, Half};
 
-/// The ASCII code, from $20 to $5F, of the character that `byte` shows. Apple II Reference Manual (1979), page 15.
+/// Returns the ASCII code, from $20 to $5F, of the character that `byte` shows. Apple II Reference Manual (1979), page
+/// 15.
 pub fn glyph(byte: u8) -> u8
     ensures { result ≡ text.glyph byte }
 {
@@ -13,7 +14,7 @@ pub fn glyph(byte: u8) -> u8
     if low < 32 { low + 64 } else { low }
 }
 
-/// How `byte` shows its character. Apple II Reference Manual (1979), page 15.
+/// Returns how `byte` shows its character. Apple II Reference Manual (1979), page 15.
 pub fn attribute_of(byte: u8) -> Attribute
     ensures { result ≡ text.attribute byte }
 {
@@ -24,7 +25,8 @@ pub fn attribute_of(byte: u8) -> Attribute
     }
 }
 
-/// The colour, from 0 to 15, of the lo-res block that `half` of `byte` is. Apple II Reference Manual (1979), page 17.
+/// Returns the colour, from 0 to 15, of one of the two lo-res blocks of `byte`. Apple II Reference Manual (1979), page
+/// 17.
 pub fn block(byte: u8, half: Half) -> u8
     ensures { result ≡ text.block byte half }
 {
@@ -34,8 +36,8 @@ pub fn block(byte: u8, half: Half) -> u8
     }
 }
 
-/// The byte that has the lo-res colour `colour`, 0 to 15, as its block of `half`, and the other block as `byte` has it.
-/// Apple II Reference Manual (1979), page 17.
+/// Returns `byte` with one of its two lo-res blocks changed to `colour`, 0 to 15. The other block is unchanged. Apple
+/// II Reference Manual (1979), page 17.
 pub fn set_block(byte: u8, half: Half, colour: u8) -> u8
     requires { colour < 16 }
     ensures { result ≡ text.with_block byte half colour }

@@ -1,4 +1,4 @@
-//! A picture that is kept between two looks at a screen.
+//! A copy of the screen that is kept from one redraw to the next.
 
 ghost use Rattle.std.specs.Prelude.{◌≡◌, ◌<◌, ◌↔◌, ℕ, true, slice_set, slice_index_or, [], length};
 ghost use Rattle.a2_stream.specs.Stream.{SendsOrBreaks};
@@ -13,12 +13,12 @@ use crate::picture::{Mark, cells_in_row, put_picture, put_text_rows, shown_page}
 use a2_stream::{Output, WriteFault};
 use std::marker::Model;
 
-/// The rows of cells that were last taken of a screen's shown page, and a mark for each of the 24 rows that may have
-/// changed since: whoever shows a running machine asks for the marked rows alone. Contracts see rows and marks. No call
-/// takes memory. This project's profile.
+/// A copy of the rows of a screen's shown page, with a mark for each of the 24 rows that may have changed since the
+/// last copy. A program that shows a running machine needs to redraw only the marked rows. Contracts see rows and
+/// marks. No call allocates memory. This project's profile.
 #[derive(Drop)]
 pub struct Picture {
-    // As a page has them, so that a row stands where its address says.
+    // In the layout of a page, so that a row is at the offset that its address gives.
     page: [u8; 1024],
     marks: [bool; 24],
 }
@@ -32,7 +32,7 @@ impl Model for Picture {
     ghost view = { λ p. record { rows = page_grid p.page; marks = p.marks } };
 }
 
-// Lays a row of one page over that of another.
+// Copies a row from one page to another.
 fn take_row(page: &mut [u8; 1024], from: &[u8; 1024], row: u8)
     requires { row < 24 }
     ensures { page_grid page.new ≡ slice_set (page_grid page.old) row (slice_index_or (page_grid from.now) row []) }
@@ -41,7 +41,7 @@ fn take_row(page: &mut [u8; 1024], from: &[u8; 1024], row: u8)
     page[start..start + 40].copy_from_slice(cells_in_row(from, row));
 }
 
-// Whether a row of one page is that of another.
+// Returns whether two pages have the same bytes in this row.
 fn has_same_row(page: &[u8; 1024], other: &[u8; 1024], row: u8) -> bool
     requires { row < 24 }
     ensures { (result ≡ true) ↔ (slice_index_or (page_grid page.now) row [] ≡ slice_index_or (page_grid other.now) row []) }
@@ -50,7 +50,7 @@ fn has_same_row(page: &[u8; 1024], other: &[u8; 1024], row: u8) -> bool
 }
 
 impl Picture {
-    /// A picture of which every row is marked; so it fits any page, and [`told_pictures_fit`] speaks of it.
+    /// Returns a picture with every row marked. It fits any page, and [`told_pictures_fit`] applies to it.
     pub fn new() -> Picture
         ensures marked { (row : ℕ) → row < 24 → is_row_marked result row ≡ true }
         ensures fits { (page : Grid) → FitsPage result page }
@@ -62,7 +62,7 @@ impl Picture {
         }
     }
 
-    /// Whether `row`, 0 to 23 from the top, may have changed since it was last taken.
+    /// Returns whether `row`, 0 to 23 from the top, may have changed since it was last copied.
     pub fn marked(&self, row: u8) -> bool
         requires { row < 24 }
         ensures { result ≡ is_row_marked self.now row }
@@ -70,8 +70,8 @@ impl Picture {
         self.marks[usize::from(row)]
     }
 
-    /// Takes note of a store at `address`, $0000 to $FFFF: the row of the cell there, on either page, is marked; where no
-    /// cell is, nothing changes.
+    /// Notes a store at `address`, $0000 to $FFFF: marks the row of the cell there, on either page. If there is no cell
+    /// at that address, nothing changes.
     pub fn stored(&mut self, address: u16)
         ensures { self.new ≡ with_row_marked address self.old }
     {
@@ -80,14 +80,14 @@ impl Picture {
         }
     }
 
-    /// Takes note that a display switch was changed: every row is marked; so the picture fits any page.
+    /// Notes a change of a display switch: marks every row, so that the picture fits any page.
     pub fn switched(&mut self)
         ensures { self.new ≡ after_switch self.old }
     {
         self.marks = [true; 24];
     }
 
-    /// Whether `row`, 0 to 23 from the top, is marked or is not as the page that `view` shows has it.
+    /// Returns whether `row`, 0 to 23 from the top, is marked or differs from the page that `view` shows.
     pub fn is_stale(&self, view: &View, row: u8) -> bool
         requires { row < 24 }
         ensures { (result ≡ true) ↔ IsStale self.now (shown_by view.now) row }
@@ -95,8 +95,8 @@ impl Picture {
         self.marks[usize::from(row)] || !has_same_row(&self.page, shown_page(view), row)
     }
 
-    /// Marks each row that is not as the page that `view` shows has it; so the picture fits, whatever was stored and however
-    /// the switches were set.
+    /// Marks each row that differs from the page that `view` shows. After that the picture fits the page, whatever was
+    /// stored and however the switches were set.
     pub fn compare(&mut self, view: &View)
         ensures compared { IsCompared (shown_by view.now) self.old self.new }
         ensures fits { FitsPage self.new (shown_by view.now) }
@@ -109,7 +109,7 @@ impl Picture {
         }
     }
 
-    /// Makes this picture equal to `other`, marks too.
+    /// Makes this picture equal to `other`, including its marks.
     pub fn copy_from(&mut self, other: &Picture)
         ensures { self.new ≡ other.now }
     {
@@ -117,7 +117,7 @@ impl Picture {
         self.marks = other.marks;
     }
 
-    /// Whether each row without a mark is that of the page that `view` shows.
+    /// Returns whether each row without a mark is equal to that row of the page that `view` shows.
     pub fn fits(&self, view: &View) -> bool
         ensures { (result ≡ true) ↔ FitsPage self.now (shown_by view.now) }
     {
@@ -130,8 +130,8 @@ impl Picture {
         true
     }
 
-    /// Takes the marked rows of the page that `view` shows, clears the marks, and answers how many rows were marked, 0 to
-    /// 24.
+    /// Copies the marked rows of the page that `view` shows, clears the marks, and returns how many rows were marked, 0
+    /// to 24.
     pub fn refresh(&mut self, view: &View) -> u8
         requires { FitsPage self.old (shown_by view.now) }
         ensures taken { self.new ≡ after_refresh (shown_by view.now) }
@@ -148,8 +148,8 @@ impl Picture {
         count
     }
 
-    /// Refreshes this picture, and writes to `writer` what [`print`](crate::print) writes of `view`, in the same lines.
-    /// Refused where a write fails: what went out then is a front of these lines, and the refresh has been done.
+    /// Refreshes this picture, and writes to `writer` the lines that [`print`](crate::print) writes for `view`. If a
+    /// write fails, returns an error: only a prefix of these lines was written, but the refresh is complete.
     pub fn print<W: Output>(&mut self, view: &View, writer: &mut W) -> Result<(), WriteFault>
         requires { FitsPage self.old (shown_by view.now) }
         ensures taken { self.new ≡ after_refresh (shown_by view.now) }
@@ -160,9 +160,9 @@ impl Picture {
         put_picture(&self.page, view.switches, writer)
     }
 
-    /// Refreshes this picture, and writes to `writer` what [`print_attributes`](crate::print_attributes) writes of `view`,
-    /// in the same lines. Refused where a write fails: what went out then is a front of these lines, and the refresh has
-    /// been done.
+    /// Refreshes this picture, and writes to `writer` the lines that [`print_attributes`](crate::print_attributes)
+    /// writes for `view`. If a write fails, returns an error: only a prefix of these lines was written, but the refresh
+    /// is complete.
     pub fn print_attributes<W: Output>(
         &mut self,
         view: &View,
@@ -178,9 +178,9 @@ impl Picture {
     }
 }
 
-/// A law: a picture that fits, and is told of each store by `stored` and of each change of the switches by `switched`, goes
-/// on to fit, whatever was stored where and however the switches were set, in any order; so what it prints is what
-/// [`print`](crate::print) prints. The call does nothing.
+/// A law: a picture that fits still fits after any changes, if `stored` reports each store to it and `switched` each
+/// change of the switches. This holds for any stores and any settings of the switches, in any order. So the picture
+/// prints what [`print`](crate::print) prints. The call does nothing.
 pub fn told_pictures_fit()
     ensures { ToldPicturesFit }
 {}

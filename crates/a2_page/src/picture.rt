@@ -1,4 +1,4 @@
-//! The screen as printed lines.
+//! Prints the screen as lines.
 
 ghost use Rattle.std.specs.Prelude.{◌≡◌, ◌<◌, ◌≤◌, length, slice_index_or, take, drop, []};
 ghost use Rattle.a2_stream.specs.Stream.{SendsOrBreaks};
@@ -13,11 +13,11 @@ use a2_stream::{Output, WriteFault, put};
 use a2_text::hex_pair;
 use arrayvec::ArrayVec;
 
-/// Writes to `writer` what the screen of `view` shows, each line ended by LF: in text mode 24 lines of 40 characters, in
-/// lo-res 48 lines of 40 hexadecimal digits, in hi-res the one line `HI-RES NOT SHOWN`. In the mixed modes the last four
-/// rows of cells are lines of characters, after 40 lines of digits or the one line. Refused where a write fails, and
-/// what went out then is a front of these lines. Apple II Reference Manual (1979), pages 12 to 20, and this project's
-/// profile.
+/// Writes to `writer` what the screen of `view` shows, with LF at the end of each line. Text mode gives 24 lines of 40
+/// characters, lo-res gives 48 lines of 40 hexadecimal digits, and hi-res gives the one line `HI-RES NOT SHOWN`. In the
+/// mixed modes, 40 lines of digits or that one line come first, and the last four rows of cells follow as lines of
+/// characters. If a write fails, returns an error, and only a prefix of these lines was written. Apple II Reference
+/// Manual (1979), pages 12 to 20, and this project's profile.
 pub fn print<W: Output>(view: &View, writer: &mut W) -> Result<(), WriteFault>
     ensures { SendsOrBreaks (W.taker writer.old) (W.taker writer.new) result
         (picture view.now.switches (page_grid view.now.page1.now) (page_grid view.now.page2.now)) }
@@ -25,9 +25,9 @@ pub fn print<W: Output>(view: &View, writer: &mut W) -> Result<(), WriteFault>
     put_picture(shown_page(view), view.switches, writer)
 }
 
-/// Writes to `writer` how each cell of `view` shows its character, for the rows that `print` writes as characters and in
-/// lines as there: `.` for normal, `I` for inverse, `F` for flashing. Refused where a write fails, and what went out then
-/// is a front of these lines. This project's profile.
+/// Writes to `writer` how each cell of `view` shows its character: `.` for normal, `I` for inverse, `F` for flashing.
+/// The rows and lines are those that `print` writes as characters. If a write fails, returns an error, and only a
+/// prefix of these lines was written. This project's profile.
 pub fn print_attributes<W: Output>(view: &View, writer: &mut W) -> Result<(), WriteFault>
     ensures { SendsOrBreaks (W.taker writer.old) (W.taker writer.new) result
         (attribute_rows view.now.switches (page_grid view.now.page1.now) (page_grid view.now.page2.now)) }
@@ -35,7 +35,7 @@ pub fn print_attributes<W: Output>(view: &View, writer: &mut W) -> Result<(), Wr
     put_text_rows(shown_page(view), view.switches, Mark::Attribute, writer)
 }
 
-// What is written of a byte of a page: its character, how it shows it, or a block.
+// What to write for a byte of a page: its character, its attribute, or one of its blocks.
 #[derive(Clone, Copy)]
 pub(crate) enum Mark {
     Glyph,
@@ -65,7 +65,7 @@ fn first_text_row(switches: Switches) -> u8
     }
 }
 
-// The lines of a page: graphics down to the text, and then text.
+// The lines of a page: first the graphics rows, and then the text rows.
 #[tactic(auto, using(a2_stream::proofs::Joined::broke_off, a2_stream::proofs::Joined::went_on))]
 pub(crate) fn put_picture<W: Output>(
     page: &[u8; 1024],
@@ -110,7 +110,7 @@ fn put_blocks<W: Output>(page: &[u8; 1024], end: u8, writer: &mut W) -> Result<(
     Ok(())
 }
 
-// The rows of cells from the first text row on.
+// The rows of cells from the first text row to the bottom.
 pub(crate) fn put_text_rows<W: Output>(
     page: &[u8; 1024],
     switches: Switches,

@@ -1,4 +1,4 @@
--- Going back in a play: cycles never fall, and keys that were typed from a position on do not matter before it.
+-- Going back in a play: cycles never decrease, and keys that were typed from a position on do not matter before it.
 use Rattle.std.specs.Prelude.{nat_lt, Result, Ok, Err}
 use Rattle.std.proofs.Common.{◌≡◌, ◌⊎◌, inl, inr, ℕ, zero, suc, ◌+◌, ◌<◌, ◌≤◌, Bool, true, false, List, [], ◌∷◌, ◌==◌, if◌then◌else◌, refl, sym, ap, ap₂, ◌∙◌, subst, arith, Option, Some, None}
 use Rattle.std.proofs.lemmas.Bool.{ne_eqb, cond-false}
@@ -22,7 +22,7 @@ use Rattle.a2_play.specs.Agains.{IsAgain, world_before}
 use Rattle.a2_play.proofs.Runs.{two}
 use Rattle.a2_play.proofs.Worlds.{before-same}
 
--- no step takes a cycle back
+-- No step lowers the cycle count.
 next-later : (code : Code) (w : World) → w.cycles ≤ (next code w).cycles
 unfolding next next_at served performed
 next-later code w = by_service (service_at w.registers.pc) (found_at_pc code w)
@@ -37,7 +37,7 @@ next-later code w = by_service (service_at w.registers.pc) (found_at_pc code w)
     by_service None (Ok decoded) = omega arith
 
 module _ (program : Assembled) (log : List Typed) where
-  -- keys take no cycles
+  -- Keys take no cycles.
   pub cycles-before : (n : ℕ) → (world_with_keys program log n).cycles ≡ (world_before program log n).cycles
   unfolding typed
   cycles-before n = ap (λ (w : World). w.cycles) (with-typed (code_of_play program) (start program) log n)

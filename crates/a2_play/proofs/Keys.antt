@@ -1,4 +1,4 @@
--- The keys that were typed behind so many steps.
+-- The keys that were typed after a number of steps.
 use Rattle.std.proofs.Common.{◌≡◌, ℕ, ◌<◌, ◌≤◌, List, [], ◌∷◌, ◌++◌, refl, ◌∙◌, arith}
 use Rattle.std.proofs.lemmas.Bool.{ne_eqb, cond-false}
 use Rattle.a2_timed_keys.specs.declared.strokes.Typed.{Typed}

@@ -1,4 +1,4 @@
--- A run that is made again.
+-- A run that is replayed.
 use Rattle.std.proofs.Common.{◌≡◌, ◌≢◌, ◌⊎◌, ◌↔◌, inl, inr, ℕ, suc, ◌+◌, ◌-◌, ◌<◌, ◌≤◌, Bool, true, List, [], ◌∷◌, length, take, get_or, refl, sym, ap, ap₂, ◌∙◌, subst, arith, Some, None, true≢false, length-append}
 use Rattle.std.specs.Prelude.{is_some}
 use Rattle.std.proofs.lemmas.List.{append-nil}
@@ -24,7 +24,7 @@ none_of : (xs : List ℕ) → length xs ≤ 0 → xs ≡ []
 none_of [] l = refl
 none_of (x ∷ xs) l = absurd (omega (arith, l))
 
--- a machine at which these keys wait
+-- a machine in which these keys wait
 holding : Device → List ℕ → Device
 holding m keys =
     let s = m.state in
@@ -36,7 +36,7 @@ with_none : (m : Device) → with_keys [] m ≡ m
 unfolding holding
 with_none m = ap (λ l. holding m l) (append-nil m.state.bus.devices.keys)
 
--- a key is typed, or is not one of these steps
+-- A key is typed, or it does not belong to this number of steps.
 pub stroke_typed : (stroke : Typed) (steps : ℕ) (old new : Device) (is_typed : Bool) → stroke.steps ≡ steps → HasRoom (keys_at (stroke ∷ []) steps) old
     → ((is_typed ≡ true) ↔ (length old.state.bus.devices.keys < 4096)) → new ≡ machine_after is_typed stroke.key old
     → new ≡ with_keys (keys_at (stroke ∷ []) steps) old
@@ -52,7 +52,7 @@ stroke_typed stroke steps old new is_typed here room fits is =
 pub stroke_left : (stroke : Typed) (steps : ℕ) (old : Device) → stroke.steps ≢ steps → old ≡ with_keys (keys_at (stroke ∷ []) steps) old
 stroke_left stroke steps old ne = sym (ap (λ (ks : List ℕ). with_keys ks old) (keys_at-not stroke steps ne) ∙ with_none old)
 
--- where keys have room one after another, the next has
+-- If keys have room one after another, the next key has room.
 pub room_more : (log : List Typed) (i n : ℕ) (d : Typed) (old m : Device) → i < length log → m ≡ with_keys (keys_at (take i log) n) old
     → HasRoom (keys_at log n) old → HasRoom (keys_at (get_or log i d ∷ []) n) m
 room_more log i n d old m low was room = go room
@@ -85,7 +85,7 @@ again_start program play log machine at world steps guarded = record {
   within = omega (arith, steps);
 }
 
--- the keys of a position have room where it is come to again
+-- The keys of a position have room when it is reached again.
 pub again_room : (program : Assembled) (log : List Typed) (last : ℕ) (old : Device) → IsAgain program log last old.state
     → HasRoom (keys_at log old.state.steps) old
 again_room program log last old at = go (at.fits old.state.steps)
@@ -101,7 +101,7 @@ again_room program log last old at = go (at.fits old.state.steps)
     go (inl e) = inl e
     go (inr l) = inr (omega (arith, count, l))
 
--- the keys of a position are typed, and steps made, between which none was typed
+-- The keys of a position are typed, then steps are run with no keys typed during them.
 module _ (program : Assembled) (log : List Typed) (last end until limit : ℕ) (old keyed new : Device) (cause : Cause)
     (at : IsAgain program log last old.state) (inside : end ≤ last)
     (is_keyed : keyed ≡ with_keys (keys_at log old.state.steps) old)
@@ -130,7 +130,7 @@ module _ (program : Assembled) (log : List Typed) (last end until limit : ℕ) (
   few : new.state.steps ≤ until
   few = omega (arith, run.end.within, run.more, from, most, more)
 
-  -- no run from there ends at once
+  -- No run from there ends at once.
   ahead : (old.state.steps < new.state.steps) ⊎ (new.state.steps ≤ old.state.steps) → old.state.steps < new.state.steps
   ahead (inl l) = l
   ahead (inr l) = absurd (go run.end.cause)
@@ -177,7 +177,7 @@ module _ (program : Assembled) (log : List Typed) (last end until limit : ℕ) (
     omega (arith, few, within),
   )
 
--- where a machine stands that is sought
+-- the state of a machine during a search
 pub record IsSeeking (program : Assembled) (log : List Typed) (goal end piece made before : ℕ) (state : MachineState) : Type 0 where
   pub again : IsAgain program log end state
   pub index : made ≤ state.steps
@@ -199,7 +199,7 @@ seeking_start program log goal end piece state at slower = record {
   slower = λ k l h. slower k h;
 }
 
--- before so many cycles are made another piece is
+-- Until the cycles have passed, another piece is run.
 pub seeking_on : (program : Assembled) (log : List Typed) (goal end piece made before : ℕ) (old new : MachineState)
     → IsSeeking program log goal end piece made before old → old.cycles < goal → IsAgain program log end new → old.steps < new.steps
     → new.steps ≤ old.steps + piece → IsSeeking program log goal end piece (made + 1) old.steps new
@@ -216,7 +216,7 @@ seeking_on program log goal end piece made before old new seeking slow again on 
   );
 }
 
--- it is found where they are made, or at the end
+-- The search ends when the cycles have passed, or at the end.
 pub sought : (program : Assembled) (log : List Typed) (goal end piece made before : ℕ) (state : MachineState)
     → IsSeeking program log goal end piece made before state → goal ≤ (world_with_keys program log end).cycles
     → (end ≤ state.steps) ⊎ (goal ≤ state.cycles) → IsSought program log goal end piece before state
@@ -234,7 +234,7 @@ sought program log goal end piece made before state seeking enough found = recor
         omega (arith, enough, ap (λ n. (world_with_keys program log n).cycles) is, cycles-of program log end state seeking.again)
     go (inr l) = l
 
--- what the calls promise that seek and bring
+-- the contract of the calls that seek and bring
 abbrev pub Seeks : List Typed → ℕ → ℕ → ℕ → ℕ → MachineState → MachineState → Type 0
 Seeks log goal end piece before old new =
     (program : Assembled) → IsAgain program log end old → IsSlower program log goal old.steps → goal ≤ (world_with_keys program log end).cycles
@@ -251,7 +251,8 @@ pub record IsBegun (program : Assembled) (state : MachineState) : Type 0 where
   pub steps : state.steps ≡ 0
   pub guard : state.guard ≡ Some (guard_of_program program)
 
--- a play goes back: the run is sought in pieces from the start, brought to the last of them, and sought there step by step
+-- A play goes back: the run is searched in pieces from the start, brought to the last piece, and searched there step
+-- by step.
 module _ (program : Assembled) (old first near second brought new : Device) (log : List Typed) (cycles goal before behind : ℕ)
     (at : IsPlayed program (record { machine = old; log = log }))
     (is_goal : goal ≡ old.state.cycles - cycles)

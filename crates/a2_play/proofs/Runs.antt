@@ -1,4 +1,4 @@
--- A program that is played, behind a key and behind a run.
+-- A program that is played, after a key and after a run.
 use Rattle.std.proofs.lemmas.List.Elements.{All-append}
 use Rattle.std.proofs.Common.{◌≡◌, ◌⊎◌, inl, inr, ℕ, zero, suc, ◌+◌, ◌-◌, ◌<◌, ◌≤◌, List, [], ◌∷◌, ◌++◌, length, get_or, Bool, refl, sym, ap, ap₂, ◌∙◌, subst, arith, Some, None}
 use Rattle.a2_asm.specs.Assembled.{Assembled}
@@ -50,7 +50,7 @@ code-one t h (suc k) d l = absurd (omega (arith, l))
 three : (m n : ℕ) → (m < n) ⊎ ((m ≡ n) ⊎ (n < m))
 three m n = grind (arith)
 
--- behind a key
+-- after a key
 module _ (program : Assembled) (machine : Device) (log : List Typed) (key : ℕ) (low : key < 128)
     (room : length machine.state.bus.devices.keys < 4096) (at : IsPlayed program (record { machine = machine; log = log })) where
   noted : Typed
@@ -103,7 +103,7 @@ played_noted program old new before log after key n low room at is same steps no
 pub two : (m n : ℕ) → (m < n) ⊎ (n ≤ m)
 two m n = grind (arith)
 
--- behind a run
+-- after a run
 pub played_run : (program : Assembled) (old new : Device) (log : List Typed) (limit : ℕ) (cause : Cause) → IsMachineRun limit old new cause
     → IsPlayed program (record { machine = old; log = log }) → IsPlayed program (record { machine = new; log = log })
 played_run program old new log limit cause run at =
@@ -145,7 +145,7 @@ stuck_by limit old new cause run = go run.end.cause
     go (inl e) = inr (ap (λ g. stuck (bytes g) (world_of_state new.state)) run.guard ∙ e)
     go (inr e) = inl e.2
 
--- a run that ends at a breakpoint, or as any
+-- a run that ends at a breakpoint, or like any other
 pub played_steps : (program : Assembled) (old new : Device) (log : List Typed) (count : ℕ) → AreSteps old new count → count ≤ steps_left count old.state
     → IsPlayed program (record { machine = old; log = log }) → IsPlayed program (record { machine = new; log = log })
 played_steps program old new log count steps few at =

@@ -18,12 +18,12 @@ module _ (program : Assembled) where
   before-same xs ys (suc n) h =
       ap₂ (λ ks w. next (code_of_play program) (typed ks w)) (h n (omega arith)) (before-same xs ys n (λ i l. h i (omega (arith, l))))
 
-  -- one step on, and more
+  -- one more step, and more of them
   pub world-more : (log : List Typed) (n k m : ℕ) → NoneAbove n log → m ≡ n + k
       → world_with_keys program log m ≡ world_at (code_of_play program) (world_with_keys program log n) k
   world-more log n k m h e = with-more (code_of_play program) (start program) log n k m e (λ i l g. keys_at-past log n i h l)
 
-  -- a key typed behind so many steps
+  -- a key typed after a number of steps
   pub push-before : (log : List Typed) (t : Typed) (i : ℕ) → i < t.steps → keys_at (log ++ t ∷ []) i ≡ keys_at log i
   push-before log t i l =
       keys_at-append log (t ∷ []) i ∙ ap (λ ks. keys_at log i ++ ks) (keys_at-not t i (λ e. omega (arith, l, e))) ∙ append-nil (keys_at log i)

@@ -1,4 +1,4 @@
--- A record, a line at a time.
+-- A record, one line at a time.
 use Rattle.std.specs.Prelude.{Result, Ok, Err}
 use Rattle.std.proofs.Common.{◌≡◌, ℕ, ◌+◌, ◌<◌, List, [], ◌++◌, length, drop, get_or, refl, sym, ap, ◌∙◌, ◌≤◌}
 use Rattle.std.proofs.lemmas.List.{append_assoc, append-nil, drop_more, drop_all}
@@ -14,11 +14,11 @@ text-next log end i d l =
     ap (λ (ts : List Typed). record_text ts end) (drop_more log i d l)
     ∙ append_assoc (key_line (get_or log i d)) (key_lines (drop (i + 1) log)) (end_line end)
 
--- behind all keys the end's line is left
+-- After all keys the line of the end remains.
 pub text-last : (log : List Typed) (end i : ℕ) → length log ≤ i → record_text (drop i log) end ≡ end_line end
 text-last log end i l = ap (λ (ts : List Typed). record_text ts end) (drop_all i log l)
 
--- what is left goes out, or breaks off
+-- What remains is written, or writing breaks off.
 pub left_last : {T E : Type 0} → (a b c : Taker) (r : Result T E) (whole rest piece : List ℕ) → rest ≡ piece → IsLeft a b whole rest
     → SendsOrBreaks b c r piece → SendsOrBreaks a c r whole
 left_last a b c (Ok _) whole rest piece is h p =

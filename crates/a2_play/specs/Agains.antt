@@ -1,4 +1,4 @@
--- A run that is made again. No public clause cites this file.
+-- A run that is replayed. No public clause cites this file.
 use Rattle.std.specs.Prelude.{◌≡◌, ◌⊎◌, ℕ, ◌+◌, ◌<◌, ◌≤◌, List, [], All, length, Some, None}
 use Rattle.a2_asm.specs.Assembled.{Assembled}
 use Rattle.a2_services.specs.World.{World}
@@ -9,15 +9,15 @@ use Rattle.a2_timed_keys.specs.declared.strokes.Typed.{Typed}
 use Rattle.a2_timed_keys.specs.Typed.{world_before_keys}
 use Rattle.a2_play.specs.Played.{code_of_play, start, world_with_keys, Fits}
 
--- these keys have room at a machine, or there are none
+-- these keys have room in a machine, or there are none
 abbrev pub HasRoom : List ℕ → Device → Type 0
 HasRoom keys device = (keys ≡ []) ⊎ (length device.state.bus.devices.keys + length keys ≤ 4096)
 
--- the world behind so many steps, before the keys that were typed there
+-- the world after this many steps, before the keys that were typed there
 abbrev pub world_before : Assembled → List Typed → ℕ → World
 world_before program log n = world_before_keys (code_of_play program) (start program) log n
 
--- a machine stands in a run that came to a last position, before the keys that were typed where it stands
+-- a machine is in the replay of a run that reached a last position, before the keys of the current position are typed
 pub record IsAgain (program : Assembled) (log : List Typed) (last : ℕ) (state : MachineState) : Type 0 where
   pub codes : All (λ t. t.key < 128) log
   pub fits : (k : ℕ) → Fits program log k
@@ -27,11 +27,11 @@ pub record IsAgain (program : Assembled) (log : List Typed) (last : ℕ) (state 
   pub guarded : state.guard ≡ Some (guard_of_program program)
   pub within : state.steps ≤ last
 
--- fewer cycles than these were made behind each smaller number of steps
+-- after each smaller number of steps, fewer than `goal` cycles had passed
 abbrev pub IsSlower : Assembled → List Typed → ℕ → ℕ → Type 0
 IsSlower program log goal n = (k : ℕ) → k < n → (world_with_keys program log k).cycles < goal
 
--- it stands where so many cycles were made, in the piece that began at a position before which they were not
+-- `goal` cycles have passed, within the piece that began at a position before which they had not
 pub record IsSought (program : Assembled) (log : List Typed) (goal end piece before : ℕ) (state : MachineState) : Type 0 where
   pub again : IsAgain program log end state
   pub ahead : before ≤ state.steps

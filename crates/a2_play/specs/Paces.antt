@@ -4,11 +4,11 @@ use Rattle.a2_text.specs.Bytes.{is_between}
 use Rattle.a2_play.specs.declared.pace.Pace.{Pace}
 use Rattle.a2_play.specs.declared.pace.Pace.TheVariants.{Cycles, Max}
 
--- the cycles that an Apple II makes in a second
+-- the cycles that an Apple II runs in a second
 abbrev pub apple : Pace
 apple = Cycles 1_022_727
 
--- the paces between which a session goes
+-- whether a session may have a pace of this many cycles a second
 abbrev pub is_in_bounds : ℕ → Bool
 is_in_bounds cycles = is_between 1_000 1_000_000_000 cycles
 
@@ -21,12 +21,12 @@ abbrev pub slower : Pace → Pace
 slower (Cycles cycles) = if nat_le (cycles / 2) 1_000 then Cycles 1_000 else Cycles (cycles / 2)
 slower Max = Max
 
--- those of the time that went by, of a quarter of a second at most
+-- the cycles of the time that passed, of which at most a quarter of a second counts
 abbrev pub due : Pace → ℕ → ℕ
 due (Cycles cycles) micros = cycles * min micros 250_000 / 1_000_000
 due Max micros = 1_000_000
 
--- a second's cycles; where there is no pace, an Apple II's
+-- the cycles of a second; at Max, an Apple II's
 abbrev pub second : Pace → ℕ
 second (Cycles cycles) = cycles
 second Max = 1_022_727

@@ -4,15 +4,15 @@ use Rattle.std.specs.Fmt.{decimal}
 use Rattle.a2_text.specs.Digits.{hex_pair}
 use Rattle.a2_timed_keys.specs.declared.strokes.Typed.{Typed}
 
--- a key: the steps that were made when it was typed, and its code, 00 to 7F
+-- the line of a key: the number of steps when it was typed, and its code, 00 to 7F
 abbrev pub key_line : Typed → List ℕ
 key_line typed = decimal typed.steps ++ (codes " " ++ (hex_pair typed.key ++ codes "\n"))
 
--- the steps at the end
+-- the line of the end: the number of steps
 abbrev pub end_line : ℕ → List ℕ
 end_line steps = decimal steps ++ codes " END\n"
 
--- a line for each key, in the order in which they were typed, and one for the end
+-- a line for each key, in the order in which they were typed
 abbrev pub key_lines : List Typed → List ℕ
 key_lines [] = []
 key_lines (typed ∷ more) = key_line typed ++ key_lines more

@@ -1,4 +1,4 @@
-//! A run made again, with the keys that were typed at it.
+//! Replays a run with the keys that were typed in it.
 
 ghost use Rattle.std.specs.Prelude.{◌≡◌, ◌↔◌, true, ℕ, ◌<◌, ◌≤◌, ◌∷◌, [], All, Some, length};
 ghost use Rattle.a2_asm.specs.Assembled.{Assembled};
@@ -15,7 +15,7 @@ use a2_machine::Machine;
 use a2_timed_keys::Typed;
 use std::alloc::Allocator;
 
-/// Types a key where there is room: whether there was.
+/// Types a key if there is room, and returns whether there was.
 pub(crate) fn type_at<A: Allocator>(machine: &mut Machine<A>, key: u8) -> bool
     requires { key < 128 }
     ensures room { (result ≡ true) ↔ (length machine.old.state.bus.devices.keys < 4096) }
@@ -24,7 +24,7 @@ pub(crate) fn type_at<A: Allocator>(machine: &mut Machine<A>, key: u8) -> bool
     machine.type_keys(&Keys::one(key)).is_ok()
 }
 
-/// Puts a machine at the start of a program, guarded.
+/// Puts a machine at the start of a program, with the program guarded.
 pub(crate) fn begin<A: Allocator>(machine: &mut Machine<A>, program: &Program<A>)
     ensures world { world_of_state machine.new.state ≡ start program.now }
     ensures steps { machine.new.state.steps ≡ 0 }
@@ -34,18 +34,18 @@ pub(crate) fn begin<A: Allocator>(machine: &mut Machine<A>, program: &Program<A>
     machine.guard(program);
 }
 
-// Types a key where it was typed behind as many steps as these.
+// Types a key if it was typed after this many steps.
 fn type_stroke<A: Allocator>(machine: &mut Machine<A>, stroke: Typed, steps: u64)
     ensures { stroke.key < 128 → HasRoom (keys_at (stroke ∷ []) steps) machine.old
         → machine.new ≡ with_keys (keys_at (stroke ∷ []) steps) machine.old }
 {
     if stroke.key < 128 && stroke.steps == steps {
-        // There was room.
+        // There was room when the key was first typed.
         let _ = type_at(machine, stroke.key);
     }
 }
 
-// Types the keys that were typed behind so many steps.
+// Types the keys that were typed after this many steps.
 fn type_due<A: Allocator>(machine: &mut Machine<A>, log: &[Typed], steps: u64)
     ensures { All (λ t. t.key < 128) log.now → HasRoom (keys_at log.now steps) machine.old
         → machine.new ≡ with_keys (keys_at log.now steps) machine.old }
@@ -55,7 +55,7 @@ fn type_due<A: Allocator>(machine: &mut Machine<A>, log: &[Typed], steps: u64)
     }
 }
 
-// The steps of a key where they are above those that were made and below `until`, else these.
+// Returns the steps of a key if they are above `made` and below `until`, otherwise `until`.
 fn sooner(stroke: Typed, made: u64, until: u64) -> u64
     requires { made < until }
     ensures more { made < result }
@@ -71,7 +71,7 @@ fn sooner(stroke: Typed, made: u64, until: u64) -> u64
     stroke.steps
 }
 
-// The steps, above those that were made and at most `end`, up to which no key was typed.
+// Returns the number of steps, above `made` and at most `end`, up to which no key was typed.
 fn next_due(log: &[Typed], made: u64, end: u64) -> u64
     requires { made < end }
     ensures more { made < result }
@@ -85,8 +85,8 @@ fn next_due(log: &[Typed], made: u64, end: u64) -> u64
     until
 }
 
-// Goes on with a run made again: types the keys that were typed where it stands, and makes steps up to the next place where some
-// were, or to `end`.
+// Continues a replay: types the keys that belong to the current position, and runs to the next position with keys, or
+// to `end`.
 fn run_on<A: Allocator>(machine: &mut Machine<A>, log: &[Typed], end: u64)
     requires { machine.old.state.steps < end }
     ensures { (program : Assembled) (last : ℕ) → IsAgain program log.now last machine.old.state → end ≤ last
@@ -96,11 +96,11 @@ fn run_on<A: Allocator>(machine: &mut Machine<A>, log: &[Typed], end: u64)
     let made = machine.steps();
     type_due(machine, log, made);
     let until = next_due(log, made, end);
-    // The run is made again, so that no cause comes before the limit.
+    // This part of the run is a replay, so no other cause occurs before the limit.
     let _ = machine.run((until - made).min(PIECE_MAX_STEPS) as u32);
 }
 
-/// Brings a run made again to a position that it came to.
+/// Continues a replay to a position that the run reached.
 pub(crate) fn bring<A: Allocator>(machine: &mut Machine<A>, log: &[Typed], position: u64)
     ensures { (program : Assembled) (last : ℕ) → IsAgain program log.now last machine.old.state → position ≤ last
         → machine.old.state.steps ≤ position → IsAgain program log.now last machine.new.state
@@ -114,8 +114,8 @@ pub(crate) fn bring<A: Allocator>(machine: &mut Machine<A>, log: &[Typed], posit
     }
 }
 
-/// Goes on with a run made again, in pieces of at most so many steps, up to one behind which `goal` cycles were made, or to
-/// `end`: where that piece began.
+/// Continues a replay in pieces of at most `piece` steps, until `goal` cycles have passed after a piece, or until
+/// `end`. Returns the position at which that piece began.
 pub(crate) fn seek<A: Allocator>(
     machine: &mut Machine<A>,
     log: &[Typed],

@@ -1,7 +1,8 @@
-//! The time at a terminal.
+//! Provides the time for a session.
 
 /// A clock.
 pub trait Clock {
-    /// Microseconds since a start of its own. Where the system tells no time it stays where it was.
+    /// Returns the microseconds since an arbitrary start. If the system cannot provide the time, the value does not
+    /// change.
     fn micros(&mut self) -> u64;
 }

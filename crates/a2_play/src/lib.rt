@@ -1,6 +1,7 @@
-//! A machine that is played at a terminal: keys as they are typed, cycles as time goes, and the cells that changed.
+//! Plays a machine at a terminal in real time: types keys, runs the cycles that are due, and draws the cells that
+//! changed.
 //!
-//! How it is called is shown in CALLING.md.
+//! CALLING.md shows how to call this crate.
 #![tactic(auto)]
 
 ghost use Rattle.a2_play.specs.Replays.{ReplayIsPlay};
@@ -22,8 +23,8 @@ pub use record::{Record, RecordFault, put_record, record_of};
 pub use session::{Leave, Session, play};
 pub use spelling::put_keys;
 
-/// Two plays of a program with the same keys, typed behind the same steps, stand at the same world behind as many steps: so a
-/// replay shows what the play did.
+/// A law: two plays of a program with the same keys, typed after the same steps, are at the same world after as many
+/// steps. So a replay shows what the play did.
 pub fn replay_is_play()
     ensures { ReplayIsPlay }
 {}

@@ -1,4 +1,4 @@
-//! What stands beside the screen.
+//! Draws the panel beside the screen.
 
 ghost use Rattle.std.specs.Prelude.{◌≤◌};
 
@@ -9,53 +9,53 @@ use a2_text::decimal;
 use std::alloc::{Allocator, Global};
 use std::ops::Range;
 
-/// Where a session stands.
+/// The state of a session.
 #[derive(Clone, Copy, Debug, PartialEq, Eq)]
 pub enum State {
-    /// The machine goes.
+    /// The machine runs.
     Going,
-    /// It waits for a key.
+    /// The machine waits for a key.
     Waiting,
-    /// It is halted.
+    /// The machine is paused.
     Paused,
-    /// It stopped.
+    /// The machine stopped for this cause.
     Stopped(Cause),
 }
 
-/// What the panel tells.
+/// What the panel shows.
 #[derive(Clone, Copy, Debug, PartialEq, Eq)]
 pub struct Face {
     pub state: State,
     pub pace: Pace,
-    /// The cycles that were made in the last second.
+    /// The cycles run in the last second.
     pub speed: u64,
     pub saves: bool,
-    /// What is told of the last order, if anything is.
+    /// The message about the last command, if there is one.
     pub notice: Option<&'static [u8]>,
 }
 
-/// The rows and columns of the terminal: 24 and 80 at least.
+/// The rows and columns of the terminal, at least 24 and 80.
 #[derive(Clone, Copy, Debug, PartialEq, Eq)]
 pub struct Room {
     pub rows: u16,
     pub columns: u16,
 }
 
-/// The first column of a row of the panel, and the columns that are left free beside it.
+/// The first column of the panel's rows, and the number of columns that they leave free.
 const COLUMN: &[u8] = b";43H\x1B[0m";
 
 const BESIDE: u16 = 44;
 
-/// The columns of the registers, behind which the counts stand in a row of their own.
+/// The columns of the registers. Text is broken there, so that the counts after them have a row of their own.
 const REGISTERS: usize = 33;
 
-/// The least and the most columns of a row.
+/// The smallest and largest width of a row, in columns.
 const LEAST_WIDTH: u16 = 36;
 
 const MOST_WIDTH: u16 = 255;
 
-/// The rows of the state, of the pace, of the speed, of the orders, of the saved keys, of the registers, of what can be done, and
-/// of what a stop means, and the least and the most rows of the terminal.
+/// The rows of the state, the pace, the speed, the commands, the saved keys, the registers, what can be done next,
+/// and what a stop means; then the smallest and largest number of rows of the terminal.
 const STATE_ROW: u16 = 3;
 
 const PACE_ROW: u16 = 4;
@@ -90,7 +90,7 @@ const ORDERS: [&[u8]; 10] = [
 ];
 
 impl Room {
-    // The columns of a row of the panel.
+    // Returns the width of the panel's rows, in columns.
     fn width(self) -> usize {
         usize::from(
             self.columns
@@ -99,7 +99,7 @@ impl Room {
         )
     }
 
-    // The last row.
+    // Returns the last row.
     fn last_row(self) -> u16
         ensures { result ≤ 64 }
     {
@@ -107,7 +107,7 @@ impl Room {
     }
 }
 
-// Writes a row of the panel, whatever was there.
+// Writes a row of the panel over whatever was there.
 fn put_row<W: Output>(row: u16, text: &[u8], writer: &mut W) -> Result<(), WriteFault> {
     put_all(
         &[
@@ -121,7 +121,7 @@ fn put_row<W: Output>(row: u16, text: &[u8], writer: &mut W) -> Result<(), Write
     )
 }
 
-// Writes a text over rows of so many columns, from this one to the one before the last of these.
+// Writes a text over these rows, each of them `width` columns wide.
 fn put_rows<W: Output>(
     rows: Range<u16>,
     width: usize,
@@ -137,7 +137,7 @@ fn put_rows<W: Output>(
     Ok(())
 }
 
-// What a state is called.
+// Returns the name of a state.
 fn state_text(state: State) -> &'static [u8] {
     match state {
         State::Going => b"it runs",
@@ -147,7 +147,7 @@ fn state_text(state: State) -> &'static [u8] {
     }
 }
 
-// What is told below the registers: of the last order, or what can be done behind a stop.
+// Returns the text below the registers: the message about the last command, or what can be done after a stop.
 fn notice_text(face: &Face) -> &'static [u8] {
     match (face.notice, face.state) {
         (Some(notice), _) => notice,
@@ -156,7 +156,7 @@ fn notice_text(face: &Face) -> &'static [u8] {
     }
 }
 
-// Writes a number of cycles, and what it is.
+// Writes a number of cycles and its meaning.
 fn put_cycles<W: Output>(
     row: u16,
     cycles: u64,
@@ -167,7 +167,7 @@ fn put_cycles<W: Output>(
     put(what, writer)
 }
 
-// Writes the pace, and how fast it went.
+// Writes the pace, and how fast the machine ran.
 fn put_pace<W: Output>(face: &Face, writer: &mut W) -> Result<(), WriteFault> {
     match face.pace {
         Pace::Cycles(cycles) => {
@@ -189,7 +189,7 @@ pub fn put_counts<A: Allocator, W: Output>(
     put_rows(REGISTER_ROW..NOTICE_ROW, REGISTERS, line.as_slice(), writer)
 }
 
-/// Writes the panel beside the screen, but for the counts. `told` says of a stop what it means.
+/// Writes the panel beside the screen, except for the counts. `told` explains a stop.
 pub fn put_panel<W: Output>(
     face: &Face,
     told: &[u8],

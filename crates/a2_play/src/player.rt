@@ -1,4 +1,4 @@
-//! A machine and the keys that were typed at it.
+//! Runs a machine and keeps the keys that were typed.
 
 ghost use Rattle.std.specs.Prelude.{◌≡◌, ◌↔◌, true, ◌<◌, ◌++◌, ◌∷◌, [], length, vec_len, vec_capacity, IfOk, IfErr};
 ghost use Rattle.a2_asm.specs.Assembled.{Assembled};
@@ -13,35 +13,36 @@ use a2_timed_keys::Typed;
 use std::alloc::{AllocError, Allocator, Global};
 use std::marker::Model;
 
-/// The most runs of the machine in one call.
+/// The largest number of runs of the machine in one call.
 const MOST_RUNS: u32 = 100_000;
 
-/// The most cycles of an instruction, and of a service but for WAIT: so many steps fewer than cycles are due go by none too far.
+/// The largest number of cycles of an instruction, and of a service other than WAIT. Running the due cycles divided
+/// by this number of steps never runs too far.
 const MOST_CYCLES: u64 = 7;
 
-/// The most steps of one run.
+/// The largest number of steps in one run.
 pub(crate) const PIECE_MAX_STEPS: u64 = 1_000_000;
 
-/// The service that takes as many cycles as A says.
+/// The service that takes as many cycles as A asks for.
 const WAIT: u16 = 0xFCA8;
 
-/// The most steps between two looks at the cycles of a run that is made again.
+/// The largest number of steps between two checks of the cycles during a replay.
 const PIECE: u64 = 4_096;
 
-/// A machine, and the keys that were typed at it. Contracts see both.
+/// A machine and the keys that were typed. Contracts see both.
 pub struct Player<A: Allocator = Global> {
     machine: Machine<A>,
     log: Vec<Typed, A>,
 }
 
-// Not derived, for the prover alone: it follows this as one call, and a derived one field by field.
+// Not derived, only for the prover: it sees this as one call, but a derived `Drop` field by field.
 impl<A: Allocator> Drop for Player<A> {
     fn drop(self) {
         let Player { machine: _, log: _ } = self;
     }
 }
 
-// Where WAIT is called.
+// A breakpoint at calls of WAIT.
 #[derive(Drop)]
 struct AtWait;
 
@@ -55,12 +56,12 @@ impl Breakpoints for AtWait {
     }
 }
 
-// Notes a key where there is room.
+// Logs a key; there must be room.
 fn note_key<A: Allocator>(log: &mut Vec<Typed, A>, typed: Typed)
     requires { vec_len log.old < vec_capacity log.old }
     ensures { log.new.items ≡ log.old.items ++ typed ∷ [] }
 {
-    // There is room, so memory is not wanted.
+    // There is room, so no memory is needed.
     let _ = log.push(typed);
 }
 
@@ -73,7 +74,8 @@ impl<A: Allocator> Model for Player<A> {
 }
 
 impl<A: Allocator + Copy> Player<A> {
-    /// A machine at the start of a program, guarded, with no step made and nothing typed yet. Refused only for want of memory.
+    /// Creates a machine at the start of a program, with the program guarded, no step executed and no key typed.
+    /// Fails only if memory is short.
     pub fn new(alloc: A, program: &Program<A>) -> Result<Player<A>, AllocError>
         ensures played { IfOk result (λ player. IsPlayed program.now player) }
         ensures log { IfOk result (λ player. player.log ≡ []) }
@@ -90,7 +92,7 @@ impl<A: Allocator + Copy> Player<A> {
 }
 
 impl<A: Allocator> Player<A> {
-    /// Begins again: the machine is at the start of the program, guarded, and nothing is typed.
+    /// Begins again: the machine is at the start of the program, with the program guarded and no key typed.
     pub fn restart(&mut self, program: &Program<A>)
         ensures played { IsPlayed program.now self.new }
         ensures log { self.new.log ≡ [] }
@@ -100,22 +102,22 @@ impl<A: Allocator> Player<A> {
         self.log.clear();
     }
 
-    /// The machine.
+    /// Returns the machine.
     pub fn machine(&self) -> &Machine<A>
         ensures { result.now ≡ self.now.machine }
     {
         &self.machine
     }
 
-    /// The keys, in the order in which they were typed.
+    /// Returns the keys, in the order in which they were typed.
     pub fn log(&self) -> &[Typed]
         ensures { result.now ≡ self.now.log }
     {
         self.log.as_slice()
     }
 
-    /// Types a key, 0 to 127, where fewer than 4,096 wait: whether that was so. Refused only for want of memory. Where none was
-    /// typed nothing changes.
+    /// Types a key, 0 to 127, if fewer than 4,096 wait, and returns whether it did. Fails only if memory is short. If
+    /// the key is not typed, nothing changes.
     pub fn type_key(&mut self, key: u8) -> Result<bool, AllocError>
         requires { key < 128 }
         ensures room { IfOk result (λ is_typed. (is_typed ≡ true) ↔ (length self.old.machine.state.bus.devices.keys < 4096)) }
@@ -132,7 +134,7 @@ impl<A: Allocator> Player<A> {
         Ok(true)
     }
 
-    /// Makes at most so many steps, 1 or more, and answers why it makes no more, where it made fewer or none can follow.
+    /// Runs at most `steps` steps, 1 or more. Returns why it stopped, if it ran fewer or no other step can follow.
     pub fn run(&mut self, steps: u32) -> Option<Cause>
         ensures log { self.new.log ≡ self.old.log }
         ensures stuck { IsStuckBy self.new.machine.state result }
@@ -147,7 +149,7 @@ impl<A: Allocator> Player<A> {
         }
     }
 
-    // Makes at most so many steps, 1 or more, up to a call of WAIT, and answers as `run`.
+    // Runs at most `steps` steps, 1 or more, but only up to a call of WAIT. Returns the same as `run`.
     fn run_to_wait(&mut self, steps: u32) -> Option<Cause>
         ensures log { self.new.log ≡ self.old.log }
         ensures stuck { IsStuckBy self.new.machine.state result }
@@ -161,7 +163,7 @@ impl<A: Allocator> Player<A> {
         }
     }
 
-    // How many steps go by no instruction beyond so many cycles, which were not made yet.
+    // Returns how many steps can be run so that only the last one may pass a number of cycles.
     fn steps_to(&self, cycles: u64) -> u32 {
         if self.machine.regs().pc == WAIT {
             return 1;
@@ -170,8 +172,8 @@ impl<A: Allocator> Player<A> {
         (left.saturating_sub(1) / MOST_CYCLES).min(PIECE_MAX_STEPS) as u32 + 1
     }
 
-    /// Makes steps until so many cycles were made since the start, or a cause holds: that then. At most 100,000 stretches are
-    /// made, each of 1,000,001 steps at most and up to a call of WAIT.
+    /// Runs until a number of cycles has passed since the start, or until a cause stops the machine, and returns that
+    /// cause. It runs at most 100,000 stretches, each of at most 1,000,001 steps and only up to a call of WAIT.
     pub fn run_to(&mut self, cycles: u64) -> Option<Cause>
         ensures log { self.new.log ≡ self.old.log }
         ensures stuck { IsStuckBy self.new.machine.state result }
@@ -189,8 +191,9 @@ impl<A: Allocator> Player<A> {
         None
     }
 
-    /// Goes back to the first position, in steps, that is at most so many cycles behind where it stands; keys that were typed
-    /// there or later are forgotten. `program` is the one that is played. The run is made again for it, from its start.
+    /// Goes back to the first position, in steps, that is at most `cycles` cycles before the current one. Keys that
+    /// were typed there or later are forgotten. `program` must be the program that is played; it is replayed from its
+    /// start.
     pub fn go_back(&mut self, program: &Program<A>, cycles: u64)
         requires { IsPlayed program.now self.old }
         ensures back { IsBack program.now cycles self.old self.new }
@@ -207,7 +210,7 @@ impl<A: Allocator> Player<A> {
         self.log.retain(|typed| typed.steps < position);
     }
 
-    // Makes steps until so many were made since the start: whether that could be.
+    // Runs until a number of steps since the start is reached, and returns whether that was possible.
     fn run_until(&mut self, steps: u64) -> bool
         ensures log { self.new.log ≡ self.old.log }
         ensures reached { result ≡ true → self.new.machine.state.steps ≡ steps }
@@ -226,7 +229,7 @@ impl<A: Allocator> Player<A> {
         self.machine.steps() == steps
     }
 
-    // Types a key when so many steps were made as it says: whether that could be.
+    // Runs to the position of a key and types it there. Returns whether that was possible.
     fn type_again(&mut self, typed: Typed) -> Result<bool, AllocError>
         ensures typed { IfOk result (λ is_typed. is_typed ≡ true → self.new.log ≡ self.old.log ++ typed ∷ []) }
         ensures played { (program : Assembled) → IsPlayed program self.old → IsPlayed program self.new }
@@ -238,8 +241,8 @@ impl<A: Allocator> Player<A> {
         }
     }
 
-    /// Types the keys of a log, each when so many steps were made since the start as it says, and makes steps until `end` of them
-    /// were made: whether all of that could be. What could be done before stays done. Refused only for want of memory.
+    /// Replays a log: types each key after its number of steps since the start, and then runs to step `end`. Returns
+    /// whether all of that was possible. If not, what was replayed so far remains. Fails only if memory is short.
     pub fn replay(&mut self, log: &[Typed], end: u64) -> Result<bool, AllocError>
         ensures log { IfOk result (λ is_whole. is_whole ≡ true → self.new.log ≡ self.old.log ++ log.now) }
         ensures end { IfOk result (λ is_whole. is_whole ≡ true → self.new.machine.state.steps ≡ end) }

@@ -1,4 +1,4 @@
-//! A session's keys with their steps, as a text.
+//! Reads and writes the keys of a session, with their steps, as a text.
 
 ghost use Rattle.std.specs.Prelude.{◌≡◌, ◌<◌, ◌++◌, IfOk, IfSome};
 ghost use Rattle.a2_stream.specs.Stream.{SendsOrBreaks};
@@ -9,19 +9,19 @@ use a2_text::{cut, decimal, first_word, hex_pair, number_in};
 use a2_timed_keys::Typed;
 use std::alloc::{AllocError, Allocator, Global};
 
-/// What was typed in a session, and how many steps it made.
+/// What was typed in a session, and how many steps it ran.
 #[derive(Drop)]
 pub struct Record<A: Allocator = Global> {
     pub log: Vec<Typed, A>,
     pub end: u64,
 }
 
-/// Why a text is no record.
+/// Why a text is not a record.
 #[derive(Clone, Copy, Debug, PartialEq, Eq)]
 pub enum RecordFault {
-    /// The line of this number, from 1, is none; or one is wanted there.
+    /// The line with this number, from 1, is not valid, or is missing.
     Line(usize),
-    /// A growth of memory was refused.
+    /// Memory is short.
     Memory,
 }
 
@@ -57,8 +57,8 @@ fn put_end<W: Output>(end: u64, writer: &mut W) -> Result<(), WriteFault>
     put_all(&[decimal(end).as_slice(), b" END\n"], writer)
 }
 
-/// Writes a record: for each key of `log` the steps that were made when it was typed, a blank, and its code as two hexadecimal
-/// digits; and, last, the steps that were made at the end, a blank, and `END`.
+/// Writes a record. For each key of `log` it has a line with the number of steps before the key, a blank, and the
+/// key's code as two hexadecimal digits. The last line has the number of steps at the end, a blank, and `END`.
 pub fn put_record<W: Output>(log: &[Typed], end: u64, writer: &mut W) -> Result<(), WriteFault>
     ensures { SendsOrBreaks (W.taker writer.old) (W.taker writer.new) result (record_text log.now end) }
 {
@@ -68,7 +68,7 @@ pub fn put_record<W: Output>(log: &[Typed], end: u64, writer: &mut W) -> Result<
     put_end(end, writer)
 }
 
-// A number of steps: decimal digits.
+// Returns a number of steps, given as decimal digits.
 fn steps_in(word: &[u8]) -> Option<u64> {
     match word {
         [b'0'..=b'9', ..] => std::str::from_utf8(word).ok()?.parse().ok(),
@@ -76,7 +76,7 @@ fn steps_in(word: &[u8]) -> Option<u64> {
     }
 }
 
-// The code of a key: two hexadecimal digits, below $80.
+// Returns the code of a key, given as two hexadecimal digits and below $80.
 fn key_in(word: &[u8]) -> Option<u8>
     ensures { IfSome result (λ key. key < 128) }
 {
@@ -86,7 +86,7 @@ fn key_in(word: &[u8]) -> Option<u8>
     }
 }
 
-// The two words of a line.
+// Returns the two fields of a line.
 fn two_words(line: &[u8]) -> Option<(&[u8], &[u8])> {
     let (first, behind) = first_word(line)?;
     let (second, behind) = first_word(behind)?;
@@ -96,7 +96,7 @@ fn two_words(line: &[u8]) -> Option<(&[u8], &[u8])> {
     }
 }
 
-// What a line says as a key.
+// Returns the key that a line describes.
 fn typed_in(line: &[u8]) -> Option<Typed>
     ensures { IfSome result (λ typed. typed.key < 128) }
 {
@@ -107,7 +107,7 @@ fn typed_in(line: &[u8]) -> Option<Typed>
     })
 }
 
-// The steps that the last line says.
+// Returns the steps that the last line gives.
 fn end_in(line: &[u8]) -> Option<u64> {
     match two_words(line)? {
         (steps, b"END") => steps_in(steps),
@@ -115,13 +115,13 @@ fn end_in(line: &[u8]) -> Option<u64> {
     }
 }
 
-// Notes a key.
+// Logs a key.
 fn note<A: Allocator>(log: &mut Vec<Typed, A>, typed: Typed) -> Result<(), AllocError> {
     log.push(typed)?;
     Ok(())
 }
 
-/// What a record says. Refused where a line is none of a record, and for want of memory.
+/// Returns the contents of a record. Fails if a line is not one of a record, or if memory is short.
 pub fn record_of<A: Allocator + Copy>(alloc: A, text: &[u8]) -> Result<Record<A>, RecordFault> {
     let lines = cut(alloc, text)?;
     let mut log = Vec::new(alloc);

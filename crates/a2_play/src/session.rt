@@ -1,4 +1,5 @@
-//! A session: what was typed, the cycles that are due, what changed; and again.
+//! Runs a session at a terminal. In a loop, it reads what was typed, runs the cycles that are due, and draws what
+//! changed.
 
 ghost use Rattle.std.specs.Prelude.{◌≡◌, ◌<◌};
 ghost use Rattle.a2_play.specs.Played.{IsPlayed};
@@ -16,45 +17,45 @@ use a2_tty::{Colours, Order, Shot, Stroke, first_stroke, put_changes};
 use std::alloc::Global;
 use std::marker::Model;
 
-/// The time between two draws, and between two looks for keys at `Pace::Max`, at least: a thirtieth of a second.
+/// The shortest time between two draws, and between two checks for keys at `Pace::Max`: a thirtieth of a second.
 const FRAME: u64 = 33_333;
 
-/// The time for which flashing characters stand one way.
+/// The time for which flashing characters stay the same.
 const BLINK: u64 = 500_000;
 
-/// The time over which the speed is told.
+/// The time over which the speed is measured.
 const TOLD_OVER: u64 = SECOND;
 
-/// The most stretches of cycles between two looks for keys at `Pace::Max`.
+/// The largest number of stretches of cycles between two checks for keys at `Pace::Max`.
 const MOST_STRETCHES: u32 = 10_000;
 
-/// The bytes that one read takes at most.
+/// The largest number of bytes in one read.
 const TYPED: usize = 64;
 
-/// RETURN, which ends a session that stopped.
+/// RETURN, which ends a session after a stop.
 const RETURN: u8 = 0x0D;
 
-/// What rings the terminal's bell.
+/// The byte that rings the terminal's bell.
 const BELL: &[u8] = b"\x07";
 
 /// Why a session leaves the terminal.
 #[derive(Clone, Copy, Debug, PartialEq, Eq)]
 pub enum Leave {
-    /// It is over.
+    /// The session is over.
     Over,
-    /// The debugger is asked for; the session can be gone on with behind it.
+    /// The user asked for the debugger; the session can be continued after that.
     Debug,
 }
 
-/// What was made up to a time.
+/// How many cycles had been run at a certain time.
 #[derive(Clone, Copy)]
 struct Mark {
     micros: u64,
     cycles: u64,
 }
 
-/// A session with a source's program. Contracts see the program, and the machine with the keys that were typed at it: it always
-/// stands where the program's meaning comes to under these keys, each behind the steps where it was typed.
+/// A session with a program and its source. Contracts see the program, the machine, and the keys that were typed. The
+/// machine is always where the program's meaning leads with these keys, each typed after its number of steps.
 pub struct Session<'a> {
     source: &'a [u8],
     program: &'a Program,
@@ -65,10 +66,10 @@ pub struct Session<'a> {
     room: Room,
     /// The cycles that are due since the start.
     goal: u64,
-    /// When these were reckoned, and when the screen was drawn.
+    /// The times when these were last computed, and when the screen was last drawn.
     reckoned: u64,
     drawn: u64,
-    /// What the speed is reckoned from, and that of the last second.
+    /// The start of the speed measurement, and the speed of the last second.
     mark: Mark,
     speed: u64,
     is_ordered: bool,
@@ -78,11 +79,11 @@ pub struct Session<'a> {
     notice: Option<&'static [u8]>,
     shot: Option<Shot>,
     face: Option<Face>,
-    /// The steps whose counts are drawn.
+    /// The number of steps for which the counts were last drawn.
     counted: Option<u64>,
 }
 
-// Not derived, for the prover alone: it follows this as one call, and a derived one field by field.
+// Not derived, only for the prover: it sees this as one call, but a derived `Drop` field by field.
 impl<'a> Drop for Session<'a> {
     fn drop(self) {
         let Session {
@@ -121,7 +122,7 @@ impl<'a> Model for Session<'a> {
 }
 
 impl<'a> Session<'a> {
-    /// A session of this source's program, that goes on with this player, at a terminal with this room.
+    /// Creates a session of this source's program that continues with this player, at a terminal of this size.
     pub fn new(
         source: &'a [u8],
         program: &'a Program,
@@ -160,7 +161,7 @@ impl<'a> Session<'a> {
         }
     }
 
-    /// The player.
+    /// Returns the player.
     pub fn player(&self) -> &Player
         ensures player { result.now ≡ self.now.play }
         ensures played { IsPlayed self.now.program self.now.play }
@@ -168,12 +169,12 @@ impl<'a> Session<'a> {
         &self.player
     }
 
-    /// Whether the keys are to be told.
+    /// Returns whether the keys are to be reported at the end.
     pub fn saves(&self) -> bool {
         self.saves
     }
 
-    /// Why the machine stopped, where it did.
+    /// Returns why the machine stopped, or `None` if it did not.
     pub fn cause(&self) -> Option<Cause> {
         match self.state {
             State::Stopped(cause) => Some(cause),
@@ -181,14 +182,14 @@ impl<'a> Session<'a> {
         }
     }
 
-    /// Tells something beside the screen, until the next order.
+    /// Shows a message beside the screen, until the next command.
     pub fn notice(&mut self, notice: &'static [u8])
         ensures { self.new ≡ self.old }
     {
         self.notice = Some(notice);
     }
 
-    // Forgets what is drawn, so that all is drawn again.
+    // Forgets what is drawn, so that everything is drawn again.
     fn forget(&mut self) {
         self.shot = None;
         self.face = None;
@@ -202,7 +203,7 @@ impl<'a> Session<'a> {
         self.state = State::Going;
     }
 
-    // Goes back a second. It goes on from there where it went, and else is halted.
+    // Goes back a second. If the machine was running, it continues from there; otherwise it is paused.
     fn go_back(&mut self) {
         self.player.go_back(self.program, second(self.pace));
         self.goal = self.player.machine().cycles();
@@ -212,7 +213,7 @@ impl<'a> Session<'a> {
         };
     }
 
-    // Where the machine stands behind a run or a step, for which there is this cause.
+    // Sets the state after a run or a step that ended for this cause.
     fn note(&mut self, cause: Option<Cause>, otherwise: State, waiting: State) {
         self.state = match cause {
             None => otherwise,
@@ -221,7 +222,7 @@ impl<'a> Session<'a> {
         };
     }
 
-    // Does an order.
+    // Carries out a command.
     fn obey(&mut self, order: Order) {
         self.notice = None;
         match (order, self.state) {
@@ -243,7 +244,7 @@ impl<'a> Session<'a> {
         }
     }
 
-    // Types a key; where the machine stopped RETURN ends the session.
+    // Types a key; if the machine stopped, RETURN ends the session.
     fn press(&mut self, key: u8) -> Result<(), RunFault>
         requires { key < 128 }
     {
@@ -262,7 +263,7 @@ impl<'a> Session<'a> {
         Ok(())
     }
 
-    // Does what typed bytes say.
+    // Handles typed bytes.
     fn hear(&mut self, bytes: &[u8]) -> Result<(), RunFault> {
         let mut ahead = bytes;
         while let Some((stroke, rest)) = first_stroke(ahead, self.is_ordered) {
@@ -277,7 +278,7 @@ impl<'a> Session<'a> {
         Ok(())
     }
 
-    // Makes the cycles that are due.
+    // Runs the cycles that are due.
     fn go_on(&mut self, now: u64) {
         let late = now.saturating_sub(self.reckoned);
         self.reckoned = now;
@@ -289,13 +290,13 @@ impl<'a> Session<'a> {
             }
             State::Paused | State::Stopped(_) => {}
         }
-        // Cycles are not made up for that fell due while the machine waited.
+        // Cycles that fell due while the machine waited are dropped.
         if self.state != State::Going {
             self.goal = self.player.machine().cycles();
         }
     }
 
-    // Reckons the speed, once a second.
+    // Measures the speed, once a second.
     fn reckon_speed(&mut self, now: u64) {
         if now.saturating_sub(self.mark.micros) < TOLD_OVER {
             return;
@@ -308,14 +309,14 @@ impl<'a> Session<'a> {
         };
     }
 
-    // Whether the machine goes as fast as it can, and it is no time yet for a draw.
+    // Returns whether the machine runs as fast as possible and the next draw is not due yet.
     fn is_ahead(&self, now: u64) -> bool {
         self.pace == Pace::Max
             && self.state == State::Going
             && now.saturating_sub(self.drawn) < FRAME
     }
 
-    // What the panel is to tell.
+    // Returns what the panel is to show.
     fn face(&self) -> Face {
         Face {
             state: self.state,
@@ -327,7 +328,7 @@ impl<'a> Session<'a> {
     }
 }
 
-// What a stop means, in a line; nothing where there is none.
+// Returns what a stop means, in a line, or an empty text if there is no stop.
 fn stop_text(alloc: Global, session: &Session<'_>, pc: u16) -> Result<Vec<u8>, RunFault> {
     let mut text = Vec::new(alloc);
     if let Some(cause) = session.cause() {
@@ -340,14 +341,14 @@ fn stop_text(alloc: Global, session: &Session<'_>, pc: u16) -> Result<Vec<u8>, R
             &mut ToWrite::new(&mut text),
         ) {
             Ok(()) => {}
-            // A text in memory takes no more only where memory is wanted.
+            // Writing to a text in memory fails only if memory is short.
             Err(_) => return Err(RunFault::Memory),
         }
     }
     Ok(text)
 }
 
-// Writes the panel, where it changed.
+// Writes the panel if it changed.
 fn put_face<W: Output>(
     alloc: Global,
     session: &mut Session<'_>,
@@ -364,7 +365,7 @@ fn put_face<W: Output>(
     Ok(())
 }
 
-// Writes registers and counts, where steps were made.
+// Writes the registers and counts if steps were executed.
 fn put_steps<W: Output>(
     alloc: Global,
     session: &mut Session<'_>,
@@ -379,7 +380,7 @@ fn put_steps<W: Output>(
     Ok(())
 }
 
-// Writes the cells that changed, in one piece, so that a terminal shows no half of them.
+// Writes the cells that changed in one piece, so that a terminal never shows half of them.
 fn draw<W: Output>(
     alloc: Global,
     session: &mut Session<'_>,
@@ -403,7 +404,8 @@ fn draw<W: Output>(
     Ok(put(frame.as_slice(), output)?)
 }
 
-// A read, and what it gave; or, at `Pace::Max`, the cycles that are made before the next look for keys.
+// Takes one turn: reads and handles the input, runs the cycles that are due, and draws if it is time. At `Pace::Max`, it
+// runs further cycles until the next check for keys.
 fn take_turn<R: Input, W: Output, C: Clock>(
     alloc: Global,
     session: &mut Session<'_>,
@@ -432,10 +434,11 @@ fn take_turn<R: Input, W: Output, C: Clock>(
     Ok(())
 }
 
-/// Plays until the session leaves the terminal: reads what was typed, does what it says, makes the cycles that are due by
-/// `clock`, and draws what changed, at most thirty times a second, beginning with all of it. A read of `input` is to give what
-/// was typed, or nothing within the tenth of a second, or at `Pace::Max` at once. Refused where a read or write fails, and for
-/// want of memory: the session ends there.
+/// Plays until the session leaves the terminal. It reads what was typed, handles it, runs the cycles that are due by
+/// `clock`, and draws what changed, at most thirty times a second. The first draw is complete.
+///
+/// A read of `input` must return what was typed, or nothing within a tenth of a second; at `Pace::Max`, it must
+/// return at once. Fails if a read or write fails, or if memory is short; the session then ends.
 pub fn play<R: Input, W: Output, C: Clock>(
     alloc: Global,
     session: &mut Session<'_>,

@@ -1,10 +1,10 @@
-//! Typed keys as a text of the option `--keys`.
+//! Writes typed keys as the text of the option `--keys`.
 
 use a2_stream::{Output, WriteFault, put, put_all};
 use a2_text::decimal;
 use a2_timed_keys::Typed;
 
-// How the option spells a key, if it can.
+// Writes a key as the option spells it, and returns false if it has no spelling.
 fn put_key<W: Output>(key: u8, writer: &mut W) -> Result<bool, WriteFault> {
     match key {
         0x0D => put(b"\\r", writer)?,
@@ -12,7 +12,7 @@ fn put_key<W: Output>(key: u8, writer: &mut W) -> Result<bool, WriteFault> {
         0x15 => put(b"\\f", writer)?,
         0x18 => put(b"\\x", writer)?,
         b'\\' => put(b"\\\\", writer)?,
-        // A shell takes what stands between two apostrophes as it is, but for these.
+        // A shell takes everything between two apostrophes literally, except for apostrophes.
         b'\'' => put(b"'\\''", writer)?,
         0x20..=0x7E => put(&[key], writer)?,
         _ => return Ok(false),
@@ -20,8 +20,9 @@ fn put_key<W: Output>(key: u8, writer: &mut W) -> Result<bool, WriteFault> {
     Ok(true)
 }
 
-/// Writes the keys of a log as the option that types them at a start, in apostrophes as a shell wants them, and a line feed.
-/// Keys that the option has no spelling for are left out, and told by their number in a line of its own.
+/// Writes the keys of a log as the option that types them at the start, and a line feed. The keys are in apostrophes,
+/// as a shell needs them. Keys that the option has no spelling for are left out, and a line of its own reports how
+/// many.
 pub fn put_keys<W: Output>(log: &[Typed], writer: &mut W) -> Result<(), WriteFault> {
     let mut left_out = 0u64;
     put(b"--keys '", writer)?;

@@ -1,4 +1,4 @@
--- What `changes` names is told by its words and signs.
+-- The words and signs of a `changes` line determine what it names.
 use Rattle.std.specs.Prelude.{◌≡◌, ℕ, true, nat_le, List, [], ◌∷◌, ◌++◌, codes, Option, Some}
 use Rattle.std.specs.List.{list_all}
 use Rattle.std.proofs.Common.{refl, sym, ap, subst, ◌∙◌}
@@ -19,7 +19,7 @@ atom_in : Option Opening → Atom
 atom_in (Some (it a)) = a
 atom_in _ = A
 
--- a register or flag is told by its name
+-- the name of a register or flag determines it
 same_atom : (a b : Atom) → atom_name a ≡ atom_name b → a ≡ b
 unfolding atom_in
 same_atom a b h =
@@ -31,7 +31,7 @@ held_named Cycles h k = false≢true h
 held_named Steps h k = false≢true h
 held_named _ h k = false≢true k
 
--- a token that is an address has another name
+-- a token that is an address has a different name
 not_held : (a : Atom) (token : Token) → may_change a ≡ true → is_other_name change_names token ≡ true
     → word (atom_name a) ≡ token → ⊥
 not_held a token h k e = held_named a h (subst (λ (t : Token). is_other_name change_names t ≡ true) (sym e) k)
@@ -41,7 +41,7 @@ same_number : (names : Names) (token other : Token) (a b : ℕ) → token ≡ ot
 same_number names token other a b e h k =
     same_Some a b (sym (just a (address_of names token) h) ∙ ap (λ t. address_of names t) e ∙ just b (address_of names other) k)
 
--- behind a byte stands no sign of a range
+-- no range sign follows a single byte
 no_range : (more : List Change) (token : Token) (rest : List Token) → more_spelled more ≡ sign (codes "..") ∷ token ∷ rest → ⊥
 no_range [] token rest h = cc
 no_range (change ∷ more) token rest h = cc

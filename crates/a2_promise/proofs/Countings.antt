@@ -1,4 +1,4 @@
--- What is read where something is counted, laid or closed.
+-- Reading of counts, texts in memory, and expressions in parentheses or brackets.
 use Rattle.std.specs.Prelude.{◌≡◌, ◌<◌, ◌≤◌, ℕ, suc, ◌+◌, pos, min, nat_le, false, ◌&&◌, IsTrue, List, [], ◌∷◌, ◌++◌, length, codes, Option, Some, None, Result, Ok, Err, IfOk, IfNone, refl}
 use Rattle.std.proofs.Common.{ap, sym, subst, ◌∙◌, arith, append_assoc, length-append}
 use Rattle.std.proofs.lemmas.Bool.{leb-true, le-leb, lt-ltb}
@@ -49,7 +49,7 @@ pub greatest_read : {a m n b : State} → Takes (word (codes "max")) a m → Rea
 unfolding spelled meant fits made
 greatest_read t r p = closed_read (greatest r.e r.f) (took t >> last r.steps p) t.scope r.fit refl refl refl refl
 
--- What stands between [ and ]
+-- Between [ and ]
 
 pub address_read : {a m b : State} → ReadsOne 1 is_number a m → Takes (sign (codes "]")) m b → ReadsAddress a b
 address_read r t = record { e = r.e; steps = r.reads.steps >> took t; fit = also r.is r.reads.fits }
@@ -69,7 +69,7 @@ pub word_of_read : {z a b : State} → Takes (word (codes "word")) z a → Reads
 unfolding spelled meant fits made
 word_of_read w r = closed_read (word_of r.token r.n) (took w >> went r.goes) w.scope (just r.value) refl refl refl refl
 
--- What is counted
+-- The head of a count
 
 pub counted_head : {name : List ℕ} {k : ℕ} {a m n o q b : State} → Takes (word name) a m → IsTrue (may_count name) → Takes (sign (codes "<")) m n
     → ReadsOne 6 is_number n o → Takes (sign (codes ":")) o q → Binds name k q b → ReadsCounted k a b
@@ -85,7 +85,7 @@ counted_head {name} {k} {a} {n = n} t c u r v w =
       fits = fits_at r.reads (u.scope ∙ t.scope);
     }
 
--- and what is looked at for each, behind which the name is counted no more
+-- the body of a count; after it the name is no longer bound
 counted_on : {k : ℕ} {f : Written} {a m n o : State} (c : ReadsCounted k a m) → Reads f m n → Unbinds k n o
     → Steps (word c.name ∷ sign (codes "<") ∷ (spelled c.e ++ sign (codes ":") ∷ spelled f)) (λ phrases. said f ∷ said c.e ∷ phrases) a o
 counted_on {f = f} c r u =
@@ -118,7 +118,7 @@ sum_read {k} t c r u p =
     (also (also (also (also c.fit r.rank) r.is) c.fits) (counted_fits c r.reads))
     (rw (p.left, u.left) (stops_both _ r.stops r.reads.stops)) (rw (p.left, u.left) r.reads.no_else) refl refl
 
--- A text that stands in memory
+-- A text in memory
 
 pub place_made : {a m b : State} (begun ended : ℕ) → begun ≡ length a.parts → Takes (sign (codes "[")) a m → ReadsAddress m b
     → ended ≡ length b.parts → ReadsPlace (Made (record { begun = begun; ended = ended })) a b
@@ -147,7 +147,7 @@ text_read (Made span) {quote} {characters} {m = m} {o = o} w r t u good lay =
     closed_read (text_in e quote characters) (as_made (took w >> r.1 >> took t >> took u >> put laid.puts) laid.makes)
     w.scope (also r.2 good) refl refl refl refl
 
--- What was read, of a kind that was asked for
+-- Reading an expression of a given kind
 
 such : {limit : ℕ} {P Q : Written → Type 0} {a b : State} → ReadsSuch limit P a b → ((e : Written) → P e → Q e) → ReadsSuch limit Q a b
 such r f = record { e = r.e; reads = r.reads; rank = r.rank; is = f r.e r.is; stops = r.stops }
@@ -158,7 +158,7 @@ number_one r t = such r (λ e is. rw is.kind t)
 pub fact_one : {limit : ℕ} {piece : Piece} {a b : State} → ReadsPiece limit piece a b → IsTrue (may_be_fact piece.kind) → ReadsOne limit is_fact a b
 fact_one r t = such r (λ e is. rw is.kind t)
 
--- One of two, as what both are
+-- The kind of an `if` with two branches
 
 pub either_read : {one other : Piece} {k : Kind} {a m n o q s u b : State} → Takes (word (codes "if")) a m → ReadsOne 1 is_fact m n
     → Takes (word (codes "then")) n o → ReadsPiece 1 one o q → Takes (word (codes "else")) q s → ReadsPiece 1 other s u → Puts (part.Choice ∷ []) u b
@@ -194,13 +194,13 @@ pub if_ok : {T E : Type 0} (r : Result T E) {P Q : T → Type 0} → ((x : T) �
 if_ok (Ok x) f h = f x h
 if_ok (Err e) f h = tt
 
--- what was made, where it was, of a kind that is told
+-- a successful result has the recorded kind
 pub kind_ok : {E : Type 0} (r : Result Kind E) {k : Kind} {P : Type 0} {a b : State} → IfOk r (λ made. (made ≡ k) × P) → (P → ReadsKind k a b)
     → IfOk r (λ made. ReadsKind made a b)
 kind_ok (Ok made) h f = rw h.0 (f h.1)
 kind_ok (Err e) h f = tt
 
--- a number that is made of what was read
+-- a number made from what was read
 pub then_put : (reads : State → State → Type 0) {it : Part} {a m b : State} → reads a m → Puts (it ∷ []) m b → ReadsThen reads it a b
 then_put reads {m = m} read p = record { middle = m; read = read; puts = p }
 

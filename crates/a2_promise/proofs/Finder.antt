@@ -1,4 +1,4 @@
--- A reader of words and signs, which finds each expression that fits: it is not asked to refuse any that do not.
+-- A reader of words and signs that finds every expression that is allowed. It need not reject those that are not.
 use Rattle.std.specs.Prelude.{ℕ, zero, suc, Bool, false, nat_le, List, [], ◌∷◌, codes, length, Option, Some, None, if◌then◌else◌}
 use Rattle.std.specs.Str.{bytes_eq}
 use Rattle.a2_asm.specs.Values.{name_value}
@@ -34,7 +34,7 @@ joint_of (word name) = named joint_words name
 joint_of (sign name) = named joint_signs name
 joint_of _ = None
 
--- what an operand begins with
+-- the opening of an operand
 pub data Opening : Type 0 where
   it : Atom → Opening
   opens_old : Opening
@@ -68,12 +68,12 @@ opening_words =
 abbrev pub opening_signs : List (List ℕ × Opening)
 opening_signs = (codes "(", opens_group) ∷ (codes "[", opens_byte) ∷ (codes "-", opens_minus) ∷ (codes "#", opens_literal) ∷ []
 
--- What was read, and what stands behind it
+-- What was read, and what follows it
 
 abbrev pub Read : Type 0
 Read = Option (Written × List Token)
 
--- one that reads an expression where it stands, in which nothing binds looser than so
+-- a reader of an expression in its surroundings in which no operator binds looser than this
 abbrev pub Reading : Type 0
 Reading = Scope → ℕ → List Token → Read
 
@@ -171,7 +171,7 @@ module _ (given : Reading) (scope : Scope) where
   opened opens_minus more = one_behind tightest more minus
   opened opens_literal more = number_behind more
 
-  -- a name that is counted, or one of the source
+  -- a bound name, or a name of the source
   abbrev pub plain : List ℕ → List Token → Option ℕ → Read
   plain name more (Some k) = Some (counted name k, more)
   plain name more None = then_by (name_value scope.names name) (λ a. Some (byte (word name) a, more))
@@ -190,7 +190,7 @@ module _ (given : Reading) (scope : Scope) where
       then_by (address_of scope.names (place hexadecimal)) (λ a. Some (byte (place hexadecimal) a, more))
   operand (quoted quote characters ∷ more) = None
 
--- Joints behind it
+-- Operators after an operand
 
 abbrev pub if_tight : ℕ → Option Infix → Option Infix
 if_tight r None = None
@@ -207,7 +207,7 @@ module _ (given : Reading) (scope : Scope) where
       by_case (joint_next r tokens) (Some (left, tokens)) (λ join.
       then_by (given scope (suc (infix_rank join)) (behind_one tokens)) (λ e. joints k r (joined join left e.0) e.1))
 
--- An expression with fewer parts within one another, and fewer joints in a row, than so many
+-- An expression with less nesting, and fewer operators in a row, than this
 
 abbrev pub reading : ℕ → Reading
 reading zero scope r tokens = None

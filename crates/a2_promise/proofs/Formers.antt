@@ -1,4 +1,4 @@
--- What is read of each kind of expression.
+-- Reading of each kind of expression.
 use Rattle.std.specs.Prelude.{◌≡◌, ℕ, pos, Bool, true, false, not, ◌||◌, IsTrue, List, [], ◌∷◌, length, codes, Option, Some, None, refl, if◌then◌else◌}
 use Rattle.std.specs.Str.{bytes_eq}
 use Rattle.std.proofs.Common.{ap, sym, ◌∙◌}
@@ -23,7 +23,7 @@ use Rattle.a2_promise.proofs.Goings.{also, went, took, put, last, ◌>>◌, stop
 pub just : {n : ℕ} {found : Option ℕ} → found ≡ Some n → IsTrue (is_just n found)
 just {n} e = rw e ((Decides-eqb n n).1 refl)
 
--- what is one token
+-- forms of one token
 
 pub literal_read : {a m b : State} → Takes (sign (codes "#")) a m → ReadsToken number_of number_parts m b → ReadsKind kinds.Number a b
 unfolding spelled meant fits made
@@ -67,14 +67,14 @@ pub atom_read : {it : Atom} {a m b : State} → Takes (word (atom_name it)) a m 
 unfolding spelled meant fits made
 atom_read {it} t p = closed_read (atom it) (took t >> put p) refl refl refl refl refl refl
 
--- what stands in parentheses
+-- an expression in parentheses
 
 pub group_read : {piece : Piece} {limit : ℕ} {a m n b : State} → Takes (sign (codes "(")) a m → ReadsPiece limit piece m n → Takes (sign (codes ")")) n b
     → ReadsKind piece.kind a b
 unfolding spelled meant fits made
 group_read t r u = closed_read (group r.e) (took t >> r.reads.steps >> took u) t.scope r.reads.fits refl refl refl r.is.kind
 
--- what one number or fact is made into, by a word before it
+-- what a word before it makes of one number or fact
 
 pub before_read : {k : Kind} {a m n b : State} → Takes (word (codes "old")) a m → ReadsKind k m n → Puts (part.Old ∷ []) n b → ReadsKind k a b
 unfolding spelled meant fits made

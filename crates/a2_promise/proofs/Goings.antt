@@ -1,4 +1,4 @@
--- How steps of a reader follow one another.
+-- How steps of a reader are combined.
 use Rattle.std.specs.Prelude.{◌≡◌, ℕ, min, nat_le, Bool, true, false, ◌&&◌, IsTrue, List, [], ◌∷◌, ◌++◌, None, refl}
 use Rattle.std.proofs.Common.{ap, sym, subst, ◌∙◌, arith, append_assoc}
 use Rattle.std.proofs.lemmas.List.{append-nil}
@@ -37,7 +37,7 @@ took {a = a} t = record {
 pub put : {parts : List Part} {a b : State} → Puts parts a b → Steps [] (made parts) a b
 put {parts} p = record { left = sym p.left; parts = parts; puts = p.parts; makes = λ phrases. refl; scope = p.scope }
 
--- one behind another
+-- one after another
 infixr 20 ◌>>◌
 pub ◌>>◌ : {taken more : List Token} {f g : List Phrase → List Phrase} {a b c : State} → Steps taken f a b → Steps more g b c
     → Steps (taken ++ more) (λ phrases. g (f phrases)) a c
@@ -49,7 +49,7 @@ pub ◌>>◌ : {taken more : List Token} {f g : List Phrase → List Phrase} {a 
   scope = t.scope ∙ s.scope;
 }
 
--- the last of them, behind which parts are put
+-- the last step, after which parts are appended
 pub last : {taken : List Token} {f : List Phrase → List Phrase} {more : List Part} {a b c : State} → Steps taken f a b → Puts more b c
     → Steps taken (λ phrases. made more (f phrases)) a c
 last {taken} {f} {more} {a} {b} {c} s p =
@@ -59,7 +59,7 @@ pub as_made : {taken : List Token} {f g : List Phrase → List Phrase} {a b : St
     → Steps taken g a b
 as_made s h = record { left = s.left; parts = s.parts; puts = s.puts; makes = λ phrases. s.makes phrases ∙ h phrases; scope = s.scope }
 
--- What may stand behind
+-- What may follow
 
 pub stops_both : {limit other : ℕ} (left : List Token) → Stops limit left → Stops other left → Stops (min limit other) left
 stops_both left s t = λ join f l. let x = s join f l in let y = t join f l in omega (arith, x, y)
@@ -69,7 +69,7 @@ stops_both left s t = λ join f l. let x = s join f l in let y = t join f l in o
 pub fits_at : {e : Written} {scope : Scope} {a b : State} → Reads e a b → a.scope ≡ scope → IsTrue (fits scope e)
 fits_at {e} r h = subst (λ (scope : Scope). IsTrue (fits scope e)) h r.fits
 
--- an expression that fits where its first part was read
+-- an expression that is allowed in the surroundings of its first part
 pub reads_it : (e : Written) {scope : Scope} {a b : State} → Steps (spelled e) (λ phrases. said e ∷ phrases) a b → scope ≡ a.scope → IsTrue (fits scope e)
     → Stops (takes_from e) b.left → NoElse (takes_else e) b.left → Reads e a b
 reads_it e s h f stops no_else = record {
@@ -79,13 +79,13 @@ reads_it e s h f stops no_else = record {
   no_else = no_else;
 }
 
--- the same of one that begins with no joint
+-- the same for an expression that is not two joined by an operator
 pub one_read : (e : Written) {scope : Scope} {k : Kind} {a b : State} → Steps (spelled e) (λ phrases. said e ∷ phrases) a b → scope ≡ a.scope
     → IsTrue (fits scope e) → Stops (takes_from e) b.left → NoElse (takes_else e) b.left → IsTrue (nat_le tightest (rank e)) → kind e ≡ k
     → ReadsKind k a b
 one_read e s h f stops no_else r k = record { e = e; reads = reads_it e s h f stops no_else; rank = r; kind = k }
 
--- or to which nothing that stands behind it can belong
+-- the same for one to which nothing that follows can belong
 pub closed_read : (e : Written) {scope : Scope} {k : Kind} {a b : State} → Steps (spelled e) (λ phrases. said e ∷ phrases) a b → scope ≡ a.scope
     → IsTrue (fits scope e) → takes_from e ≡ tightest → takes_else e ≡ false → IsTrue (nat_le tightest (rank e)) → kind e ≡ k → ReadsKind k a b
 closed_read e s h f limit takes r k = one_read e s h f (λ join g below. rw limit below) (λ yes g. false≢true (sym takes ∙ yes)) r k
@@ -97,7 +97,7 @@ one_by_rank (joined join e f) h =
     let most = infix_within join in (Decides-eqb (infix_rank join) 10).1 (omega (arith, most.1, leb-true 10 (infix_rank join) h))
 one_by_rank _ h = refl
 
--- what is one is no comparison
+-- an expression that is not two joined by an operator is not a comparison
 no_last : (e : Written) → IsTrue (nat_le tightest (rank e)) → (meant e).last ≡ None
 unfolding meant
 no_last (joined (Compare relation) e f) h = absurd (omega (arith, leb-true 10 5 h))

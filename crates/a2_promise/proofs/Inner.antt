@@ -1,4 +1,4 @@
--- The reader finds what stands within an operand.
+-- The reader finds what is within an operand.
 use Rattle.std.specs.Prelude.{◌≡◌, ℕ, suc, ◌+◌, ◌≤◌, ◌<◌, Bool, true, false, ◌&&◌, List, [], ◌∷◌, ◌++◌, Option, Some, None}
 use Rattle.std.specs.List.{list_all}
 use Rattle.std.proofs.Common.{refl, ap, ◌∙◌, arith, append_assoc, eqb-true}
@@ -10,7 +10,7 @@ use Rattle.a2_promise.proofs.Finder.{Reading, then_by, joint_of, is_else, one_be
 use Rattle.a2_promise.proofs.Stopping.{Ends, is_looser, is_past, past_mono}
 use Rattle.a2_promise.proofs.Ranks.{takes_le, one_le_rank}
 
--- how many expressions stand within one
+-- how many expressions are within an expression
 abbrev pub size : Written → ℕ
 size (byte_in e) = suc (size e)
 size (word_in e) = suc (size e)
@@ -32,23 +32,23 @@ size (for_all name k e f) = suc (size e + size f)
 size (sum_of name k e f) = suc (size e + size f)
 size _ = 0
 
--- each name that is counted around it is one that may be counted
+-- each enclosing bound name may be bound
 abbrev pub IsClean : Scope → Type 0
 IsClean scope = list_all may_count scope.around ≡ true
 
--- an operand that fits is found, with this behind it
+-- an operand that is allowed is found, and the rest follows it
 abbrev pub IsFound : Reading → Written → Scope → List Token → Type 0
 IsFound given e scope rest = IsClean scope → fits scope e ≡ true → Ends e rest → operand given scope (spelled e ++ rest) ≡ Some
     (e, rest)
 
--- each expression that fits, with fewer than so many within it, is found where it stands
+-- each allowed expression with fewer than this many expressions within it is found
 abbrev pub Finds : ℕ → Reading → Type 0
 Finds n given =
     (e : Written) (scope : Scope) (r : ℕ) (tokens rest : List Token) → tokens ≡ spelled e ++ rest → size e < n
     → IsClean scope → fits scope e ≡ true → r ≤ rank e → is_past r rest ≡ true → Ends e rest
     → given scope r tokens ≡ Some (e, rest)
 
--- of tests in a row each holds
+-- each test of a conjunction holds
 pub parts3 : (a b c : Bool) → (a && b && c) ≡ true → (a ≡ true) × (b ≡ true) × (c ≡ true)
 parts3 a b c h = let w = and_parts (a && b) c h in let v = and_parts a b w.0 in (v.0, v.1, w.1)
 
@@ -73,7 +73,7 @@ ends_at e token rest h k = record {
 }
 
 module _ (given : Reading) (n : ℕ) (found : Finds n given) where
-  -- one that ends at a word or sign which belongs to none
+  -- an expression that ends at a word or sign that belongs to no expression
   pub up_to : (e : Written) (scope : Scope) (r : ℕ) (tokens : List Token) (token : Token) (rest : List Token)
       → tokens ≡ spelled e ++ token ∷ rest
       → joint_of token ≡ None → is_else (token ∷ rest) ≡ false → size e < n → IsClean scope → fits scope e ≡ true
@@ -82,7 +82,7 @@ module _ (given : Reading) (n : ℕ) (found : Finds n given) where
       found e scope r tokens (token ∷ rest) is small clean fit l
       (ap (λ o. is_looser r o) h) (ends_at e token rest h k)
 
-  -- one operand that is the last part
+  -- one operand as the last part
   pub one_last : (e : Written) (scope : Scope) (f : Written → Written) (rest : List Token) → size e < n
       → IsClean scope → fits scope e ≡ true → is_one e ≡ true → Ends e rest
       → one_behind given scope tightest (spelled e ++ rest) f ≡ Some (f e, rest)
@@ -90,7 +90,7 @@ module _ (given : Reading) (n : ℕ) (found : Finds n given) where
       let same = eqb-true (rank e) tightest one in
       rw (found e scope tightest _ rest refl small clean fit (omega (arith, same)) (past_mono (takes_from e) tightest rest (takes_le e) ends.joints) ends)
 
-  -- one within parentheses or brackets
+  -- one expression in parentheses or brackets
   pub one_within : (e : Written) (scope : Scope) (f : Written → Written) (closing : Token) (rest : List Token)
       → joint_of closing ≡ None
       → is_else (closing ∷ rest) ≡ false → size e < n → IsClean scope → fits scope e ≡ true
@@ -98,7 +98,7 @@ module _ (given : Reading) (n : ℕ) (found : Finds n given) where
   one_within e scope f closing rest h k small clean fit =
       rw (up_to e scope 1 _ closing rest (append_assoc (spelled e) (closing ∷ []) rest) h k small clean fit (one_le_rank e))
 
-  -- two with a comma between them
+  -- two expressions separated by a comma
   pub two_within : (e f : Written) (scope : Scope) (make : Written → Written
       → Written) (comma closing : Token) (rest : List Token)
       → joint_of comma ≡ None → is_else (comma ∷ spelled f ++ closing ∷ rest) ≡ false → joint_of closing ≡ None

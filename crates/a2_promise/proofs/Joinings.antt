@@ -1,4 +1,4 @@
--- What is read where two expressions and more belong together.
+-- Reading of forms with two or more expressions.
 use Rattle.std.specs.Prelude.{◌≡◌, ◌⊎◌, ◌<◌, ◌≤◌, ℕ, zero, suc, pos, Bool, true, false, not, ◌&&◌, ◌||◌, IsTrue, List, [], ◌∷◌, ◌++◌, length, codes, Option, Some, None, refl, if◌then◌else◌}
 use Rattle.std.specs.List.{slice_range}
 use Rattle.std.proofs.Common.{ap, sym, ◌∙◌, ◌-◌, arith, append_assoc, inl, inr, take, drop, length-append}
@@ -25,7 +25,7 @@ use Rattle.a2_promise.proofs.Goings.{also, took, put, last, ◌>>◌, as_made, s
 use Rattle.a2_promise.proofs.Making.{none_made, made_both}
 use Rattle.a2_promise.proofs.Ranks.{takes_rank}
 
--- One, a token, and another
+-- an expression, a token, and another expression
 
 pub bit_read : {a m n o q b : State} → Takes (word (codes "bit")) a m → ReadsOne tightest is_number m n → Takes (word (codes "of")) n o
     → ReadsOne tightest is_number o q → Puts (part.Pair operation.Bit ∷ []) q b → ReadsKind kinds.Number a b
@@ -60,7 +60,7 @@ one_of_read {f = f} {g} t r v x w y stop p kinds_are is =
     (fits_at x there)) (fits_at y (w.scope ∙ x.steps.scope ∙ there)))
     (rw p.left stop) (rw p.left y.no_else) refl is
 
--- Joints
+-- Operators
 
 pub nothing_put : {a : State} → Puts [] a a
 nothing_put {a} = record { left = refl; parts = sym (append-nil a.parts); scope = refl }
@@ -72,7 +72,7 @@ puts_both {put} {more} {a} p q = record {
   scope = q.scope ∙ p.scope;
 }
 
--- the left part was read, a joint taken, parts put, and the right part read
+-- the left part was read, the operator was read, parts were appended, and the right part was read
 joined_read : (join : Infix) {fore behind : List Part} {e : Written} {a m n o q b : State} → Reads e a m → Takes (infix_token join) m n → Puts fore n o
     → (s : ReadsOne (suc (infix_rank join)) (λ f. joins join e f) o q) → Puts behind q b → infix_rank join < tightest
     → ((phrases : List Phrase) → made behind (said s.e ∷ made fore (said e ∷ phrases)) ≡ said (joined join e s.e) ∷ phrases)
@@ -85,7 +85,7 @@ joined_read join {e = e} r t h s p below makes =
     (lt-ltb _ _ (omega (arith, leb-true _ _ s.rank)))) s.is) r.fits) (fits_at s.reads (h.scope ∙ t.scope ∙ r.steps.scope)))
     (rw p.left (stops_both _ s.stops s.reads.stops)) (rw p.left s.reads.no_else)
 
--- what stands at the right, of which a test holds that makes it fit with the left part
+-- the right part, with the test that makes it fit the left part
 abbrev with_left : {limit : ℕ} {test other : Written → Bool} {a b : State} (s : ReadsOne limit test a b) → IsTrue (other s.e) → ReadsOne limit other a b
 with_left s is = record { e = s.e; reads = s.reads; rank = s.rank; is = is; stops = s.stops }
 
@@ -114,7 +114,7 @@ iff_read : JoinedBy Iff is_fact [] (part.Pair operation.Equal ∷ [])
 unfolding meant made
 iff_read piece e a m n o q b r t u h s p k none = plain_joined (joined_read Iff r u h (with_left s (also t s.is)) p (omega arith) (λ phrases. refl)) k none refl
 
--- a joint of two that hold
+-- an operator between two facts
 abbrev pub IsLogic : Infix → Type 0
 IsLogic join = (join ≡ Or) ⊎ ((join ≡ And) ⊎ (join ≡ Iff))
 
@@ -153,13 +153,13 @@ slice_kept (x ∷ xs) ys (suc i) j l =
     let n : j - suc i ≡ j - 1 - i = omega arith in
     ap (λ n. take n (drop i (xs ++ ys))) n ∙ slice_kept xs ys i (j - 1) (omega (arith, l)) ∙ ap (λ n. take n (drop i xs)) (sym n)
 
--- what a span of parts makes it still makes where more stand behind them
+-- what a span of parts makes does not change if more parts follow
 pub made_kept : (span : Span) (e : Phrase) (parts more all : List Part) → all ≡ parts ++ more → IsMade span e parts → IsMade span e all
 made_kept span e parts more all h m =
     let same = ap (λ parts. slice_range parts span.begun span.ended) h ∙ slice_kept parts more span.begun span.ended m.0 in
     (omega (arith, m.0, ap length h, length-append parts more), λ phrases. ap (λ parts. made parts phrases) same ∙ m.1 phrases)
 
--- a span that was put behind others
+-- a span that was appended to others
 pub slice_put : {X : Type 0} (before put all : List X) (begun ended : ℕ) → all ≡ before ++ put → begun ≡ length before → ended ≡ length all
     → slice_range all begun ended ≡ put
 slice_put before put all begun ended h i j =
@@ -168,7 +168,7 @@ slice_put before put all begun ended h i j =
     ap (λ all. slice_range all begun ended) h ∙ ap (λ n. take (ended - begun) (drop n (before ++ put))) i
     ∙ ap (take (ended - begun)) (drop_at before put (length before) refl) ∙ take_all (ended - begun) put (omega (arith, i, j, k, l))
 
--- the last number of a comparison, whose parts are these
+-- the last number of a comparison, which has these parts
 record ReadsLast (span : Span) (before after : State) : Type 0 where
   pub one : ReadsOne 6 is_number before after
   pub is_made : IsMade span (said one.e) after.parts
@@ -186,7 +186,7 @@ or_right : (a : Bool) {b c : Bool} → IsTrue b → IsTrue c → IsTrue ((a || b
 or_right true p q = q
 or_right false p q = also p q
 
--- a comparison of what stands at its left, whose last parts put before the right number are of this phrase
+-- a comparison, given its left side and the phrase of the last parts before the right number
 compared_so : {relation : Relation} {piece : Piece} {e : Written} {span : Span} {a b : State} (parts behind : List Part) {f : Written}
     → Reads (joined (Compare relation) e f) a b → IsMade span (said f) parts → b.parts ≡ parts ++ behind → piece.kind ≡ kinds.Fact
     → piece.last ≡ Some span → ReadsJoined (Compare relation) e piece a b
@@ -228,7 +228,7 @@ chain_read relation {e = e} {chained} {m = m} {n} {q = q} r l some u h t behind 
     ∙ ap (λ phrase. phrase ∷ phrases) (compared_by relation (meant e) (said f) (Some one) was.1.1)))
     t.is_made behind.parts k some'
 
--- and by what stands at its left, a number or a comparison
+-- the same, for a number or a comparison as the left side
 pub compared_read : (relation : Relation) {left piece : Piece} {e : Written} {begun : ℕ} {a m n o q b : State} → Reads e a m → IsPiece left e m
     → Takes (infix_token (Compare relation)) m n → (left.last ≡ None → IsTrue (may_be_number left.kind) × (o ≡ n))
     → ((last : Span) → left.last ≡ Some last → last.ended ≤ length n.parts → Puts (slice_range n.parts last.begun last.ended) n o)

@@ -1,4 +1,4 @@
--- The reader finds each expression that fits, so two with the same words and signs are one.
+-- The reader finds every allowed expression, so two with the same words and signs are equal.
 use Rattle.std.specs.Prelude.{◌≡◌, ℕ, zero, suc, ◌+◌, ◌-◌, ◌≤◌, ◌<◌, ◌==◌, Bool, true, false, not, ◌&&◌, ◌||◌, nat_lt, nat_le, List, [], ◌∷◌, ◌++◌, codes, length, Option, Some, None}
 use Rattle.std.specs.List.{list_all}
 use Rattle.std.proofs.Common.{refl, sym, ap, ◌∙◌, arith, append_assoc, append-nil, eqb-true}
@@ -21,7 +21,7 @@ abbrev is_joined : Written → Bool
 is_joined (joined join e f) = true
 is_joined _ = false
 
--- how many joints it has at its left, in a row, and more
+-- how many operators in a row there are at the left of an expression, plus a given number
 abbrev chain : Written → ℕ → ℕ
 chain (joined join e f) k = chain e (suc k)
 chain _ k = k
@@ -38,14 +38,14 @@ chain_le (joined join e f) = let a = chain_more e 1 in let b = chain_le e in ome
 chain_le e = omega arith
 
 module _ (given : Reading) (n : ℕ) (found : Finds n given) where
-  -- what is read at the end, at any rank
+  -- the last part of an expression, at any rank
   last_found : (e : Written) (scope : Scope) (rest : List Token) → size e < n → IsClean scope → fits scope e ≡ true
       → is_past 1 rest ≡ true → (takes_else e && is_else rest) ≡ false → given scope 1 (spelled e ++ rest) ≡ Some (e, rest)
   last_found e scope rest small clean fit past choice =
       found e scope 1 (spelled e ++ rest) rest refl small clean fit (one_le_rank e) past
       (record { joints = past_mono 1 (takes_from e) rest (one_le_takes e) past; choice = choice })
 
-  -- what is counted up to, and what is looked at for each
+  -- the bound of a count, and its body
   counts_found : (r : ℕ) (make : List ℕ → ℕ → Written → Written → Written) (name : List ℕ) (k : ℕ) (e f : Written) (scope : Scope)
       (rest : List Token) → size e < n → size f < n → IsClean scope → counts scope name k ≡ true → nat_le 6 (rank e) ≡ true
       → fits scope e ≡ true → fits (inside name scope) f ≡ true → r ≤ rank f → is_past r rest ≡ true → Ends f rest
@@ -166,7 +166,7 @@ tight_is r o join is l =
     ap (λ o. if_tight r o) is ∙ cond-true (nat_le r (infix_rank join)) (Some join) None (le-leb r (infix_rank join) l)
 
 module _ (given : Reading) (n : ℕ) (found : Finds n given) where
-  -- a joint, and what it joins at its right
+  -- an operator and its right side
   joint_found : (join : Infix) (e f : Written) (scope : Scope) (r k : ℕ) (rest : List Token) → size f < n
       → IsClean scope → fits scope f ≡ true → r ≤ infix_rank join → infix_rank join < rank f → Ends (joined join e f) rest
       → joints given scope (suc k) r e (infix_token join ∷ (spelled f ++ rest)) ≡ joints given scope k r (joined join e f) rest
@@ -182,7 +182,7 @@ module _ (given : Reading) (n : ℕ) (found : Finds n given) where
       (past_min_left (suc (infix_rank join)) (takes_from f) rest ends.joints)
       (record { joints = past_min_right (suc (infix_rank join)) (takes_from f) rest ends.joints; choice = ends.choice }))
 
-  -- what begins with an operand and goes on with joints
+  -- an operand followed by operators
   row_found : (e : Written) (scope : Scope) (r k : ℕ) (rest : List Token) → size e < suc n → IsClean scope
       → fits scope e ≡ true → r ≤ rank e → Ends e rest
       → then_by (operand given scope (spelled e ++ rest)) (λ x. joints given scope (chain e k) r x.0 x.1)

@@ -1,4 +1,4 @@
--- What is put for a text that stands in memory, character by character.
+-- The parts for a text in memory, character by character.
 use Rattle.std.specs.Prelude.{◌≡◌, ◌<◌, ◌≤◌, ℕ, zero, suc, ◌+◌, ◌&&◌, ◌%◌, pos, nat_lt, ◌==◌, Bool, true, false, IsTrue, List, [], ◌∷◌, ◌++◌, length, take, ℤ, Result, Ok, Err, OnOk, refl, if◌then◌else◌}
 use Rattle.std.specs.List.{slice_range, list_all}
 use Rattle.std.proofs.Common.{ap, ap₂, sym, ◌∙◌, get_or, arith}
@@ -37,7 +37,7 @@ pub placed_kept : (place : Place) (phrase : ℕ → Phrase) (top : List Phrase) 
 placed_kept (Fixed a) phrase top parts more all e p = p
 placed_kept (Made span) phrase top parts more all e p = (p.0, p.1, p.2, made_kept span p.0 parts more all e p.3)
 
--- what a call put, where it did
+-- what a successful call appended
 pub on_ok : {T E : Type 0} (r : Result T E) {P Q : Type 0} → OnOk r P → (P → Q) → OnOk r Q
 on_ok (Ok x) h f = f h
 on_ok (Err e) h f = tt
@@ -106,12 +106,12 @@ laid_more quote place d text c =
     behind_more quote place (is_laid quote (place 0) d) 1 text c
     ∙ ap (λ n. both (are_laid quote place (d ∷ text)) (is_laid quote (place n) c)) n
 
--- the character at a place, as it is laid
+-- the stored code of the character at a place
 laid_at : (quote top c k n code : ℕ) (place : ℕ → Phrase) → IsTop quote top → n ≡ k → code ≡ c + top
     → pair operation.Equal (of function.Byte (place n)) (number (pos code)) ≡ is_laid quote (place k) c
 laid_at quote top c k n code place t e f = ap₂ (λ n code. pair operation.Equal (of function.Byte (place n)) (number (pos code))) e (f ∙ sym (t c))
 
--- the first character, and the next, behind those so far
+-- the first character, and then the next one after those so far
 first_laid : (quote add c code : ℕ) (place : ℕ → Phrase) (top : List Phrase) (n : ℕ) {a m b : State} → LaidSoFar quote place top [] a m
     → IsTop quote add → n ≡ 0 → code ≡ c + add
     → PutsOf (pushed n top) (pair operation.Equal (of function.Byte (place n)) (number (pos code))) m b → LaidSoFar quote place top (c ∷ []) a b
@@ -145,7 +145,7 @@ at_true : (p : ℕ → Bool) (text : List ℕ) (k : ℕ) (b : Bool) → k < leng
 at_true p text k true l h e = refl
 at_true p text k false l h e = sym (list_all_at p text k 0 l e) ∙ h
 
--- a character that is laid is a byte
+-- the stored code of a character is a byte
 laid_code : (quote top k code : ℕ) (text : List ℕ) → IsTop quote top → IsTrue (is_text quote text) → k < length text
     → code ≡ (get_or text k 0 + top) % 256 → code ≡ get_or text k 0 + top
 laid_code quote top k code text t good l e =

@@ -1,4 +1,4 @@
--- The value of an expression depends on nothing but what it looks at.
+-- The value of an expression depends only on what the expression reads.
 use Rattle.std.specs.Prelude.{◌≡◌, ◌<◌, ℕ, zero, suc, ◌+◌, ◌%◌, ℤ, pos, Bool, true, false, if◌then◌else◌, Option, Some, None, refl, slice_set}
 use Rattle.std.proofs.Common.{ap, ap₂, ◌∙◌, arith}
 use Rattle.a2_promise.specs.declared.expr.Expr.TheVariants.{Number, Held, Bound, Old', At', Of', Pair', Choice', Each', Sum'}

@@ -1,4 +1,4 @@
--- The signs and words of joints that bind otherwise differ.
+-- Operators with different ranks have different signs and words.
 use Rattle.std.specs.Prelude.{◌≡◌, ◌<◌, ℕ, ◌||◌, codes, refl, if◌then◌else◌}
 use Rattle.std.specs.Str.{bytes_eq}
 use Rattle.std.proofs.Common.{arith, ap, sym, ◌∙◌}

@@ -1,4 +1,4 @@
--- What a word or digits stand for in an expression that fits is what the reader takes them for.
+-- The reader gives words and digits the meaning that they have in an allowed expression.
 use Rattle.std.specs.Prelude.{◌≡◌, ℕ, Bool, true, false, not, List, [], ◌∷◌, map, length, codes, Option, Some, None, if◌then◌else◌}
 use Rattle.std.specs.List.{list_any, list_all}
 use Rattle.std.specs.Str.{bytes_eq}
@@ -22,7 +22,7 @@ none_named {X} (row ∷ rows) name h =
 same_words : map (λ row. row.0) opening_words ≡ openings
 same_words = refl
 
--- what opens nothing
+-- a word that opens nothing
 pub no_opening : (name : List ℕ) → is_name_among openings name ≡ false → named opening_words name ≡ None
 no_opening name h = none_named opening_words name (ap (λ names. list_any (bytes_eq name) names) same_words ∙ h)
 
@@ -44,7 +44,7 @@ counted_by one around name k true e may all h more =
     may_count_opens name (subst (λ (x : List ℕ). may_count x ≡ true) (sym ((bytes_eq-Decides name one).0 e)) may)
 counted_by one around name k false e may all h more = more all h
 
--- a name that is counted opens nothing
+-- a bound name opens nothing
 pub counted_opens : (around : List (List ℕ)) (name : List ℕ) (k : ℕ) → list_all may_count around ≡ true
     → number_among around name ≡ Some k
     → is_name_among openings name ≡ false

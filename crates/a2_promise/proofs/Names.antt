@@ -1,4 +1,4 @@
--- Words and signs that mean something, and what may be counted.
+-- Words and signs that have a meaning, and names that may be bound.
 use Rattle.std.specs.Prelude.{◌≡◌, ℕ, ◌<◌, Bool, true, false, not, ◌&&◌, ◌||◌, IsTrue, List, [], ◌∷◌, ◌++◌, map, take, Option, Some, None, IfSome, IfNone, refl}
 use Rattle.std.specs.List.{AllByRecursion as ByRecursion, Contains, list_any}
 use Rattle.std.specs.Str.{bytes_eq}
@@ -44,7 +44,7 @@ pub if_none : {X : Type 0} (found : Option X) (P Q : Type 0) → (P → Q) → I
 if_none None P Q f h = f h
 if_none (Some x) P Q f h = tt
 
--- a word or a sign is of one class, and of one text
+-- a word or sign determines its class and its text
 pub word_class : (class : Class) (bytes name : List ℕ) → token_of class bytes ≡ Some (word name) → (class ≡ classes.Word) × (bytes ≡ name)
 word_class classes.Word bytes name e = (refl, (let same : bytes ≡ name = cc in same))
 word_class _ bytes name e = absurd (let no : ⊥ = cc in no)
@@ -58,14 +58,14 @@ sign_class _ bytes name e = absurd (let no : ⊥ = cc in no)
 abbrev Row : Type 0 → Type 0
 Row T = Class × List ℕ × T
 
--- where each row is what its meaning is written as, so is a token that has a meaning
+-- if each row of a table agrees with the spelling of its meaning, so does any token with a meaning
 pub token_by : {T : Type 0} (P : T → Option Token → Type 0) (rows : List (Row T)) (class : Class) (text : List ℕ) (it : T)
     → ByRecursion (λ row. P row.2 (token_of row.0 row.1)) rows → Contains rows (class, text, it) → P it (token_of class text)
 token_by {T} P rows class text it all listed =
     let Q : Row T → Type 0 = λ row. P row.2 (token_of row.0 row.1) in
     All-contains Q rows (class, text, it) (All-from_recursion Q rows all) listed
 
--- a word that is none of a table's is none of the texts of some that are words
+-- a word that is not in a table differs from the texts in it that are words
 none_among : {T : Type 0} (rows some : List (Row T)) (text : List ℕ) → ByRecursion (Contains rows) some → ByRecursion (λ row. row.0 ≡ classes.Word) some
     → ((it : T) → Contains rows (classes.Word, text, it) → ⊥) → list_any (bytes_eq text) (map (λ row. row.1) some) ≡ false
 none_among rows [] text within words none = refl
@@ -78,7 +78,7 @@ none_of_both test [] more p q = q
 none_of_both test (name ∷ names) more p q =
     let parts = or_parts (test name) (list_any test names) p in two _ _ parts.0 (none_of_both test names more parts.1 q)
 
--- Joints
+-- Operators
 
 abbrev joints : List (Row Infix)
 joints = map (λ row. (row.0, row.1.now, row.2)) INFIXES
@@ -94,7 +94,7 @@ joint_found class text join listed =
 abbrev IsNone : Class → List ℕ → Type 0
 IsNone class text = (join : Infix) → Contains joints (class, text, join) → ⊥
 
--- a token that is not among them is none in a place of theirs
+-- a token that is not an operator differs from each of their tokens
 no_word : (class : Class) (text name : List ℕ) (join : Infix) → IsNone class text → Contains joints (classes.Word, name, join)
     → token_of class text ≡ Some (word name) → ⊥
 no_word class text name join none listed e = let w = word_class class text name e in none join (rw (w.0, w.1) listed)
@@ -131,7 +131,7 @@ no_joint class text n And e l = no_word class text _ And n (2, omega arith, refl
 no_joint class text n (Compare by) e l = no_comparison class text n by e
 no_joint class text n (Apply op) e l = no_operation class text n op e l
 
--- What begins an expression
+-- Openings of expressions
 
 abbrev atoms : List (Row Atom)
 atoms = map (λ row. (row.0, row.1.now, row.2)) HELD
@@ -161,7 +161,7 @@ opening_found class text it listed =
     token_by IsOpening others class text it
     (refl, (refl, (refl, (refl, (refl, (refl, (refl, (refl, (refl, (refl, (refl, (refl, (refl, (refl, (refl, (refl, (refl, (refl, (refl, tt))))))))))))))))))) listed
 
--- the first of them are words
+-- the first ones are words
 pub none_opens : (class : Class) (text : List ℕ) → (class ≡ classes.Word → is_name_among change_names text ≡ false)
     → ((it : Opening) → Contains others (class, text, it) → ⊥) → class ≡ classes.Word → is_name_among openings text ≡ false
 none_opens class text held none w =
@@ -171,7 +171,7 @@ none_opens class text held none w =
     (none_among others words text (recursion_from_All (Contains others) words (All-take (Contains others) 15 others (All-contains_itself others)))
     (refl, (refl, (refl, (refl, (refl, (refl, (refl, (refl, (refl, (refl, (refl, (refl, (refl, (refl, (refl, tt))))))))))))))) (subst P w none))
 
--- a word that opens nothing and is no joint may be counted
+-- a word that opens nothing and is not an operator may be bound
 pub may : (text : List ℕ) → is_name_among openings text ≡ false
     → ((join : Infix) → token_of classes.Word text ≡ Some (infix_token join) → infix_rank join < tightest → ⊥) → IsTrue (may_count text)
 may text h none =

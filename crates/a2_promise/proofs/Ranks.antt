@@ -1,4 +1,5 @@
--- How tight what is written binds, from 1 to the tightest. (Of several cases in one line each is checked by itself.)
+-- How tightly an expression binds, from 1 to the tightest. (If a line has several cases, each one is checked by
+-- itself.)
 use Rattle.std.specs.Prelude.{◌≤◌, suc}
 use Rattle.std.proofs.Common.{arith}
 use Rattle.a2_promise.specs.declared.expr.Operation.TheVariants as operation

@@ -1,4 +1,4 @@
--- What a line says behind its verb.
+-- What a line says after its verb.
 use Rattle.std.specs.Prelude.{◌≡◌, ℕ, Bool, false, not, ◌&&◌, List, [], ◌∷◌, ◌++◌, map, Option, Some, refl}
 use Rattle.std.specs.List.{Contains}
 use Rattle.std.proofs.Common.{ap, sym, ◌∙◌}
@@ -30,7 +30,7 @@ pub verb_found : (class : Class) (text : List ℕ) (it : Verb) → Contains verb
 verb_found class text it listed =
     token_by IsVerb verbs class text it (refl, (refl, (refl, (refl, (refl, (refl, (refl, (refl, tt)))))))) listed
 
--- a verb was taken, and what stands behind it
+-- a verb was read, and this follows it
 pub record Begins (verb line rest : List ℕ) : Type 0 where
   pub found : token_from (behind_blanks line) ≡ Some (word verb, rest)
   pub left : tokens line ≡ word verb ∷ tokens rest
@@ -52,7 +52,7 @@ pub spelt_of : {verb line rest : List ℕ} {texts others : List Text} → Begins
     → IsSpelt verb line f.characters
 spelt_of {rest = rest} b f = record { rest = rest; inner = f.inner; begins = b.found; is_quoted = f.is_quoted; spells = f.spells }
 
--- what a line says, and what a block says behind it of each thing
+-- what a line says, and what a block then says about each thing
 pub says : {names : Names} {text : List ℕ} {before after : Block} (line : Line) → IsLine names text line
     → said_by after.promise.wanted.items ≡ said_by before.promise.wanted.items ++ wanted_in line
     → said_by after.promise.promised.items ≡ said_by before.promise.promised.items ++ promised_in line

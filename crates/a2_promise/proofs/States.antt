@@ -1,4 +1,4 @@
--- What a reader takes, and which names are counted where it is.
+-- What a reader reads, and which names are bound in its state.
 use Rattle.std.specs.Prelude.{◌≡◌, ◌<◌, ◌≤◌, ℕ, suc, ◌+◌, ◌-◌, Bool, true, false, ◌==◌, ◌&&◌, cond, nat_lt, min, IsTrue, List, [], ◌∷◌, ◌++◌, length, take, map, reverse, slice_set, Option, Some, None, refl, if◌then◌else◌}
 use Rattle.std.specs.List.{prefix_len, list_all}
 use Rattle.std.specs.Str.{bytes_eq}
@@ -15,7 +15,7 @@ use Rattle.a2_promise.specs.Grammar.{Scope, inside, is_text, number_among}
 use Rattle.a2_promise.specs.Reading.{first, with_rest}
 use Rattle.a2_promise.proofs.Tokens.{tokens_are, tokens_with, choice}
 
--- What stands next
+-- The next token
 
 first_with : (token : Option Token) (behind : List ℕ) → token ≡ first (tokens_with (with_rest token behind))
 first_with None behind = refl
@@ -107,7 +107,7 @@ pub quoted_text : (quote : ℕ) (text line : List ℕ) → first (tokens line) �
 quoted_text quote text line e =
     good_first quote text (token_from (behind_blanks line)) (good_found quote text (behind_blanks line)) (ap first (sym (tokens_are line)) ∙ e)
 
--- Names that are counted
+-- Bound names
 
 pub bound_more : {X : Type 0} (f : X → List ℕ) (xs : List X) (n : ℕ) (x : X) → n < length xs
     → reverse (take (n + 1) (map f (slice_set xs n x))) ≡ f x ∷ reverse (take n (map f xs))
@@ -135,7 +135,7 @@ among_less xs n name l =
     ∙ ap (λ k. if bytes_eq name (get_or xs n []) then Some k else number_among (reverse (take n xs)) name)
     (length-reverse (take n xs) ∙ length-take-le n xs (omega (arith, l)))
 
--- the last of so many names is the one, or one before it may be
+-- among the first names of a list, either the last one is the name or an earlier one may be
 pub among_here : (xs : List (List ℕ)) (n : ℕ) (name : List ℕ) → 0 < n → n ≤ length xs → bytes_eq name (get_or xs (n - 1) []) ≡ true
     → number_among (reverse (take n xs)) name ≡ Some (n - 1)
 among_here xs n name p l e =
@@ -159,7 +159,7 @@ bytes_turned : (xs ys : List ℕ) → bytes_eq xs ys ≡ bytes_eq ys xs
 bytes_turned xs ys = same_from_decides (bytes_eq xs ys) (bytes_eq ys xs) (bytes_eq-Decides xs ys)
     (Decides-like (bytes_eq ys xs) (λ e. sym e) (λ e. sym e) (bytes_eq-Decides ys xs))
 
--- the name at a place is another, or is not
+-- the name at an index is another one, or it is not
 pub named_at : {X : Type 0} (f : X → List ℕ) (xs : List X) (n : ℕ) (name : List ℕ) (d : X) (b : Bool) → n < length xs
     → bytes_eq (f (get_or xs n d)) name ≡ b → bytes_eq name (get_or (map f xs) n []) ≡ b
 named_at f xs n name d b l e = ap (λ other. bytes_eq name other) (get_or-map f xs n d [] l) ∙ bytes_turned name (f (get_or xs n d)) ∙ e

@@ -1,4 +1,4 @@
--- Where the reader of words and signs stops: at what would not belong to the expression before it.
+-- Where the reader of words and signs stops: at a token that does not belong to the expression before it.
 use Rattle.std.specs.Prelude.{◌≡◌, ℕ, ◌≤◌, ◌<◌, min, Bool, true, false, ◌&&◌, nat_lt, nat_le, List, [], ◌∷◌, Option, Some, None}
 use Rattle.std.proofs.Common.{refl, arith}
 use Rattle.std.proofs.lemmas.Bool.{cond-false, ltb-true, lt-ltb, lt-leb}
@@ -11,7 +11,7 @@ use Rattle.a2_promise.specs.Written.{Written, infix_token}
 use Rattle.a2_promise.specs.Grammar.{infix_rank, tightest, takes_from, takes_else}
 use Rattle.a2_promise.proofs.Finder.{joint_of, if_tight, joint_next, is_else}
 
--- no joint stands next that binds as tight as this
+-- no operator that binds as tightly as this comes next
 abbrev pub is_looser : ℕ → Option Infix → Bool
 is_looser limit None = true
 is_looser limit (Some join) = nat_lt (infix_rank join) limit
@@ -20,7 +20,7 @@ abbrev pub is_past : ℕ → List Token → Bool
 is_past limit [] = true
 is_past limit (token ∷ more) = is_looser limit (joint_of token)
 
--- what stands behind an expression that was read up to its end: nothing that its last part would take
+-- what follows an expression that was read completely: nothing that its last part would take
 pub record Ends (e : Written) (rest : List Token) : Type 0 where
   pub joints : is_past (takes_from e) rest ≡ true
   pub choice : (takes_else e && is_else rest) ≡ false
@@ -49,7 +49,7 @@ pub none_next : (r : ℕ) (rest : List Token) → is_past r rest ≡ true → jo
 none_next r [] h = refl
 none_next r (token ∷ more) h = not_tight r (joint_of token) h
 
--- a joint that something fits behind is told by its token
+-- the token of an operator determines it, if something may follow it
 pub joint_is : (join : Infix) → infix_rank join < tightest → joint_of (infix_token join) ≡ Some join
 joint_is (Apply operation.Min) l = absurd (omega (arith, l))
 joint_is (Apply operation.Max) l = absurd (omega (arith, l))

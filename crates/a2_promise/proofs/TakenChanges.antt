@@ -1,4 +1,4 @@
--- What may change, as it is read.
+-- Reading of what may change.
 use Rattle.std.specs.Prelude.{◌≡◌, ◌≤◌, ℕ, Bool, true, false, not, ◌||◌, IsTrue, List, [], ◌∷◌, ◌++◌, map, codes, Some, refl}
 use Rattle.std.specs.List.{list_any, list_all, flat_map}
 use Rattle.std.proofs.lemmas.List.{append-nil}
@@ -36,7 +36,7 @@ other_by class text (word name) e h =
     not_false (is_name_among change_names name) (ap (λ text. is_name_among change_names text) (sym w.1) ∙ h w.0)
 other_by class text _ e h = refl
 
--- bytes may change, and nothing else more
+-- bytes may change, and nothing else is added
 ranges_let : (change : Change) (before after : Changes) (range : Range) → (after.a ≡ before.a) × (after.x ≡ before.x) × (after.y ≡ before.y)
     → after.ranges.items ≡ before.ranges.items ++ range ∷ [] → ranges_in change ≡ (range.first, range.last) ∷ []
     → is_a change ≡ false → is_x change ≡ false → is_y change ≡ false → LetsChange change before after

@@ -1,4 +1,5 @@
--- Lines tell one promise at most: each says one thing at most, and which stand before a label is told by the lines.
+-- Lines give at most one promise: each says at most one thing, and the lines determine which of them come before a
+-- label.
 use Rattle.std.specs.Prelude.{◌≡◌, ℕ, true, false, ◌||◌, List, [], ◌∷◌, ◌++◌, length, codes, Option, Some, None}
 use Rattle.std.specs.Str.{bytes_eq}
 use Rattle.std.proofs.Common.{refl, sym, ap, ap₂, subst, ◌∙◌, inl, inr}
@@ -20,7 +21,7 @@ use Rattle.a2_promise.proofs.Finder.{named, behind_one}
 use Rattle.a2_promise.proofs.Joints.{one_expression}
 use Rattle.a2_promise.proofs.Changing.{changes_same}
 
--- Which verb a line begins with
+-- The verb of a line
 
 abbrev verbs : List (List ℕ × ℕ)
 verbs = (codes "requires", 1) ∷ (codes "ensures", 2) ∷ (codes "changes", 3) ∷ (codes "prints", 4) ∷ (codes "takes", 5) ∷ []
@@ -51,7 +52,7 @@ underway_named verb h = elim (or_cases (bytes_eq verb (codes "invariant"))
       ]
     ]
 
--- what a text begins with is the first of its words and signs
+-- the start of a text is its first word or sign
 tail_of : List ℕ → List ℕ → List Token
 tail_of [] rest = []
 tail_of (c ∷ cs) rest = tokens_up_to (length cs) rest
@@ -71,7 +72,7 @@ verb_is names text (prints characters) h = ap verb_of (first_token (codes "print
 verb_is names text (takes characters) h = ap verb_of (first_token (codes "takes") text h.rest h.begins)
 verb_is names text (underway told) h = ap verb_of h.2 ∙ underway_named h.0 h.4
 
--- What it says behind the verb
+-- After the verb
 
 fact_same : (names : Names) (verb : List ℕ) (tokens : List Token) (one other : Written) → IsFact names verb tokens one
     → IsFact names verb tokens other → one ≡ other

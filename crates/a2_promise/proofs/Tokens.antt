@@ -15,11 +15,11 @@ use Rattle.a2_promise.specs.Reading.{token_of, with_rest, IsWritten}
 use Rattle.a2_promise.proofs.Names.{unequal}
 use Rattle.a2_promise.specs.Tokens.{Token, word, decimal, sign, is_letter, is_double, front, behind, sign_from, quoted_from, token_from, tokens_up_to, tokens}
 
--- what stands behind a front is no longer
+-- the rest after a prefix is not longer than the text
 no_longer : (p : ℕ → Bool) (text : List ℕ) → length (behind p text) ≤ length text
 no_longer p text = omega (arith, length-drop (prefix_len p text) text)
 
--- one of two, by what holds where it is taken
+-- a property of a choice, from the properties of its branches
 pub choice : (b : Bool) (P : Token × List ℕ → Type 0) (x y : Token × List ℕ) → (b ≡ true → P x) → (b ≡ false → P y) → P (if b then x else y)
 choice true P x y p q = p refl
 choice false P x y p q = q refl
@@ -37,7 +37,7 @@ quoted_shorter quote text [] rest h = omega arith
 quoted_shorter quote text (c ∷ more) rest h =
     either_way (c == quote && nat_lt 0 (length text)) (λ found. length found.1 ≤ length rest) _ _ (omega (arith, h)) (omega arith)
 
--- a token is a byte at least
+-- a token has at least one byte
 abbrev pub IsShorter : Option (Token × List ℕ) → List ℕ → Type 0
 IsShorter None text = Unit {0}
 IsShorter (Some found) text = length found.1 < length text
@@ -65,7 +65,7 @@ same_first : (n m : ℕ) (text : List ℕ) (found : Option (Token × List ℕ)) 
 same_first n m text None s h = refl
 same_first n m text (Some found) s h = ap (λ more. found.0 ∷ more) (h found.1 s)
 
--- so any count does that is no less than the length
+-- so any count that is at least the length gives all tokens
 pub enough : (n m : ℕ) (text : List ℕ) → length text ≤ n → length text ≤ m → tokens_up_to n text ≡ tokens_up_to m text
 enough zero zero text h l = refl
 enough zero (suc m) [] h l = refl
@@ -76,7 +76,7 @@ enough (suc n) (suc m) text h l =
     same_first n m (behind_blanks text) (token_from (behind_blanks text)) (token_shorter (behind_blanks text))
     (λ more s. enough n m more (omega (arith, s, shorter_behind text)) (omega (arith, s, shorter_behind text)))
 
--- the first token, and those behind it
+-- the first token, and those after it
 abbrev pub tokens_with : Option (Token × List ℕ) → List Token
 tokens_with None = []
 tokens_with (Some found) = found.0 ∷ tokens found.1
@@ -130,7 +130,7 @@ sign_found class text more [] n k t m by l p q r d h = absurd (omega (arith, l))
 sign_found class text more (c ∷ rest) n k t m by l p q r d h =
     rw (k, t, m, unequal (c == 36) (λ e. p ((Decides-eqb c 36).0 e)), d, h, no_quote c q r, by c rest refl)
 
--- a word is spelt as one
+-- a word has the spelling of a word
 pub word_written : (class : Class) (text here : List ℕ) (n : ℕ) → class ≡ class_of.Word → text ≡ take n here → n ≡ prefix_len is_name_byte here
     → 0 < length here → is_letter (get_or here 0 0) ≡ true → IsWritten class text
 word_written class text [] n k t e l h = absurd (omega (arith, l))

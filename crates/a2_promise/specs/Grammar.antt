@@ -1,5 +1,6 @@
--- Which expressions may be written in a promise: how tight signs and words bind, what wants a number and what wants a fact, and what names
--- and digits stand for. This project's profile; docs/manual/promises.md has it as a table.
+-- The expressions that are allowed in a promise: how tightly words and signs bind, which places need a number and
+-- which need a fact, and what names and digits stand for. This project's profile; docs/manual/promises.md shows it as
+-- a table.
 use Rattle.std.specs.Prelude.{ℕ, suc, ◌^◌, Bool, true, false, not, ◌&&◌, ◌||◌, ◌==◌, nat_lt, nat_le, min, List, [], ◌∷◌, ◌++◌, length, codes, map, Option, Some, None, if◌then◌else◌}
 use Rattle.std.specs.List.{list_any, list_all}
 use Rattle.std.specs.Str.{bytes_eq}
@@ -17,13 +18,14 @@ use Rattle.a2_promise.specs.declared.words.Kind.TheVariants.{Number, Fact, Flag}
 use Rattle.a2_promise.specs.Tokens.{Token, word, decimal as digits, place}
 use Rattle.a2_promise.specs.Written.{Written, decimal, literal, byte, byte_in, word_of, word_in, text, text_in, atom, counted, group, minus, magnitude, signed, before, there, bit, least, greatest, negated, joined, provided, one_of, for_all, sum_of, atom_name}
 
--- How tight it binds
+-- Precedence
 
--- what is no joint of two binds as tight as can be
+-- an expression that is not two joined by an operator binds the tightest
 abbrev pub tightest : ℕ
 tightest = 10
 
--- the tighter, the greater; behind an operation without a sign nothing is tight enough, so it joins nothing
+-- a greater rank binds tighter. An operation without a sign has a rank that nothing reaches, so it is not an
+-- operator.
 abbrev pub operation_rank : Operation → ℕ
 operation_rank operation.BitOr = 6
 operation_rank operation.BitXor = 6
@@ -46,7 +48,8 @@ abbrev pub rank : Written → ℕ
 rank (joined join e f) = infix_rank join
 rank _ = tightest
 
--- the loosest joint behind an expression that would belong to its own last part; none where that is the tightest
+-- the lowest rank of a following operator that would belong to the expression's own last part; the tightest rank if
+-- no operator would
 abbrev pub takes_from : Written → ℕ
 takes_from (joined join e f) = min (suc (infix_rank join)) (takes_from f)
 takes_from (negated e) = min 4 (takes_from e)
@@ -62,7 +65,7 @@ takes_from (there label a e) = takes_from e
 takes_from (bit e f) = takes_from f
 takes_from _ = tightest
 
--- an `else` behind it would belong to its own last part
+-- whether a following `else` would belong to the expression's own last part
 abbrev pub takes_else : Written → Bool
 takes_else (provided e f) = true
 takes_else (joined join e f) = takes_else f
@@ -78,7 +81,7 @@ takes_else (there label a e) = takes_else e
 takes_else (bit e f) = takes_else f
 takes_else _ = false
 
--- What it is
+-- Kinds
 
 abbrev pub atom_kind : Atom → Kind
 atom_kind Carry = Flag
@@ -89,7 +92,7 @@ atom_kind Decimal = Flag
 atom_kind Interrupt = Flag
 atom_kind _ = Number
 
--- a flag is both, a number and a fact
+-- a flag is both a number and a fact
 abbrev pub may_be_number : Kind → Bool
 may_be_number Fact = false
 may_be_number _ = true
@@ -122,9 +125,9 @@ is_number e = may_be_number (kind e)
 abbrev pub is_fact : Written → Bool
 is_fact e = may_be_fact (kind e)
 
--- What words and digits stand for
+-- The meaning of words and digits
 
--- a name that is counted means no name of the source; nor does a word that opens an expression
+-- a bound name hides a name of the source; a word that opens an expression also cannot be a name of the source
 abbrev pub openings : List (List ℕ)
 openings =
     map atom_name (A ∷ X ∷ Y ∷ S ∷ Carry ∷ Zero ∷ Negative ∷ Overflow ∷ Decimal ∷ Interrupt ∷ Cycles ∷ Steps ∷ [])
@@ -134,7 +137,7 @@ openings =
 abbrev pub is_name_among : List (List ℕ) → List ℕ → Bool
 is_name_among names name = list_any (bytes_eq name) names
 
--- a word that may be counted
+-- a word that may be bound as a name
 abbrev pub may_count : List ℕ → Bool
 may_count name = not (is_name_among openings name) && not (is_name_among (codes "iff" ∷ codes "or" ∷ codes "and" ∷ []) name)
 
@@ -144,7 +147,7 @@ address_of names (place hexadecimal) = number_in 16 4 hexadecimal
 address_of names (word name) = name_value names name
 address_of names _ = None
 
--- or decimal digits, below 2 to the 32
+-- the same, or decimal digits below 2 to the 32
 abbrev pub number_of : Names → Token → Option ℕ
 number_of names (digits decimals) =
     if nat_lt (value_of_digits 10 decimals) (2 ^ 32) then Some (value_of_digits 10 decimals) else None
@@ -162,7 +165,7 @@ abbrev pub is_just : ℕ → Option ℕ → Bool
 is_just n None = false
 is_just n (Some m) = m == n
 
--- the number of a name among those that are counted around it, the innermost first, which has the greatest number
+-- the number of a name among the enclosing bound names, innermost first; the innermost has the greatest number
 abbrev pub number_among : List (List ℕ) → List ℕ → Option ℕ
 number_among [] name = None
 number_among (one ∷ around) name = if bytes_eq name one then Some (length around) else number_among around name
@@ -170,9 +173,9 @@ number_among (one ∷ around) name = if bytes_eq name one then Some (length arou
 abbrev pub is_text : ℕ → List ℕ → Bool
 is_text quote characters = is_quote quote && nat_lt 0 (length characters) && list_all (is_quotable quote) characters
 
--- What fits
+-- Which expressions are allowed
 
--- parts of a joint, of a comparison where the left one is another comparison
+-- whether an expression is a comparison; its left operand may be another comparison
 abbrev pub is_comparison : Written → Bool
 is_comparison (joined (Compare relation) e f) = true
 is_comparison _ = false
@@ -182,11 +185,11 @@ joins (Apply op) e f = is_number e && is_number f
 joins (Compare relation) e f = (is_comparison e || is_number e) && is_number f
 joins _ e f = is_fact e && is_fact f
 
--- something that begins with no joint: one operand, or what a word or sign makes
+-- whether an expression is not two joined by an operator: one operand, or what a word or sign makes
 abbrev pub is_one : Written → Bool
 is_one e = rank e == tightest
 
--- where an expression stands: the names of the source, whether `at` may stand there, and the names that are counted around it, the
+-- the surroundings of an expression: the names of the source, whether `at` is allowed, and the enclosing bound names,
 -- innermost first
 pub record Scope : Type 0 where
   pub names : Names
@@ -196,11 +199,11 @@ pub record Scope : Type 0 where
 abbrev pub inside : List ℕ → Scope → Scope
 inside name scope = record scope { around = name ∷ scope.around }
 
--- a name is counted there, as the one of this number
+-- whether the name is bound here under this number
 abbrev pub counts : Scope → List ℕ → ℕ → Bool
 counts scope name k = may_count name && length scope.around == k && nat_lt k 4
 
--- an expression fits where it stands
+-- whether an expression is allowed in its surroundings
 unfoldable pub fits : Scope → Written → Bool
 fits scope (decimal token n) = is_digits token && is_just n (number_of scope.names token)
 fits scope (literal token n) = is_just n (number_of scope.names token)

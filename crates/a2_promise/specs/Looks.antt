@@ -1,4 +1,4 @@
--- What the value of an expression looks at, and that it depends on nothing else. This project's own.
+-- What an expression reads, and that its value depends on nothing else. This project's own.
 use Rattle.std.specs.Prelude.{◌≡◌, ◌<◌, ℕ, ◌+◌, ◌%◌, ℤ, pos, Bool, true, false, IsTrue, List, Option, Some, None, slice_get, slice_set}
 use Rattle.a2_promise.specs.declared.expr.Atom.{Atom}
 use Rattle.a2_promise.specs.declared.expr.Expr.{Expr}
@@ -12,12 +12,12 @@ pub record Known : Type 0 where
   pub bytes : ℕ → Bool
   pub atoms : Atom → Bool
 
--- two states have the same there
+-- two states agree on what is known
 pub record AgreeAt (known : Known) (m n : Moment) : Type 0 where
   pub bytes : (a : ℕ) → IsTrue (known.bytes a) → slice_get m.bytes a ≡ slice_get n.bytes a
   pub atoms : (atom : Atom) → IsTrue (known.atoms atom) → held atom m ≡ held atom n
 
--- a byte is known, and two
+-- a byte is known; then the same for two bytes
 abbrev pub KnowsByte : Known → Option ℕ → Type 0
 KnowsByte known None = Unit {0}
 KnowsByte known (Some a) = IsTrue (known.bytes a)
@@ -26,13 +26,13 @@ abbrev pub KnowsWord : Known → Option ℕ → Type 0
 KnowsWord known None = Unit {0}
 KnowsWord known (Some a) = IsTrue (known.bytes a) × IsTrue (known.bytes ((a + 1) % 65536))
 
--- what a function looks at is known
+-- what a function reads is known
 abbrev pub KnowsMade : Function → Known → Option ℤ → Type 0
 KnowsMade function.Byte known (Some x) = KnowsByte known (word_in x)
 KnowsMade function.Word known (Some x) = KnowsWord known (word_in x)
 KnowsMade _ known _ = Unit {0}
 
--- of one of two that is chosen by a number; where there is none, neither
+-- the condition for the branch that a number chooses; nothing if the number has no value
 abbrev pub OfBoth : Bool → Type 0 → Type 0 → Type 0
 OfBoth true one other = other
 OfBoth false one other = one
@@ -45,7 +45,7 @@ abbrev pub IsBelow : ℕ → Option ℕ → Type 0
 IsBelow k None = ⊥
 IsBelow k (Some n) = k < n
 
--- all that the value of an expression looks at is known, of the state at the entry and of that at the exit
+-- everything that the value of an expression reads is known, both at the entry and at the exit
 abbrev pub Knows : Expr → Known → Known → Moment → Moment → List ℤ → Type 0
 Knows (Number n) before behind entry exit names = Unit {0}
 Knows (Held atom) before behind entry exit names = IsTrue (behind.atoms atom)
@@ -66,7 +66,7 @@ Knows (Sum' name p n q e) before behind entry exit names =
     Knows n before behind entry exit names
     × ((k : ℕ) → IsBelow k (count_of (value_of n entry exit names)) → Knows e before behind entry exit (slice_set names name (pos k)))
 
--- so of two pairs of states that agree at what an expression looks at it has the same value
+-- if two pairs of states agree on what an expression reads, the expression has the same value in both
 abbrev pub ValuesDependOnLooks : Type 0
 ValuesDependOnLooks =
     (e : Expr) (before behind : Known) (entry exit other_entry other_exit : Moment) (names : List ℤ)

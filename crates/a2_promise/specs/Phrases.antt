@@ -1,4 +1,4 @@
--- What the expressions of a promise say, wherever in memory they stand. This project's own.
+-- What the expressions of a promise say, independent of where they are stored in memory. This project's own.
 use Rattle.std.specs.Prelude.{ℕ, ℤ}
 use Rattle.a2_promise.specs.declared.expr.Atom.{Atom}
 use Rattle.a2_promise.specs.declared.expr.Expr.{Expr}
@@ -6,7 +6,7 @@ use Rattle.a2_promise.specs.declared.expr.Expr.TheVariants.{Number, Held, Bound,
 use Rattle.a2_promise.specs.declared.expr.Function.{Function}
 use Rattle.a2_promise.specs.declared.expr.Operation.{Operation}
 
--- an expression without the places of its parts
+-- an expression without the memory locations of its parts
 pub data Phrase : Type 0 where
   number : ℤ → Phrase
   held : Atom → Phrase

@@ -16,13 +16,13 @@ use Rattle.a2_promise.specs.Grammar.{address_of, fits, is_fact, is_just, is_name
 
 -- What a line says
 
--- what `changes` names: a register or a flag, a byte, or the bytes from one address to another
+-- a thing listed in `changes`: a register or a flag, a byte, or the bytes from one address to another
 pub data Change : Type 0 where
   held : Atom → Change
   byte : Token → ℕ → Change
   bytes : Token → ℕ → Token → ℕ → Change
 
--- what stands behind ;: in a line; one of the way there says what holds at a label, and promises nothing
+-- what follows `;:` in a line; the last kind says what holds at a label, and promises nothing
 pub data Line : Type 0 where
   requires : Written → Line
   ensures : Written → Line
@@ -59,7 +59,7 @@ abbrev pub more_spelled : List Change → List Token
 more_spelled [] = []
 more_spelled (change ∷ more) = sign (codes ",") ∷ (change_spelled change ++ more_spelled more)
 
--- `nothing`, or changes with commas between them
+-- `nothing`, or changes separated by commas
 abbrev pub AreChanges : Names → List Token → List Change → Type 0
 AreChanges names tokens [] = tokens ≡ word (codes "nothing") ∷ []
 AreChanges names tokens (change ∷ more) =
@@ -67,7 +67,7 @@ AreChanges names tokens (change ∷ more) =
     × IsTrue (list_all (change_fits names) (change ∷ more))
     × (tokens ≡ word (codes "nothing") ∷ [] → ⊥)
 
--- a verb, and behind it a text in double quotes, spelt as keys are
+-- a verb followed by a text in double quotes, spelt as keys are
 pub record IsSpelt (verb text characters : List ℕ) : Type 0 where
   pub rest : List ℕ
   pub inner : List ℕ
@@ -75,18 +75,18 @@ pub record IsSpelt (verb text characters : List ℕ) : Type 0 where
   pub is_quoted : behind_blanks rest ≡ code "\"" ∷ (inner ++ code "\"" ∷ [])
   pub spells : SpellsKeys inner characters
 
--- a fact behind a verb, in which nothing is counted around and `at` does not stand
+-- a fact after a verb; it has no enclosing bound names, and `at` is not allowed in it
 abbrev pub IsFact : Names → List ℕ → List Token → Written → Type 0
 IsFact names verb tokens e =
     (tokens ≡ word verb ∷ spelled e) × IsTrue (is_fact e && fits (record { names = names; is_within = false; around = [] }) e)
 
--- one of three verbs, and whatever stands behind it
+-- one of three verbs, followed by anything
 abbrev pub IsUnderway : List Token → List Token → Type 0
 IsUnderway tokens told =
     (verb : List ℕ) × (rest : List Token) × (tokens ≡ word verb ∷ rest) × (told ≡ tokens)
     × IsTrue (is_name_among (codes "invariant" ∷ codes "decreases" ∷ codes "note" ∷ []) verb)
 
--- so a line's text, which stands behind its ;:, says this
+-- the text of a line, after its `;:`, says this
 abbrev pub IsLine : Names → List ℕ → Line → Type 0
 IsLine names text (requires e) = IsFact names (codes "requires") (tokens text) e
 IsLine names text (ensures e) = IsFact names (codes "ensures") (tokens text) e
@@ -100,9 +100,9 @@ AreLines names [] [] = Unit {0}
 AreLines names (text ∷ texts) (line ∷ lines) = IsLine names text line × AreLines names texts lines
 AreLines names _ _ = ⊥
 
--- Which lines stand before a label
+-- The lines before a label
 
--- what stands behind ;: in a line, if it has that behind blanks
+-- the text after `;:` in a line, if it has one; there may be spaces before it
 abbrev pub text_behind : List ℕ → List (List ℕ)
 text_behind (c ∷ d ∷ rest) = if c == code ";" && d == code ":" then rest ∷ [] else []
 text_behind _ = []
@@ -111,26 +111,28 @@ abbrev pub begins_with : ℕ → List ℕ → Bool
 begins_with c [] = false
 begins_with c (d ∷ rest) = d == c
 
--- a line is blank or a comment; those with ;: are comments too
+-- whether a line is blank or a comment; lines with `;:` are comments too
 abbrev pub is_silent : List ℕ → Bool
 is_silent line = length (behind_blanks line) == 0 || begins_with (code ";") (behind_blanks line) || begins_with (code "*") line
 
 abbrev pub label_of : List ℕ → List ℕ
 label_of line = front (λ c. not (is_blank c)) line
 
--- what stands behind ;: in the last of these lines, comments and blank lines between them, behind texts that stand before them
+-- the texts after `;:` in the last of these lines, with only comments and blank lines in between, added after the
+-- texts already found
 abbrev pub texts_last : List (List ℕ) → List (List ℕ) → List (List ℕ)
 texts_last texts [] = texts
 texts_last texts (line ∷ lines) = texts_last (if is_silent line then texts ++ text_behind (behind_blanks line) else []) lines
 
--- the same of the lines directly before one that has so many above it
+-- the same for the lines directly above the line with this many lines above it
 abbrev pub texts_before : ℕ → List (List ℕ) → List (List ℕ)
 texts_before above lines = texts_last [] (take above lines)
 
--- What is told
+-- What is promised
 
--- what is promised of the routine at an address: what it requires and ensures, which registers and bytes, from one address to another, may
--- be others behind it, and the characters of each text that it prints, and of each that it takes as keys: no text is not an empty one
+-- the promise of the routine at an address: what it requires and ensures; the registers and the ranges of bytes that
+-- may be different after it; and the characters of each text that it prints and of each text that it takes as keys. A
+-- missing text differs from an empty one.
 pub record Terms : Type 0 where
   pub address : ℕ
   pub wanted : List Phrase
@@ -198,7 +200,8 @@ abbrev pub is_promising : Line → Bool
 is_promising (underway told) = false
 is_promising _ = true
 
--- The lines of a source with these names promise this of the routine whose label begins a line, with so many lines above it.
+-- The lines of a source with these names promise this of the routine whose label begins a line; that line has this
+-- many lines above it.
 pub record IsTold (lines : List (List ℕ)) (names : Names) (above : ℕ) (label : List ℕ) (terms : Terms) : Type 0 where
   pub line : List ℕ
   pub stands : slice_get lines above ≡ Some line

@@ -1,5 +1,5 @@
--- What an expression of a promise is, of a state where a routine is entered and one that it leaves: a whole number, or none. What is
--- true or false is 1 or 0. This project's profile.
+-- The value of an expression of a promise, for a state at a routine's entry and a state after it: an integer, or no
+-- value. True is 1 and false is 0. This project's profile.
 use Rattle.std.specs.Prelude.{ℕ, zero, suc, ◌+◌, ◌*◌, ◌/◌, ◌%◌, ◌^◌, ℤ, pos, negsuc, ◌+ℤ◌, ◌-ℤ◌, ◌*ℤ◌, neg_ℤ, int_lt, int_le, nat_lt, bit_and, bit_or, bit_xor, Bool, ◌==◌, ◌&&◌, List, [], ◌∷◌, Option, Some, None, if◌then◌else◌, slice_get, slice_set}
 use Rattle.std.specs.Int.{int_div_euclid, int_rem_euclid}
 use Rattle.a2_effect.specs.Registers.{Registers}
@@ -30,7 +30,8 @@ moment_of sight = record {
   steps = sight.steps;
 }
 
--- the same of a visit of a label; and the state in which a run last came to the label at an address, if it has come there
+-- the state at a visit of a label; then the state when a run last reached the label at an address, if it has reached
+-- it
 abbrev pub moment_there : {A : Type 0} → Visit A → Moment
 moment_there visit = record {
   registers = registers_of visit.regs;
@@ -46,7 +47,7 @@ visited (visit ∷ visits) a = if visit.address == a && visit.is_there then Some
 abbrev pub digit : Bool → ℤ
 digit holds = if holds then pos 1 else pos 0
 
--- a number is below 2 to the 63 and not below its opposite; what lies beyond is none
+-- whether a number is from -(2 to the 63) to below 2 to the 63; other numbers count as no value
 abbrev pub fits : ℤ → Bool
 fits (pos n) = nat_lt n (2 ^ 63)
 fits (negsuc n) = nat_lt n (2 ^ 63)
@@ -54,7 +55,7 @@ fits (negsuc n) = nat_lt n (2 ^ 63)
 abbrev pub limited : ℤ → Option ℤ
 limited z = if fits z then Some z else None
 
--- a number from 0 to 65,535
+-- a number if it is from 0 to 65,535
 abbrev pub word_in : ℤ → Option ℕ
 word_in (pos n) = if nat_lt n 65536 then Some n else None
 word_in (negsuc n) = None
@@ -81,7 +82,7 @@ abbrev pub word_value : Option ℕ → Option ℕ → Option ℤ
 word_value (Some low) (Some high) = Some (pos (low + 256 * high))
 word_value _ _ = None
 
--- the byte at an address, and two, the low one first; behind $FFFF stands 0
+-- the byte at an address, and then two bytes, low byte first; the byte after $FFFF is 0
 abbrev pub byte_at : List ℕ → Option ℕ → Option ℤ
 byte_at bytes None = None
 byte_at bytes (Some a) = byte_value (slice_get bytes a)
@@ -110,7 +111,7 @@ abbrev pub bit_of : Option ℕ → Option ℕ → Option ℤ
 bit_of (Some place) (Some x) = if nat_lt place 16 then Some (pos (x / 2 ^ place % 2)) else None
 bit_of _ _ = None
 
--- quotients are rounded downwards, and have a divisor above 0
+-- quotients are rounded down and need a divisor above 0
 abbrev pub operated : Operation → ℤ → ℤ → Option ℤ
 operated operation.Plus x y = limited (x +ℤ y)
 operated operation.Minus x y = limited (x -ℤ y)
@@ -127,7 +128,7 @@ operated operation.Equal x y = Some (digit (int_le x y && int_le y x))
 operated operation.Less x y = Some (digit (int_lt x y))
 operated operation.AtMost x y = Some (digit (int_le x y))
 
--- a number is none where one that it is made of is
+-- there is no value if an operand has none
 abbrev pub made_of : Function → List ℕ → Option ℤ → Option ℤ
 made_of f bytes None = None
 made_of f bytes (Some x) = made f bytes x
@@ -139,18 +140,18 @@ operated_on op _ _ = None
 abbrev pub is_zero : ℤ → Bool
 is_zero x = int_le x (pos 0) && int_le (pos 0) x
 
--- one of two by what is chosen by; the other may be none
+-- one of two values, chosen by a third; the other one need not have a value
 abbrev pub chosen : Option ℤ → Option ℤ → Option ℤ → Option ℤ
 chosen None one other = None
 chosen (Some x) one other = if is_zero x then other else one
 
--- so many, at most 65,535; none of what is below 0
+-- how many numbers are below a bound: 0 if the bound is negative; there is no value if it is above 65,535
 abbrev pub count_of : Option ℤ → Option ℕ
 count_of None = None
 count_of (Some (negsuc n)) = Some 0
 count_of (Some (pos n)) = if nat_lt n 65536 then Some n else None
 
--- whether f holds at each number below n: the first at which it does not, or is none, decides
+-- whether f is true for each number below n; the first number for which it is false or has no value decides
 abbrev pub each_below : ℕ → (ℕ → Option ℤ) → Option ℤ
 each_below zero f = Some (pos 1)
 each_below (suc n) f = chosen (each_below n f) (f n) (Some (pos 0))
@@ -167,8 +168,8 @@ abbrev pub at_visit : Option Moment → (Moment → Option ℤ) → Option ℤ
 at_visit None f = None
 at_visit (Some here) f = f here
 
--- The value of an expression, behind visits of labels; what names stand for is counted by the number of the name. `old` is what was at
--- the entry, and `at` what was where the run last came to the label.
+-- The value of an expression, given the visits of labels; the values of bound names are listed by their numbers.
+-- `old` is the value at the entry, and `at` the value when the run last reached the label.
 abbrev pub value_in : Expr → Moment → Moment → (ℕ → Option Moment) → List ℤ → Option ℤ
 value_in (Number n) entry exit visits names = Some n
 value_in (Held a) entry exit visits names = Some (held a exit)
@@ -185,7 +186,7 @@ value_in (Each' name p n q e) entry exit visits names =
 value_in (Sum' name p n q e) entry exit visits names =
     at_count (count_of (value_in n entry exit visits names)) (λ k. value_in e entry exit visits (slice_set names name (pos k))) sum_below
 
--- the value where a run has come to no label
+-- the visits of a run that has reached no label, and the value without visits
 abbrev pub nowhere : ℕ → Option Moment
 nowhere a = None
 

@@ -1,5 +1,5 @@
--- An expression of a promise as it is written: its words and signs, and what it says. This project's profile; docs/manual/promises.md has
--- each form.
+-- The written form of an expression in a promise: its words and signs, and what it says. This project's profile;
+-- docs/manual/promises.md describes each form.
 use Rattle.std.specs.Prelude.{ℕ, suc, ◌+◌, pos, List, [], ◌∷◌, ◌++◌, codes, Option, Some, None}
 use Rattle.a2_syntax.specs.Numbers.{code_in}
 use Rattle.a2_promise.specs.declared.expr.Atom.{Atom}
@@ -14,8 +14,8 @@ use Rattle.a2_promise.specs.declared.words.Relation.TheVariants.{Equal, Other, L
 use Rattle.a2_promise.specs.Phrases.{Phrase, number, held, bound, old, at, of, pair, choice, each, sum}
 use Rattle.a2_promise.specs.Tokens.{Token, word, sign, quoted}
 
--- An expression with the words and signs that it is written with. A number, an address and a label stand with what they are, and a name
--- that is counted with its number among those around it.
+-- An expression with its words and signs. Numbers, addresses and labels carry their values. A bound name carries its
+-- number among the enclosing bound names.
 pub data Written : Type 0 where
   decimal : Token → ℕ → Written
   literal : Token → ℕ → Written
@@ -43,7 +43,7 @@ pub data Written : Type 0 where
   for_all : List ℕ → ℕ → Written → Written → Written
   sum_of : List ℕ → ℕ → Written → Written → Written
 
--- How it is spelt
+-- Spelling
 
 abbrev pub atom_name : Atom → List ℕ
 atom_name A = codes "A"
@@ -97,7 +97,7 @@ bracketed tokens = between (codes "[") (codes "]") tokens
 abbrev pub laid_text : ℕ → List ℕ → List Token
 laid_text quote characters = sign (codes "=") ∷ quoted quote characters ∷ []
 
--- its words and signs
+-- the words and signs of an expression
 unfoldable pub spelled : Written → List Token
 spelled (decimal token n) = token ∷ []
 spelled (literal token n) = sign (codes "#") ∷ token ∷ []
@@ -126,7 +126,7 @@ spelled (for_all name k e f) =
     word (codes "for") ∷ word (codes "all") ∷ word name ∷ sign (codes "<") ∷ (spelled e ++ sign (codes ":") ∷ spelled f)
 spelled (sum_of name k e f) = word (codes "sum") ∷ word name ∷ sign (codes "<") ∷ (spelled e ++ sign (codes ":") ∷ spelled f)
 
--- What it says
+-- Meaning
 
 abbrev pub negation : Phrase → Phrase
 negation e = choice e (number (pos 0)) (number (pos 1))
@@ -142,7 +142,8 @@ compared AtMost e f = pair operation.AtMost e f
 compared More e f = pair operation.Less f e
 compared AtLeast e f = pair operation.AtMost f e
 
--- what is said, and of a comparison its last number, of which one more may follow, as in 3 < A < 9
+-- what an expression says; for a comparison also its last number, with which another comparison may continue, as in 3
+-- < A < 9
 pub record Meant : Type 0 where
   pub phrase : Phrase
   pub last : Option Phrase
@@ -163,11 +164,11 @@ joint And e f = plain (both e.phrase f)
 joint (Compare relation) e f = comparison relation e f
 joint (Apply op) e f = plain (pair op e.phrase f)
 
--- the byte at a place is what a character between these quotes is laid as
+-- the byte at a place is the code of a character between these quotes
 abbrev pub is_laid : ℕ → Phrase → ℕ → Phrase
 is_laid quote place character = pair operation.Equal (of function.Byte place) (number (pos (code_in quote character)))
 
--- from a place on stand the bytes of a text: behind what was said of so many, those of the others
+-- the bytes from a place on are those of a text: given what was said of this many bytes, adds the others
 abbrev pub are_laid_behind : ℕ → (ℕ → Phrase) → Phrase → ℕ → List ℕ → Phrase
 are_laid_behind quote place said k [] = said
 are_laid_behind quote place said k (c ∷ characters) =

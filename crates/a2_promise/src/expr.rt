@@ -1,13 +1,13 @@
-//! Expressions of promises.
+//! The expressions of promises.
 
-/// What the processor holds, and what a run takes.
+/// A register or flag, or a count of the run.
 #[derive(Clone, Copy)]
 pub enum Atom {
     A,
     X,
     Y,
     S,
-    /// A flag is 1 where it is set, else 0.
+    /// A flag is 1 if it is set, otherwise 0.
     Carry,
     Zero,
     Negative,
@@ -20,63 +20,63 @@ pub enum Atom {
     Steps,
 }
 
-/// What is made of one number.
+/// A function of one number.
 #[derive(Clone, Copy)]
 pub enum Function {
     /// The byte of RAM at an address.
     Byte,
-    /// Two bytes of RAM, the low one first.
+    /// Two bytes of RAM, low byte first.
     Word,
     /// A byte as a number from -128 to 127.
     Signed,
-    /// The number without its sign.
+    /// The absolute value.
     Abs,
 }
 
-/// What is made of two numbers. What holds is 1, and what does not is 0.
+/// An operation on two numbers. A comparison gives 1 if it is true and 0 if it is false.
 #[derive(Clone, Copy)]
 pub enum Operation {
     Plus,
     Minus,
     Times,
-    /// The quotient, downwards; none by 0 or by what is below.
+    /// The quotient, rounded down; it has no value if the divisor is 0 or less.
     Over,
-    /// What is left of it, from 0 to below the divisor.
+    /// The remainder, from 0 to below the divisor.
     Modulo,
-    /// Bit by bit, of numbers from 0 to 65,535.
+    /// The bitwise AND of numbers from 0 to 65,535.
     BitAnd,
     BitOr,
     BitXor,
     Min,
     Max,
-    /// The bit of the first number, 0 to 15, in the second, 0 to 65,535.
+    /// A bit of the second number (0 to 65,535); the first number, 0 to 15, selects it.
     Bit,
     Equal,
     Less,
     AtMost,
 }
 
-/// An expression. What is true or false is 1 or 0. It has no memory but for itself.
+/// An expression. True is 1 and false is 0. An expression owns all its parts.
 pub enum Expr {
     Number(i64),
     Held(Atom),
-    /// What the name of this number stands for, which `Each` or `Sum` around it counts.
+    /// The value of the name with this number, which an enclosing `Each` or `Sum` binds.
     Bound(u8),
-    /// The value where the routine was entered.
+    /// The value when the routine was entered.
     Old(Box<Expr>),
-    /// The value where the run last came to the label at this address.
+    /// The value when the run last reached the label at this address.
     At(u16, Box<Expr>),
     Of(Function, Box<Expr>),
     Pair(Operation, Box<Expr>, Box<Expr>),
-    /// The second where the first is not 0, else the third.
+    /// The second expression if the first is not 0, otherwise the third.
     Choice(Box<Expr>, Box<Expr>, Box<Expr>),
-    /// Whether the third holds at each number below the second.
+    /// Whether the third expression is true for each number below the second.
     Each(u8, Box<Expr>, Box<Expr>),
-    /// The sum of the third at each number below the second.
+    /// The sum of the third expression over all numbers below the second.
     Sum(u8, Box<Expr>, Box<Expr>),
 }
 
-// Not derived, for the prover alone: it follows this as one call, and a derived one field by field.
+// Written by hand only for the prover: it handles this as one call, but a derived `Drop` field by field.
 impl Drop for Expr {
     fn drop(self) {
         match self {

@@ -1,8 +1,8 @@
-//! Why a promise can't be judged.
+//! The reasons why a promise cannot be judged.
 
 use std::alloc::AllocError;
 
-/// A line of a promise that says nothing: where, from 1, and why, as a text that is told.
+/// An error in the lines of a promise: its position (line and column, from 1), and its message.
 #[derive(Clone, Copy)]
 pub struct Refusal {
     pub line: usize,
@@ -10,7 +10,8 @@ pub struct Refusal {
     pub says: &'static str,
 }
 
-/// What is wrong in a line that is not read. No text until it is told: through each `?` the prover follows what a text is lent from.
+/// The error in a line that cannot be read. It holds no message until the error is reported, because the prover
+/// follows at each `?` what a text borrows from.
 #[derive(Clone, Copy)]
 pub(crate) enum Why {
     FactForNumber,
@@ -41,7 +42,7 @@ pub(crate) enum Why {
 }
 
 impl Why {
-    /// How it is told.
+    /// Returns the message.
     pub fn text(self) -> &'static str {
         match self {
             Why::FactForNumber => "a number is wanted here, and this says that something holds",
@@ -83,10 +84,10 @@ impl Why {
     }
 }
 
-/// Why a line is not read.
+/// Why a line cannot be read.
 #[derive(Clone, Copy)]
 pub(crate) enum ReadFault {
-    /// What can't stand where so many bytes of the line are left.
+    /// An error at the place where this many bytes of the line are left.
     Says(Why, usize),
     Memory,
 }

@@ -1,7 +1,6 @@
-//! What a routine promises in comments of its source: how promises are written, and what they say of a state where it is entered and
-//! one that it leaves.
+//! Reads and evaluates promises: what comments in a source say about a routine at its entry and after its return.
 //!
-//! How it is called is shown in CALLING.md.
+//! CALLING.md shows how to use this crate.
 #![tactic(auto)]
 
 ghost use Rattle.a2_promise.specs.Looks.{ValuesDependOnLooks};
@@ -25,17 +24,18 @@ pub use texts::{Text, Texts};
 pub use valuing::{Bounds, Sight, Visit, value, value_in};
 pub use words::{Infix, Relation};
 
-/// A theorem, and no code: the value of an expression depends on nothing but the bytes, registers and flags that it looks at.
+/// A theorem; the function does nothing. The value of an expression depends only on the bytes, registers and flags
+/// that it reads.
 pub fn values_depend_on_looks()
     ensures { ValuesDependOnLooks }
 {}
 
-/// A theorem, and no code: the words and signs of an expression are those of no other.
+/// A theorem; the function does nothing. No two expressions have the same words and signs.
 pub fn words_are_one_expression()
     ensures { WordsAreOneExpression }
 {}
 
-/// A theorem, and no code: the lines of a source promise no more than one thing of a routine.
+/// A theorem; the function does nothing. The lines of a source give a routine at most one promise.
 pub fn lines_tell_one_promise()
     ensures { LinesTellOnePromise }
 {}

@@ -1,4 +1,4 @@
-//! How an expression is written.
+//! Parses expressions.
 
 ghost use Rattle.std.specs.Prelude.{◌≡◌, ◌+◌, ◌<◌, ◌≤◌, IsTrue, List, [], ◌∷◌, ◌++◌, Some, codes, length, None, ℕ, min, pos, IfOk, OnOk};
 ghost use Rattle.std.specs.List.{slice_range};
@@ -27,18 +27,18 @@ use crate::words::{
     kind_of, may_name, opening_of, rank_of,
 };
 
-/// An expression as it was read.
+/// A parsed expression.
 #[derive(Clone, Copy)]
 pub(crate) struct Piece {
     kind: Kind,
-    /// How many bytes of the line are left from where it begins.
+    /// The number of bytes of the line that are left where the expression begins.
     bytes_left: usize,
-    /// The parts of the last number of a comparison, from which one more may go on.
+    /// The parts of the last number of a comparison, with which another comparison may continue.
     last: Option<Span>,
 }
 
 impl Piece {
-    // What is of this kind and begins here.
+    // Creates an expression of this kind that begins here.
     fn at(bytes_left: usize, kind: Kind) -> Piece
         ensures kind { result.kind ≡ kind }
         ensures last { result.last ≡ None }
@@ -50,7 +50,7 @@ impl Piece {
         }
     }
 
-    // What compares two numbers, the last of which has these parts.
+    // Creates a comparison of two numbers; the last of them has these parts.
     fn compared(bytes_left: usize, last: Span) -> Piece
         ensures kind { result.kind ≡ kinds.Fact }
         ensures last { result.last ≡ Some last }
@@ -62,7 +62,7 @@ impl Piece {
         }
     }
 
-    /// Refuses what says that something holds.
+    /// Returns an error if the expression is a fact.
     pub fn number(self) -> Result<(), ReadFault>
         ensures { OnOk result (IsTrue (may_be_number self.kind)) }
     {
@@ -72,7 +72,7 @@ impl Piece {
         }
     }
 
-    /// Refuses a number.
+    /// Returns an error if the expression is a number.
     pub fn fact(self) -> Result<(), ReadFault>
         ensures { OnOk result (IsTrue (may_be_fact self.kind)) }
     {
@@ -83,7 +83,7 @@ impl Piece {
     }
 }
 
-// So many levels less, if there are as many.
+// Returns the depth reduced by this many levels, or an error if it is not large enough.
 fn deeper(reader: &Reader, depth: u8, levels: u8) -> Result<u8, ReadFault>
     ensures { IfOk result (λ less. less + levels ≡ depth) }
 {
@@ -93,7 +93,7 @@ fn deeper(reader: &Reader, depth: u8, levels: u8) -> Result<u8, ReadFault>
     }
 }
 
-// How many levels deeper stands what is opened so.
+// Returns how many levels an operand with this opening is nested.
 fn levels_of(opening: Opening) -> u8
     ensures { 0 < result }
 {
@@ -104,13 +104,13 @@ fn levels_of(opening: Opening) -> u8
     }
 }
 
-// What makes of something that holds what does not.
+// The parts that negate a fact.
 const NEGATED: [Part; 3] = [Part::Number(0), Part::Number(1), Part::Choice];
 
-// What makes of two that hold both.
+// The parts that combine two facts with AND.
 const BOTH: [Part; 2] = [Part::Number(0), Part::Choice];
 
-// What compares two numbers.
+// Returns the parts that compare two numbers.
 fn comparing(relation: Relation) -> &'static [Part]
     ensures { result.now ≡ parts_comparing relation }
 {
@@ -129,7 +129,7 @@ fn comparing(relation: Relation) -> &'static [Part]
     }
 }
 
-// What joins two that hold: what stands before the second, and what behind it.
+// Returns the parts that join two facts: those before the second fact and those after it.
 fn joining(join: Infix) -> (&'static [Part], &'static [Part])
     ensures before { result.0.now ≡ parts_before join }
     ensures behind { result.1.now ≡ parts_behind join }
@@ -141,7 +141,7 @@ fn joining(join: Infix) -> (&'static [Part], &'static [Part])
     }
 }
 
-// What a function makes of an address that stands next.
+// Applies a function to the address that comes next.
 fn of_address(reader: &mut Reader, function: Function) -> Result<Kind, ReadFault>
     ensures { IfOk result (λ kind. (kind ≡ kinds.Number)
         × ReadsToken address_of (parts_of_address function) (state_of reader.old) (state_of reader.new)) }
@@ -153,7 +153,7 @@ fn of_address(reader: &mut Reader, function: Function) -> Result<Kind, ReadFault
     )
 }
 
-// A number that stands next.
+// Reads the number that comes next.
 fn number_here(reader: &mut Reader) -> Result<Kind, ReadFault>
     ensures { IfOk result (λ kind. (kind ≡ kinds.Number) × ReadsToken number_of number_parts (state_of reader.old) (state_of reader.new)) }
 {
@@ -161,8 +161,8 @@ fn number_here(reader: &mut Reader) -> Result<Kind, ReadFault>
     reader.makes(Part::Number(i64::from(number)), Kind::Number)
 }
 
-// What stands before the second number of a comparison: nothing, where the first is one; and behind a comparison its last number
-// once more.
+// Prepares for the second number of a comparison. If the left side is itself a comparison, its last number is
+// repeated; otherwise the left side must be a number.
 fn before_compared(reader: &mut Reader, left: Piece) -> Result<(), ReadFault>
     ensures first { left.last ≡ None → OnOk result (IsTrue (may_be_number left.kind) × (state_of reader.new ≡ state_of reader.old)) }
     ensures more { (last : Span) → left.last ≡ Some last → last.ended ≤ length reader.old.parts.items
@@ -174,7 +174,7 @@ fn before_compared(reader: &mut Reader, left: Piece) -> Result<(), ReadFault>
     }
 }
 
-// What stands behind a comparison: nothing, and behind one more what makes both of one that hold.
+// Returns the parts that end a comparison: none, or the parts that combine it with the comparison before it.
 fn chaining(last: Option<Span>) -> &'static [Part]
     ensures { result.now ≡ parts_chaining last }
 {
@@ -184,7 +184,7 @@ fn chaining(last: Option<Span>) -> &'static [Part]
     }
 }
 
-// What stands behind the second number of a comparison, whose parts begin here; the comparison.
+// Ends a comparison whose second number has the parts from `begun` on, and returns it.
 fn behind_compared(
     reader: &mut Reader,
     left: Piece,
@@ -199,7 +199,7 @@ fn behind_compared(
     Ok(Piece::compared(left.bytes_left, Span { begun, ended }))
 }
 
-/// An expression in which nothing binds looser than this rank, as far as it goes. Of what stands in it nothing is deeper than this.
+/// Parses the longest expression in which no operator binds looser than this rank. `depth` limits its nesting.
 #[cycle(expression)]
 pub(crate) fn expression(reader: &mut Reader, rank: u8, depth: u8) -> Result<Piece, ReadFault>
     ensures { IfOk result (λ piece. ReadsPiece (min rank tightest) piece (state_of reader.old) (state_of reader.new)) }
@@ -215,7 +215,7 @@ pub(crate) fn expression(reader: &mut Reader, rank: u8, depth: u8) -> Result<Pie
     Ok(left)
 }
 
-// A number in which nothing binds looser than this rank.
+// Parses a number in which no operator binds looser than this rank.
 #[cycle(expression)]
 fn number_in(reader: &mut Reader, rank: u8, depth: u8) -> Result<(), ReadFault>
     ensures { OnOk result (ReadsOne (min rank tightest) is_number (state_of reader.old) (state_of reader.new)) }
@@ -224,7 +224,7 @@ fn number_in(reader: &mut Reader, rank: u8, depth: u8) -> Result<(), ReadFault>
     expression(reader, rank, less)?.number()
 }
 
-// What holds, in which nothing binds looser than this rank.
+// Parses a fact in which no operator binds looser than this rank.
 #[cycle(expression)]
 fn fact_in(reader: &mut Reader, rank: u8, depth: u8) -> Result<(), ReadFault>
     ensures { OnOk result (ReadsOne (min rank tightest) is_fact (state_of reader.old) (state_of reader.new)) }
@@ -233,7 +233,7 @@ fn fact_in(reader: &mut Reader, rank: u8, depth: u8) -> Result<(), ReadFault>
     expression(reader, rank, less)?.fact()
 }
 
-// The number that stands next, alone or in parentheses.
+// Parses the number that comes next, either one operand or an expression in parentheses.
 #[cycle(expression)]
 fn next_number(reader: &mut Reader, depth: u8) -> Result<(), ReadFault>
     ensures { OnOk result (ReadsOne tightest is_number (state_of reader.old) (state_of reader.new)) }
@@ -242,7 +242,7 @@ fn next_number(reader: &mut Reader, depth: u8) -> Result<(), ReadFault>
     beginning(reader, less)?.number()
 }
 
-// An expression joined to what stands behind it.
+// Parses the right side of an operator, and joins it to the left.
 #[cycle(expression)]
 fn joined(reader: &mut Reader, left: Piece, join: Infix, depth: u8) -> Result<Piece, ReadFault>
     ensures { (before : State) (e : Written) → Reads e before (state_of reader.old) → IsPiece left e (state_of reader.old)
@@ -276,7 +276,7 @@ fn joined(reader: &mut Reader, left: Piece, join: Infix, depth: u8) -> Result<Pi
     }
 }
 
-// What an expression begins with.
+// Parses the first operand of an expression.
 #[cycle(expression)]
 fn beginning(reader: &mut Reader, depth: u8) -> Result<Piece, ReadFault>
     ensures { IfOk result (λ piece. ReadsPiece tightest piece (state_of reader.old) (state_of reader.new)) }
@@ -286,7 +286,7 @@ fn beginning(reader: &mut Reader, depth: u8) -> Result<Piece, ReadFault>
     Ok(Piece::at(bytes_left, kind))
 }
 
-// A number, a byte, or what a word or sign opens; the kind of it.
+// Parses an operand: a number, a byte, or a form opened by a word or sign. Returns its kind.
 #[cycle(expression)]
 fn operand(reader: &mut Reader, depth: u8) -> Result<Kind, ReadFault>
     ensures { IfOk result (λ kind. ReadsKind kind (state_of reader.old) (state_of reader.new)) }
@@ -308,7 +308,8 @@ fn operand(reader: &mut Reader, depth: u8) -> Result<Kind, ReadFault>
     }
 }
 
-// The kind of an operand that begins so, from which on so many bytes were left.
+// Parses the rest of an operand after its opening, and returns its kind. `bytes_left` is the number of bytes that
+// were left at the opening.
 #[cycle(expression)]
 fn opened(
     reader: &mut Reader,
@@ -348,7 +349,7 @@ fn opened(
     }
 }
 
-// The number that a word or sign makes of what stands behind it.
+// Parses what follows a word or sign, and makes a number of it.
 #[cycle(expression)]
 fn make(reader: &mut Reader, making: Making, depth: u8) -> Result<Kind, ReadFault>
     ensures { (before : State) → Takes (making_token making) before (state_of reader.old)
@@ -376,7 +377,7 @@ fn make(reader: &mut Reader, making: Making, depth: u8) -> Result<Kind, ReadFaul
     }
 }
 
-// What a function makes of the number that stands next, alone or in parentheses.
+// Applies a function to the number that comes next, either one operand or an expression in parentheses.
 #[cycle(expression)]
 fn of_next(reader: &mut Reader, function: Function, depth: u8) -> Result<Kind, ReadFault>
     ensures { IfOk result (λ kind. (kind ≡ kinds.Number) × ReadsThen (ReadsOne tightest is_number) (part.Of function) (state_of reader.old) (state_of reader.new)) }
@@ -385,7 +386,7 @@ fn of_next(reader: &mut Reader, function: Function, depth: u8) -> Result<Kind, R
     reader.makes(Part::Of(function), Kind::Number)
 }
 
-// What an operation makes of two numbers in parentheses, with a comma between them.
+// Applies an operation to two numbers in parentheses, separated by a comma.
 #[cycle(expression)]
 fn of_two(reader: &mut Reader, operation: Operation, depth: u8) -> Result<Kind, ReadFault>
     ensures { IfOk result (λ kind. (kind ≡ kinds.Number) × ReadsThen ReadsTwo (part.Pair operation) (state_of reader.old) (state_of reader.new)) }
@@ -398,7 +399,7 @@ fn of_two(reader: &mut Reader, operation: Operation, depth: u8) -> Result<Kind, 
     reader.makes(Part::Pair(operation), Kind::Number)
 }
 
-// The address behind a [, up to its ].
+// Parses an address after `[`, and the closing `]`.
 #[cycle(expression)]
 fn bracketed(reader: &mut Reader, depth: u8) -> Result<(), ReadFault>
     ensures { OnOk result (ReadsAddress (state_of reader.old) (state_of reader.new)) }
@@ -408,7 +409,7 @@ fn bracketed(reader: &mut Reader, depth: u8) -> Result<(), ReadFault>
     reader.expect(b"]", Why::AddressNotClosed)
 }
 
-// What a function makes of the address behind a [, up to its ].
+// Applies a function to an address in brackets; the `[` is already read.
 #[cycle(expression)]
 fn of_bracketed(reader: &mut Reader, function: Function, depth: u8) -> Result<Kind, ReadFault>
     ensures { IfOk result (λ kind. (kind ≡ kinds.Number) × ReadsThen ReadsAddress (part.Of function) (state_of reader.old) (state_of reader.new)) }
@@ -417,7 +418,7 @@ fn of_bracketed(reader: &mut Reader, function: Function, depth: u8) -> Result<Ki
     reader.makes(Part::Of(function), Kind::Number)
 }
 
-// The two bytes at the address behind `word`.
+// Parses the address after `word`, for the two bytes there.
 #[cycle(expression)]
 fn word_at(reader: &mut Reader, depth: u8) -> Result<Kind, ReadFault>
     ensures { (before : State) → Takes (word (codes "word")) before (state_of reader.old)
@@ -430,14 +431,14 @@ fn word_at(reader: &mut Reader, depth: u8) -> Result<Kind, ReadFault>
     }
 }
 
-// Where a text stands in memory: from an address on, or from one that was made.
+// The place of a text in memory: a fixed address or a computed one.
 #[derive(Clone, Copy)]
 enum Place {
     Fixed(u16),
     Made(Span),
 }
 
-// The place behind `text`.
+// Parses the place after `text`.
 #[cycle(expression)]
 fn place_next(reader: &mut Reader, depth: u8) -> Result<Place, ReadFault>
     ensures { IfOk result (λ place. ReadsPlace place (state_of reader.old) (state_of reader.new)) }
@@ -451,7 +452,7 @@ fn place_next(reader: &mut Reader, depth: u8) -> Result<Place, ReadFault>
     Ok(Place::Fixed(reader.address()?))
 }
 
-// The parts of a place that was made once more, but for the first byte: there they stand.
+// Repeats the parts of a computed place. For the first byte the place is already there.
 fn put_place(reader: &mut Reader, span: Span, further: u16) -> Result<(), ReadFault>
     ensures { (e : Phrase) → IsMade span e reader.old.parts.items
         → OnOk result (PutsOf (pushed further (e ∷ [])) e (state_of reader.old) (state_of reader.new)) }
@@ -462,7 +463,7 @@ fn put_place(reader: &mut Reader, span: Span, further: u16) -> Result<(), ReadFa
     reader.again(span)
 }
 
-// That the byte so far behind a place is this one.
+// Puts the parts of this fact: the byte at this distance from a place has this code.
 fn is_laid(reader: &mut Reader, place: Place, further: u16, code: u8) -> Result<(), ReadFault>
     ensures { (phrase : ℕ → Phrase) (top : List Phrase) → IsPlaced place phrase top reader.old.parts.items
         → OnOk result (PutsOf (pushed further top) (pair operation.Equal (of function.Byte (phrase further)) (number (pos code)))
@@ -488,7 +489,7 @@ fn is_laid(reader: &mut Reader, place: Place, further: u16, code: u8) -> Result<
     }
 }
 
-// That the bytes from a place on are those of a text, one after another.
+// Puts the parts of this fact: the bytes from a place on are those of a text, in order.
 fn are_laid(reader: &mut Reader, place: Place, text: &[u8], top: u8) -> Result<(), ReadFault>
     ensures { (phrase : ℕ → Phrase) (on_top : List Phrase) (quote : ℕ) → IsPlaced place phrase on_top reader.old.parts.items
         → IsTrue (is_text quote text.now) → IsTop quote top
@@ -506,7 +507,8 @@ fn are_laid(reader: &mut Reader, place: Place, text: &[u8], top: u8) -> Result<(
     Ok(())
 }
 
-// Whether the bytes from the place behind `text` on are those of the text behind its =: one after another, and all of them.
+// Parses the place after `text` and the text after `=`. The fact says that the bytes from the place on are all those
+// of the text, in order.
 #[cycle(expression)]
 fn text_at(reader: &mut Reader, depth: u8) -> Result<Kind, ReadFault>
     ensures { (before : State) → Takes (word (codes "text")) before (state_of reader.old)
@@ -519,7 +521,8 @@ fn text_at(reader: &mut Reader, depth: u8) -> Result<Kind, ReadFault>
     Ok(Kind::Fact)
 }
 
-// The kind of one of two: a fact where both are, and else a number, which both have to be.
+// Returns the kind of an `if` with two branches. It is a fact if both branches are facts. Otherwise both must be
+// numbers.
 fn either(one: Piece, other: Piece) -> Result<Kind, ReadFault>
     ensures { IfOk result (λ kind. IsEither one.kind other.kind kind) }
 {
@@ -533,7 +536,7 @@ fn either(one: Piece, other: Piece) -> Result<Kind, ReadFault>
     }
 }
 
-// What behind `if` is one of two, or where there is no `else`, holds if the condition does; the kind of it.
+// Parses what follows `if`, and returns its kind. Without `else`, the second part must be true if the condition is.
 #[cycle(expression)]
 fn conditional(reader: &mut Reader, depth: u8) -> Result<Kind, ReadFault>
     ensures { (before : State) → Takes (word (codes "if")) before (state_of reader.old)
@@ -551,7 +554,7 @@ fn conditional(reader: &mut Reader, depth: u8) -> Result<Kind, ReadFault>
     either(one, other)
 }
 
-// What is counted behind `for all` or `sum`: a name, <, a number and a :. The number of the name, which is counted from here on.
+// Parses the head of `for all` or `sum`: a name, `<`, a number and `:`. Binds the name, and returns its number.
 #[cycle(expression)]
 fn counted(reader: &mut Reader, depth: u8) -> Result<u8, ReadFault>
     ensures { IfOk result (λ name. ReadsCounted name (state_of reader.old) (state_of reader.new)) }
@@ -568,7 +571,7 @@ fn counted(reader: &mut Reader, depth: u8) -> Result<u8, ReadFault>
     reader.bind(name.text)
 }
 
-// What holds for each number below one.
+// Parses a fact about each number below a bound.
 #[cycle(expression)]
 fn for_all(reader: &mut Reader, depth: u8) -> Result<Kind, ReadFault>
     ensures { (before : State) → Takes (word (codes "for")) before (state_of reader.old)
@@ -581,7 +584,7 @@ fn for_all(reader: &mut Reader, depth: u8) -> Result<Kind, ReadFault>
     reader.makes(Part::Each(name), Kind::Fact)
 }
 
-// The sum of what is for each number below one.
+// Parses a sum over the numbers below a bound.
 #[cycle(expression)]
 fn sum_of(reader: &mut Reader, depth: u8) -> Result<Kind, ReadFault>
     ensures { (before : State) → Takes (word (codes "sum")) before (state_of reader.old)

@@ -1,4 +1,4 @@
-//! An expression as a list of its parts, each behind those that it is made of.
+//! An expression as a list of its parts in postfix order: each part comes after its operands.
 
 ghost use Rattle.std.specs.Prelude.{◌≡◌, List, [], ◌∷◌, IfOk, OnOk};
 ghost use Rattle.a2_promise.specs.Phrases.{Phrase, phrase_of};
@@ -17,21 +17,21 @@ pub(crate) enum Part {
     At(u16),
     Of(Function),
     Pair(Operation),
-    /// The operation of the last and the one before it.
+    /// An operation whose operands are exchanged: the last expression, then the one before it.
     Turned(Operation),
     Choice,
     Each(u8),
     Sum(u8),
 }
 
-/// Why parts make no expression.
+/// Why a list of parts is not an expression.
 #[derive(Clone, Copy)]
 pub(crate) enum Unmade {
     TooFew,
     Memory,
 }
 
-// Puts an expression on top of others.
+// Pushes an expression.
 fn push(made: &mut Vec<Expr>, expr: Expr) -> Result<(), Unmade>
     ensures { OnOk result (stack_of made.new.items ≡ phrase_of expr ∷ stack_of made.old.items) }
 {
@@ -41,7 +41,7 @@ fn push(made: &mut Vec<Expr>, expr: Expr) -> Result<(), Unmade>
     }
 }
 
-// Takes the topmost expression, in memory of its own.
+// Pops the topmost expression into a box.
 fn pop(alloc: Global, made: &mut Vec<Expr>) -> Result<Box<Expr>, Unmade>
     ensures { IfOk result (λ box. stack_of made.old.items ≡ phrase_of box.value ∷ stack_of made.new.items) }
 {
@@ -54,7 +54,7 @@ fn pop(alloc: Global, made: &mut Vec<Expr>) -> Result<Box<Expr>, Unmade>
     }
 }
 
-// Makes what a part makes of the topmost.
+// Replaces the topmost expression by what a part makes of it.
 fn push_of_one(alloc: Global, made: &mut Vec<Expr>, it: Part) -> Result<(), Unmade>
     ensures { OnOk result (stack_of made.new.items ≡ made_by it (stack_of made.old.items)) }
 {
@@ -67,7 +67,7 @@ fn push_of_one(alloc: Global, made: &mut Vec<Expr>, it: Part) -> Result<(), Unma
     }
 }
 
-// Makes what a part makes of the two topmost, or of three.
+// Replaces the two or three topmost expressions by what a part makes of them.
 fn push_of_more(alloc: Global, made: &mut Vec<Expr>, it: Part) -> Result<(), Unmade>
     ensures { OnOk result (stack_of made.new.items ≡ made_by it (stack_of made.old.items)) }
 {
@@ -86,7 +86,7 @@ fn push_of_more(alloc: Global, made: &mut Vec<Expr>, it: Part) -> Result<(), Unm
     }
 }
 
-// Makes what a part makes of those on top.
+// Applies a part to the topmost expressions.
 fn push_part(alloc: Global, made: &mut Vec<Expr>, it: Part) -> Result<(), Unmade>
     ensures { OnOk result (stack_of made.new.items ≡ made_by it (stack_of made.old.items)) }
 {
@@ -99,7 +99,7 @@ fn push_part(alloc: Global, made: &mut Vec<Expr>, it: Part) -> Result<(), Unmade
     }
 }
 
-/// The expression of these parts.
+/// Returns the expression that has these parts.
 pub(crate) fn expr_of(alloc: Global, parts: &[Part]) -> Result<Expr, Unmade>
     ensures { IfOk result (λ expr. (more : List Phrase) × (made_of parts.now [] ≡ phrase_of expr ∷ more)) }
 {

@@ -19,10 +19,10 @@ use a2_asm::Program;
 use a2_text::{behind_blanks, is_blank, split_word};
 use std::alloc::{AllocError, Global};
 
-/// The most levels of an expression.
+/// The most levels of nesting in an expression.
 const MOST_LEVELS: u8 = 200;
 
-/// A fact that is promised, or that is wanted at the entry: the number of its line, its text, and what it says.
+/// A clause of a promise: the number of its line, its text, and its expression.
 #[derive(Drop)]
 pub struct Clause<'a> {
     pub line: usize,
@@ -30,14 +30,14 @@ pub struct Clause<'a> {
     pub expr: Expr,
 }
 
-/// The addresses from one up to another, both among them.
+/// The addresses from one to another, both included.
 #[derive(Clone, Copy)]
 pub struct Range {
     pub first: u16,
     pub last: u16,
 }
 
-/// What may be other behind a routine than before: registers, and bytes. Flags always may.
+/// What may be different after a routine than before: registers and bytes. Flags may always be different.
 #[derive(Drop)]
 pub struct Changes {
     pub a: bool,
@@ -46,20 +46,20 @@ pub struct Changes {
     pub ranges: Vec<Range>,
 }
 
-/// What is said at a label within a routine.
+/// The clauses at a label within a routine.
 pub struct Within<'a> {
     /// The number of the label's line.
     pub line: usize,
     pub address: u16,
-    /// What holds each time a run comes to the label.
+    /// Facts that hold each time a run reaches the label.
     pub invariants: Vec<Clause<'a>>,
-    /// What is 0 or more each time, and less than before where a run comes back to the label.
+    /// Numbers that are 0 or more each time, and less than before when a run returns to the label.
     pub measures: Vec<Clause<'a>>,
-    /// Whether `at` names the label in a line of the routine.
+    /// Whether a line of the routine names the label after `at`.
     pub is_named: bool,
 }
 
-// Not derived, for the prover alone: it follows this as one call, and a derived one field by field.
+// Written by hand only for the prover: it handles this as one call, but a derived `Drop` field by field.
 impl<'a> Drop for Within<'a> {
     fn drop(self) {
         let Within {
@@ -72,23 +72,23 @@ impl<'a> Drop for Within<'a> {
     }
 }
 
-/// What a routine promises.
+/// The promise of a routine.
 pub struct Promise<'a> {
-    /// Its label.
+    /// The routine's label.
     pub name: &'a [u8],
     /// The number of the label's line.
     pub line: usize,
-    /// Where it is entered.
+    /// The address of the routine's entry.
     pub address: u16,
     pub wanted: Vec<Clause<'a>>,
     pub promised: Vec<Clause<'a>>,
     pub changes: Changes,
     pub texts: Texts<'a>,
-    /// What is said within the routine, up to the next that promises something.
+    /// The clauses at labels within the routine, up to the next routine that has a promise.
     pub within: Vec<Within<'a>>,
 }
 
-// Not derived, for the prover alone: it follows this as one call, and a derived one field by field.
+// Written by hand only for the prover: it handles this as one call, but a derived `Drop` field by field.
 impl<'a> Drop for Promise<'a> {
     fn drop(self) {
         let Promise {
@@ -104,15 +104,15 @@ impl<'a> Drop for Promise<'a> {
     }
 }
 
-/// A promise, or why lines are none.
+/// A promise, or the error in lines that are not a valid promise.
 #[derive(Drop)]
 pub enum Found<'a> {
     Promise(Promise<'a>),
-    /// Why, and the label that the lines stand before, empty where there is none.
+    /// The error, and the label after the lines; empty if there is no label.
     Refused(Refusal, &'a [u8]),
 }
 
-// A label that `at` names: its address, and why it may be none.
+// A label named after `at`: its address, and the error to report if it is not a valid target.
 #[derive(Clone, Copy)]
 struct Label {
     address: u16,
@@ -121,19 +121,19 @@ struct Label {
 
 // The lines before a label.
 struct Block<'a> {
-    /// The number of its first line; 0 where there is none yet.
+    /// The number of the block's first line; 0 if it has no line yet.
     first: usize,
-    /// What is promised, of which name, line and address come with the label.
+    /// The promise. Its name, line and address are set at the label.
     promise: Promise<'a>,
-    /// What is said at the label, of which the line and the address come with it.
+    /// The clauses at the label. Their line and address are set at the label.
     said: Within<'a>,
     labels: Vec<Label>,
     refused: Option<Refusal>,
-    /// Whether a line says what holds within a routine, and none what it promises.
+    /// Whether the lines have clauses within a routine, and no promise.
     is_within: bool,
 }
 
-// Not derived, for the prover alone: it follows this as one call, and a derived one field by field.
+// Written by hand only for the prover: it handles this as one call, but a derived `Drop` field by field.
 impl<'a> Drop for Block<'a> {
     fn drop(self) {
         let Block {
@@ -147,7 +147,7 @@ impl<'a> Drop for Block<'a> {
     }
 }
 
-// Nothing promised yet.
+// Creates an empty promise.
 fn new_promise<'a>(alloc: Global) -> Promise<'a> {
     Promise {
         name: b"",
@@ -169,7 +169,7 @@ fn new_promise<'a>(alloc: Global) -> Promise<'a> {
     }
 }
 
-// Nothing said yet.
+// Creates an empty set of clauses.
 fn new_within<'a>(alloc: Global) -> Within<'a> {
     Within {
         line: 0,
@@ -180,7 +180,7 @@ fn new_within<'a>(alloc: Global) -> Within<'a> {
     }
 }
 
-// No lines yet.
+// Creates an empty block.
 fn new_block<'a>(alloc: Global) -> Block<'a> {
     Block {
         first: 0,
@@ -192,7 +192,7 @@ fn new_block<'a>(alloc: Global) -> Block<'a> {
     }
 }
 
-// Nothing stands behind what was read.
+// Returns an error unless the whole line was read.
 fn ended(reader: &Reader) -> Result<(), ReadFault>
     ensures { OnOk result (tokens reader.now.rest.now ≡ []) }
 {
@@ -202,7 +202,7 @@ fn ended(reader: &Reader) -> Result<(), ReadFault>
     }
 }
 
-// Lets bytes change.
+// Adds a range of bytes to what may change.
 fn push_range(changes: &mut Changes, range: Range) -> Result<(), AllocError>
     ensures registers { (changes.new.a ≡ changes.old.a) × (changes.new.x ≡ changes.old.x) × (changes.new.y ≡ changes.old.y) }
     ensures ranges { OnOk result (changes.new.ranges.items ≡ changes.old.ranges.items ++ range ∷ []) }
@@ -210,7 +210,7 @@ fn push_range(changes: &mut Changes, range: Range) -> Result<(), AllocError>
     Ok(changes.ranges.push(range)?)
 }
 
-// Lets a register or a flag change, which was taken.
+// Adds a register or flag, which is already read, to what may change.
 fn let_change(reader: &Reader, changes: &mut Changes, atom: Atom) -> Result<(), ReadFault>
     ensures ranges { changes.new.ranges ≡ changes.old.ranges }
     ensures registers { IsTrue (is_listed atom)
@@ -226,7 +226,7 @@ fn let_change(reader: &Reader, changes: &mut Changes, atom: Atom) -> Result<(), 
     Ok(())
 }
 
-// Takes the last of several addresses, which .. stands before, or there is one alone.
+// Reads the last address of a range, after `..`. Without `..`, the range is one byte.
 fn last_address(reader: &mut Reader, first: u16) -> Result<u16, ReadFault>
     ensures { IfOk result (λ last. IsUpTo first last (state_of reader.old) (state_of reader.new)) }
 {
@@ -236,7 +236,7 @@ fn last_address(reader: &mut Reader, first: u16) -> Result<u16, ReadFault>
     Ok(first)
 }
 
-// Takes what may change: a register, or bytes from one address to another.
+// Reads one thing that may change: a register, or bytes from one address to another.
 fn take_change(reader: &mut Reader, changes: &mut Changes) -> Result<(), ReadFault>
     ensures { OnOk result (AddsChange (state_of reader.old) (state_of reader.new) changes.old changes.new) }
 {
@@ -253,7 +253,7 @@ fn take_change(reader: &mut Reader, changes: &mut Changes) -> Result<(), ReadFau
     Ok(())
 }
 
-// Takes all that may change, with commas between, up to the line's end.
+// Reads the things that may change, separated by commas, up to the end of the line.
 fn more_changes(reader: &mut Reader, changes: &mut Changes) -> Result<(), ReadFault>
     ensures { OnOk result (AddsChanges (state_of reader.old) changes.old changes.new) }
 {
@@ -264,7 +264,7 @@ fn more_changes(reader: &mut Reader, changes: &mut Changes) -> Result<(), ReadFa
     more_changes(reader, changes)
 }
 
-// Takes all that may change, or the word that says nothing does.
+// Reads what may change, or the word `nothing`.
 fn take_changes(reader: &mut Reader, changes: &mut Changes) -> Result<(), ReadFault>
     ensures { OnOk result (IsChanges (state_of reader.old) changes.old changes.new) }
 {
@@ -274,7 +274,7 @@ fn take_changes(reader: &mut Reader, changes: &mut Changes) -> Result<(), ReadFa
     more_changes(reader, changes)
 }
 
-// What a line of a promise begins with.
+// The word a line of a promise begins with.
 #[derive(Clone, Copy)]
 enum Verb {
     Requires,
@@ -287,7 +287,7 @@ enum Verb {
     Note,
 }
 
-// The verbs, and how each is written.
+// The verbs and their spellings.
 static VERBS: [Row<Verb>; 8] = [
     (Class::Word, b"requires", Verb::Requires),
     (Class::Word, b"ensures", Verb::Ensures),
@@ -299,7 +299,7 @@ static VERBS: [Row<Verb>; 8] = [
     (Class::Word, b"note", Verb::Note),
 ];
 
-// The verb that a token is.
+// Returns the verb that a token spells.
 fn verb_of(token: Token) -> Option<Verb>
     ensures { IfSome result (λ verb. token_of token.entry.class token.entry.text.now ≡ Some (word (verb_name verb))) }
 {
@@ -307,7 +307,7 @@ fn verb_of(token: Token) -> Option<Verb>
 }
 
 impl<'a> Block<'a> {
-    // Takes up a line of this number.
+    // Reads a line of a promise, which has this number.
     fn take(&mut self, reader: &mut Reader<'a, '_>, line: usize) -> Result<(), ReadFault>
         ensures { reader.old.parts.items ≡ [] → around_of reader.old ≡ []
             → OnOk result (AddsLine reader.old.program.now.names reader.old.rest.now self.old self.new) }
@@ -337,21 +337,22 @@ impl<'a> Block<'a> {
     }
 }
 
-// Whether a line of a verb says what holds within a routine.
+// Returns whether lines with this verb are clauses at a label within a routine.
 fn is_within(verb: Verb) -> bool
     ensures { result ≡ says_within verb }
 {
     matches!(verb, Verb::Invariant | Verb::Decreases | Verb::Note)
 }
 
-// Whether no line promises anything behind one of a verb, where those before it promise nothing.
+// Returns whether the lines up to and including one with this verb promise nothing, given whether that was true
+// before it.
 fn still_within(before: bool, verb: Verb) -> bool
     ensures { result ≡ (before && says_within verb) }
 {
     before && is_within(verb)
 }
 
-// Reads a fact as a clause more.
+// Reads a fact and adds it as a clause.
 fn push_fact<'a>(
     reader: &mut Reader<'a, '_>,
     clauses: &mut Vec<Clause<'a>>,
@@ -364,7 +365,7 @@ fn push_fact<'a>(
     push_whole(reader, clauses, line, text)
 }
 
-// Reads a number as a clause more.
+// Reads a number and adds it as a clause.
 fn push_measure<'a>(
     reader: &mut Reader<'a, '_>,
     clauses: &mut Vec<Clause<'a>>,
@@ -375,7 +376,7 @@ fn push_measure<'a>(
     push_whole(reader, clauses, line, text)
 }
 
-// Adds a clause of what was read, behind which nothing stands.
+// Adds a clause from what was read, if the whole line was read.
 fn push_whole<'a>(
     reader: &Reader<'a, '_>,
     clauses: &mut Vec<Clause<'a>>,
@@ -390,14 +391,14 @@ fn push_whole<'a>(
     Ok(())
 }
 
-// One clause more.
+// Adds a clause.
 fn push_clause<'a>(clauses: &mut Vec<Clause<'a>>, clause: Clause<'a>) -> Result<(), AllocError>
     ensures { OnOk result (clauses.new.items ≡ clauses.old.items ++ clause.entry ∷ []) }
 {
     Ok(clauses.push(clause)?)
 }
 
-/// What stands behind `;:`, which blanks may stand before, if a line begins so.
+/// Returns the text after `;:`, or `None` if the line does not begin with `;:`. There may be spaces before it.
 pub fn promise_in(line: &[u8]) -> Option<&[u8]>
     ensures { MatchOption result ((rest : List ℕ) → Says line.now rest → ⊥) (λ rest. Says line.now rest.now) }
 {
@@ -407,12 +408,12 @@ pub fn promise_in(line: &[u8]) -> Option<&[u8]>
     }
 }
 
-// Whether a line is blank or a comment.
+// Returns whether a line is blank or a comment.
 fn is_silent(line: &[u8]) -> bool {
     matches!(behind_blanks(line), [] | [b';', ..]) || matches!(line, [b'*', ..])
 }
 
-// The label of a line, empty where it has none.
+// Returns the label of a line; empty if it has no label.
 fn label_of(line: &[u8]) -> &[u8] {
     match line {
         [c, ..] if is_blank(*c) => b"",
@@ -420,12 +421,12 @@ fn label_of(line: &[u8]) -> &[u8] {
     }
 }
 
-// The column, from 1, where so many bytes of a line are left.
+// Returns the column, from 1, at which this many bytes of a line are left.
 fn column_of(line: &[u8], bytes_left: usize) -> usize {
     line.len().saturating_sub(bytes_left).saturating_add(1)
 }
 
-// Notes the labels that `at` names in a line of this number.
+// Records the labels that this line names after `at`.
 fn note_labels(
     labels: &mut Vec<Label>,
     named: &[Named],
@@ -446,7 +447,7 @@ fn note_labels(
     Ok(())
 }
 
-// Takes up a line of a promise, or keeps why it is none, if it is the first.
+// Reads a line of a promise. Records its error if it is the block's first error.
 fn take_line<'a>(
     alloc: Global,
     block: &mut Block<'a>,
@@ -475,7 +476,7 @@ fn take_line<'a>(
     }
 }
 
-// The address of the label that lines stand before, at which an instruction begins, or why they are no promise.
+// Returns the address of the label after the lines if an instruction begins there. Otherwise returns the error.
 fn entry_of(program: &Program<Global>, block: &Block, label: &[u8]) -> Result<u16, Refusal> {
     if let Some(refusal) = block.refused {
         return Err(refusal);
@@ -496,7 +497,7 @@ fn entry_of(program: &Program<Global>, block: &Block, label: &[u8]) -> Result<u1
     }
 }
 
-// Why lines from this one on are no promise.
+// Creates an error for the lines from this one on.
 fn at_line(line: usize, says: &'static str) -> Refusal {
     Refusal {
         line,
@@ -505,7 +506,7 @@ fn at_line(line: usize, says: &'static str) -> Refusal {
     }
 }
 
-// Adds what is said at a label, if anything is.
+// Adds the clauses at a label, if there are any.
 fn push_said<'a>(
     alloc: Global,
     within: &mut Vec<Within<'a>>,
@@ -517,7 +518,7 @@ fn push_said<'a>(
     Ok(within.push(std::mem::replace(said, new_within(alloc)))?)
 }
 
-// Adds what lines before a label promise.
+// Adds the promise in the lines before a label.
 fn push_promise<'a>(
     alloc: Global,
     found: &mut Vec<Found<'a>>,
@@ -535,7 +536,7 @@ fn push_promise<'a>(
 const OUTSIDE: &str =
     "this stands in no routine: lines with requires, ensures, changes, prints or takes before a label begin one";
 
-// Adds what is said at a label within a routine to what the last one promises; where that is refused, nothing.
+// Adds the clauses at a label within a routine to the last promise. If that promise has an error, they are ignored.
 fn attach<'a>(
     alloc: Global,
     found: &mut Vec<Found<'a>>,
@@ -549,8 +550,8 @@ fn attach<'a>(
     }
 }
 
-// Adds what lines before a line are: a promise, what is said within the last one's routine, or why they are none. Labels that they
-// name behind `at` are noted, each with the place of what they belong to.
+// Adds the result of the lines before a line: a promise, clauses within the last routine, or an error. The labels
+// that they name after `at` are recorded, together with the index of the promise they belong to.
 fn close<'a>(
     alloc: Global,
     found: &mut Vec<Found<'a>>,
@@ -579,7 +580,7 @@ fn close<'a>(
     }
 }
 
-// Notes that `at` names the label at an address; false where nothing is said there within the routine.
+// Marks the label at an address as named after `at`. Returns false if the routine has no clauses at that label.
 fn name_label(within: &mut [Within], address: u16) -> bool {
     for said in within {
         if said.address == address {
@@ -590,7 +591,7 @@ fn name_label(within: &mut [Within], address: u16) -> bool {
     false
 }
 
-// Refuses a promise of which `at` names a label that says nothing.
+// Replaces a promise by an error if it names a label after `at` that has no clauses.
 fn settle<'a>(found: &mut [Found<'a>], place: usize, label: Label) {
     let Some(one) = found.get_mut(place) else {
         return;
@@ -603,11 +604,16 @@ fn settle<'a>(found: &mut [Found<'a>], place: usize, label: Label) {
     }
 }
 
-/// The promises of a source's lines, whose program is this one, in their order: lines that begin with `;:`, each with `requires`,
-/// `ensures`, `changes`, `prints`, `takes`, `invariant`, `decreases` or `note` behind it, before the line of a label; comments and
-/// blank lines may stand between. Lines that say only what holds within a routine are no promise, and belong to the last above them.
-/// Where a line can't be read, no routine has the label, or `at` names a label that has no such lines in its routine, that is said
-/// instead. This project's profile. Refused only for want of memory.
+/// Returns the promises in a source's lines, in their order. `program` must be the program assembled from the same
+/// source.
+///
+/// A promise consists of lines that begin with `;:`, followed by `requires`, `ensures`, `changes`, `prints`, `takes`,
+/// `invariant`, `decreases` or `note`. They come before the line of a label; there may be comments and blank lines in
+/// between. Lines that only say what holds within a routine are not a promise of their own: they belong to the last
+/// promise above them.
+///
+/// An error takes the promise's place in these cases: a line cannot be read, no routine has the label, or `at` names
+/// a label without such lines in its routine. This project's profile. Fails only if memory runs out.
 pub fn promises_of<'a>(
     alloc: Global,
     lines: &[&'a [u8]],

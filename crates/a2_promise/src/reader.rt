@@ -1,4 +1,4 @@
-//! A line of a promise as it is read, from the left to the right.
+//! Reads a line of a promise from left to right.
 
 ghost use Rattle.std.specs.Prelude.{◌≡◌, ◌<◌, ◌≤◌, ℕ, false, IsTrue, List, [], ◌∷◌};
 ghost use Rattle.std.specs.Prelude.{◌++◌, length, map, reverse, Some, None, IfOk, IfSome, IfNone, OnOk};
@@ -21,24 +21,24 @@ use a2_asm::Program;
 use a2_text::behind_blanks;
 use std::alloc::{AllocError, Global};
 
-// The most names that are counted within one another.
+// The most names that may be bound inside one another.
 const MOST_NAMES: usize = 4;
 
-/// A label that is named behind `at`: its address, and how many bytes are left of the line from it on.
+/// A label named after `at`: its address, and how many bytes of the line are left from it on.
 #[derive(Clone, Copy)]
 pub(crate) struct Named {
     pub address: u16,
     pub bytes_left: usize,
 }
 
-/// Parts that were made: where they begin among all, and where those behind them do.
+/// A range of parts: the index of the first one, and the index after the last one.
 #[derive(Clone, Copy)]
 pub(crate) struct Span {
     pub begun: usize,
     pub ended: usize,
 }
 
-/// What is left of a line, and what names mean in it.
+/// The rest of a line, and the meaning of names in it.
 pub(crate) struct Reader<'a, 'p> {
     pub alloc: Global,
     parts: Vec<Part>,
@@ -46,13 +46,13 @@ pub(crate) struct Reader<'a, 'p> {
     program: &'p Program<Global>,
     names: [&'a [u8]; MOST_NAMES],
     named: usize,
-    /// Whether `at` may stand in the line.
+    /// Whether `at` is allowed in the line.
     pub is_within: bool,
-    /// The labels that it names.
+    /// The labels that the line names.
     pub labels: Vec<Named>,
 }
 
-// Not derived, for the prover alone: it follows this as one call, and a derived one field by field.
+// Written by hand only for the prover: it handles this as one call, but a derived `Drop` field by field.
 impl<'a, 'p> Drop for Reader<'a, 'p> {
     fn drop(self) {
         let Reader {
@@ -69,7 +69,7 @@ impl<'a, 'p> Drop for Reader<'a, 'p> {
 }
 
 impl<'a, 'p> Reader<'a, 'p> {
-    /// One of a line.
+    /// Creates a reader for a line.
     pub fn new(alloc: Global, line: &'a [u8], program: &'p Program<Global>) -> Reader<'a, 'p>
         ensures { state_of result ≡ beginning_of line.now program.now.names }
     {
@@ -85,7 +85,7 @@ impl<'a, 'p> Reader<'a, 'p> {
         }
     }
 
-    /// What stands next.
+    /// Returns the next token without reading it.
     pub fn next(&self) -> Token<'a>
         ensures first { token_of result.class result.text.now ≡ first (tokens self.now.rest.now) }
         ensures written { IsWritten result.class result.text.now }
@@ -93,7 +93,7 @@ impl<'a, 'p> Reader<'a, 'p> {
         token_in(self.rest).0
     }
 
-    /// Takes what stands next.
+    /// Skips the next token.
     pub fn take(&mut self)
         ensures { (token : ReadToken) → first (tokens self.old.rest.now) ≡ Some token
             → Takes token (state_of self.old) (state_of self.new) }
@@ -101,19 +101,19 @@ impl<'a, 'p> Reader<'a, 'p> {
         self.rest = token_in(self.rest).1;
     }
 
-    /// How many bytes of the line are left, from what stands next on.
+    /// Returns how many bytes of the line are left, from the next token on.
     pub fn bytes_left(&self) -> usize {
         behind_blanks(self.rest).len()
     }
 
-    /// Refuses what stands next.
+    /// Returns an error at the next token.
     pub fn refuse<T>(&self, why: Why) -> Result<T, ReadFault>
         ensures { OnOk result ⊥ }
     {
         Err(ReadFault::Says(why, self.bytes_left()))
     }
 
-    /// Takes this word or sign, if it stands next.
+    /// Skips the next token if it is this word or sign, and returns whether it was.
     pub fn took(&mut self, text: &[u8]) -> bool
         ensures took { IsTrue result → Takes (spelling text.now) (state_of self.old) (state_of self.new) }
         ensures same { result ≡ false → state_of self.new ≡ state_of self.old }
@@ -126,7 +126,7 @@ impl<'a, 'p> Reader<'a, 'p> {
         is_next
     }
 
-    /// Takes this word or sign.
+    /// Skips this word or sign, or returns an error if it does not come next.
     pub fn expect(&mut self, text: &[u8], why: Why) -> Result<(), ReadFault>
         ensures { OnOk result (Takes (spelling text.now) (state_of self.old) (state_of self.new)) }
     {
@@ -137,7 +137,7 @@ impl<'a, 'p> Reader<'a, 'p> {
         }
     }
 
-    // The number that a token is: decimal, `$` and digits, or a name of the source.
+    // Returns the number that a token stands for: decimal, `$` and digits, or a name of the source.
     fn number_at(&self, token: Token<'a>) -> Option<u32>
         ensures { IfSome result (λ number. IsJust (token_of token.entry.class token.entry.text.now)
             (λ it. number_of self.now.program.now.names it ≡ Some number)) }
@@ -148,7 +148,7 @@ impl<'a, 'p> Reader<'a, 'p> {
         }
     }
 
-    /// Takes a number: decimal, `$` and digits, or a name of the source.
+    /// Reads a number: decimal, `$` and digits, or a name of the source.
     pub fn number(&mut self) -> Result<u32, ReadFault>
         ensures { IfOk result (λ number. (token : ReadToken) × Takes token (state_of self.old) (state_of self.new)
             × (number_of self.old.program.now.names token ≡ Some number)) }
@@ -162,7 +162,7 @@ impl<'a, 'p> Reader<'a, 'p> {
         }
     }
 
-    // The value of a name of the source.
+    // Returns the value of a name of the source.
     fn value_of(&self, name: &[u8]) -> Option<u16>
         ensures { IfSome result (λ value. name_value self.now.program.now.names name.now ≡ Some value) }
     {
@@ -172,7 +172,7 @@ impl<'a, 'p> Reader<'a, 'p> {
         }
     }
 
-    // The address that a token is: `$` and digits, or a name of the source.
+    // Returns the address that a token stands for: `$` and digits, or a name of the source.
     fn address_at(&self, token: Token<'a>) -> Option<u16>
         ensures { IfSome result (λ address. IsJust (token_of token.entry.class token.entry.text.now)
             (λ it. grammar.address_of self.now.program.now.names it ≡ Some address)) }
@@ -184,7 +184,7 @@ impl<'a, 'p> Reader<'a, 'p> {
         }
     }
 
-    /// Takes an address: `$` and digits, or a name of the source.
+    /// Reads an address: `$` and digits, or a name of the source.
     pub fn address(&mut self) -> Result<u16, ReadFault>
         ensures { IfOk result (λ address. (token : ReadToken) × Takes token (state_of self.old) (state_of self.new)
             × (grammar.address_of self.old.program.now.names token ≡ Some address)) }
@@ -198,7 +198,7 @@ impl<'a, 'p> Reader<'a, 'p> {
         }
     }
 
-    // The address of a label that a token names.
+    // Returns the address of the label that a token names.
     fn label_at(&self, token: Token<'a>) -> Option<u16>
         ensures { IfSome result (λ address. (token_of token.entry.class token.entry.text.now ≡ Some (word token.entry.text.now))
             × (name_value self.now.program.now.names token.entry.text.now ≡ Some address)) }
@@ -209,7 +209,8 @@ impl<'a, 'p> Reader<'a, 'p> {
         }
     }
 
-    /// Takes the label behind an `at`, from which on so many bytes were left; its address.
+    /// Reads the label after an `at`, and returns its address. `bytes_left` is the number of bytes that were left at
+    /// the `at`.
     pub fn label(&mut self, bytes_left: usize) -> Result<u16, ReadFault>
         ensures { IfOk result (λ address. (name : List ℕ) × Takes (word name) (state_of self.old) (state_of self.new)
             × IsTrue self.old.is_within × (name_value self.old.program.now.names name ≡ Some address)) }
@@ -231,7 +232,7 @@ impl<'a, 'p> Reader<'a, 'p> {
         }
     }
 
-    /// Takes a text between quotes as ASC lays it: its characters, and what each has more than its code.
+    /// Reads a quoted text as ASC stores it. Returns its characters and the number to add to the code of each.
     pub fn laid_text(&mut self) -> Result<(&'a [u8], u8), ReadFault>
         ensures { IfOk result (λ (text, top). (quote : ℕ) × Takes (quoted quote text.now) (state_of self.old) (state_of self.new)
             × IsTrue (is_text quote text.now) × IsTop quote top) }
@@ -250,7 +251,7 @@ impl<'a, 'p> Reader<'a, 'p> {
         }
     }
 
-    /// Lets a name be counted; its number.
+    /// Binds a name, and returns its number.
     pub fn bind(&mut self, name: &'a [u8]) -> Result<u8, ReadFault>
         ensures { IfOk result (λ number. Binds name.now number (state_of self.old) (state_of self.new)) }
     {
@@ -263,14 +264,15 @@ impl<'a, 'p> Reader<'a, 'p> {
         Ok(number as u8)
     }
 
-    /// Lets the innermost name, which has this number, be one of the source again.
+    /// Ends the scope of the innermost bound name, which has this number. It can then mean a name of the source
+    /// again.
     pub fn unbind(&mut self, number: u8)
         ensures { Unbinds number (state_of self.old) (state_of self.new) }
     {
         self.named = usize::from(number);
     }
 
-    // The number of a name that is counted here, the innermost of those that are it.
+    // Returns the number of a bound name; the innermost one if it is bound several times.
     fn number_of(&self, name: &[u8]) -> Option<u8>
         ensures { result ≡ number_among (around_of self.now) name.now }
     {
@@ -280,7 +282,7 @@ impl<'a, 'p> Reader<'a, 'p> {
         }
     }
 
-    /// The number of a name that is counted here, if a token is one.
+    /// Returns the number of the bound name that a token is, or `None` if it is not one.
     pub fn bound(&self, token: Token<'a>) -> Option<u8>
         ensures found { IfSome result (λ number. (token_of token.entry.class token.entry.text.now ≡ Some (word token.entry.text.now))
             × (number_among (around_of self.now) token.entry.text.now ≡ Some number)) }
@@ -292,14 +294,14 @@ impl<'a, 'p> Reader<'a, 'p> {
         }
     }
 
-    /// How many parts there are.
+    /// Returns the number of parts.
     pub fn count(&self) -> usize
         ensures { result ≡ length self.now.parts.items }
     {
         self.parts.len()
     }
 
-    /// Puts parts that were made behind all once more.
+    /// Appends a copy of parts that were made before.
     pub fn again(&mut self, span: Span) -> Result<(), ReadFault>
         ensures { span.ended ≤ length self.old.parts.items
             → OnOk result (Puts (slice_range self.old.parts.items span.begun span.ended) (state_of self.old) (state_of self.new)) }
@@ -308,14 +310,14 @@ impl<'a, 'p> Reader<'a, 'p> {
         Ok(self.parts.extend_from_slice(copied.as_slice())?)
     }
 
-    /// Puts parts behind those of the expression.
+    /// Appends parts of the expression.
     pub fn puts(&mut self, parts: &[Part]) -> Result<(), ReadFault>
         ensures { OnOk result (Puts parts.now (state_of self.old) (state_of self.new)) }
     {
         Ok(self.parts.extend_from_slice(parts)?)
     }
 
-    /// Puts the last part of an expression of this kind.
+    /// Appends the last part of an expression of this kind.
     pub fn makes(&mut self, last: Part, kind: Kind) -> Result<Kind, ReadFault>
         ensures { IfOk result (λ made. (made ≡ kind) × Puts (last ∷ []) (state_of self.old) (state_of self.new)) }
     {
@@ -323,7 +325,7 @@ impl<'a, 'p> Reader<'a, 'p> {
         Ok(kind)
     }
 
-    /// Puts the last parts of an expression of this kind.
+    /// Appends the last parts of an expression of this kind.
     pub fn ends(&mut self, last: &[Part], kind: Kind) -> Result<Kind, ReadFault>
         ensures { IfOk result (λ made. (made ≡ kind) × Puts last.now (state_of self.old) (state_of self.new)) }
     {
@@ -331,7 +333,7 @@ impl<'a, 'p> Reader<'a, 'p> {
         Ok(kind)
     }
 
-    /// The expression that was read.
+    /// Returns the expression that was read.
     pub fn expr(&self) -> Result<Expr, ReadFault>
         ensures { IfOk result (λ expr. (more : List Phrase) × (made self.now.parts.items [] ≡ phrase_of expr ∷ more)) }
     {
@@ -343,7 +345,7 @@ impl<'a, 'p> Reader<'a, 'p> {
     }
 }
 
-// The place of a name among others, the last where it is there several times.
+// Returns the index of a name among others, or its last index if it occurs several times.
 fn innermost(names: &[&[u8]], name: &[u8]) -> Option<usize>
     ensures number { result ≡ number_among (reverse (map (λ one. one.now) names.now)) name.now }
     ensures within { IfSome result (λ number. number < length names.now) }
@@ -358,7 +360,7 @@ fn innermost(names: &[&[u8]], name: &[u8]) -> Option<usize>
     None
 }
 
-// The parts of a span, in memory of their own.
+// Returns a copy of the parts in a span.
 fn copied(alloc: Global, parts: &[Part], span: Span) -> Result<Vec<Part>, AllocError>
     ensures { span.ended ≤ length parts.now → IfOk result (λ copy. copy.items ≡ slice_range parts.now span.begun span.ended) }
 {

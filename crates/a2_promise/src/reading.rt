@@ -1,4 +1,4 @@
-//! The words and signs of a line of a promise.
+//! Splits a line of a promise into words and signs.
 
 ghost use Rattle.std.specs.Prelude.{◌≡◌, ℕ, List, take, drop, [], ◌∷◌, IfSome, MatchOption};
 ghost use Rattle.a2_text.specs.Bytes as byte;
@@ -12,11 +12,11 @@ ghost use Rattle.a2_promise.specs.Reading.{IsWritten, is_named, token_of, up_to 
 
 use a2_text::{behind_blanks, front_len, number_in};
 
-/// What kind of text stands next in a line.
+/// The kind of a token.
 #[derive(Clone, Copy, PartialEq)]
 pub(crate) enum Class {
     End,
-    /// Letters, digits and `_`, a letter first.
+    /// Letters, digits and `_`, beginning with a letter.
     Word,
     /// Decimal digits.
     Decimal,
@@ -26,11 +26,11 @@ pub(crate) enum Class {
     Single,
     /// A text, without the `"` around it.
     Double,
-    /// One sign, or two that belong together.
+    /// One sign, or two that form one token.
     Sign,
 }
 
-/// What stands next in a line.
+/// The next token of a line.
 #[derive(Clone, Copy)]
 pub(crate) struct Token<'a> {
     pub class: Class,
@@ -38,7 +38,7 @@ pub(crate) struct Token<'a> {
 }
 
 impl<'a> Token<'a> {
-    /// Whether it is this word or sign.
+    /// Returns whether the token is this word or sign.
     pub fn is(self, text: &[u8]) -> bool
         ensures { result ≡ is_named self.entry.class self.entry.text.now text.now }
     {
@@ -49,49 +49,50 @@ impl<'a> Token<'a> {
     }
 }
 
-// Whether a byte is a letter.
+// Returns whether a byte is a letter.
 fn is_letter(c: u8) -> bool
     ensures { result ≡ tokens.is_letter c }
 {
     matches!(c, b'a'..=b'z' | b'A'..=b'Z')
 }
 
-// Whether a byte is a decimal digit.
+// Returns whether a byte is a decimal digit.
 fn is_digit(c: u8) -> bool
     ensures { result ≡ byte.is_digit c }
 {
     matches!(c, b'0'..=b'9')
 }
 
-// Whether a byte is a hexadecimal digit.
+// Returns whether a byte is a hexadecimal digit.
 fn is_hex_digit(c: u8) -> bool
     ensures { result ≡ byte.is_hex_digit c }
 {
     matches!(c, b'0'..=b'9' | b'a'..=b'f' | b'A'..=b'F')
 }
 
-// Whether a byte may stand in a word.
+// Returns whether a byte may appear in a word.
 fn is_word_byte(c: u8) -> bool
     ensures { result ≡ is_name_byte c }
 {
     matches!(c, b'a'..=b'z' | b'A'..=b'Z' | b'0'..=b'9' | b'_')
 }
 
-// Whether a byte may stand between quotes of this kind.
+// Returns whether a byte may appear between quotes of this kind.
 fn may_stand(quote: u8, c: u8) -> bool
     ensures { result ≡ is_quotable quote c }
 {
     matches!(c, 0x20..=0x7E) && c != quote
 }
 
-// Whether two signs are one.
+// Returns whether two signs form one token.
 fn is_double(c: u8, d: u8) -> bool
     ensures { result ≡ tokens.is_double c d }
 {
     matches!((c, d), (b'<', b'=' | b'>') | (b'>', b'=') | (b'.', b'.'))
 }
 
-// The characters up to a quote like the one before a text, and what stands behind that; one character at least.
+// Splits a text at the next quote of this kind into the characters before it and the text after it. There must be at
+// least one character.
 fn up_to(quote: u8, text: &[u8]) -> Option<(&[u8], &[u8])>
     ensures { MatchOption result (up_to_of quote text.now ≡ (sign (quote ∷ []), text.now))
         (λ (front, behind). up_to_of quote text.now ≡ (quoted quote front.now, behind.now)) }
@@ -103,7 +104,7 @@ fn up_to(quote: u8, text: &[u8]) -> Option<(&[u8], &[u8])>
     }
 }
 
-// How many bytes the sign has that a text begins with.
+// Returns the length of the sign at the start of a text.
 fn sign_length(text: &[u8]) -> usize
     ensures { (c : ℕ) (rest : List ℕ) → text.now ≡ c ∷ rest
         → tokens.sign_from c rest ≡ (sign (take result text.now), drop result text.now) }
@@ -114,7 +115,7 @@ fn sign_length(text: &[u8]) -> usize
     }
 }
 
-// So many bytes of a text as one token, and what stands behind them.
+// Returns the first `count` bytes of a text as one token, and the text after them.
 fn cut_off(class: Class, text: &[u8], count: usize) -> (Token<'_>, &[u8])
     ensures class { result.0.class ≡ class }
     ensures front { result.0.text.now ≡ take count text.now }
@@ -124,7 +125,7 @@ fn cut_off(class: Class, text: &[u8], count: usize) -> (Token<'_>, &[u8])
     (Token { class, text: front }, behind)
 }
 
-/// What stands next in a line, and what stands behind it.
+/// Returns the next token of a line, and the text after it.
 pub(crate) fn token_in(line: &[u8]) -> (Token<'_>, &[u8])
     ensures found { with_rest (token_of result.0.class result.0.text.now) result.1.now ≡ token_from (behind_blanks_of line.now) }
     ensures written { IsWritten result.0.class result.0.text.now }
@@ -159,7 +160,7 @@ pub(crate) fn token_in(line: &[u8]) -> (Token<'_>, &[u8])
     }
 }
 
-/// The number of decimal digits, none where it is above 4,294,967,295.
+/// Returns the value of decimal digits, or `None` if it is above 4,294,967,295.
 pub(crate) fn decimal_of(digits: &[u8]) -> Option<u32>
     ensures { IfSome result (λ number. value_of_digits 10 digits.now ≡ number) }
 {
@@ -175,7 +176,7 @@ pub(crate) fn decimal_of(digits: &[u8]) -> Option<u32>
     Some(number)
 }
 
-/// The address that one to four hexadecimal digits are.
+/// Returns the address that one to four hexadecimal digits spell.
 pub(crate) fn address_of(digits: &[u8]) -> Option<u16>
     ensures { result ≡ byte.number_in 16 4 digits.now }
 {

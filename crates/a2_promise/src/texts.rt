@@ -1,4 +1,4 @@
-//! Texts that a routine prints, and keys that it takes.
+//! The texts that a routine prints, and the keys that it takes.
 
 ghost use Rattle.std.specs.Prelude.{◌≡◌, ℕ, List, [], ◌∷◌, ◌++◌, IfSome, OnOk};
 ghost use Rattle.a2_text.specs.Words.{behind_blanks as behind_blanks_of};
@@ -11,7 +11,7 @@ use a2_bus::Keys;
 use a2_text::behind_blanks;
 use std::alloc::AllocError;
 
-/// A text of a promise: the number of its line, how it is written, with its quotes, and its characters, each from 0 to 127.
+/// A text of a promise: the number of its line, its spelling with quotes, and its characters, each from 0 to 127.
 #[derive(Drop)]
 pub struct Text<'a> {
     pub line: usize,
@@ -19,13 +19,14 @@ pub struct Text<'a> {
     pub characters: Vec<u8>,
 }
 
-/// What a routine prints and which keys it takes, each text behind the one before. Of neither is anything said where it has no text.
+/// The texts that a routine prints and the keys that it takes, in order. If there is no text of one kind, nothing is
+/// promised about it.
 pub struct Texts<'a> {
     pub prints: Vec<Text<'a>>,
     pub takes: Vec<Text<'a>>,
 }
 
-// Not derived, for the prover alone: it follows this as one call, and a derived one field by field.
+// Written by hand only for the prover: it handles this as one call, but a derived `Drop` field by field.
 impl<'a> Drop for Texts<'a> {
     fn drop(self) {
         let Texts {
@@ -35,10 +36,10 @@ impl<'a> Drop for Texts<'a> {
     }
 }
 
-// The most characters of all texts of one kind, which are as many as keys can wait.
+// The most characters in all texts of one kind. As many keys can wait to be read.
 const MOST_CHARACTERS: usize = 4096;
 
-// The characters that a text between quotes spells, as keys are spelt.
+// Returns the characters of a quoted text, which is spelt as keys are.
 fn spelled(written: &[u8]) -> Option<Keys>
     ensures { IfSome result (λ keys. (inner : List ℕ) × (written.now ≡ 34 ∷ (inner ++ 34 ∷ [])) × SpellsKeys inner keys) }
 {
@@ -51,7 +52,7 @@ fn spelled(written: &[u8]) -> Option<Keys>
     }
 }
 
-// How many characters texts have.
+// Returns the total number of characters in texts.
 fn count_of(texts: &[Text]) -> usize {
     let mut count: usize = 0;
     for text in texts {
@@ -60,7 +61,7 @@ fn count_of(texts: &[Text]) -> usize {
     count
 }
 
-/// Reads the rest of a line as a text more.
+/// Reads the rest of a line as a text, and adds it.
 pub(crate) fn push_text<'a>(
     reader: &mut Reader<'a, '_>,
     texts: &mut Vec<Text<'a>>,
@@ -88,7 +89,7 @@ pub(crate) fn push_text<'a>(
     Ok(())
 }
 
-// One text more.
+// Adds a text.
 fn add_text<'a>(texts: &mut Vec<Text<'a>>, text: Text<'a>) -> Result<(), AllocError>
     ensures { OnOk result (texts.new.items ≡ texts.old.items ++ text.entry ∷ []) }
 {

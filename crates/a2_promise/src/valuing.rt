@@ -1,4 +1,4 @@
-//! What an expression is, of a state where a routine is entered and one that it leaves.
+//! Evaluates expressions for a state at a routine's entry and a state after it.
 
 ghost use Rattle.std.specs.Prelude.{◌≡◌, pos, slice_set, bit_and, bit_or, bit_xor, MatchOption, Some, None};
 ghost use Rattle.a2_promise.specs.Values as values;
@@ -9,7 +9,7 @@ use a2_bus::{AddressSpace, Bus};
 use a2_cpu::Regs;
 use std::alloc::Allocator;
 
-/// A state that promises speak of: registers, RAM, and the cycles and steps since the entry.
+/// A state as promises see it: registers, RAM, and the cycles and steps since the entry.
 #[derive(Clone, Copy)]
 pub struct Sight<'a, A: Allocator> {
     pub regs: Regs,
@@ -18,7 +18,7 @@ pub struct Sight<'a, A: Allocator> {
     pub steps: u32,
 }
 
-/// A state as a run last came to the label at an address, if it has come there.
+/// The state when a run last reached the label at an address. It exists only if the run has reached the label.
 #[derive(Drop)]
 pub struct Visit<A: Allocator> {
     pub address: u16,
@@ -29,7 +29,7 @@ pub struct Visit<A: Allocator> {
     pub steps: u32,
 }
 
-// The state of a visit.
+// Returns the state of a visit.
 fn sight_of<A: Allocator>(visit: &Visit<A>) -> Sight<'_, A>
     ensures { moment_of result ≡ values.moment_there visit.now }
 {
@@ -41,7 +41,7 @@ fn sight_of<A: Allocator>(visit: &Visit<A>) -> Sight<'_, A>
     }
 }
 
-// The state of the visit at an address.
+// Returns the state of the visit at an address.
 fn visited<'v, A: Allocator>(visits: &'v [Visit<A>], address: u16) -> Option<Sight<'v, A>>
     ensures { MatchOption result (values.visited visits.now address ≡ None)
         (λ sight. values.visited visits.now address ≡ Some (moment_of sight)) }
@@ -55,17 +55,17 @@ fn visited<'v, A: Allocator>(visits: &'v [Visit<A>], address: u16) -> Option<Sig
     visited(rest, address)
 }
 
-/// The numbers that names stand for which an expression counts, four at most.
+/// The values of the bound names, at most four.
 pub type Bounds = [i64; 4];
 
-// 1 for what holds, else 0.
+// Returns 1 for true and 0 for false.
 fn digit(holds: bool) -> i64
     ensures { result ≡ values.digit holds }
 {
     if holds { 1 } else { 0 }
 }
 
-// What the processor holds, and what a run took.
+// Returns the value of a register or flag, or a count of the run.
 fn held<A: Allocator>(atom: Atom, sight: &Sight<A>) -> i64
     ensures { result ≡ values.held atom (moment_of sight.now) }
 {
@@ -86,7 +86,7 @@ fn held<A: Allocator>(atom: Atom, sight: &Sight<A>) -> i64
     }
 }
 
-// A number from 0 to 65,535.
+// Returns a number if it is from 0 to 65,535.
 fn word_in(number: i64) -> Option<u16>
     ensures { result ≡ values.word_in number }
 {
@@ -97,7 +97,7 @@ fn word_in(number: i64) -> Option<u16>
     }
 }
 
-// The byte at an address.
+// Returns the byte at an address.
 fn byte_at<A: Allocator>(space: &AddressSpace<A>, address: Option<u16>) -> Option<i64>
     ensures { result ≡ values.byte_at space.now.bytes address }
 {
@@ -107,7 +107,7 @@ fn byte_at<A: Allocator>(space: &AddressSpace<A>, address: Option<u16>) -> Optio
     }
 }
 
-// The two bytes from an address on as a number, the low one first.
+// Returns the two bytes from an address on as a number, low byte first.
 fn word_at<A: Allocator>(space: &AddressSpace<A>, address: Option<u16>) -> Option<i64>
     ensures { result ≡ values.word_at space.now.bytes address }
 {
@@ -118,7 +118,7 @@ fn word_at<A: Allocator>(space: &AddressSpace<A>, address: Option<u16>) -> Optio
     }
 }
 
-// A byte as a number from -128 to 127.
+// Returns a byte as a number from -128 to 127.
 fn signed(byte: Option<u16>) -> Option<i64>
     ensures { result ≡ values.signed byte }
 {
@@ -129,7 +129,7 @@ fn signed(byte: Option<u16>) -> Option<i64>
     }
 }
 
-// What a function makes of a number.
+// Applies a function to a number.
 fn made<A: Allocator>(function: Function, space: &AddressSpace<A>, number: i64) -> Option<i64>
     ensures { result ≡ values.made function space.now.bytes number }
 {
@@ -147,7 +147,7 @@ fn made<A: Allocator>(function: Function, space: &AddressSpace<A>, number: i64) 
     }
 }
 
-// Their bits that both have.
+// Returns the bitwise AND of two numbers.
 fn bit_and(left: Option<u16>, right: Option<u16>) -> Option<i64>
     ensures { result ≡ values.bitwise bit_and left right }
 {
@@ -155,7 +155,7 @@ fn bit_and(left: Option<u16>, right: Option<u16>) -> Option<i64>
     Some(i64::from(left & right))
 }
 
-// Their bits that one has at least.
+// Returns the bitwise OR of two numbers.
 fn bit_or(left: Option<u16>, right: Option<u16>) -> Option<i64>
     ensures { result ≡ values.bitwise bit_or left right }
 {
@@ -163,7 +163,7 @@ fn bit_or(left: Option<u16>, right: Option<u16>) -> Option<i64>
     Some(i64::from(left | right))
 }
 
-// Their bits that one has alone.
+// Returns the bitwise exclusive OR of two numbers.
 fn bit_xor(left: Option<u16>, right: Option<u16>) -> Option<i64>
     ensures { result ≡ values.bitwise bit_xor left right }
 {
@@ -171,7 +171,7 @@ fn bit_xor(left: Option<u16>, right: Option<u16>) -> Option<i64>
     Some(i64::from(left ^ right))
 }
 
-// A bit, 0 to 15, of a number.
+// Returns a bit, 0 to 15, of a number.
 fn bit_of(place: Option<u16>, number: Option<u16>) -> Option<i64>
     ensures { result ≡ values.bit_of place number }
 {
@@ -183,7 +183,7 @@ fn bit_of(place: Option<u16>, number: Option<u16>) -> Option<i64>
     }
 }
 
-// What an operation makes of two numbers.
+// Applies an operation to two numbers.
 fn operated(operation: Operation, left: i64, right: i64) -> Option<i64>
     ensures { result ≡ values.operated operation left right }
 {
@@ -213,14 +213,14 @@ fn operated(operation: Operation, left: i64, right: i64) -> Option<i64>
     }
 }
 
-// What an operation makes of two numbers, where both are there.
+// Applies an operation to two numbers if both have a value.
 fn operated_on(operation: Operation, left: Option<i64>, right: Option<i64>) -> Option<i64>
     ensures { result ≡ values.operated_on operation left right }
 {
     operated(operation, left?, right?)
 }
 
-// How many numbers there are below one, none where they are more than 65,535.
+// Returns how many numbers there are below a bound, or `None` if there are more than 65,535.
 fn count_of(number: Option<i64>) -> Option<u16>
     ensures { result ≡ values.count_of number }
 {
@@ -228,21 +228,21 @@ fn count_of(number: Option<i64>) -> Option<u16>
     if number < 0 { Some(0) } else { word_in(number) }
 }
 
-// Whether a number is 0.
+// Returns whether a number is 0.
 fn is_zero(number: i64) -> bool
     ensures { result ≡ values.is_zero number }
 {
     number <= 0 && 0 <= number
 }
 
-// One of two by what is chosen by.
+// Returns one of two values, chosen by a third.
 fn chosen(by: Option<i64>, one: Option<i64>, other: Option<i64>) -> Option<i64>
     ensures { result ≡ values.chosen by one other }
 {
     if is_zero(by?) { other } else { one }
 }
 
-// The same numbers of names, but this one.
+// Returns the values of the bound names with one of them replaced.
 fn with_bound(names: Bounds, name: u8, number: u16) -> Bounds
     ensures { result ≡ slice_set names name (pos number) }
 {
@@ -254,8 +254,8 @@ fn with_bound(names: Bounds, name: u8, number: u16) -> Bounds
     names
 }
 
-// In what an expression is looked at: the state where a routine was entered and one that its run came to, behind these visits of
-// labels, and the numbers that names stand for.
+// What an expression is evaluated in: the state at the routine's entry, the state that its run reached, the visits of
+// labels before that, and the values of bound names.
 #[derive(Clone, Copy)]
 struct Scene<'s, A: Allocator> {
     entry: &'s Sight<'s, A>,
@@ -264,7 +264,7 @@ struct Scene<'s, A: Allocator> {
     names: Bounds,
 }
 
-// Whether an expression holds at each number below one.
+// Evaluates whether an expression is true for each number below a bound.
 #[cycle(value)]
 fn each_below<A: Allocator>(name: u8, count: u16, body: &Expr, scene: &Scene<'_, A>) -> Option<i64>
     ensures { result ≡ values.each_below count (λ k. values.value_in body.now (moment_of scene.now.entry.now)
@@ -281,7 +281,7 @@ fn each_below<A: Allocator>(name: u8, count: u16, body: &Expr, scene: &Scene<'_,
     holds
 }
 
-// The sum of an expression at each number below one.
+// Evaluates the sum of an expression over all numbers below a bound.
 #[cycle(value)]
 fn sum_below<A: Allocator>(name: u8, count: u16, body: &Expr, scene: &Scene<'_, A>) -> Option<i64>
     ensures { result ≡ values.sum_below count (λ k. values.value_in body.now (moment_of scene.now.entry.now)
@@ -298,7 +298,7 @@ fn sum_below<A: Allocator>(name: u8, count: u16, body: &Expr, scene: &Scene<'_, 
     sum
 }
 
-// What an expression is in a scene.
+// Evaluates an expression in a scene.
 #[cycle(value)]
 fn value_at<A: Allocator>(expr: &Expr, scene: &Scene<'_, A>) -> Option<i64>
     ensures { result ≡ values.value_in expr.now (moment_of scene.now.entry.now) (moment_of scene.now.exit.now)
@@ -346,9 +346,17 @@ fn value_at<A: Allocator>(expr: &Expr, scene: &Scene<'_, A>) -> Option<i64>
     }
 }
 
-/// What an expression is, of the state where a routine was entered and one that its run came to, behind these visits of labels, where
-/// these are the numbers that names stand for. None where a part of it that counts is none: a quotient by what is not above 0, bits of
-/// what is not from 0 to 65,535, a byte that is not in RAM, a number of 2^63 or more, or what was at a label where the run has not been.
+/// Returns the value of an expression. `entry` is the state at the routine's entry, and `exit` the state that its run
+/// reached, after these visits of labels. `names` are the values of bound names.
+///
+/// Returns `None` if a part that matters has no value:
+///
+/// - a quotient whose divisor is not above 0
+/// - bits of a number that is not from 0 to 65,535
+/// - a byte that is not in RAM
+/// - a number of 2^63 or more
+/// - the value at a label that the run has not reached
+///
 /// This project's profile.
 pub fn value_in<A: Allocator>(
     expr: &Expr,
@@ -368,7 +376,7 @@ pub fn value_in<A: Allocator>(
     value_at(expr, &scene)
 }
 
-/// The same, where a run has come to no label.
+/// Returns the value of an expression for a run that has reached no label.
 pub fn value<A: Allocator>(
     expr: &Expr,
     entry: &Sight<A>,

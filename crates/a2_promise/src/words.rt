@@ -1,4 +1,4 @@
-//! The words and signs that join, begin and are expressions.
+//! The words and signs of expressions: operators, openings and operands.
 
 ghost use Rattle.std.specs.Prelude.{◌≡◌, ◌<◌, false, IsTrue, Some, IfSome, IfNone};
 ghost use Rattle.std.specs.List.{Contains};
@@ -13,10 +13,10 @@ ghost use Rattle.a2_promise.specs.Written.{atom_name, infix_token};
 use crate::expr::{Atom, Operation};
 use crate::reading::{Class, Token};
 
-/// The class and the text of a word or a sign, and what it means.
+/// The class and the text of a token, and its meaning.
 pub(crate) type Row<T> = (Class, &'static [u8], T);
 
-/// What a token means by the rows of a table.
+/// Looks up the meaning of a token in a table.
 pub(crate) fn meaning<T: Copy>(rows: &[Row<T>], token: Token) -> Option<T>
     ensures found { IfSome result (λ it. Contains (listed rows.now) (token.entry.class, token.entry.text.now, it)) }
     ensures none { IfNone result ((it : T) → Contains (listed rows.now) (token.entry.class, token.entry.text.now, it) → ⊥) }
@@ -29,7 +29,7 @@ pub(crate) fn meaning<T: Copy>(rows: &[Row<T>], token: Token) -> Option<T>
     None
 }
 
-/// What an expression says: a number; that something holds; or a flag, which is both.
+/// The kind of an expression: a number; a fact, which is true or false; or a flag, which is both.
 #[derive(Clone, Copy)]
 pub(crate) enum Kind {
     Number,
@@ -37,7 +37,7 @@ pub(crate) enum Kind {
     Flag,
 }
 
-/// How two numbers compare.
+/// A comparison of two numbers.
 #[derive(Clone, Copy)]
 pub enum Relation {
     Equal,
@@ -48,7 +48,7 @@ pub enum Relation {
     AtLeast,
 }
 
-/// What joins two expressions.
+/// An operator between two expressions.
 #[derive(Clone, Copy)]
 pub enum Infix {
     Iff,
@@ -58,16 +58,16 @@ pub enum Infix {
     Apply(Operation),
 }
 
-/// What binds as loosely as can be.
+/// The rank of the loosest operator.
 pub(crate) const LOOSEST: u8 = 1;
 
-/// What binds tighter than `and`.
+/// The rank just above `and`.
 pub(crate) const BEHIND_AND: u8 = 4;
 
-/// What binds tighter than a comparison.
+/// The rank just above the comparisons.
 pub(crate) const BEHIND_COMPARISON: u8 = 6;
 
-/// How tight a joint binds: the tighter, the greater.
+/// Returns the rank of an operator; a greater rank binds tighter.
 pub(crate) fn rank_of(join: Infix) -> u8
     ensures { result ≡ infix_rank join }
 {
@@ -84,7 +84,7 @@ pub(crate) fn rank_of(join: Infix) -> u8
     }
 }
 
-// The joints, and how each is written.
+// The operators and their spellings.
 static INFIXES: [Row<Infix>; 17] = [
     (Class::Word, b"iff", Infix::Iff),
     (Class::Word, b"or", Infix::Or),
@@ -105,7 +105,7 @@ static INFIXES: [Row<Infix>; 17] = [
     (Class::Sign, b"%", Infix::Apply(Operation::Modulo)),
 ];
 
-/// What a token joins.
+/// Returns the operator that a token spells.
 pub(crate) fn infix_of(token: Token) -> Option<Infix>
     ensures found { IfSome result (λ join. (token_of token.entry.class token.entry.text.now ≡ Some (infix_token join))
         × (infix_rank join < tightest)) }
@@ -115,7 +115,7 @@ pub(crate) fn infix_of(token: Token) -> Option<Infix>
     meaning(&INFIXES, token)
 }
 
-/// What an expression begins with.
+/// The opening of an operand.
 #[derive(Clone, Copy)]
 pub(crate) enum Opening {
     Held(Atom),
@@ -131,7 +131,7 @@ pub(crate) enum Opening {
     Make(Making),
 }
 
-/// What begins a number that is made of what stands behind it.
+/// The opening of a number that is made of what follows.
 #[derive(Clone, Copy)]
 pub(crate) enum Making {
     Least,
@@ -148,7 +148,7 @@ pub(crate) enum Making {
     Minus,
 }
 
-/// What the processor holds is a number, but for a flag.
+/// Returns the kind of a register, flag or count: all are numbers except the flags.
 pub(crate) fn kind_of(atom: Atom) -> Kind
     ensures { result ≡ atom_kind atom }
 {
@@ -163,7 +163,7 @@ pub(crate) fn kind_of(atom: Atom) -> Kind
     }
 }
 
-// The registers and flags by their names.
+// The registers and flags by name.
 static HELD: [Row<Atom>; 10] = [
     (Class::Word, b"A", Atom::A),
     (Class::Word, b"X", Atom::X),
@@ -177,7 +177,7 @@ static HELD: [Row<Atom>; 10] = [
     (Class::Word, b"I", Atom::Interrupt),
 ];
 
-/// The register or the flag of this name; none of what a run takes.
+/// Returns the register or flag with this name. Counts of the run are not included.
 pub(crate) fn held_by(token: Token) -> Option<Atom>
     ensures found { IfSome result (λ it. (token_of token.entry.class token.entry.text.now ≡ Some (word (atom_name it)))
         × IsTrue (is_listed it)) }
@@ -186,7 +186,7 @@ pub(crate) fn held_by(token: Token) -> Option<Atom>
     meaning(&HELD, token)
 }
 
-// What else an expression begins with, the words first.
+// The other openings, words first.
 static OPENINGS: [Row<Opening>; 19] = [
     (Class::Word, b"cycles", Opening::Held(Atom::Cycles)),
     (Class::Word, b"steps", Opening::Held(Atom::Steps)),
@@ -209,7 +209,7 @@ static OPENINGS: [Row<Opening>; 19] = [
     (Class::Sign, b"-", Opening::Make(Making::Minus)),
 ];
 
-/// What begins with a token.
+/// Returns the opening that a token spells.
 pub(crate) fn opening_of(token: Token) -> Option<Opening>
     ensures found { IfSome result (λ opening. token_of token.entry.class token.entry.text.now ≡ Some (opening_token opening)) }
     ensures none { IfNone result (token.entry.class ≡ class.Word → is_name_among openings token.entry.text.now ≡ false) }
@@ -220,7 +220,7 @@ pub(crate) fn opening_of(token: Token) -> Option<Opening>
     }
 }
 
-/// Whether a token may name what is counted: a word that means nothing else.
+/// Returns whether a token may be bound as a name: a word that has no other meaning.
 pub(crate) fn may_name(token: Token) -> bool
     ensures { IsTrue result → (token.entry.class ≡ class.Word) × IsTrue (may_count token.entry.text.now) }
 {

@@ -1,4 +1,4 @@
--- A board that is as another but for some bytes.
+-- A board that equals another except for some bytes.
 use Rattle.std.specs.Prelude.{◌≡◌, ◌≢◌, ◌⊎◌, ◌<◌, ◌≤◌, ℕ, ◌+◌, ◌==◌, ◌||◌, nat_lt, if◌then◌else◌, not, Bool, true, false, IsTrue, List, [], ◌∷◌, ◌++◌, zero, suc, length, Some, None, slice_get, slice_index, slice_set, refl}
 use Rattle.std.proofs.Common.{sym, ap, ◌∙◌, subst, arith, inl, inr, true≢false}
 use Rattle.std.proofs.lemmas.Bool.{cases_lt}
@@ -18,7 +18,7 @@ use Rattle.a2_promise_certify.specs.States.{has_byte, is_byte}
 use Rattle.a2_promise_certify.specs.Walking.{is_set}
 use Rattle.a2_promise_certify.proofs.Marking.{marked}
 
--- but for none it is the other
+-- A board that equals another except for no byte is the other.
 pub same : (board other : BusState) → IsBut (λ a. false) board other → board ≡ other
 same board other h =
     let bytes : board.bytes ≡ other.bytes = same_number_lists board.bytes other.bytes h.size (λ k lt. h.bytes k refl) in
@@ -37,7 +37,7 @@ joined there board mid other first second = record {
   devices = first.devices ∙ second.devices;
 }
 
--- and but for more
+-- The same holds except for more bytes.
 pub wider : (there more : ℕ → Bool) (board other : BusState) → ((a : ℕ) → there a ≡ true → more a ≡ true)
     → IsBut there board other → IsBut more board other
 wider there more board other into h = record {
@@ -51,7 +51,7 @@ wider there more board other into h = record {
     outside a out false is = is
 
 module _ (there : ℕ → Bool) (board other : BusState) (a : ℕ) (but : IsBut (λ b. (a == b) || there b) board other) where
-  -- its byte there is made the other's
+  -- One byte is set to the other board's.
   pub put_there : (byte : ℕ) → slice_get other.bytes a ≡ Some byte → (new : BusState) → new ≡ board_access.after_write board a byte
       → IsBut there new other
   put_there byte at new left = subst (λ b. IsBut there b other) (sym (left ∙ board_lawful.ram_write board a byte low)) put
@@ -76,7 +76,7 @@ module _ (there : ℕ → Bool) (board other : BusState) (a : ℕ) (but : IsBut 
               let e : b ≢ a = grind (arith, nat_tests, is) in
               get_or-set_other board.bytes a b byte 0 e ∙ but.bytes b (ap (λ v. v || there b) is ∙ out)
 
-  -- above RAM there is none
+  -- Above RAM there is no byte to set.
   pub none_there : slice_get other.bytes a ≡ None → IsBut there board other
   none_there none = record {
     size = but.size;
@@ -98,7 +98,7 @@ module _ (there : ℕ → Bool) (board other : BusState) (a : ℕ) (but : IsBut 
               go (inr past) = past
       each b out false is = but.bytes b (ap (λ v. v || there b) is ∙ out)
 
--- a byte that is stored
+-- one stored byte
 pub stored_one : (board new : BusState) (a byte : ℕ) → a < length board.bytes → new ≡ board_access.after_write board a byte
     → IsBut (λ b. a == b) new board
 stored_one board new a byte low left =
@@ -149,7 +149,7 @@ first_by devices no_graphics mixed page2 hires count key =
       last_key = last i;
     }
 
--- a read of the keyboard changes nothing
+-- Reading the keyboard changes nothing.
 pub key_read : (board : BusState) → length board.bytes ≡ ram_end
     → (board_access.after_read board 0xC000 ≡ board) × (board_access.byte_at board 0xC000 ≡ keyboard_byte board.devices)
 unfolding board_access
@@ -161,7 +161,7 @@ key_read board size =
 
 -- Marks that cover no address but those of a list
 
--- what is marked behind one was before, and is not it
+-- What is marked after clearing one mark was marked before, and is not that one.
 unset : (marks : List Bool) (i a : ℕ) → IsTrue (is_set (slice_set marks i false) a) → IsTrue (is_set marks a) × ((i == a) ≡ false)
 unset [] i a bad = absurd (true≢false (sym bad))
 unset (x ∷ marks) zero zero bad = absurd (true≢false (sym bad))
@@ -180,7 +180,7 @@ cleared place rest marks covers a is =
     let before : IsTrue (is_set marks a) × ((place == a) ≡ false) = unset marks place a is in
     sym (ap (λ v. v || is_among rest a) before.1) ∙ covers a before.0
 
--- no mark stands behind the last
+-- No address after the last mark is marked.
 past : (marks : List Bool) (a : ℕ) → length marks ≤ a → is_set marks a ≡ false
 past [] a le = refl
 past (x ∷ marks) zero le = let bad : ⊥ = omega (arith, le) in absurd bad

@@ -1,4 +1,4 @@
--- A call of a service is a step of a routine on its way.
+-- A call of a service is one step of a routine in progress.
 use Rattle.std.specs.Prelude.{◌≡◌, ℕ, ◌==◌, Bool, true, false, List, Some, None, MatchOption, is_some, refl}
 use Rattle.std.specs.List.{list_all, list_any}
 use Rattle.std.proofs.Common.{sym, ap, ◌∙◌, subst, arith, true≢false}
@@ -28,7 +28,7 @@ no_service_home : service_at return_address ≡ None
 unfolding service_at
 no_service_home = refl
 
--- no byte is protected: the code is what stands in memory
+-- No byte is protected, because the code is whatever is in memory.
 unprotected : (service : Service) → list_any (reach service) code.protected ≡ false
 unfolding bytes
 unprotected service = refl

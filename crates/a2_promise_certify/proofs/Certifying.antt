@@ -1,4 +1,4 @@
--- A state that is tried: what promises see of a board, and a promise that is kept behind the routine's own RTS.
+-- A state that is tried: what promises see of a board, and a promise that is kept after the routine's own RTS.
 use Rattle.std.specs.Prelude.{◌≡◌, ◌⊎◌, ◌<◌, ◌≤◌, ℕ, suc, ◌+◌, ◌-◌, ◌||◌, Bool, true, false, IsTrue, List, [], length, Some, None, slice_get, slice_index, if◌then◌else◌, refl}
 use Rattle.std.proofs.Common.{sym, ap, ◌∙◌, subst, arith, inl, inr, true≢false}
 use Rattle.std.proofs.lemmas.Bool.{cases_lt}
@@ -43,12 +43,12 @@ use Rattle.a2_promise_certify.specs.Kept.{IsKept, LookAtKnown, bytes_of, code, i
 use Rattle.a2_promise_certify.specs.Walking.{IsHome, is_allowed, is_set, known_now, knows_part}
 use Rattle.a2_promise_certify.proofs.Home.{known_split, not_stored}
 
--- the bytes of a board are those that promises see
+-- The bytes of a board are those that promises see.
 pub board_bytes : (bus : BusState) → length bus.bytes ≡ ram_end → bus.bytes ≡ bytes_of (memory_of bus)
 unfolding bytes_of
 board_bytes bus size = fill_by_all (ram_byte (memory_of bus)) bus.bytes ram_end 0 size (λ k low. byte_seen bus k size low)
 
--- a step that is made is one of the world
+-- A step that is executed is a step of the world.
 pub stepped : (registers : Registers) (bus : BusState) → length bus.bytes ≡ ram_end → (opcode : ℕ) → slice_get bus.bytes registers.pc ≡ Some opcode
     → (new_registers : Registers) (new_bus : BusState) (cycles before : ℕ)
     → answer.Next cycles ≡ guarded_answer_of (guarded_bus_step (is_among []) board_access (state_of registers bus))
@@ -143,7 +143,7 @@ module _ (known marks : List Bool) (parts last : KnownParts) (promise : Promise)
       rest = λ a low off may. inl (unstored a (not_allowed promise.changes a off may));
     }
 
-    -- behind the RTS each byte is as before that is not marked as stored at
+    -- After the RTS each byte that is not marked as stored is unchanged.
     module _ (first_size : length first_bus.bytes ≡ ram_end) (size : length behind_bus.bytes ≡ ram_end) where
       near : Near (knows_part parts) (AgreeOn (is_set known)) (world_of first first_bus 0) (world_of first first_bus 0)
       near =
@@ -182,7 +182,7 @@ module _ (known marks : List Bool) (parts last : KnownParts) (promise : Promise)
         devices = devices;
       }
 
--- so a promise is kept that is looked at as the program does
+-- So the promise is kept if it is checked as the program does.
 pub kept_by : (known marks : List Bool) (parts first_parts last last_parts : KnownParts) (promise : Promise) (most : ℕ) (first : Registers)
     (first_bus before : BusState) (registers : Registers) (bus : BusState) (cycles n : ℕ) → first_parts ≡ parts → before ≡ first_bus → last_parts ≡ last
     → n < most → IsHome known marks first_parts last promise.changes first first_bus registers bus cycles n
@@ -217,7 +217,7 @@ kept_by known marks parts first_parts last last_parts promise most first first_b
     (subst (λ (k : Moment). IsTrue (all_hold clauses k n')) from_board hold)) in
     kept known marks parts last promise first first_bus registers bus cycles n own behind behind_bus total made most within same looked holds
 
--- so a state is tried
+-- So a state is tried.
 pub tried_by : (known : List Bool) (parts : KnownParts) (promise : Promise) (most : ℕ) (start : World) (clauses : List Clause) → clauses ≡ promise.wanted.items
     → (sure : Known) → sure ≡ known_by (is_set known) (knows_part parts) → (m : Moment) → m ≡ moment start start 0
     → LookAtKnown clauses sure sure m m

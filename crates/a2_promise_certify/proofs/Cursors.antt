@@ -1,4 +1,4 @@
--- Where window and cursor of the screen are, behind what moves the cursor or changes page 1.
+-- The window and the cursor after the cursor moved or page 1 changed.
 use Rattle.std.specs.Prelude.{◌≡◌, ◌≢◌, ℕ, ◌+◌, ◌-◌, ◌<◌, ◌≤◌, ◌==◌, Bool, true, false, ◌&&◌, nat_lt, nat_le, if◌then◌else◌, refl, None}
 use Rattle.std.proofs.Common.{sym, ap, ◌∙◌, arith, inl, true≢false}
 use Rattle.std.proofs.lemmas.Bool.Decides.{nat_tests}
@@ -16,7 +16,7 @@ use Rattle.a2_footprint.specs.Services.{masked}
 use Rattle.a2_promise_certify.specs.Screen.{IsCursor}
 use Rattle.a2_promise_certify.specs.declared.cursor.Cursor.{Cursor}
 
--- One location is set
+-- Setting one location
 
 column_free : cell_at at.ch ≡ None
 unfolding cell_at
@@ -52,7 +52,7 @@ page_set cursor m page h = record {
   column = ram_byte-page1 m page at.ch (inl (omega arith)) ∙ h.column;
 }
 
--- Of two memories the one that a test chooses
+-- The memory that a test chooses of two
 
 chosen : (P : Memory → Type 0) (v : Bool) (x y : Memory) → v ≡ true → P x → P (if v then x else y)
 chosen P true x y is h = h
@@ -161,7 +161,7 @@ module _ (byte : ℕ) (cursor : Cursor) (m : Memory) (h : IsCursor cursor m) whe
   wraps P edge returned =
       chosen P (nat_le (window_of m).width (cursor_column m + 1)) _ _ (at_edge ∙ edge) (returned _ moved)
 
--- A byte that is put as it is
+-- A byte that is put unmasked
 
 pub put_return : (m : Memory) → after_put_unmasked carriage_return m ≡ after_return m
 unfolding after_put_unmasked
@@ -205,16 +205,16 @@ module _ (byte : ℕ) (m : Memory) (no_return : byte ≢ carriage_return) (no_fe
   put_character is =
       one_of_two (nat_le 0x80 byte && nat_lt byte blank) ∙ ap (λ v. if v then m else after_character byte m) is
 
--- And one under the mask
+-- A byte that is put masked
 
 pub put_masked : (byte : ℕ) (m : Memory) → after_put byte m ≡ after_put_unmasked (masked byte m) m
 unfolding after_put
 put_masked byte m = refl
 
--- that is the byte under this mask
+-- It is the byte under this mask.
 pub under_mask : (byte mask : ℕ) (m : Memory) → inverse_mask m ≡ mask → masked_by byte mask ≡ masked byte m
 under_mask byte mask m is = ap (λ k. masked_by byte k) (sym is)
 
--- the mask stays
+-- The mask stays the same.
 pub mask_kept : (byte : ℕ) (m : Memory) → inverse_mask (after_put byte m) ≡ inverse_mask m
 mask_kept byte m = put-kept at.invflg (outside_of at.invflg refl) byte m

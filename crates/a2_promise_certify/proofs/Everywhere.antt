@@ -45,7 +45,7 @@ use Rattle.a2_promise_certify.proofs.Moments.{AreAlike, agree, same_hold}
 use Rattle.a2_promise_certify.proofs.Turned.{entered_there, is_turned_from, same_own, still_stacked, turn_to, turned_alike, turned_back, turned_from, turned_part}
 use Rattle.a2_promise_certify.proofs.States.{near, with_inputs}
 
--- What is known stays known
+-- What is known stays known.
 
 pub known_later : (program : Code) (known : ℕ → Bool) (start : World) (n a : ℕ) → IsTrue (known a) → IsTrue (known_behind program known start n a)
 unfolding known_behind
@@ -76,7 +76,7 @@ rts_cost d w rts implied =
     + branch_cycles (effect_of mnemonic) w.registers.flags (next_address d.row w.registers.pc) (place_of memory_access w.memory w.registers mode d.value)))
     implied rts
 
--- a world that is near the first of a run to an RTS takes the same cycles up to behind it
+-- A world near the first one of a run to an RTS takes the same cycles, including those of the RTS.
 last_cycles : (program : Code) (parts : Part → Bool) (bytes : ℕ → Bool) (s t : World) (n : ℕ) (h : Near parts (AgreeOn bytes) s t)
     (to : ComesToRts program parts bytes s n) → to.rts.row.mode ≡ Implied
     → (world_at program t (suc n)).cycles ≡ (world_at program t n).cycles + cost to.rts.row
@@ -89,7 +89,7 @@ last_cycles program parts bytes s t n h to implied =
     let free : service_at w.registers.pc ≡ None = ap (λ pc. service_at pc) (sym law.0.registers.pc) ∙ to.no_service in
     ap (λ (v : World). v.cycles) (next_is program w (Ok to.rts) free found) ∙ rts_cost to.rts w to.is_rts implied
 
--- a world is near itself
+-- A world is near itself.
 self : (parts : Part → Bool) (bytes : ℕ → Bool) (s t : World) → Near parts (AgreeOn bytes) s t → Near parts (AgreeOn bytes) s s
 self parts bytes s t h = record {
   registers = record { s = refl; pc = refl; parts = λ part known. refl };
@@ -106,7 +106,7 @@ back_registers : (program : Code) (t : World) (n : ℕ) → GoesBack program t n
 back_registers program t n back part =
     ap (λ r. held part r) back.registers ∙ moved part (world_at program t n).registers ((t.registers.s + 2) % 256) (caller t)
 
--- Behind the RTS of each the two worlds are alike at what is known, but for PC
+-- After both have executed the RTS, the two worlds are alike in what is known, except for PC
 module _ (program : Code) (parts : Part → Bool) (bytes : ℕ → Bool) (s t : World) (n : ℕ) (h : Near parts (AgreeOn bytes) s t)
     (to : ComesToRts program parts bytes s n) (implied : to.rts.row.mode ≡ Implied) where
   mid : Near (parts_behind program parts s n) (AgreeOn (known_behind program bytes s n)) (world_at program s n) (world_at program t n)
@@ -127,7 +127,7 @@ module _ (program : Code) (parts : Part → Bool) (bytes : ℕ → Bool) (s t : 
         ∙ sym (last_cycles program parts bytes s t n h to implied)) h.cycles;
   }
 
--- at the entry they are too
+-- They are also alike at the entry.
 entered : (parts : Part → Bool) (bytes : ℕ → Bool) (s t : World) → Near parts (AgreeOn bytes) s t → AreAlike bytes parts s s t t
 entered parts bytes s t h = record {
   parts = h.registers.parts;
@@ -145,7 +145,7 @@ unknown : (b : Bool) → b ≡ false → IsTrue (not b)
 unknown true bad = absurd (true≢false bad)
 unknown false is = refl
 
--- The last step, of an RTS, uses the stack by S alone too
+-- The last step, an RTS, also uses the stack only through S.
 rts_off_stack : (d : Decoded) (w : World) → d.row.mnemonic ≡ Rts → d.row.mode ≡ Implied → IsOffStack d w
 unfolding effect_of
 rts_off_stack d w rts implied = record {
@@ -154,7 +154,7 @@ rts_off_stack d w rts implied = record {
   operand = ap (λ m. list_any in_stack (operand_uses (effect_of m) (place_of memory_access w.memory w.registers d.row.mode d.value))) rts;
 }
 
--- from one state to the worlds that have its inputs, and then to those whose stack is turned
+-- from one state to the worlds that have its inputs, and then to those with a rotated stack
 module _ (law : ValuesDependOnLooks) (trial : Trial) (promise : Promise) (limit : ℕ) (s t : World)
     (h : Near (known_parts trial) (AgreeOn (known_bytes trial)) s t) (kept : IsKept (known_bytes trial) (known_parts trial) promise limit s)
     (turn : ℕ) (w : World) (turned : IsTurned turn t w) where
@@ -232,7 +232,7 @@ module _ (law : ValuesDependOnLooks) (trial : Trial) (promise : Promise) (limit 
   outside a low (inr same) =
       sym (run.memory.bytes a low (known_later code (known_bytes trial) s kept.steps a same.0)) ∙ same.1 ∙ h.memory.bytes a low same.0
 
-  -- what a byte of the turned world holds is what stands there in the other
+  -- What a byte of the rotated world holds is in the other world, too.
   shown : (v : World) (other : World) → IsTurned turn v other → (a : ℕ) → ram_byte other.memory a ≡ ram_byte v.memory (turned_address turn a)
   shown v other is a = ap (λ m. ram_byte m a) is.memory ∙ turned_byte turn v.memory a
 

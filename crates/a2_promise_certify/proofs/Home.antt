@@ -1,4 +1,4 @@
--- Steps of a routine on its way, up to the RTS of its own.
+-- Steps of a routine in progress, up to its own RTS.
 use Rattle.std.specs.Prelude.{◌≡◌, ◌≢◌, ◌⊎◌, ◌<◌, ℕ, zero, suc, ◌+◌, ◌==◌, ◌||◌, Bool, true, false, List, [], ◌∷◌, ◌++◌, length, None, Ok, refl}
 use Rattle.std.specs.List.{list_any}
 use Rattle.std.proofs.Common.{sym, ap, ◌∙◌, subst, arith, inl, inr, true≢false}
@@ -36,7 +36,7 @@ or_assoc : (x y z : Bool) → (x || (y || z)) ≡ ((x || y) || z)
 or_assoc true y z = refl
 or_assoc false y z = refl
 
--- what is known behind steps is what they stored, and what was known before
+-- What is known after some steps is what they stored, and what was known before.
 pub known_split : (program : Code) (known : ℕ → Bool) (start : World) (n a : ℕ)
     → known_behind program known start n a ≡ (known_behind program (λ b. false) start n a || known a)
 unfolding known_behind
@@ -62,7 +62,7 @@ not_in_both : (a : ℕ) (ns ms : List ℕ) → IsNotIn a ns → IsNotIn a ms →
 not_in_both a [] ms first second = second
 not_in_both a (n ∷ ns) ms first second = (first.0, not_in_both a ns ms first.1 second)
 
--- what steps did not store is not among their stores
+-- What the steps did not store is not among their stores.
 pub not_stored : (program : Code) (start : World) (n a : ℕ) → known_behind program (λ b. false) start n a ≡ false
     → IsNotIn a (stores_in program start n)
 unfolding known_behind stores_in

@@ -1,4 +1,4 @@
--- What inputs hold becomes known, one after another.
+-- The values of inputs become known, one after another.
 use Rattle.std.specs.Prelude.{◌≡◌, ◌||◌, Bool, true, false, List, ◌∷◌, refl}
 use Rattle.std.proofs.Common.{sym, ap, ◌∙◌}
 use Rattle.a2_footprint.specs.declared.Part.{Part}
@@ -9,7 +9,7 @@ use Rattle.a2_promise_certify.specs.States.{has_part, holds_part}
 use Rattle.a2_promise_certify.specs.Walking.{knows_part, no_parts, with_part}
 use Rattle.a2_promise_certify.proofs.Marking.{added}
 
--- a part more, or none
+-- one more part is known, or none
 pub part_added : (input : Input) (found : Part) (parts new : KnownParts) → ((part : Part) → holds_part input part ≡ is_part part found)
     → new ≡ with_part found parts → (part : Part) → knows_part new part ≡ (holds_part input part || knows_part parts part)
 part_added input found parts new is made part =
@@ -24,7 +24,7 @@ move true true known = refl
 move true false known = refl
 move false left known = refl
 
--- what is known with the inputs that are left is what is known at last
+-- What is known together with the remaining inputs is what is known in the end.
 pub one_known : (input : Input) (left : List Input) (parts new : KnownParts) (last : Part → Bool)
     → ((part : Part) → knows_part new part ≡ (holds_part input part || knows_part parts part))
     → ((part : Part) → (has_part (input ∷ left) part || knows_part parts part) ≡ last part)

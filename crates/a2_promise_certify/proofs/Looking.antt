@@ -1,4 +1,4 @@
--- What is looked at of two, by what chooses.
+-- What a choice between two values depends on.
 use Rattle.std.specs.Prelude.{◌≡◌, ◌⊎◌, ℤ, not, Bool, true, false, Option, Some, None}
 use Rattle.std.proofs.Common.{sym, subst, inl, inr, true≢false}
 use Rattle.a2_promise.specs.Looks.{OfBoth, OfChosen}
@@ -24,7 +24,7 @@ other_chosen (Some z) One Other is other = go (is_zero z) is
     go true _ = other
     go false bad = absurd (true≢false bad)
 
--- what is so of either of two is so of one that is the first or the second
+-- What holds for both of two values holds for one that equals either.
 pub of_either : {X : Type 0} (P : X → Type 0) (x one other : X) → (x ≡ one) ⊎ (x ≡ other) → P one → P other → P x
 of_either P x one other (inl e) first second = subst P (sym e) first
 of_either P x one other (inr e) first second = subst P (sym e) second

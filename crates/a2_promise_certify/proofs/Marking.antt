@@ -50,7 +50,7 @@ regroup false before known = or_false before
     or_false true = refl
     or_false false = refl
 
--- one part more
+-- one more part
 pub learned : (part p : Part) (parts : KnownParts) (before known : Bool) → knows_part parts p ≡ (before || known)
     → knows_part (with_part part parts) p ≡ ((before || is_part p part) || known)
 learned part p parts before known e =
@@ -58,7 +58,7 @@ learned part p parts before known e =
 
 -- Marks
 
--- with S = $FD the routine's own bytes of the stack lie from $180 to $1FD
+-- With S = $FD, the routine's own bytes of the stack are from $180 to $1FD.
 pub own_is : (a : ℕ) → (nat_le 0x180 a && nat_le a 0x1FD) ≡ is_own 0xFD a
 own_is a = go (in_stack a) refl
   where
@@ -106,7 +106,7 @@ one_marked old new changes a marks allowed first second = record {
   allowed = λ b among. subst (λ n. MayStore changes n) (sym (same_number a b among)) (allowed, first, second);
 }
 
--- some, and then more
+-- some addresses, and then more
 pub both_marked : (old between new : List Bool) (changes : Changes) (xs ys : List ℕ) → AreMarked old between changes xs
     → AreMarked between new changes ys → AreMarked old new changes (xs ++ ys)
 both_marked old between new changes xs ys first second = record {
@@ -128,7 +128,7 @@ numbers_more first (suc count) =
     let e : first + suc count ≡ suc first + count = omega arith in
     ap (λ n. first ∷ numbers_from (suc first) count ++ n ∷ []) e ∙ ap (λ ns. first ∷ ns) (numbers_more (suc first) count)
 
--- those of one number more
+-- the marks of one more number
 pub more_marked : (old between new : List Bool) (changes : Changes) (f : ℕ → List ℕ) (first count : ℕ)
     → AreMarked old between changes (flat_map f (numbers_from first count)) → AreMarked between new changes (f (first + count))
     → AreMarked old new changes (flat_map f (numbers_from first (count + 1)))
@@ -140,11 +140,11 @@ more_marked old between new changes f first count some one =
     ∙ ap (flat_map f) (numbers_more first count ∙ ap (numbers_from first) next))
     (both_marked old between new changes (flat_map f (numbers_from first count)) (f (first + count)) some one)
 
--- a list of each number alone
+-- A list of each number by itself is the list of the numbers.
 pub each_alone : (first count : ℕ) → flat_map (λ a. a ∷ []) (numbers_from first count) ≡ numbers_from first count
 each_alone first count = flat_map_single (λ a. a) (numbers_from first count) ∙ map-id (numbers_from first count)
 
--- numbers behind another
+-- the numbers that follow another number
 pub numbers_behind : (start first count : ℕ) → numbers_from (start + first) count ≡ map (λ n. start + n) (numbers_from first count)
 numbers_behind start first zero = refl
 numbers_behind start first (suc count) =

@@ -1,4 +1,4 @@
--- What a promise says is the same of two worlds that are alike at what it looks at.
+-- What a promise says is the same for two worlds that are alike in what it depends on.
 use Rattle.std.specs.Prelude.{◌≡◌, ◌⊎◌, ◌<◌, ◌≤◌, ℕ, ◌-◌, pos, ◌&&◌, Bool, true, false, not, IsTrue, List, [], ◌∷◌, map, length, Some, None, slice_get, refl}
 use Rattle.std.specs.List.{range_with_len}
 use Rattle.std.proofs.Common.{sym, ap, ap₂, ◌∙◌, arith, inl, inr, true≢false}
@@ -19,7 +19,7 @@ use Rattle.a2_footprint.specs.Turned.{in_stack}
 use Rattle.a2_promise_certify.specs.Judging.{all_hold, holds, no_names}
 use Rattle.a2_promise_certify.specs.Kept.{LookAtKnown, bytes_of, knows_atom, known_by, moment}
 
--- a byte of a list that is made of what stands at each number
+-- a byte of a list that holds a function's value for each number
 made : (f : ℕ → ℕ) (n a : ℕ) → a < n → slice_get (map f (range_with_len 0 n)) a ≡ Some (f a)
 made f n a low =
     let here : a < length (map f (range_with_len 0 n)) = omega (arith, low, length-map-range_with_len f 0 n) in
@@ -46,7 +46,7 @@ same_byte : (m n : Memory) (a : ℕ) → (a < ram_end → ram_byte m a ≡ ram_b
 unfolding bytes_of
 same_byte m n a same = same_made (ram_byte m) (ram_byte n) ram_end a same
 
--- what stands at an address of RAM
+-- the byte at an address of RAM
 pub byte_told : (m : Memory) (a byte : ℕ) → slice_get (bytes_of m) a ≡ Some byte → ram_byte m a ≡ byte
 unfolding bytes_of
 byte_told m a byte is = go (cases_lt a ram_end)
@@ -55,7 +55,8 @@ byte_told m a byte is = go (cases_lt a ram_end)
     go (inl low) = same_Some (ram_byte m a) byte (sym (made (ram_byte m) ram_end a low) ∙ is)
     go (inr high) = absurd (none-some byte (sym (past (ram_byte m) ram_end a high) ∙ is))
 
--- two worlds are alike at known bytes that are none of the stack's page, and at parts, and have as many cycles behind their starts
+-- Two worlds are alike in known bytes outside the stack's page and in parts, and have used as many cycles since their
+-- starts.
 pub record AreAlike (known : ℕ → Bool) (looked : Part → Bool) (one first other second : World) : Type 0 where
   pub parts : (part : Part) → IsTrue (looked part) → held part first.registers ≡ held part second.registers
   pub bytes : (a : ℕ) → a < ram_end → in_stack a ≡ false → IsTrue (known a) → ram_byte first.memory a ≡ ram_byte second.memory a

@@ -1,4 +1,4 @@
--- Inputs that are given the values of a state, and states that are counted.
+-- Setting inputs to the values of a state, and counting states.
 use Rattle.std.specs.Prelude.{◌≡◌, ◌⊎◌, ◌<◌, ◌≤◌, ℕ, zero, suc, ◌+◌, ◌*◌, Bool, true, nat_lt, if◌then◌else◌, List, [], ◌∷◌, ◌++◌, length, map, drop, refl}
 use Rattle.std.proofs.Common.{sym, ap, ◌∙◌, subst, arith, inl, inr}
 use Rattle.std.proofs.Math.Nat.{mul_assoc, mul_comm}
@@ -17,7 +17,7 @@ use Rattle.a2_promise_certify.specs.Certifying.{AreLaid}
 use Rattle.a2_promise_certify.specs.States.{values_of, with_value}
 use Rattle.a2_promise_certify.specs.Walking.{is_set}
 
--- so many states more
+-- this many more states
 pub one_counted : (inputs : List Input) (i : ℕ) (input : Input) (states more all : ℕ)
     → drop i inputs ≡ input ∷ drop (i + 1) inputs → more ≡ states * values_of input
     → states_of (map values_of (drop i inputs)) * states ≡ all
@@ -34,7 +34,7 @@ in_ram memory a value low =
     let e : nat_lt a ram_end ≡ true = grind (arith, nat_tests, low) in
     ap (λ (v : Bool). if v then with_ram memory a value else record memory { devices = after_access memory.devices a }) e
 
--- a byte is given a value
+-- A byte is set to a value.
 pub byte_put : (registers : Registers) (bus new : BusState) (a value : ℕ) → length bus.bytes ≡ ram_end → a < ram_end
     → new ≡ board_access.after_write bus a value
     → world_of registers new 0 ≡ with_value (Byte a) value (world_of registers bus 0)
@@ -81,7 +81,7 @@ one_laid test known count b low is h = record {
     go a (inl low) = kept_mark known b a (subst (λ n. a < n) (sym h.size) low) ∙ h.marks a low
     go a (inr e) = ap (λ n. is_set (known ++ b ∷ []) n) (e ∙ sym h.size) ∙ last_mark known b ∙ is ∙ ap (λ n. test n) (sym e)
 
--- all are
+-- All addresses are marked.
 pub all_laid : (test : ℕ → Bool) (known : List Bool) (count : ℕ) → ram_end ≤ count → AreLaid test known count → AreLaid test known ram_end
 all_laid test known count end h =
     let e : count ≡ ram_end = omega (arith, end, h.within) in subst (λ n. AreLaid test known n) e h

@@ -1,4 +1,4 @@
--- What is known of each of numbers that follow one another.
+-- What is known about each of several consecutive numbers.
 use Rattle.std.specs.Prelude.{ℕ, zero, suc, ◌+◌, ◌-◌, ◌<◌, ◌≤◌, Bool, IsTrue, List, map}
 use Rattle.std.specs.List.{flat_map}
 use Rattle.std.proofs.Common.{arith}
@@ -9,7 +9,7 @@ use Rattle.a2_footprint.specs.Reads.{Knows}
 use Rattle.a2_footprint.specs.Services.{cells_across, window_cells}
 use Rattle.a2_promise_certify.proofs.Walking.{knows_both}
 
--- it holds of each number from one on, up to another
+-- a property of each number from one up to but not including another
 abbrev pub HoldsBelow : (ℕ → Type 0) → ℕ → ℕ → Type 0
 HoldsBelow P first end = (k : ℕ) → first ≤ k → k < end → P k
 
@@ -35,12 +35,12 @@ knows_lists known f first (suc count) h =
     knows_both known (f first) (flat_map f (numbers_from (suc first) count)) (h first (omega arith) (omega arith))
     (knows_lists known f (suc first) count (later (λ k. Knows known (f k)) first count h))
 
--- so many numbers, and up to where it is known
+-- this many numbers, and the limit up to which they are known
 pub knows_cells : (known : ℕ → Bool) (first count end : ℕ) → first + count ≤ end → HoldsBelow (λ k. IsTrue (known k)) first end
     → Knows known (numbers_from first count)
 knows_cells known first count end reach h = knows_numbers known first count (λ k low lt. h k low (omega (arith, reach, lt)))
 
--- the cells of a window, by its rows
+-- the cells of a window, row by row
 pub knows_window : (known : ℕ → Bool) (window : Window) (end : ℕ) → window.top < window.bottom → window.bottom ≤ end
     → HoldsBelow (λ row. Knows known (cells_across row window.left window.width)) window.top end → Knows known (window_cells window)
 knows_window known window end high reach h =

@@ -1,4 +1,4 @@
--- The example's promise is kept: the run is looked at before its first step.
+-- The example's promise is kept. The run is examined before its first step.
 use Rattle.std.specs.Prelude.{◌≡◌, ◌⊎◌, ◌<◌, ◌==◌, ℕ, ◌-◌, Bool, true, false, IsTrue, List, [], None, Some, Ok, refl}
 use Rattle.std.proofs.Common.{sym, ◌∙◌, ap, subst, arith, inl, inr}
 use Rattle.std.proofs.lemmas.Bool.Decides.{nat_tests}

@@ -1,4 +1,4 @@
--- Inputs of which some are settled.
+-- Inputs, some of which are settled.
 use Rattle.std.specs.Prelude.{◌≡◌, ◌⊎◌, ◌<◌, ◌≤◌, ℕ, ◌-◌, ◌||◌, Bool, true, false, IsTrue, List, [], ◌∷◌, ◌++◌, map, length, take, drop, slice_index, slice_index_or, refl}
 use Rattle.std.proofs.Common.{sym, ap, ◌∙◌, subst, arith, inl, inr, true≢false}
 use Rattle.std.proofs.lemmas.Bool.Decides.{nat_tests}
@@ -16,7 +16,7 @@ use Rattle.a2_promise_certify.specs.Settling.{AreSettled, ClausesSettle, IsLaid}
 use Rattle.a2_promise_certify.specs.States.{has_byte, has_part, holds_part, is_byte, value_in, values_of}
 use Rattle.a2_promise_certify.proofs.But.{input_first}
 
--- a byte is laid
+-- A byte is written.
 pub byte_laid : (clauses : List Clause) (among : List Input) (board new : BusState) (a byte : ℕ) → a < length board.bytes
     → new ≡ board_access.after_write board a byte → ClausesSettle clauses among a byte → IsLaid clauses among (Byte a) new
 byte_laid clauses among board new a byte low left settles = record {
@@ -61,7 +61,7 @@ more_values : (free : List Input) (input : Input) (w : World) → value_in w inp
 more_values [] input w low is = (low, tt)
 more_values (x ∷ free) input w low is = (is.0, more_values free input w low is.1)
 
--- inputs are the first and the rest
+-- The inputs are the first one and the rest.
 pub first_of : (inputs : List Input) → 1 ≤ length inputs → slice_index_or inputs 0 A ∷ take (length inputs - 1) (drop 1 inputs) ≡ inputs
 first_of [] le = let bad : ⊥ = omega (arith, le) in absurd bad
 first_of (input ∷ rest) le = ap (λ xs. input ∷ xs) (take_rest (input ∷ rest) 1)
@@ -75,7 +75,7 @@ module _ (clauses : List Clause) (among : List Input) (input : Input) (rest free
   changed : IsBut (has_byte (input ∷ rest)) board before
   changed = input_first input rest board mid before h.but but
 
-  -- a settled byte of the others stays
+  -- A settled byte of the other inputs stays settled.
   stays : (a : ℕ) → is_byte a input ≡ false → IsTrue (has_byte rest a) → has_byte free a ≡ false
       → ClausesSettle clauses among a (slice_index board.bytes a)
   stays a apart is out = subst (λ k. ClausesSettle clauses among a k) (sym (but.bytes a apart)) (h.settled a is out)
@@ -87,7 +87,7 @@ module _ (clauses : List Clause) (among : List Input) (input : Input) (rest free
       go true = refl
       go false = h.bytes a is
 
-  -- one more is settled
+  -- One more input is settled.
   pub one_settled : IsLaid clauses among input board → AreSettled clauses among (input ∷ rest) free before board
   one_settled laid = record {
     but = changed;
@@ -103,7 +103,7 @@ module _ (clauses : List Clause) (among : List Input) (input : Input) (rest free
       go a out (inl here) = laid.byte a here
       go a out (inr there) = stays a there.0 there.1 out
 
-  -- or it is free
+  -- Otherwise it is free.
   pub one_free : AreSettled clauses among (input ∷ rest) (free ++ input ∷ []) before board
   one_free = record {
     but = changed;

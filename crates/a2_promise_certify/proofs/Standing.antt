@@ -1,4 +1,4 @@
--- The instruction that stands at an address.
+-- The instruction at an address.
 use Rattle.std.specs.Prelude.{◌≡◌, ◌<◌, ◌≤◌, ℕ, zero, suc, ◌+◌, ◌%◌, List, [], ◌∷◌, length, Option, Some, None, IfSome, slice_get, refl}
 use Rattle.std.proofs.Common.{sym, ap, ◌∙◌, arith, take}
 use Rattle.std.proofs.lemmas.Option.{slice_get_within}

@@ -1,4 +1,4 @@
--- A world and the state that has its inputs are alike at what is known.
+-- A world and the state with the same inputs are alike in what is known.
 use Rattle.std.specs.Prelude.{◌≡◌, ◌≢◌, ◌⊎◌, ℕ, ◌%◌, ◌==◌, ◌||◌, Bool, true, false, IsTrue, List, [], ◌∷◌, map, refl}
 use Rattle.std.proofs.Common.{sym, ap, ◌∙◌, arith, inl, inr, true≢false}
 use Rattle.std.proofs.lemmas.Bool.Decides.{nat_tests}
@@ -17,7 +17,7 @@ use Rattle.a2_promise_certify.specs.declared.input.Input.{Input}
 use Rattle.a2_promise_certify.specs.declared.input.Input.TheVariants.{A, X, Y, Carry, Zero, Negative, Overflow, Interrupt, Byte}
 use Rattle.a2_promise_certify.specs.States.{Trial, Enters, has_byte, has_part, holds_part, known_bytes, known_parts, value_in, with_value, with_values}
 
--- what values of inputs leave as it was
+-- what setting inputs leaves unchanged
 pub record Frame (before behind : World) : Type 0 where
   pub s : behind.registers.s ≡ before.registers.s
   pub pc : behind.registers.pc ≡ before.registers.pc
@@ -50,7 +50,7 @@ frames (input ∷ inputs) (value ∷ values) w =
       pages = λ h. first.pages (rest.pages h);
     }
 
--- a flag's number tells the flag
+-- The number of a flag determines the flag.
 flag : (set : Bool) → (one_if set % 2 == 1) ≡ set
 flag true = refl
 flag false = refl

@@ -1,4 +1,4 @@
--- From states of marks and a board to those of a trial.
+-- From states with marks and a board to those of a trial.
 use Rattle.std.specs.Prelude.{◌≡◌, ◌⊎◌, ◌<◌, ◌≤◌, ℕ, zero, suc, ◌==◌, ◌||◌, ◌&&◌, not, Bool, true, false, IsTrue, IfSome, nat_lt, List, [], ◌∷◌, length, map, is_some, slice_index, Option, Some, None, refl}
 use Rattle.std.specs.List.{list_all, list_any}
 use Rattle.std.proofs.Common.{sym, ap, ap₂, ◌∙◌, subst, arith, inl, inr, true≢false}
@@ -32,25 +32,25 @@ use Rattle.a2_promise_certify.specs.Walking.{is_set, knows_part, no_parts}
 use Rattle.a2_promise_certify.proofs.Moments.{byte_told}
 use Rattle.a2_promise_certify.proofs.States.{frames}
 
--- S is as at the entry
+-- S is the same as at the entry.
 pub entry_s : (setup : Setup) (number : ℕ) (registers : Registers) (bus : BusState) → world_of registers bus 0 ≡ start_of setup number → registers.s ≡ 0xFD
 entry_s setup number registers bus is =
     ap (λ (w : World). w.registers.s) is
     ∙ (frames setup.inputs.now (state_at (map values_of setup.inputs.now) number)
     (world_of (registers_at setup.promise.now.address) setup.base.now 0)).s
 
--- D alone is known of no inputs
+-- With no inputs, only D is known.
 d_alone : (part : Part) → knows_part no_parts part ≡ is_part part part_d
 d_alone part_d = refl
 d_alone part = refl
 
--- each byte is known that is an input or one of the program: those that are free, and the others, which are fixed
+-- A byte is known if it is an input or part of the program, that is, if it is free or fixed.
 but_free : (free known : Bool) → (IsTrue free → IsTrue known) → known ≡ (free || (known && not free))
 but_free true known is = is refl
 but_free false true is = refl
 but_free false false is = refl
 
--- an input that is named is one, and none is behind RAM
+-- An input in the list is an input, and none is above RAM.
 among : (inputs : List Input) (a : ℕ) → list_any (is_byte a) inputs ≡ has_byte inputs a
 among [] a = refl
 among (input ∷ rest) a = ap (λ v. is_byte a input || v) (among rest a)
@@ -60,7 +60,7 @@ both true true h = (refl, refl)
 both true false bad = absurd (true≢false (sym bad))
 both false y bad = absurd (true≢false (sym bad))
 
--- a byte that may not be varied is none of inputs that may
+-- A byte that may not be varied is not among inputs that may.
 no_input : (inputs : List Input) (a : ℕ) → IsTrue (list_all may_vary inputs) → may_vary (Byte a) ≡ false → has_byte inputs a ≡ false
 no_input [] a all out = refl
 no_input (Byte b ∷ rest) a all out =
@@ -103,7 +103,7 @@ device_seen : (bus : BusState) → (memory_of bus).devices ≡ bus.devices
 unfolding memory_of
 device_seen bus = refl
 
--- what inputs are in a world are bytes
+-- The bytes of inputs in a world are below 256.
 input_byte : (inputs : List Input) (a : ℕ) (w : World) → IsTrue (has_byte inputs a) → IsState (map values_of inputs) (map (value_in w) inputs)
     → ram_byte w.memory a < 256
 input_byte [] a w bad is = absurd (true≢false (sym bad))
@@ -121,11 +121,11 @@ module _ (program : ℕ → Option ℕ) (known : List Bool) (parts : KnownParts)
     (settled : AreSettled promise.wanted.items inputs inputs free first base)
     (marks : AreLaid (λ a. (list_any (is_byte a) inputs || is_some (program a)) && not (in_stack a)) known ram_end)
     (registers : (part : Part) → knows_part parts part ≡ (has_part inputs part || knows_part no_parts part)) where
-  -- an input or a byte of the program, and none of the stack's page
+  -- an input or a byte of the program, outside the stack's page
   abbrev is_there : ℕ → Bool
   is_there a = (has_byte inputs a || is_some (program a)) && not (in_stack a)
 
-  -- settled bytes are fixed
+  -- Settled bytes are fixed.
   abbrev trial : Trial
   trial = record {
     base = world_of (registers_at promise.address) base 0;
@@ -188,7 +188,7 @@ module _ (program : ℕ → Option ℕ) (known : List Bool) (parts : KnownParts)
     every = λ number below. tried number (all number (subst (λ n. number < n) (sym count) below));
   }
 
-  -- a world at the entry that is as is required is one of the trial
+  -- a world at the entry that meets the requirements belongs to the trial
   module _ (s : ℕ) (world : World) (enters : Enters (with_s s (laid program promise.address inputs)) world) (required : IsRequired promise world) where
     are_bytes : AreBytes inputs (bytes_of world.memory)
     are_bytes a byte is there =
@@ -228,7 +228,7 @@ module _ (program : ℕ → Option ℕ) (known : List Bool) (parts : KnownParts)
       inputs = settled.values world enters.inputs;
     }
 
-  -- so it is in every world
+  -- So the promise is kept in every world.
   pub in_every_world : PromisesHoldEverywhere → (states : ℕ) → states ≡ states_of (map values_of free)
       → ((number : ℕ) → number < states → IsStateTried known parts promise most
       (with_values free (state_at (map values_of free) number) (world_of (registers_at promise.address) base 0)))

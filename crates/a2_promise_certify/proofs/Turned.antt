@@ -1,4 +1,4 @@
--- A world and the same with its stack turned in its page.
+-- A world, and the same world with the stack rotated within its page.
 use Rattle.std.specs.Prelude.{◌≡◌, ◌<◌, ◌≤◌, ◌==◌, ◌&&◌, ℕ, ◌+◌, ◌-◌, ◌*◌, ◌%◌, ◌||◌, Bool, true, false, IsTrue, if◌then◌else◌, List, [], ◌∷◌, map, nat_lt, refl}
 use Rattle.std.proofs.Common.{sym, ap, ap₂, ◌∙◌, subst, arith, true≢false}
 use Rattle.std.proofs.lemmas.Bool.Decides.{nat_tests}
@@ -32,7 +32,7 @@ pub same_byte : (turn : ℕ) (v w : World) → IsTurned turn v w → (a : ℕ) �
 same_byte turn v w h a off =
     ap (λ m. ram_byte m a) h.memory ∙ turned_byte turn v.memory a ∙ ap (λ b. ram_byte v.memory b) (not_in_stack turn a off)
 
--- what is alike at what is none of the stack's page
+-- both are alike in what is outside the stack's page
 pub turned_alike : (known : ℕ → Bool) (looked : Part → Bool) (one first other second turned_other turned_second : World) (turn more : ℕ)
     → IsTurned turn other turned_other → IsTurned more second turned_second
     → AreAlike known looked one first other second → AreAlike known looked one first turned_other turned_second
@@ -50,7 +50,7 @@ still_stacked turn a is = ap (λ v. in_stack (if v then 0x100 + (a + turn) % 256
     inside : (n : ℕ) → n < 256 → in_stack (0x100 + n) ≡ true
     inside n lt = grind (arith, nat_tests, lt)
 
--- a byte is the routine's own wherever S points
+-- A byte is the routine's own wherever S points.
 pub same_own : (turn : ℕ) (v w : World) → IsTurned turn v w → (a : ℕ) → in_stack a ≡ true
     → is_own v.registers.s (turned_address turn a) ≡ is_own w.registers.s a
 same_own turn v w h a is =
@@ -80,7 +80,7 @@ same_caller turn v w h =
 raised : (turn s other_s w v : ℕ) → (w + turn) % 256 ≡ s → other_s ≡ (s + 2) % 256 → (v + turn) % 256 ≡ other_s → v < 256 → v ≡ (w + 2) % 256
 raised turn s other_s w v e f g low = omega (arith, e, f, g, low)
 
--- behind a return both are back at their callers
+-- After a return both are back at their callers.
 pub turned_back : (turn : ℕ) (t w : World) → IsTurned turn t w → (t_mid w_mid t_last w_last : World) → IsTurned turn t_mid w_mid → IsTurned turn t_last w_last
     → t_last.registers ≡ (let r : Registers = t_mid.registers in record r { s = (t.registers.s + 2) % 256; pc = caller t })
     → w_last.registers ≡ (let r : Registers = w_mid.registers in record r { s = (w.registers.s + 2) % 256; pc = caller w })
@@ -93,9 +93,9 @@ turned_back turn t w h t_mid w_mid t_last w_last mid last back = λ i. record {
   flags = (sym (ap (λ (r : Registers). r.flags) last.registers) ∙ ap (λ (r : Registers). r.flags) back ∙ ap (λ (r : Registers). r.flags) mid.registers) i;
 }
 
--- The world whose stack is turned so that S is another
+-- The world whose stack is rotated to another S
 
--- how far, from one S to another
+-- the distance from one S to another
 pub turn_to : ℕ → ℕ → ℕ
 turn_to from to = (to + 256 - from) % 256
 
@@ -135,7 +135,7 @@ is_turned_from from to w is low high =
       cycles = refl;
     }
 
--- what it holds of inputs is the same
+-- The values of the inputs are the same.
 
 or_first : (first second : Bool) → IsTrue first → IsTrue (first || second)
 or_first true second is = refl
@@ -155,7 +155,7 @@ same_inputs turn v w h (input ∷ rest) off =
     ap₂ (λ x xs. x ∷ xs) (sym (ap (λ (r : Registers). value_in (record v { registers = r }) input) h.registers))
     (same_inputs turn v w h rest off)
 
--- so it enters a trial where the other one enters the same with its own S
+-- So it enters a trial if the other world enters the same trial with its own S.
 pub entered_there : (trial : Trial) (s : ℕ) (w : World) → s < 256 → trial.base.registers.s < 256 → Enters (with_s s trial) w
     → ((a : ℕ) → IsTrue (known_bytes trial a) → in_stack a ≡ false)
     → Enters trial (turned_from (turn_to s trial.base.registers.s) trial.base.registers.s w)

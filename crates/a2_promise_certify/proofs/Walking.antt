@@ -1,4 +1,4 @@
--- A step of a routine on its way, and many.
+-- One step of a routine in progress, and many steps.
 use Rattle.std.specs.Prelude.{◌≡◌, ◌<◌, ℕ, ◌+◌, ◌-◌, ◌&&◌, Bool, true, false, List, [], ◌∷◌, ◌++◌, length, Option, Some, None, Ok, MatchOption, slice_get, refl}
 use Rattle.std.specs.List.{list_all, list_any}
 use Rattle.std.proofs.Common.{sym, ap, ◌∙◌, subst, arith, true≢false}
@@ -46,7 +46,7 @@ use Rattle.a2_promise_certify.specs.Walking.{IsStep, AreMarked, StandsAt, known_
 use Rattle.a2_promise.specs.declared.promises.Changes.{Changes}
 use Rattle.a2_promise_certify.specs.declared.known_parts.KnownParts.{KnownParts}
 
--- All are known
+-- All are known.
 
 pub knows_all : {X : Type 0} (known : X → Bool) (xs : List X) → list_all known xs ≡ true → Knows known xs
 knows_all known [] h = tt
@@ -64,7 +64,7 @@ pub knows_both : {X : Type 0} (known : X → Bool) (xs ys : List X) → Knows kn
 knows_both known [] ys first second = second
 knows_both known (x ∷ xs) ys first second = (first.0, knows_both known xs ys first.1 second)
 
--- The instruction that stands at an address
+-- The instruction at an address
 
 abbrev by_row : (ℕ → Option ℕ) → ℕ → Option Row → Fetched
 by_row show at found =
@@ -168,7 +168,7 @@ module _ (instr : Instr) (registers : Registers) (bus : BusState) (size : length
     made : IsStepMade None registers bus new_registers new_bus cycles
     made = instruction_step None registers bus size low refl new_registers new_bus cycles told left_registers left_bus
 
-    -- no service stands in RAM
+    -- No service is in RAM.
     away : (before : ℕ) → service_at (world_of registers bus before).registers.pc ≡ None
     away before = no_service registers.pc low
 
@@ -205,7 +205,7 @@ module _ (instr : Instr) (registers : Registers) (bus : BusState) (size : length
         ∙ sym (ap (λ f. found_stores f (world_of registers bus before)) (found before))
         ∙ sym (stored_by code (world_of registers bus before) None (away before))
 
-    -- the stack is used by S alone
+    -- The stack is used only through S.
     off_stack : (before : ℕ) → IsOffStack decoded (world_of registers bus before)
     unfolding decoded
     off_stack before =

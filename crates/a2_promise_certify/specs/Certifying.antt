@@ -21,19 +21,20 @@ use Rattle.a2_promise_certify.specs.Kept.{IsKept, IsRequired, LookAtKnown, known
 use Rattle.a2_promise_certify.specs.States.{has_byte, values_of, with_values}
 use Rattle.a2_promise_certify.specs.Walking.{is_set, knows_part}
 
--- the state of a number
+-- the state with a given number
 abbrev pub start_of : Setup → ℕ → World
 start_of setup number =
     with_values setup.inputs.now (state_at (map values_of setup.inputs.now) number)
     (world_of (registers_at setup.promise.now.address) setup.base.now 0)
 
--- The boards are ready for a state: that before it is as the base, the one on its way too but for the inputs, and nothing is marked.
+-- The boards are ready for a state. The one before it equals the base, the one in progress does so except for the
+-- inputs, and nothing is marked.
 pub record IsReady (base : BusState) (inputs : List Input) (before space : BusState) (stored : List Bool) : Type 0 where
   pub before_is : before ≡ base
   pub space_is : IsBut (has_byte inputs) space base
   pub clear : (a : ℕ) → is_set stored a ≡ false
 
--- a state stands before a routine, and is where it sets out
+-- a state before a routine, from which the walk sets out
 pub record IsEntered (start : World) (parts : KnownParts) (before : BusState) (walk : Walk) (stored : List Bool) : Type 0 where
   pub world : world_of (registers_of walk.regs) walk.space 0 ≡ start
   pub space : before ≡ walk.space
@@ -42,24 +43,25 @@ pub record IsEntered (start : World) (parts : KnownParts) (before : BusState) (w
   pub first_parts : walk.parts ≡ parts
   pub clear : (a : ℕ) → is_set stored a ≡ false
 
--- a register that may not be other than before is not known behind, or was known and is the same
+-- A register that may not change is not known afterwards, or it was known and is equal.
 abbrev pub AreRegistersKept : Changes → KnownParts → KnownParts → Registers → Registers → Type 0
 AreRegistersKept changes parts parts_behind before behind =
     (part : Part) → may_change changes part ≡ false
     → (knows_part parts_behind part ≡ false) ⊎ (IsTrue (knows_part parts part) × (held part behind ≡ held part before))
 
--- a state is as the promise requires, which looks at nothing unknown, and then the promise is kept in it
+-- whether the state meets the promise's requirements depends on nothing unknown, and if it meets them, the promise is
+-- kept in it
 pub record IsStateTried (known : List Bool) (parts : KnownParts) (promise : Promise) (most : ℕ) (start : World) : Type 0 where
   pub looks : LookAtKnown promise.wanted.items (known_by (is_set known) (knows_part parts))
       (known_by (is_set known) (knows_part parts)) (moment start start 0) (moment start start 0)
   pub kept : IsRequired promise start → IsKept (is_set known) (knows_part parts) promise most start
 
--- an input may be varied: it is a register, a flag, or a byte of RAM that is none of the stack's page
+-- an input may be varied: it is a register, a flag, or a byte of RAM outside the stack's page
 abbrev pub may_vary : Input → Bool
 may_vary (Byte a) = nat_lt a ram_end && not (in_stack a)
 may_vary _ = true
 
--- so many addresses of RAM are marked where a test passes
+-- the first addresses of RAM are marked, up to a count, where a test is true
 pub record AreLaid (test : ℕ → Bool) (known : List Bool) (count : ℕ) : Type 0 where
   pub size : length known ≡ count
   pub within : count ≤ ram_end

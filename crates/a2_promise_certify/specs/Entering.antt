@@ -8,8 +8,9 @@ use Rattle.a2_promise_certify.specs.declared.input.Input.{Input}
 use Rattle.a2_promise_certify.specs.Kept.{IsRequired, Keeps}
 use Rattle.a2_promise_certify.specs.States.{Trial, Enters, has_byte, with_s}
 
--- The machine at its start, with the program laid over its RAM and the routine at an address entered with S = $FD and D clear. Every
--- world has the bytes of the program as they are laid, but those that are inputs, and cycles are counted from there.
+-- The machine at its start, with the program loaded into RAM, and the routine at an address entered with S = $FD and
+-- D clear. Every world has the bytes of the program as loaded, except for those that are inputs, and cycles are
+-- counted from there.
 abbrev pub laid : (ℕ → Option ℕ) → ℕ → List Input → Trial
 laid program address inputs = record {
   base = record { registers = registers_at address; memory = start_memory program []; cycles = 0 };
@@ -17,8 +18,9 @@ laid program address inputs = record {
   fixed = λ a. is_some (program a) && not (has_byte inputs a);
 }
 
--- Every world keeps the promise in which its routine is entered and that is as it requires, whatever the inputs are there, wherever S
--- points, and whatever all else is but the program's bytes, D and the devices.
+-- The promise is kept in every world in which its routine is entered and its requirements are met. This holds
+-- whatever the inputs are, wherever S points, and whatever everything else is, except the program's bytes, D and the
+-- devices.
 unfoldable pub IsKeptEverywhere : (ℕ → Option ℕ) → Promise → List Input → ℕ → Type 0
 IsKeptEverywhere program promise inputs limit =
     (s : ℕ) (world : World) → s < 256 → Enters (with_s s (laid program promise.address inputs)) world → IsRequired promise world

@@ -8,20 +8,22 @@ use Rattle.a2_footprint.specs.Turned.{in_stack}
 use Rattle.a2_promise_certify.specs.States.{Trial, Enters, known_bytes, known_parts, state_of, values_of, with_s}
 use Rattle.a2_promise_certify.specs.Kept.{IsKept, IsRequired, Keeps, LookAtKnown, known_by, moment}
 
--- a state is as the promise requires, which looks at nothing unknown, and then the promise is kept in it
+-- whether the state meets the promise's requirements depends on nothing unknown, and if it meets them, the promise is
+-- kept in it
 pub record IsTried (trial : Trial) (promise : Promise) (limit : ℕ) (start : World) : Type 0 where
   pub looks : LookAtKnown promise.wanted.items (known_by (known_bytes trial) (known_parts trial)) (known_by (known_bytes trial) (known_parts trial))
       (moment start start 0) (moment start start 0)
   pub kept : IsRequired promise start → IsKept (known_bytes trial) (known_parts trial) promise limit start
 
--- so it is of each state of the inputs, none of which is a byte of the stack's page; nor is a fixed one
+-- this holds for each state of the inputs; no input and no fixed byte is in the stack's page
 pub record HoldsInEveryState (trial : Trial) (promise : Promise) (limit : ℕ) : Type 0 where
   pub pages : IsGrid trial.base.memory.page1 × IsGrid trial.base.memory.page2
   pub s : trial.base.registers.s < 256
   pub off_stack : (a : ℕ) → IsTrue (known_bytes trial a) → in_stack a ≡ false
   pub every : (number : ℕ) → number < states_of (map values_of trial.inputs) → IsTried trial promise limit (state_of trial number)
 
--- every world at the entry that is as the promise requires keeps it, wherever S points and whatever else it holds
+-- the promise is kept in every world at the entry that meets its requirements, wherever S points and whatever else
+-- the world holds
 abbrev pub PromisesHoldEverywhere : Type 0
 PromisesHoldEverywhere =
     (trial : Trial) (promise : Promise) (limit : ℕ) → HoldsInEveryState trial promise limit

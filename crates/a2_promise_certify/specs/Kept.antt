@@ -1,4 +1,4 @@
--- That a promise is kept, in a state that is tried and in every world. This project's own.
+-- A promise is kept, in a state that is tried and in every world. This project's own.
 use Rattle.std.specs.Prelude.{◌≡◌, ◌⊎◌, ◌<◌, ◌≤◌, ℕ, suc, ◌-◌, Bool, true, false, not, ◌&&◌, ◌+◌, ◌%◌, IsTrue, nat_le, nat_lt, List, [], ◌∷◌, map, None}
 use Rattle.std.specs.List.{list_any, range_with_len}
 use Rattle.a2_opcode.specs.declared.Mode.TheVariants.{Implied}
@@ -24,7 +24,7 @@ use Rattle.a2_footprint.specs.Turned.{RunIsOffStack, in_stack}
 use Rattle.a2_footprint.specs.Uses.{parts_behind}
 use Rattle.a2_promise_certify.specs.Judging.{all_hold, no_names}
 
--- the code is what stands in memory
+-- the code is whatever is in memory
 abbrev pub code : Code
 code = bytes None
 
@@ -32,7 +32,7 @@ code = bytes None
 unfoldable pub bytes_of : Memory → List ℕ
 bytes_of memory = map (ram_byte memory) (range_with_len 0 ram_end)
 
--- what a promise speaks of: a world, so many steps after the start
+-- what a promise refers to: a world, this many steps after the start
 abbrev pub moment : World → World → ℕ → Moment
 moment start world steps = record {
   registers = world.registers;
@@ -41,17 +41,17 @@ moment start world steps = record {
   steps = steps;
 }
 
--- what is required holds of a world at the entry
+-- a world at the entry meets the promise's requirements
 abbrev pub IsRequired : Promise → World → Type 0
 IsRequired promise start = IsTrue (all_hold promise.wanted.items (moment start start 0) (moment start start 0))
 
--- what is promised holds so many steps after the entry
+-- what is promised holds this many steps after the entry
 abbrev pub IsEnsured : Promise → World → ℕ → Type 0
 IsEnsured promise start steps =
     IsTrue (all_hold promise.promised.items (moment start start 0) (moment start (world_at code start steps) steps))
 
--- What clauses look at is known; cycles and steps always are, and S and the bytes of the stack's page never: a routine may be entered with
--- any S.
+-- Whether an atom's value is known. Cycles and steps are always known. S and the bytes of the stack's page never are,
+-- since a routine may be entered with any S.
 abbrev pub knows_atom : (Part → Bool) → Atom → Bool
 knows_atom known atom.A = known part_a
 knows_atom known atom.X = known part_x
@@ -73,8 +73,8 @@ LookAtKnown [] before behind entry exit = Unit {0}
 LookAtKnown (clause ∷ rest) before behind entry exit =
     Knows clause.expr before behind entry exit no_names × LookAtKnown rest before behind entry exit
 
--- what may be other behind the routine than before: registers and bytes that `changes` names, and the 126 bytes of the stack from S down,
--- below the return address
+-- what the routine may change: the registers and bytes that `changes` names, and the 126 bytes of the stack from S
+-- down, below the return address
 abbrev pub may_change : Changes → Part → Bool
 may_change changes part_a = changes.a
 may_change changes part_x = changes.x
@@ -87,9 +87,9 @@ may_store changes a = list_any (λ range. nat_le range.first a && nat_le a range
 abbrev pub is_own : ℕ → ℕ → Bool
 is_own s a = in_stack a && nat_lt ((s + 0x200 - a) % 256) 126
 
--- In a state the promise is kept within the limit: the routine comes to the RTS of its own, having looked at nothing unknown, and at the
--- stack by S alone, of which it used no more than is its own; what is promised looks at nothing unknown either, and holds behind the RTS;
--- and what may not be other than before is known before, and the same behind, or nothing is done with it.
+-- In a state, the promise is kept within the limit. The routine reaches its own RTS, having depended on nothing
+-- unknown. It used the stack only through S, and no more of it than is its own. What is promised depends on nothing
+-- unknown and holds after the RTS. What may not change is untouched, or it is known before and equal afterwards.
 pub record IsKept (bytes : ℕ → Bool) (parts : Part → Bool) (promise : Promise) (limit : ℕ) (start : World) : Type 0 where
   pub steps : ℕ
   pub within : suc steps ≤ limit
@@ -109,8 +109,8 @@ pub record IsKept (bytes : ℕ → Bool) (parts : Part → Bool) (promise : Prom
       → IsNotIn a (stores_in code start steps)
       ⊎ (IsTrue (bytes a) × (ram_byte (world_at code start steps).memory a ≡ ram_byte start.memory a))
 
--- In a world the promise is kept within the limit: the routine goes back to its caller, what is promised holds there, and whatever
--- may not be other than before is the same.
+-- In a world, the promise is kept within the limit: the routine returns to its caller, what is promised holds there,
+-- and whatever may not change is unchanged.
 pub record Keeps (promise : Promise) (limit : ℕ) (world : World) : Type 0 where
   pub steps : ℕ
   pub within : suc steps ≤ limit

@@ -1,5 +1,4 @@
--- What is known of a state, for the contracts of the crate's own functions.
--- No public clause cites this file.
+-- What is known of a state, for the contracts of the crate's private functions. No public clause cites this file.
 use Rattle.a2_promise.specs.Looks.{Known}
 use Rattle.a2_promise_certify.specs.declared.clause_looks.View.{View}
 use Rattle.a2_promise_certify.specs.Kept.{known_by}

@@ -1,5 +1,5 @@
--- A promise that is kept in every state, as an example: a routine that is an RTS alone, of which nothing is said but that all else
--- stays. This project's own.
+-- An example of a promise that is kept in every state: a routine that is only an RTS, of which nothing is said except
+-- that everything else stays the same. This project's own.
 use Rattle.std.specs.Prelude.{◌≡◌, ◌==◌, [], ◌∷◌}
 use Rattle.a2_page.specs.Grid.{IsGrid}
 use Rattle.a2_bus.specs.Memory.{Memory, ram_byte}
@@ -16,7 +16,7 @@ returning memory = record {
   fixed = λ a. a == 0x300;
 }
 
--- whatever else is in memory, and whatever A, X, Y and flags are
+-- the promise is kept whatever else is in memory, and whatever A, X, Y and the flags are
 abbrev pub AnRtsKeepsAll : Type 0
 AnRtsKeepsAll =
     (memory : Memory) (promise : Promise) → IsGrid memory.page1 × IsGrid memory.page2 → ram_byte memory 0x300 ≡ 0x60

@@ -1,5 +1,5 @@
--- The window and the cursor as the walk reads them, for the contracts of the crate's own functions.
--- No public clause cites this file.
+-- The window and the cursor as the walk reads them, for the contracts of the crate's private functions. No public
+-- clause cites this file.
 use Rattle.std.specs.Prelude.{◌≡◌, ◌<◌, ◌+◌}
 use Rattle.a2_page.specs.Grid.{Window}
 use Rattle.a2_page.specs.Window.{IsWindow}
@@ -10,13 +10,13 @@ use Rattle.a2_promise_certify.specs.declared.cursor.Cursor.{Cursor}
 abbrev pub window_by : Cursor → Window
 window_by cursor = record { left = cursor.left; width = cursor.width; top = cursor.top; bottom = cursor.bottom }
 
--- they are what page 0 says
+-- the window and the cursor are what page 0 describes
 pub record IsCursor (cursor : Cursor) (memory : Memory) : Type 0 where
   pub window : window_of memory ≡ window_by cursor
   pub row : cursor_row memory ≡ cursor.row
   pub column : cursor_column memory ≡ cursor.column
 
--- and they lie on the screen
+-- the window and the cursor are on the screen
 pub record IsOnScreen (cursor : Cursor) : Type 0 where
   pub window : IsWindow (window_by cursor)
   pub row : cursor.row < 24

@@ -1,4 +1,4 @@
--- Bytes that are what clauses say, for the contracts of the crate's own functions.
+-- Bytes whose value clauses fix, for the contracts of the crate's private functions.
 use Rattle.std.specs.Prelude.{◌≡◌, ◌<◌, ℕ, Bool, false, IsTrue, List, map, Some, slice_get, slice_index}
 use Rattle.std.specs.List.{list_any}
 use Rattle.a2_bus.specs.BusState.{BusState}
@@ -12,24 +12,25 @@ use Rattle.a2_promise_certify.specs.But.{IsBut}
 use Rattle.a2_promise_certify.specs.Judging.{all_hold}
 use Rattle.a2_promise_certify.specs.States.{has_byte, has_part, holds_part, is_byte, value_in, values_of}
 
--- what stands where inputs are bytes is below 256
+-- the bytes of inputs are below 256
 abbrev pub AreBytes : List Input → List ℕ → Type 0
 AreBytes inputs bytes = (a byte : ℕ) → IsTrue (list_any (is_byte a) inputs) → slice_get bytes a ≡ Some byte → byte < 256
 
--- wherever a test passes this byte stands at an address
+-- whenever a test is true, this byte is at an address
 abbrev pub Settles : (Moment → Bool) → List Input → ℕ → ℕ → Type 0
 Settles test inputs a byte = (m : Moment) → AreBytes inputs m.bytes → IsTrue (test m) → slice_get m.bytes a ≡ Some byte
 
--- wherever clauses hold it does
+-- whenever the clauses hold, this byte is at an address
 abbrev pub ClausesSettle : List Clause → List Input → ℕ → ℕ → Type 0
 ClausesSettle clauses inputs a byte = Settles (λ m. all_hold clauses m m) inputs a byte
 
--- an input is a byte that clauses settle, as a board has it
+-- an input is a byte that clauses settle, and a board has its value
 pub record IsLaid (clauses : List Clause) (among : List Input) (input : Input) (board : BusState) : Type 0 where
   pub part : (part : Part) → holds_part input part ≡ false
   pub byte : (a : ℕ) → IsTrue (is_byte a input) → ClausesSettle clauses among a (slice_index board.bytes a)
 
--- Of inputs some are free; each other is a byte that clauses settle, and a board is as before but for these.
+-- Some of the inputs are free. Each of the others is a byte that clauses settle, and the board is unchanged except
+-- for these.
 pub record AreSettled (clauses : List Clause) (among inputs free : List Input) (before board : BusState) : Type 0 where
   pub but : IsBut (has_byte inputs) board before
   pub bytes : (a : ℕ) → IsTrue (has_byte free a) → IsTrue (has_byte inputs a)

@@ -11,7 +11,7 @@ use Rattle.a2_footprint.specs.Parts.{MatchAt, is_part}
 use Rattle.a2_promise_certify.specs.declared.input.Input.{Input}
 use Rattle.a2_promise_certify.specs.declared.input.Input.TheVariants.{A, X, Y, Carry, Zero, Negative, Overflow, Interrupt, Byte}
 
--- how many values an input has
+-- the number of values that an input has
 abbrev pub values_of : Input → ℕ
 values_of A = 256
 values_of X = 256
@@ -19,7 +19,7 @@ values_of Y = 256
 values_of (Byte a) = 256
 values_of _ = 2
 
--- what it holds in a world, a flag 1 where it is set
+-- the value of an input in a world; 1 for a flag that is set
 abbrev pub value_in : World → Input → ℕ
 value_in world A = world.registers.a
 value_in world X = world.registers.x
@@ -34,7 +34,7 @@ value_in world (Byte a) = ram_byte world.memory a
 abbrev pub with_flags : StatusFlags → World → World
 with_flags flags world = record world { registers = record world.registers { flags = flags } }
 
--- the same world with another value of an input
+-- the same world with another value for an input
 abbrev pub with_value : Input → ℕ → World → World
 with_value A value world = record world { registers = record world.registers { a = value } }
 with_value X value world = record world { registers = record world.registers { x = value } }
@@ -51,18 +51,18 @@ abbrev pub with_values : List Input → List ℕ → World → World
 with_values (input ∷ inputs) (value ∷ values) world = with_value input value (with_values inputs values world)
 with_values _ _ world = world
 
--- What is tried: a world at the routine's entry, the inputs that are given each of their values there, and the addresses of the
--- bytes that every world has as this one has them, such as those of the code.
+-- What is tried: a world at the routine's entry, the inputs that take each of their values there, and the addresses
+-- of fixed bytes. Every world has the fixed bytes as this one has them; they include those of the code.
 pub record Trial : Type 0 where
   pub base : World
   pub inputs : List Input
   pub fixed : ℕ → Bool
 
--- the same with another S at the entry
+-- the same trial with another S at the entry
 abbrev pub with_s : ℕ → Trial → Trial
 with_s s trial = record trial { base = record trial.base { registers = record trial.base.registers { s = s } } }
 
--- the state of a number
+-- the state with a given number
 abbrev pub state_of : Trial → ℕ → World
 state_of trial number = with_values trial.inputs (state_at (map values_of trial.inputs) number) trial.base
 
@@ -89,15 +89,16 @@ abbrev pub has_part : List Input → Part → Bool
 has_part [] part = false
 has_part (input ∷ rest) part = holds_part input part || has_part rest part
 
--- the bytes and parts that are known at the entry; D is clear there
+-- The bytes and parts that are known at the entry. D is always known, and is clear.
 abbrev pub known_bytes : Trial → ℕ → Bool
 known_bytes trial a = has_byte trial.inputs a || trial.fixed a
 
 abbrev pub known_parts : Trial → Part → Bool
 known_parts trial part = has_part trial.inputs part || is_part part part_d
 
--- A world at the routine's entry, wherever it was called from: S, PC and D are those of the trial, and so are the fixed bytes and
--- the devices. Whatever else is in memory and registers, inputs are bytes.
+-- A world at the routine's entry, wherever it was called from. S, PC, D, the fixed bytes and the devices are those of
+-- the trial. The inputs have values that a byte or a flag can have; everything else in memory and registers is
+-- arbitrary.
 pub record Enters (trial : Trial) (world : World) : Type 0 where
   pub registers : MatchAt (λ part. is_part part part_d) trial.base.registers world.registers
   pub bytes : (a : ℕ) → IsTrue (trial.fixed a) → ram_byte trial.base.memory a ≡ ram_byte world.memory a

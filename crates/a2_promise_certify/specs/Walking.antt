@@ -1,4 +1,5 @@
--- What is known where a routine is on its way, and a step of it, for the contracts of the crate's own functions.
+-- What is known while a routine is in progress, and one step of it, for the contracts of the crate's private
+-- functions.
 use Rattle.std.specs.Prelude.{◌≡◌, ◌≢◌, ◌<◌, ℕ, ◌+◌, ◌-◌, ◌||◌, if◌then◌else◌, Bool, true, false, IsTrue, nat_lt, List, ◌∷◌, length, Some, None, slice_get}
 use Rattle.std.specs.List.{list_any}
 use Rattle.a2_text.specs.Bytes.{is_among}
@@ -29,11 +30,11 @@ use Rattle.a2_promise_certify.specs.declared.known_parts.KnownParts.{KnownParts}
 use Rattle.a2_promise_certify.specs.declared.walk.Walk.{Walk}
 use Rattle.a2_promise_certify.specs.Kept.{code, is_own, may_store}
 
--- what stands at an address of a list of marks, false behind its end
+-- the mark of an address in a list of marks; false after its end
 abbrev pub is_set : List Bool → ℕ → Bool
 is_set marks a = elim (slice_get marks a) [ Some set ↦ set | None ↦ false ]
 
--- known is what is so at the entry, and what was stored since
+-- whether a byte is known: at the entry, or because it was stored since
 abbrev pub known_now : List Bool → List Bool → ℕ → Bool
 known_now known stored a = is_set stored a || is_set known a
 
@@ -62,7 +63,7 @@ with_part part_i parts = record parts { i = true }
 with_part part_z parts = record parts { z = true }
 with_part part_c parts = record parts { c = true }
 
--- the instruction stands at an address
+-- the instruction is at an address
 pub record StandsAt (instr : Instr) (at : ℕ) (bytes : List ℕ) : Type 0 where
   pub low : at < ram_end
   pub size : length bytes ≡ ram_end
@@ -70,15 +71,15 @@ pub record StandsAt (instr : Instr) (at : ℕ) (bytes : List ℕ) : Type 0 where
   pub is_row : Rattle.a2_opcode.specs.Table.row instr.mnemonic instr.mode ≡ Some row
   pub fetch : fetched (slice_get bytes) at ≡ instruction row instr.value
 
--- a byte may be stored at: it is the routine's own, or `changes` names it and it is none of the stack's page
+-- whether a byte may be stored at: it is the routine's own, or `changes` names it and it is not in the stack's page
 abbrev pub is_allowed : Changes → ℕ → Bool
 is_allowed changes a = if in_stack a then is_own 0xFD a else may_store changes a
 
--- a byte may be stored at, and is none of the caller's return address
+-- a byte may be stored at, and is not part of the caller's return address
 abbrev pub MayStore : Changes → ℕ → Type 0
 MayStore changes a = (is_allowed changes a ≡ true) × (a ≢ 0x1FE) × (a ≢ 0x1FF)
 
--- an operand that is none in memory, or lies in page 0, as its mode tells alone
+-- whether the mode is enough to tell that an operand is not in memory or is in page 0
 abbrev pub is_beside : Mode → ℕ → Bool
 is_beside Implied value = true
 is_beside Accumulator value = true
@@ -88,12 +89,12 @@ is_beside ZeroPageX value = true
 is_beside ZeroPageY value = true
 is_beside _ value = false
 
--- addresses are marked, each of which may be stored at
+-- addresses are marked, all of which may be stored at
 pub record AreMarked (old new : List Bool) (changes : Changes) (addresses : List ℕ) : Type 0 where
   pub marks : (a : ℕ) → is_set new a ≡ with_bytes addresses (is_set old) a
   pub allowed : (a : ℕ) → IsTrue (is_among addresses a) → MayStore changes a
 
--- the instruction is the RTS of the routine's own, whose bytes are known
+-- the instruction is the routine's own RTS, and its bytes are known
 pub record IsOwnRts (known marks : List Bool) (instr : Instr) (registers : Registers) : Type 0 where
   pub mnemonic : instr.mnemonic ≡ Rts
   pub mode : instr.mode ≡ Implied
@@ -101,8 +102,8 @@ pub record IsOwnRts (known marks : List Bool) (instr : Instr) (registers : Regis
   pub fetch : Knows (known_now known marks) (registers.pc ∷ addresses_from (registers.pc + 1) (length_of instr.mode - 1))
   pub off_stack : list_any in_stack (addresses_from registers.pc 3) ≡ false
 
--- A step is made from registers and a board, which looks at nothing unknown, and at the stack by S alone; and what is known is what is so
--- behind it.
+-- A step from registers and a board, which depends on nothing unknown and uses the stack only through S. The new
+-- marks and parts are what is known after it.
 pub record IsStep (known old_marks new_marks : List Bool) (old_parts new_parts : KnownParts) (changes : Changes)
     (registers : Registers) (bus : BusState) (new_registers : Registers) (new_bus : BusState) (cycles : ℕ) : Type 0 where
   pub off_stack : (before : ℕ) → StepIsOffStack (world_of registers bus before)
@@ -113,12 +114,12 @@ pub record IsStep (known old_marks new_marks : List Bool) (old_parts new_parts :
   pub parts : (before : ℕ) (part : Part)
       → knows_part new_parts part ≡ with_parts (step_sets code (world_of registers bus before)) (knows_part old_parts) part
 
--- A walk makes it, whose cycles are not counted yet.
+-- A walk executes the step, whose cycles are not counted yet.
 pub record IsStepOf (known old_marks new_marks : List Bool) (changes : Changes) (old new : Walk) (cycles : ℕ) : Type 0 where
   pub step : IsStep known old_marks new_marks old.parts new.parts changes (registers_of old.regs) old.space (registers_of new.regs) new.space cycles
   pub uncounted : new.cycles ≡ old.cycles
 
--- So many steps are made, in so many cycles.
+-- This many steps are executed, in this many cycles.
 pub record IsWalk (known marks : List Bool) (first_parts last_parts : KnownParts) (changes : Changes)
     (first : Registers) (first_bus : BusState) (registers : Registers) (bus : BusState) (cycles steps : ℕ) : Type 0 where
   pub world : world_of registers bus cycles ≡ world_at code (world_of first first_bus 0) steps
@@ -129,7 +130,7 @@ pub record IsWalk (known marks : List Bool) (first_parts last_parts : KnownParts
   pub parts : (part : Part) → knows_part last_parts part ≡ parts_behind code (knows_part first_parts) (world_of first first_bus 0) steps part
   pub allowed : (a : ℕ) → IsTrue (is_set marks a) → MayStore changes a
 
--- They come to the RTS of the routine's own.
+-- The steps lead to the routine's own RTS.
 pub record IsHome (known marks : List Bool) (first_parts last_parts : KnownParts) (changes : Changes)
     (first : Registers) (first_bus : BusState) (registers : Registers) (bus : BusState) (cycles steps : ℕ) : Type 0 where
   pub walk : IsWalk known marks first_parts last_parts changes first first_bus registers bus cycles steps

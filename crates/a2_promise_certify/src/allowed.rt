@@ -1,4 +1,4 @@
-//! Where a routine may store.
+//! Decides where a routine may store.
 
 ghost use Rattle.std.specs.Prelude.{◌≡◌};
 ghost use Rattle.a2_footprint.specs.Turned.{in_stack};
@@ -7,7 +7,7 @@ ghost use Rattle.a2_promise_certify.specs.Walking.{is_allowed};
 
 use a2_promise::Changes;
 
-/// Whether `changes` names the byte at an address, so that the routine may leave another one there.
+/// Returns whether `changes` names the byte at an address, so that the routine may leave a different byte there.
 pub fn may_change(changes: &Changes, address: u16) -> bool
     ensures { result ≡ may_store changes.now address }
 {
@@ -17,8 +17,8 @@ pub fn may_change(changes: &Changes, address: u16) -> bool
         .any(|range| range.first <= address && address <= range.last)
 }
 
-/// Whether the byte at an address is the routine's own, which is entered with S = $FD: it is one of the 126 of the stack from
-/// there down, below the return address.
+/// Returns whether the byte at an address belongs to a routine entered with S = $FD. These are the 126 bytes of the
+/// stack from there down, below the return address.
 #[tactic(auto, using(crate::proofs::Marking::own_is))]
 pub fn is_own_stack(address: u16) -> bool
     ensures { result ≡ is_own 0xFD address }
@@ -26,15 +26,15 @@ pub fn is_own_stack(address: u16) -> bool
     0x0180 <= address && address <= 0x01FD
 }
 
-/// Whether an address is one of the stack's page.
+/// Returns whether an address is in the stack's page.
 pub(crate) fn is_in_stack(address: u16) -> bool
     ensures { result ≡ in_stack address }
 {
     0x0100 <= address && address <= 0x01FF
 }
 
-/// Whether the routine may store at an address: it is one of its own of the stack, or `changes` names it and it is none of the
-/// stack's page.
+/// Returns whether the routine may store at an address. The address must be one of the routine's own in the stack, or
+/// be named by `changes` and not be in the stack's page.
 pub(crate) fn is_allowed_at(changes: &Changes, address: u16) -> bool
     ensures { result ≡ is_allowed changes.now address }
 {

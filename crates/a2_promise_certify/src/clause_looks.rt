@@ -1,4 +1,4 @@
-//! Whether all that clauses look at is known.
+//! Decides whether everything that clauses depend on is known.
 
 ghost use Rattle.std.specs.Prelude.{◌≡◌, ℕ, pos, IsTrue, slice_set};
 ghost use Rattle.a2_promise.specs.Looks.{KnowsMade, Knows, IsBelow};
@@ -15,8 +15,8 @@ use a2_footprint::Part;
 use a2_promise::{Atom, Bounds, Clause, Expr, Function, Sight, value};
 use std::alloc::Global;
 
-/// What promises see of a state, and what is known of that: bytes of RAM, by their marks at the entry and those of what was stored
-/// since, and registers and flags.
+/// A state as promises see it, and what is known of it. Bytes of RAM are known by two sets of marks: those at the
+/// entry and those of later stores. Registers and flags are listed in `parts`.
 #[derive(Clone, Copy)]
 pub(crate) struct View<'k, 's> {
     pub sight: Sight<'s, Global>,
@@ -25,7 +25,8 @@ pub(crate) struct View<'k, 's> {
     pub parts: KnownParts,
 }
 
-// Whether what an atom is is known; cycles and steps always are, and S never: a routine may be entered with any.
+// Returns whether the value of an atom is known. Cycles and steps are always known. S never is, since a routine may
+// be entered with any S.
 fn is_atom(view: &View, atom: Atom) -> bool
     ensures { result ≡ is_atom_known (knows_part view.now.parts) atom }
 {
@@ -44,14 +45,15 @@ fn is_atom(view: &View, atom: Atom) -> bool
     }
 }
 
-// Whether what an address holds is known; of the stack's page none is, since it lies elsewhere there with another S.
+// Returns whether the byte at an address is known. No byte in the stack's page is, since with another S the same data
+// is at another address.
 fn is_seen(view: &View, address: u16) -> bool
     ensures { result ≡ (known_of view.now).bytes address }
 {
     !is_in_stack(address) && is_known(view.known, view.stored, address)
 }
 
-// Whether what a function of this number looks at is known.
+// Returns whether everything that a function of this number depends on is known.
 fn is_made(view: &View, function: Function, number: Option<i64>) -> bool
     ensures { IsTrue result → KnowsMade function (known_of view.now) number }
 {
@@ -66,7 +68,7 @@ fn is_made(view: &View, function: Function, number: Option<i64>) -> bool
     }
 }
 
-// The same numbers of names, but this one.
+// Returns the numbers bound to names, with one of them replaced.
 fn with_bound(names: Bounds, name: u8, number: i64) -> Bounds
     ensures { result ≡ slice_set names name number }
 {
@@ -78,7 +80,8 @@ fn with_bound(names: Bounds, name: u8, number: i64) -> Bounds
     names
 }
 
-// Whether all is known that an expression looks at where a name counts the numbers below one, if they are counted.
+// Returns whether everything that an expression depends on is known, for each number below a limit that a name counts
+// through. The limit itself may be missing.
 #[cycle(looks)]
 fn is_each_known<'k, 's>(
     name: u8,
@@ -102,7 +105,7 @@ fn is_each_known<'k, 's>(
     true
 }
 
-// Whether all that an expression looks at is known, where these are the numbers that names stand for.
+// Returns whether everything that an expression depends on is known, with these numbers bound to names.
 #[cycle(looks)]
 fn is_looked_at<'k, 's>(
     expr: &Expr,
@@ -140,7 +143,8 @@ fn is_looked_at<'k, 's>(
     }
 }
 
-/// Whether all that clauses look at is known, of a state where a routine is entered and one that it leaves.
+/// Returns whether everything that clauses depend on is known, given the state in which a routine is entered and one
+/// in which it returns.
 pub(crate) fn look_at_known<'k, 's>(
     clauses: &[Clause],
     entry: &View<'k, 's>,

@@ -1,4 +1,4 @@
-//! Whether clauses of a promise hold of a state where a routine is entered and one that it leaves.
+//! Evaluates the clauses of a promise, given the state in which a routine is entered and one in which it returns.
 
 ghost use Rattle.std.specs.Prelude.{◌≡◌, length};
 ghost use Rattle.a2_bus.specs.Memory.{ram_end};
@@ -13,10 +13,10 @@ use a2_cpu::Regs;
 use a2_promise::{Bounds, Clause, Sight, value};
 use std::alloc::Global;
 
-/// The numbers of names outside of what counts them: no name stands for a number there.
+/// The numbers of names outside of a count: no name is bound to a number there.
 pub const NO_NAMES: Bounds = [0; 4];
 
-/// Whether a fact holds that has this value: it has one, and that is not 0.
+/// Returns whether a fact with this value holds: the value exists and is not 0.
 pub(crate) fn holds(value: Option<i64>) -> bool
     ensures { result ≡ judging.holds value }
 {
@@ -26,7 +26,7 @@ pub(crate) fn holds(value: Option<i64>) -> bool
     }
 }
 
-/// Whether all clauses hold of a state where a routine is entered and one that it leaves.
+/// Returns whether all clauses hold, given the state in which a routine is entered and one in which it returns.
 pub fn all_hold(clauses: &[Clause], entry: &Sight<Global>, exit: &Sight<Global>) -> bool
     ensures { result ≡ judging.all_hold clauses.now (moment_of entry.now) (moment_of exit.now) }
 {
@@ -35,7 +35,7 @@ pub fn all_hold(clauses: &[Clause], entry: &Sight<Global>, exit: &Sight<Global>)
         .all(|clause| holds(value(&clause.expr, entry, exit, NO_NAMES)))
 }
 
-/// What promises see of registers and RAM, so many cycles and steps after the entry.
+/// Returns registers and RAM as promises see them, this many cycles and steps after the entry.
 pub fn sight_of<'a>(
     regs: &Regs,
     space: &'a AddressSpace<Global>,
@@ -46,7 +46,7 @@ pub fn sight_of<'a>(
         ≡ record { registers = registers_of regs.now; bytes = ram_bytes_of (memory_of space.now); cycles = cycles; steps = steps } }
     ensures size { length space.now.bytes ≡ ram_end }
 {
-    // For the prover, which learns from it how long RAM is.
+    // Only for the prover, which learns the size of RAM from it.
     let _first = space.peek(0);
     Sight {
         regs: *regs,

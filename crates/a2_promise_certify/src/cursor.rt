@@ -1,5 +1,5 @@
-//! The window and the cursor of the screen, and what becomes of them where a byte is put. Apple II Reference Manual (1979),
-//! chapter 2, on the text window; the exact effects are this project's profile.
+//! Follows the text window and the cursor when a byte is put on the screen. Apple II Reference Manual (1979), chapter
+//! 2, on the text window; the exact effects are this project's profile.
 
 ghost use Rattle.std.specs.Prelude.{◌≡◌, ◌<◌, ◌+◌, ℕ, ◌&&◌, if◌then◌else◌, ◌∷◌, ◌++◌, [], nat_le, nat_lt, IsTrue};
 ghost use Rattle.a2_page.specs.Grid.{blank};
@@ -16,8 +16,8 @@ use a2_services::bytes::{BACKSPACE, LINE_FEED, RETURN};
 use a2_services::{load, window};
 use std::alloc::Global;
 
-/// The window, by its first column, its number of columns, its first row and the row behind its last, and the cursor, by its row
-/// on the screen and its column in the window.
+/// The window and the cursor. The window is given by its first column, its number of columns, its first row and the
+/// row after its last. The cursor is given by its row on the screen and its column in the window.
 #[derive(Clone, Copy)]
 pub(crate) struct Cursor {
     pub left: u8,
@@ -28,7 +28,7 @@ pub(crate) struct Cursor {
     pub column: u8,
 }
 
-/// The window and the cursor that page 0 says.
+/// Returns the window and the cursor that page 0 describes.
 pub(crate) fn cursor_in(space: &AddressSpace<Global>) -> Cursor
     ensures { IsCursor result (memory_of space.now) }
 {
@@ -43,7 +43,7 @@ pub(crate) fn cursor_in(space: &AddressSpace<Global>) -> Cursor
     }
 }
 
-/// Whether both lie on the screen.
+/// Returns whether the window and the cursor are on the screen.
 pub(crate) fn is_on_screen(cursor: &Cursor) -> bool
     ensures { IsTrue result → IsOnScreen cursor.now }
 {
@@ -56,14 +56,14 @@ pub(crate) fn is_on_screen(cursor: &Cursor) -> bool
         && left + u16::from(cursor.column) < 40
 }
 
-// Whether a byte is a control character.
+// Returns whether a byte is a control character.
 fn is_control(byte: u8) -> bool
     ensures { result ≡ (nat_le 0x80 byte && nat_lt byte blank) }
 {
     0x80 <= byte && byte < BLANK
 }
 
-/// Whether a byte that is put so stands in the cursor's cell.
+/// Returns whether a byte put on the screen unmasked appears in the cursor's cell.
 pub(crate) fn is_shown(byte: u8) -> bool
     ensures { (memory : Memory) → changed_by byte memory ≡ (if result then cursor_cell memory ∷ [] else []) ++ moved_by byte
         memory }
@@ -71,7 +71,7 @@ pub(crate) fn is_shown(byte: u8) -> bool
     !is_control(byte)
 }
 
-// Whether the cursor cannot go down.
+// Returns whether the cursor cannot move down.
 fn is_at_bottom(cursor: &Cursor) -> bool
     ensures { (memory : Memory) → IsCursor cursor.now memory
         → scrolled_cells memory ≡ (if result then window_cells (window_by cursor.now) else []) }
@@ -79,14 +79,14 @@ fn is_at_bottom(cursor: &Cursor) -> bool
     u16::from(cursor.row) + 1 >= u16::from(cursor.bottom)
 }
 
-// Whether the cursor stands in the window's last column, or behind it.
+// Returns whether the cursor is in the window's last column or to the right of it.
 fn is_at_edge(cursor: &Cursor) -> bool
     ensures { result ≡ nat_le cursor.now.width (cursor.now.column + 1) }
 {
     u16::from(cursor.width) <= u16::from(cursor.column) + 1
 }
 
-/// Whether the window scrolls where a byte is put so.
+/// Returns whether the window scrolls when a byte is put unmasked.
 pub(crate) fn scrolls(byte: u8, cursor: &Cursor) -> bool
     ensures moved { (memory : Memory) → IsCursor cursor.now memory
         → moved_by byte memory ≡ (if result then window_cells (window_by cursor.now) else []) }
@@ -98,7 +98,7 @@ pub(crate) fn scrolls(byte: u8, cursor: &Cursor) -> bool
     }
 }
 
-// The cursor goes down, if it can.
+// Moves the cursor down, if possible.
 fn down(cursor: Cursor) -> Cursor
     requires { IsOnScreen cursor }
     ensures cursor { (memory : Memory) → IsCursor cursor memory → IsCursor result (after_line_feed memory) }
@@ -114,7 +114,7 @@ fn down(cursor: Cursor) -> Cursor
     }
 }
 
-// It goes to the window's left edge, wherever it was, and down.
+// Moves the cursor to the window's left edge, wherever it was, and down.
 fn down_left(cursor: Cursor) -> Cursor
     requires { IsOnScreen cursor }
     ensures cursor { (memory : Memory) (column : ℕ) → IsCursor (record cursor { column = column }) memory
@@ -127,7 +127,7 @@ fn down_left(cursor: Cursor) -> Cursor
     })
 }
 
-// It goes back.
+// Moves the cursor back.
 fn back(cursor: Cursor) -> Cursor
     requires { IsOnScreen cursor }
     ensures cursor { (memory : Memory) → IsCursor cursor memory → IsCursor result (after_backspace memory) }
@@ -151,7 +151,7 @@ fn back(cursor: Cursor) -> Cursor
     }
 }
 
-// It goes on behind a character.
+// Moves the cursor forwards past a character.
 fn on(cursor: Cursor, byte: u8) -> Cursor
     requires { IsOnScreen cursor }
     ensures cursor { (memory : Memory) → IsCursor cursor memory → IsCursor result (after_character byte memory) }
@@ -167,7 +167,7 @@ fn on(cursor: Cursor, byte: u8) -> Cursor
     }
 }
 
-/// Where window and cursor are behind a byte that is put so.
+/// Returns the window and the cursor after a byte was put unmasked.
 pub(crate) fn behind(byte: u8, cursor: Cursor) -> Cursor
     requires { IsOnScreen cursor }
     ensures cursor { (memory : Memory) → IsCursor cursor memory → IsCursor result (after_put_unmasked byte memory) }

@@ -1,4 +1,4 @@
-//! The states of inputs: how many there are, and registers and RAM as each has them.
+//! Enumerates the states of inputs: how many there are, and the registers and RAM of each.
 
 ghost use Rattle.std.specs.Prelude.{◌≡◌, ◌||◌, ℕ, Bool, map, IsTrue, IfSome};
 ghost use Rattle.a2_bus.specs.Memory.{Memory};
@@ -17,7 +17,7 @@ use a2_effect::Live;
 use a2_hex::RAM_END;
 use std::alloc::Global;
 
-/// How many states inputs have; none where they are 2^64 or more.
+/// Returns how many states the inputs have, or `None` if there are 2^64 or more.
 pub(crate) fn count_states(inputs: &[Input]) -> Option<u64>
     ensures { IfSome result (λ states. states ≡ states_of (map values_of inputs.now)) }
 {
@@ -28,7 +28,8 @@ pub(crate) fn count_states(inputs: &[Input]) -> Option<u64>
     Some(states)
 }
 
-/// Gives the input a value if it is a register or a flag, which is set by an odd one; a byte of RAM stays as it is.
+/// Sets an input that is a register or a flag to a value; an odd value sets a flag. For a byte of RAM nothing
+/// changes.
 pub fn put_register(input: Input, value: u8, live: &mut Live)
     ensures { (memory : Memory) → live_registers live.new
         ≡ (with_value input value (record { registers = live_registers live.old; memory = memory; cycles = 0 })).registers }
@@ -47,7 +48,7 @@ pub fn put_register(input: Input, value: u8, live: &mut Live)
     }
 }
 
-// Gives an input a value; false where it is a byte that is not in RAM.
+// Sets an input to a value. Returns false if it is a byte outside RAM.
 fn put_value(input: Input, value: u8, regs: &mut Regs, space: &mut AddressSpace<Global>) -> bool
     ensures world { IsTrue result → world_of (registers_of regs.new) space.new 0
         ≡ with_value input value (world_of (registers_of regs.old) space.old 0) }
@@ -66,7 +67,7 @@ fn put_value(input: Input, value: u8, regs: &mut Regs, space: &mut AddressSpace<
     true
 }
 
-/// Gives inputs the values of the state of a number; false where one is a byte that is not in RAM.
+/// Sets inputs to their values in the state with a given number. Returns false if one of them is a byte outside RAM.
 pub(crate) fn put_state(
     inputs: &[Input],
     number: u64,
@@ -85,7 +86,7 @@ pub(crate) fn put_state(
         && put_value(*input, (number % values) as u8, regs, space)
 }
 
-// Makes the byte that an input is what it is in another RAM.
+// Copies the byte of an input from another RAM.
 fn put_back_input(input: Input, space: &mut AddressSpace<Global>, other: &AddressSpace<Global>)
     ensures { (there : ℕ → Bool) → IsBut (λ a. is_byte a input || there a) space.old other.now → IsBut there space.new other.now }
 {
@@ -95,7 +96,7 @@ fn put_back_input(input: Input, space: &mut AddressSpace<Global>, other: &Addres
     }
 }
 
-/// Makes the bytes that inputs are what they are in another RAM.
+/// Copies the bytes of all inputs from another RAM.
 pub(crate) fn put_back_inputs(
     inputs: &[Input],
     space: &mut AddressSpace<Global>,

@@ -1,4 +1,4 @@
-//! Whether a promise is kept in every state of its inputs, and so in every world.
+//! Decides whether a promise is kept in every state of its inputs, and so in every world.
 
 ghost use Rattle.std.specs.Prelude.{◌≡◌, ◌||◌, ◌&&◌, not, ◌<◌, ℕ, [], is_some, IsTrue, IfOk};
 ghost use Rattle.std.specs.List.{list_all, list_any};
@@ -28,7 +28,7 @@ use a2_hex::{Image, RAM_END};
 use a2_promise::Promise;
 use std::alloc::{AllocError, Global};
 
-// Whether keyboard and switches are as at the start.
+// Returns whether the keyboard and the switches are as at the start.
 fn are_devices_first(space: &mut AddressSpace<Global>) -> bool
     ensures first { IsTrue result → space.old.devices ≡ first_devices [] }
     ensures kept { space.new ≡ space.old }
@@ -40,7 +40,8 @@ fn are_devices_first(space: &mut AddressSpace<Global>) -> bool
     space.waiting().is_empty() && space.read(KBD) == 0
 }
 
-// Whether it is so of the state of a number; then all is as before.
+// Returns whether the promise is kept in the state with a given number. If so, everything is put back as it was
+// before.
 fn is_state_tried(
     setup: &Setup,
     number: u64,
@@ -57,7 +58,7 @@ fn is_state_tried(
     if !enter(setup, number, before, walk, stored) || !is_tried(setup, before, walk, stored) {
         return false;
     }
-    // No step touches a device, for none reads or stores above RAM: the prover is shown it here.
+    // No step touches a device, because none reads or stores above RAM. This test shows that to the prover.
     if !are_devices_first(&mut walk.space) {
         return false;
     }
@@ -66,7 +67,7 @@ fn is_state_tried(
     true
 }
 
-// Whether it is so of each number below one.
+// Returns whether the promise is kept in every state with a number below `states`.
 fn are_tried(
     setup: &Setup,
     states: u64,
@@ -87,7 +88,7 @@ fn are_tried(
     true
 }
 
-// Whether an input may be varied: it is a register, a flag, or a byte of RAM that is none of the stack's page.
+// Returns whether an input may be varied: it is a register, a flag, or a byte of RAM outside the stack's page.
 fn is_free(input: Input) -> bool
     ensures { result ≡ may_vary input }
 {
@@ -97,21 +98,22 @@ fn is_free(input: Input) -> bool
     }
 }
 
-// Whether all of these may.
+// Returns whether all inputs may be varied.
 fn are_free(inputs: &[Input]) -> bool
     ensures { result ≡ list_all may_vary inputs.now }
 {
     inputs.iter().all(|input| is_free(*input))
 }
 
-// Whether the byte at an address is known at the entry: it is an input or one of the program, and none of the stack's page.
+// Returns whether the byte at an address is known at the entry. It must be an input or a byte of the program, and
+// outside the stack's page.
 fn is_known_at(image: &Image<Global>, inputs: &[Input], address: u16) -> bool
     ensures { result ≡ ((list_any (is_byte address) inputs.now || is_some (held image.now address)) && not (in_stack address)) }
 {
     (is_named(inputs, address) || image.get(address).is_some()) && !is_in_stack(address)
 }
 
-// The addresses of RAM at which it is, marked.
+// Returns a mark for each address of RAM, set if the byte there is known at the entry.
 fn known_at(alloc: Global, image: &Image<Global>, inputs: &[Input]) -> Result<Vec<bool>, AllocError>
     ensures { IfOk result (λ known. AreLaid
         (λ a. (list_any (is_byte a) inputs.now || is_some (held image.now a)) && not (in_stack a)) known.items ram_end) }
@@ -123,7 +125,7 @@ fn known_at(alloc: Global, image: &Image<Global>, inputs: &[Input]) -> Result<Ve
     Ok(known)
 }
 
-// Lets the register or the flag that an input is be known.
+// Marks the register or flag of an input as known.
 #[tactic(auto, using(crate::proofs::Knowing::part_added, crate::proofs::Knowing::no_part_added))]
 fn know(input: Input, parts: &mut KnownParts)
     ensures { (part : DeclaredPart) → knows_part parts.new part ≡ (holds_part input part || knows_part parts.old part) }
@@ -134,7 +136,7 @@ fn know(input: Input, parts: &mut KnownParts)
     }
 }
 
-// The registers and flags that are known at the entry.
+// Returns the registers and flags that are known at the entry.
 #[tactic(auto, using(crate::proofs::Knowing::none_known))]
 fn parts_at(inputs: &[Input]) -> KnownParts
     ensures { (part : DeclaredPart) → knows_part result part ≡ (has_part inputs.now part || knows_part no_parts part) }
@@ -146,13 +148,24 @@ fn parts_at(inputs: &[Input]) -> KnownParts
     parts
 }
 
-/// Whether a promise of a program is kept within so many steps in every state of these inputs that is as it requires, where
-/// neither the routine nor the promise looks at any other byte, register or flag but those of the program and D, which is clear,
-/// nor at the stack but by S. Then it is kept in every world in which the routine is entered so, wherever S points. An input that
-/// is a byte has that value alone which an equation says that is required, `$20 = 0` or `word $36 = #$FDF0`. False says nothing:
-/// also where a service needs a key, a window scrolls whose cells are not known, a byte is stored at that the promise does not
-/// let change and put back, more than 126 bytes of the stack are used, or something is looked at that is never used. Refused only
-/// for want of memory.
+/// Returns whether a promise of a program is kept within `most` steps in every state of these inputs that meets its
+/// requirements.
+///
+/// Neither the routine nor the promise may depend on anything else, except the program's bytes and D, which is clear.
+/// The stack may be used only through S. If all this holds, the promise is kept in every world in which the routine
+/// is entered in such a state, wherever S points.
+///
+/// If a requirement is an equation that fixes the byte of an input, as in `$20 = 0` or `word $36 = #$FDF0`, only that
+/// value is tried.
+///
+/// The answer false is inconclusive. It is also given in these cases:
+/// - a service needs a key;
+/// - a window scrolls whose cells are not known;
+/// - a byte is stored that the promise does not let change, even if it is put back;
+/// - more than 126 bytes of the stack are used;
+/// - something unknown is read, even if it is never used.
+///
+/// Fails only if memory is short.
 pub fn holds_in_every_state(
     alloc: Global,
     image: &Image<Global>,
@@ -167,7 +180,7 @@ pub fn holds_in_every_state(
     if !are_free(inputs) {
         return Ok(false);
     }
-    // For the prover, which learns from it that a program lies in RAM.
+    // Only for the prover, which learns from it that a program is in RAM.
     let _first = image.get(0);
     let mut base = AddressSpace::new(alloc)?;
     base.load(image);

@@ -1,4 +1,4 @@
-//! Inputs: what the state at a routine's entry consists of, as far as it is varied.
+//! Inputs: the parts of the state at a routine's entry that are varied.
 
 ghost use Rattle.std.specs.Prelude.{◌≡◌, ◌≤◌, false, MatchOption};
 ghost use Rattle.std.specs.List.{list_any};
@@ -8,7 +8,7 @@ ghost use Rattle.a2_promise_certify.specs.States.{holds_part, is_byte, values_of
 
 use a2_footprint::Part;
 
-/// What a state has at the entry: a register, a flag, or a byte of RAM.
+/// A part of the state at the entry: a register, a flag, or a byte of RAM.
 #[derive(Clone, Copy, PartialEq, Eq)]
 pub enum Input {
     A,
@@ -23,7 +23,7 @@ pub enum Input {
 }
 
 impl Input {
-    /// How many values it has.
+    /// Returns how many values the input has.
     pub fn values(self) -> u64
         ensures is { result ≡ values_of self }
         ensures least { 2 ≤ result }
@@ -35,7 +35,7 @@ impl Input {
         }
     }
 
-    /// The part of the registers that it is; none where it is a byte.
+    /// Returns the register or flag that the input is, or `None` if it is a byte of RAM.
     pub fn part(self) -> Option<Part>
         ensures { MatchOption result ((part : DeclaredPart) → holds_part self part ≡ false)
             (λ found. (part : DeclaredPart) → holds_part self part ≡ is_part part found) }
@@ -53,7 +53,7 @@ impl Input {
         }
     }
 
-    /// That of a part of the registers; none of D, which is clear at the entry.
+    /// Returns the input for a register or flag, or `None` for D, which is clear at the entry.
     pub fn of(part: Part) -> Option<Input> {
         match part {
             Part::A => Some(Input::A),
@@ -69,7 +69,7 @@ impl Input {
     }
 }
 
-// Whether an input is the byte at an address.
+// Returns whether an input is the byte at an address.
 fn is_at(input: Input, address: u16) -> bool
     ensures { result ≡ is_byte address input }
 {
@@ -79,7 +79,7 @@ fn is_at(input: Input, address: u16) -> bool
     }
 }
 
-/// Whether one of these inputs is the byte at an address.
+/// Returns whether one of these inputs is the byte at an address.
 pub(crate) fn is_named(inputs: &[Input], address: u16) -> bool
     ensures { result ≡ list_any (is_byte address) inputs.now }
 {

@@ -1,4 +1,4 @@
-//! Registers and flags that are known where a routine stands.
+//! Records which registers and flags are known at a point of a routine.
 
 ghost use Rattle.std.specs.Prelude.{◌≡◌};
 ghost use Rattle.std.specs.List.{list_all};
@@ -23,7 +23,7 @@ pub struct KnownParts {
 }
 
 impl KnownParts {
-    /// None but D, which is clear at the entry.
+    /// Nothing is known except D, which is clear at the entry.
     pub fn none() -> KnownParts
         ensures { result ≡ Rattle.a2_promise_certify.specs.Walking.no_parts }
     {
@@ -40,7 +40,7 @@ impl KnownParts {
         }
     }
 
-    /// Whether one is known.
+    /// Returns whether a register or flag is known.
     pub fn has(&self, part: Part) -> bool
         ensures { result ≡ knows_part self.now part }
     {
@@ -57,14 +57,14 @@ impl KnownParts {
         }
     }
 
-    /// Whether all of these are.
+    /// Returns whether all of these are known.
     pub fn have(&self, parts: &[Part]) -> bool
         ensures { result ≡ list_all (knows_part self.now) parts.now }
     {
         parts.iter().all(|part| self.has(*part))
     }
 
-    /// Lets one be known.
+    /// Marks a register or flag as known.
     pub fn add(&mut self, part: Part)
         ensures { self.new ≡ with_part part self.old }
     {
@@ -81,7 +81,7 @@ impl KnownParts {
         }
     }
 
-    /// Lets all of these be known.
+    /// Marks all of these as known.
     pub fn learn(&mut self, parts: &[Part])
         ensures { (part : DeclaredPart) → knows_part self.new part ≡ with_parts parts.now (knows_part self.old) part }
     {

@@ -1,6 +1,6 @@
 //! Shows, by finitely many states, that a routine keeps its promise in every world in which it is entered.
 //!
-//! How it is called is shown in CALLING.md.
+//! CALLING.md shows how to call this crate.
 #![tactic(auto)]
 
 mod allowed;

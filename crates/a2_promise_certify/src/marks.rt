@@ -10,7 +10,7 @@ use crate::stored::Stored;
 use a2_bus::locations::LAST_RETURN;
 use a2_promise::Changes;
 
-/// Whether an address is marked, in marks from address 0 on; none behind their end is.
+/// Returns whether an address is marked. Marks start at address 0, and no address after their end is marked.
 pub fn is_set(marks: &[bool], address: u16) -> bool
     ensures { result ≡ walking.is_set marks.now address }
 {
@@ -20,21 +20,21 @@ pub fn is_set(marks: &[bool], address: u16) -> bool
     }
 }
 
-/// Whether what an address holds is known: at the entry, or since it was stored.
+/// Returns whether the byte at an address is known: at the entry, or because it was stored since.
 pub(crate) fn is_known(known: &[bool], stored: &[bool], address: u16) -> bool
     ensures { result ≡ known_now known.now stored.now address }
 {
     is_set(stored, address) || is_set(known, address)
 }
 
-/// Whether it is where a routine stands that stored so.
+/// Returns whether the byte at an address is known at a point of a routine that made these stores.
 pub(crate) fn is_known_now(known: &[bool], stored: &Stored, address: u16) -> bool
     ensures { result ≡ known_now known.now stored.now address }
 {
     is_known(known, stored.marks(), address)
 }
 
-/// Whether what all of these hold is.
+/// Returns whether the bytes at all of these addresses are known.
 pub(crate) fn are_known(known: &[bool], stored: &Stored, addresses: &[u16]) -> bool
     ensures { result ≡ list_all (known_now known.now stored.now) addresses.now }
 {
@@ -43,8 +43,8 @@ pub(crate) fn are_known(known: &[bool], stored: &Stored, addresses: &[u16]) -> b
         .all(|address| is_known_now(known, stored, *address))
 }
 
-/// Marks an address at which the routine stores; false where it may not, or the address is not in RAM or holds the return
-/// address.
+/// Marks an address at which the routine stores. Returns false if it may not store there, if the address is not in
+/// RAM, or if it holds the return address.
 pub(crate) fn mark(stored: &mut Stored, changes: &Changes, address: u16) -> bool
     ensures { IsTrue result → AreMarked stored.old stored.new changes.now (address ∷ []) }
 {

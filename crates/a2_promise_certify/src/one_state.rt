@@ -1,4 +1,5 @@
-//! Whether a promise is kept in one state, where neither the routine nor the promise looks at anything that is not known.
+//! Decides whether a promise is kept in one state, and whether the routine and the promise depend only on what is
+//! known.
 
 ghost use Rattle.std.specs.Prelude.{◌≡◌, ◌⊎◌, false, [], length, IsTrue, IfSome};
 ghost use Rattle.a2_bus.specs.Memory.{ram_end};
@@ -30,18 +31,18 @@ use std::alloc::Global;
 /// How a promise is tried: the states in which its routine is entered, and what is known in each of them.
 #[derive(Clone, Copy)]
 pub struct Setup<'a> {
-    /// The bytes of RAM that are known at the entry, by marks from address 0 on, and the registers and flags.
+    /// The bytes of RAM that are known at the entry, as marks from address 0 on, and the known registers and flags.
     pub known: &'a [bool],
     pub parts: KnownParts,
     pub promise: &'a Promise<'a>,
-    /// The steps that are enough, with the RTS.
+    /// The largest number of steps, including the RTS.
     pub most: u32,
-    /// RAM as the program and settled bytes are laid, and the inputs that are given each of their values.
+    /// RAM with the program and the settled bytes, and the inputs that take each of their values.
     pub base: &'a AddressSpace<Global>,
     pub inputs: &'a [Input],
 }
 
-// What promises see of the state before a routine, and what is known of it.
+// Returns the state before a routine as promises see it, with what is known of it.
 fn view_of_entry<'k, 's>(
     setup: &Setup<'k>,
     regs: &Regs,
@@ -62,7 +63,7 @@ fn view_of_entry<'k, 's>(
     }
 }
 
-/// Makes this the state of a number, before and on its way; false where an input is a byte that is not in RAM.
+/// Sets `before` and `walk` to the state with a given number. Returns false if an input is a byte outside RAM.
 pub(crate) fn enter(
     setup: &Setup,
     number: u64,
@@ -85,7 +86,8 @@ pub(crate) fn enter(
     true
 }
 
-// Whether a register that may not be other than before is not known behind a routine, or was known and is the same.
+// Returns whether a register is kept. It may change, or it is not known after the routine, or it was known before and
+// is equal.
 fn is_register_kept(
     part: Part,
     may: bool,
@@ -100,7 +102,7 @@ fn is_register_kept(
     may || !parts_behind.has(part) || parts.has(part) && before == behind
 }
 
-// Whether it is so of each.
+// Returns whether every register is kept.
 fn are_registers_kept(
     changes: &Changes,
     parts: &KnownParts,
@@ -119,7 +121,7 @@ fn are_registers_kept(
     is_register_kept(Part::Y, changes.y, parts, parts_behind, before.y, behind.y)
 }
 
-// Makes a step, and answers the cycles since the entry; none where it is not made, or PC is not in RAM.
+// Executes a step and returns the cycles since the entry, or `None` if it is not executed or PC is not in RAM.
 fn step_out(walk: &mut Walk) -> Option<u32>
     ensures made { IfSome result (λ cycles. world_of (registers_of walk.new.regs) walk.new.space cycles
         ≡ next code (world_of (registers_of walk.old.regs) walk.old.space walk.old.cycles)) }
@@ -134,7 +136,7 @@ fn step_out(walk: &mut Walk) -> Option<u32>
     Some(walk.cycles)
 }
 
-// Whether a promise is kept of the state before a routine, which is as it requires.
+// Returns whether a promise is kept, given a state before the routine that meets its requirements.
 fn is_kept(
     setup: &Setup,
     before: &AddressSpace<Global>,
@@ -171,12 +173,17 @@ fn is_kept(
     look_at_known(promised, &entry, &exit) && all_hold(promised, &entry.sight, &exit.sight)
 }
 
-/// Whether a promise is kept in the state before a routine, where S is $FD and no cycle and no store is counted, if that is as
-/// the promise requires: neither the routine nor the promise looks at what is not known, the routine comes to the RTS of its own
-/// within the steps that are enough, and stores only at what `changes` names or in the stack below its return address, what is
-/// promised holds behind the RTS, and a register that `changes` does not name is not set, or was known and is the same. False
-/// says nothing: also where a service needs a key, or a byte is stored at that is put back. Behind it each byte of RAM is as
-/// before that is not marked as stored at.
+/// Returns whether a promise is kept in the state before a routine, if that state meets its requirements.
+///
+/// In that state S is $FD, and no cycle and no store is counted yet. The promise counts as kept if all of these hold:
+/// - neither the routine nor the promise depends on anything that is not known;
+/// - the routine reaches its own RTS within the largest number of steps;
+/// - it stores only at bytes that `changes` names, or in the stack below its return address;
+/// - what is promised holds after the RTS;
+/// - a register that `changes` does not name is not set, or it was known and is equal afterwards.
+///
+/// The answer false is inconclusive. It is also given if a service needs a key, or if a byte is stored and put back.
+/// Afterwards each byte of RAM that is not marked as stored is unchanged.
 pub fn is_tried(
     setup: &Setup,
     before: &AddressSpace<Global>,

@@ -1,5 +1,5 @@
-//! What the Monitor's services look at and set of the registers, and whether the bytes that they read are known. Apple II
-//! Reference Manual (1979), chapter 3.
+//! Describes which registers the Monitor's services depend on and set, and decides whether the bytes that they read
+//! are known. Apple II Reference Manual (1979), chapter 3.
 
 ghost use Rattle.std.specs.Prelude.{◌≡◌, ◌<◌, ◌+◌, ◌∷◌, ◌++◌, ℕ, IsTrue, map};
 ghost use Rattle.a2_page.specs.Cells.{numbers_from};
@@ -28,7 +28,7 @@ use a2_services::bytes::digit_byte;
 use a2_services::{Needs, OnScreen, RegisterSet, Service, Takes, load, masked, row_of};
 use std::alloc::Global;
 
-// The registers of a set.
+// Returns the registers of a set.
 fn parts_in(registers: RegisterSet) -> &'static [Part]
     ensures { result.now ≡ parts_by registers }
 {
@@ -40,28 +40,28 @@ fn parts_in(registers: RegisterSet) -> &'static [Part]
     }
 }
 
-/// The registers that a service looks at.
+/// Returns the registers that a service depends on.
 pub fn registers_read_by(service: Service) -> &'static [Part]
     ensures { result.now ≡ service_needs service }
 {
     parts_in(row_of(service).looks_at)
 }
 
-/// The registers that a service sets.
+/// Returns the registers that a service sets.
 pub fn registers_set_by(service: Service) -> &'static [Part]
     ensures { result.now ≡ service_sets service }
 {
     parts_in(row_of(service).sets)
 }
 
-/// Whether a service needs no key.
+/// Returns whether a service needs no key.
 pub(crate) fn is_keyless(service: Service) -> bool
     ensures { result ≡ is_keyless_by service }
 {
     !matches!(row_of(service).needs, Needs::Key | Needs::Line)
 }
 
-// The two bytes that say where a service goes on.
+// Returns the addresses of the two bytes that say where execution continues after a service.
 fn way_of(service: Service, s: u8) -> [u16; 2]
     ensures { result ≡ way_bytes service s }
 {
@@ -72,7 +72,7 @@ fn way_of(service: Service, s: u8) -> [u16; 2]
     }
 }
 
-// The bytes that say whether a service with these needs fits.
+// Returns the addresses of the bytes that decide whether a service's needs are met.
 fn fit_of(needs: Needs) -> &'static [u16]
     ensures { result.now ≡ fit_bytes needs }
 {
@@ -85,7 +85,7 @@ fn fit_of(needs: Needs) -> &'static [u16]
     }
 }
 
-// Whether so many bytes are known, from an address on.
+// Returns whether `count` bytes from an address on are known.
 fn are_cells_known(known: &[bool], stored: &Stored, first: u16, count: u16) -> bool
     requires { first + count < 0x10000 }
     ensures { IsTrue result → Knows (known_now known.now stored.now) (numbers_from first count) }
@@ -98,7 +98,7 @@ fn are_cells_known(known: &[bool], stored: &Stored, first: u16, count: u16) -> b
     true
 }
 
-// Whether the cells of the window are.
+// Returns whether the cells of the window are known.
 fn is_window_known(known: &[bool], stored: &Stored, cursor: &Cursor) -> bool
     requires { IsOnScreen cursor.now }
     ensures { IsTrue result → Knows (known_now known.now stored.now) (window_cells (window_by cursor.now)) }
@@ -112,14 +112,14 @@ fn is_window_known(known: &[bool], stored: &Stored, cursor: &Cursor) -> bool
     true
 }
 
-// Whether the cell of a block is.
+// Returns whether the cell of a block is known.
 fn is_block_known(known: &[bool], stored: &Stored, row: u8, column: u8) -> bool
     ensures { IsTrue result → IsTrue (known_now known.now stored.now (block_cell row column)) }
 {
     row < 48 && column < 40 && is_known_now(known, stored, address(Page::One, row / 2, column))
 }
 
-// Whether the cells are of the blocks of a row, from a column on.
+// Returns whether the cells of a row's blocks are known, from a column on.
 fn are_known_across(known: &[bool], stored: &Stored, row: u8, first: u8, last: u8) -> bool
     ensures { IsTrue result → Knows (known_now known.now stored.now)
         (map (λ column. block_cell row column) (span_of first last)) }
@@ -136,7 +136,7 @@ fn are_known_across(known: &[bool], stored: &Stored, row: u8, first: u8, last: u
     true
 }
 
-// Whether the cells are of the blocks of a column, from a row on.
+// Returns whether the cells of a column's blocks are known, from a row on.
 fn are_known_down(known: &[bool], stored: &Stored, first: u8, last: u8, column: u8) -> bool
     ensures { IsTrue result → Knows (known_now known.now stored.now) (map (λ row. block_cell row column) (span_of first last)) }
 {
@@ -152,7 +152,7 @@ fn are_known_down(known: &[bool], stored: &Stored, first: u8, last: u8, column: 
     true
 }
 
-// Whether the cells are known that a byte moves, which is put as it is.
+// Returns whether the cells that move when a byte is put unmasked are known.
 fn are_moved_known(known: &[bool], stored: &Stored, byte: u8, cursor: &Cursor) -> bool
     requires { IsOnScreen cursor.now }
     ensures { IsTrue result → (memory : Memory) → IsCursor cursor.now memory
@@ -161,7 +161,7 @@ fn are_moved_known(known: &[bool], stored: &Stored, byte: u8, cursor: &Cursor) -
     !scrolls(byte, cursor) || is_window_known(known, stored, cursor)
 }
 
-// Whether the mask is, and the cells that a byte moves.
+// Returns whether the mask is known, and the cells that move when a byte is put.
 fn is_put_known(known: &[bool], stored: &Stored, byte: u8, space: &AddressSpace<Global>) -> bool
     ensures { IsTrue result → Knows (known_now known.now stored.now) (at.invflg ∷ put_moves byte (memory_of space.now)) }
 {
@@ -172,7 +172,7 @@ fn is_put_known(known: &[bool], stored: &Stored, byte: u8, space: &AddressSpace<
         && are_moved_known(known, stored, byte, &cursor)
 }
 
-// Whether they are where one byte is put behind another.
+// Returns whether the mask and the moved cells are known when two bytes are put one after the other.
 fn are_both_known(
     known: &[bool],
     stored: &Stored,
@@ -195,7 +195,7 @@ fn are_both_known(
     are_moved_known(known, stored, next, &behind(put, cursor))
 }
 
-// Whether all is known of which a service makes what it stores, by what it does on the screen.
+// Returns whether everything is known from which a service computes what it stores, given what it does on the screen.
 fn is_used_known(
     on_screen: OnScreen,
     known: &[bool],
@@ -227,7 +227,8 @@ fn is_used_known(
     }
 }
 
-/// Whether all that a service reads is known: where it goes on, whether it fits, and of what it makes what it stores.
+/// Returns whether everything that a service reads is known. This is where execution continues, whether its needs are
+/// met, and what its stored bytes are computed from.
 pub(crate) fn is_all_known(
     service: Service,
     known: &[bool],

@@ -1,7 +1,7 @@
-//! Where a service stores, marked.
+//! Marks where a service stores.
 //!
-//! Each function here marks what it says, and answers false where the routine may not store at one of the addresses, or it is not
-//! in RAM or holds the return address.
+//! Each function here marks the addresses that it names. It returns false if the routine may not store at one of
+//! them, or if one is not in RAM or holds the return address.
 
 ghost use Rattle.std.specs.Prelude.{◌≡◌, ◌<◌, ◌≤◌, ◌+◌, ℕ, [], ◌∷◌, ◌++◌, map, IfSome, IsTrue};
 ghost use Rattle.a2_page.specs.Cells.{numbers_from};
@@ -38,7 +38,7 @@ const WHOLE_SCREEN: Cursor = Cursor {
     column: 0,
 };
 
-/// Marks each of these.
+/// Marks each of these addresses.
 pub(crate) fn mark_each(stored: &mut Stored, changes: &Changes, addresses: &[u16]) -> bool
     ensures { IsTrue result → AreMarked stored.old stored.new changes.now addresses.now }
 {
@@ -48,7 +48,7 @@ pub(crate) fn mark_each(stored: &mut Stored, changes: &Changes, addresses: &[u16
     mark(stored, changes, *first) && mark_each(stored, changes, rest)
 }
 
-// So many cells of a row, from an address on.
+// Marks `count` cells of a row, from an address on.
 fn mark_cells(stored: &mut Stored, changes: &Changes, first: u16, count: u8) -> bool
     requires { first + count < 0x10000 }
     ensures { IsTrue result → AreMarked stored.old stored.new changes.now (numbers_from first count) }
@@ -61,7 +61,7 @@ fn mark_cells(stored: &mut Stored, changes: &Changes, first: u16, count: u8) -> 
     true
 }
 
-// The cells of a window, row by row.
+// Marks the cells of a window, row by row.
 fn mark_window(stored: &mut Stored, changes: &Changes, window: &Cursor) -> bool
     requires left { window.now.left < 40 }
     requires right { window.now.left + window.now.width ≤ 40 }
@@ -77,14 +77,14 @@ fn mark_window(stored: &mut Stored, changes: &Changes, window: &Cursor) -> bool
     true
 }
 
-// The cell of a block; false too where that is not on the screen.
+// Marks the cell of a block; also returns false if the block is not on the screen.
 fn mark_block(stored: &mut Stored, changes: &Changes, row: u8, column: u8) -> bool
     ensures { IsTrue result → AreMarked stored.old stored.new changes.now (block_cell row column ∷ []) }
 {
     row < 48 && column < 40 && mark(stored, changes, address(Page::One, row / 2, column))
 }
 
-// Those of the blocks of a row, from a column on.
+// Marks the cells of a row's blocks, from a column on.
 fn mark_blocks_across(stored: &mut Stored, changes: &Changes, row: u8, first: u8, last: u8) -> bool
     ensures { IsTrue result → AreMarked stored.old stored.new changes.now (map (λ column. block_cell row column) (span_of first last)) }
 {
@@ -95,7 +95,7 @@ fn mark_blocks_across(stored: &mut Stored, changes: &Changes, row: u8, first: u8
     mark_cells(stored, changes, cell, last.saturating_sub(first) + 1)
 }
 
-// Those of a column, from a row on.
+// Marks the cells of a column's blocks, from a row on.
 fn mark_blocks_down(stored: &mut Stored, changes: &Changes, first: u8, last: u8, column: u8) -> bool
     ensures { IsTrue result → AreMarked stored.old stored.new changes.now (map (λ row. block_cell row column) (span_of first last)) }
 {
@@ -110,7 +110,7 @@ fn mark_blocks_down(stored: &mut Stored, changes: &Changes, first: u8, last: u8,
     true
 }
 
-// The cells that a byte changes, once it is masked.
+// Marks the cells that change when a masked byte is put.
 fn mark_put(stored: &mut Stored, changes: &Changes, byte: u8, cursor: &Cursor) -> bool
     requires { IsOnScreen cursor.now }
     ensures { IsTrue result → (memory : Memory) → IsCursor cursor.now memory
@@ -123,7 +123,7 @@ fn mark_put(stored: &mut Stored, changes: &Changes, byte: u8, cursor: &Cursor) -
     !scrolls(byte, cursor) || mark_window(stored, changes, cursor)
 }
 
-// The cells from the cursor to the window's right edge.
+// Marks the cells from the cursor to the window's right edge.
 fn mark_to_end(stored: &mut Stored, changes: &Changes, cursor: &Cursor) -> bool
     requires { IsOnScreen cursor.now }
     ensures { IsTrue result → (memory : Memory) → IsCursor cursor.now memory
@@ -134,7 +134,7 @@ fn mark_to_end(stored: &mut Stored, changes: &Changes, cursor: &Cursor) -> bool
     mark_cells(stored, changes, first, count)
 }
 
-// The window and the cursor, if they lie on the screen.
+// Returns the window and the cursor, if they are on the screen.
 fn cursor_on_screen(space: &AddressSpace<Global>) -> Option<Cursor>
     ensures { IfSome result (λ cursor. IsCursor cursor (memory_of space.now) × IsOnScreen cursor) }
 {
@@ -146,7 +146,7 @@ fn cursor_on_screen(space: &AddressSpace<Global>) -> Option<Cursor>
     }
 }
 
-// From the cursor to the window's right edge, if it lies on the screen.
+// Marks the cells from the cursor to the window's right edge; false if the cursor is not on the screen.
 fn mark_row(stored: &mut Stored, changes: &Changes, space: &AddressSpace<Global>) -> bool
     ensures { IsTrue result → AreMarked stored.old stored.new changes.now (cells_to_end (memory_of space.now)) }
 {
@@ -156,7 +156,7 @@ fn mark_row(stored: &mut Stored, changes: &Changes, space: &AddressSpace<Global>
     }
 }
 
-// These, and the rows of the window below.
+// Marks the same cells, and the rows of the window below them.
 fn mark_below(stored: &mut Stored, changes: &Changes, space: &AddressSpace<Global>) -> bool
     ensures { IsTrue result → let memory = memory_of space.now in
         AreMarked stored.old stored.new changes.now (cells_to_end memory ++ cells_below memory) }
@@ -171,7 +171,7 @@ fn mark_below(stored: &mut Stored, changes: &Changes, space: &AddressSpace<Globa
     mark_to_end(stored, changes, &cursor) && mark_window(stored, changes, &below)
 }
 
-// The window's cells; false where it does not lie on the screen.
+// Marks the window's cells; false if the window is not on the screen.
 fn mark_whole_window(stored: &mut Stored, changes: &Changes, space: &AddressSpace<Global>) -> bool
     ensures { IsTrue result → AreMarked stored.old stored.new changes.now (window_cells (window_of (memory_of space.now))) }
 {
@@ -183,7 +183,7 @@ fn mark_whole_window(stored: &mut Stored, changes: &Changes, space: &AddressSpac
     is_on_screen(&window) && mark_window(stored, changes, &window)
 }
 
-// What putting a byte changes.
+// Marks what changes when a byte is put.
 fn mark_output(
     stored: &mut Stored,
     changes: &Changes,
@@ -199,7 +199,7 @@ fn mark_output(
     mark_put(stored, changes, byte, &cursor)
 }
 
-// What putting one byte and then another does.
+// Marks what changes when two bytes are put one after the other.
 fn mark_both(
     stored: &mut Stored,
     changes: &Changes,
@@ -219,7 +219,7 @@ fn mark_both(
     mark_output(stored, changes, first, space) && mark_put(stored, changes, next, &behind_first)
 }
 
-// The bytes of a reach at which a service with that reach stores, but for the cells of the screen.
+// Returns the bytes at which a service with this reach stores, except the cells of the screen.
 fn bytes_set(reach: Reach) -> &'static [u16]
     ensures { result.now ≡ bytes_set_by reach }
 {
@@ -233,7 +233,7 @@ fn bytes_set(reach: Reach) -> &'static [u16]
     }
 }
 
-// The cells that a service changes, by what it does on the screen.
+// Marks the cells that a service changes, given what it does on the screen.
 fn mark_changed(
     on_screen: OnScreen,
     stored: &mut Stored,

@@ -1,4 +1,4 @@
-//! Bytes that are settled by what a promise requires: an equation says what they are.
+//! Finds bytes that are settled: an equation among the promise's requirements fixes their value.
 
 ghost use Rattle.std.specs.Prelude.{◌≡◌, pos, Some, slice_get, IfOk, IfSome, IsTrue};
 ghost use Rattle.a2_promise.specs.Values.{Moment, made, operated_on, value_of};
@@ -15,7 +15,7 @@ use a2_hex::RAM_END;
 use a2_promise::{Clause, Expr, Function, Operation};
 use std::alloc::{AllocError, Global};
 
-/// The number that an expression is as it stands; none of any other expression.
+/// Returns the number that an expression is written as, or `None` for any other expression.
 pub fn number_of(expr: &Expr) -> Option<i64>
     ensures { IfSome result (λ number. expr.now ≡ Number number) }
 {
@@ -25,7 +25,8 @@ pub fn number_of(expr: &Expr) -> Option<i64>
     }
 }
 
-// The byte at an address where a function of a place is a number; of a word, whose low byte is an input.
+// Returns the byte at an address that is fixed if a function of a place equals a number. For a word, its low byte
+// must be an input.
 fn settled_of(
     among: &[Input],
     function: Function,
@@ -50,7 +51,7 @@ fn settled_of(
     }
 }
 
-// The byte at an address where what stands at the left is the number at the right.
+// Returns the byte at an address that is fixed if the left side equals the number on the right side.
 fn settled_between(among: &[Input], left: &Expr, right: &Expr, address: u16) -> Option<u8>
     ensures { IfSome result (Settles (λ m. holds (operated_on Equal (value_of left.now m m no_names)
         (value_of right.now m m no_names)))
@@ -63,7 +64,7 @@ fn settled_between(among: &[Input], left: &Expr, right: &Expr, address: u16) -> 
     settled_of(among, *function, number_of(of)?, number, address)
 }
 
-// The byte at an address where an expression holds, that is an equation, or holds where an equation does.
+// Returns the byte at an address that is fixed if an expression holds. The expression is an equation, or implies one.
 fn settled_by(among: &[Input], expr: &Expr, address: u16) -> Option<u8>
     ensures { IfSome result (Settles (λ m. holds (value_of expr.now m m no_names)) among.now address) }
 {
@@ -74,7 +75,7 @@ fn settled_by(among: &[Input], expr: &Expr, address: u16) -> Option<u8>
                 None => settled_between(among, right, left, address),
             }
         }
-        // So both of two are written that have to hold.
+        // This is how the conjunction of two conditions is represented.
         Expr::Choice(by, one, other) => {
             if number_of(other)? != 0 {
                 return None;
@@ -88,8 +89,8 @@ fn settled_by(among: &[Input], expr: &Expr, address: u16) -> Option<u8>
     }
 }
 
-/// The byte at an address in every state in which clauses hold, as an equation among them says; none where none does. In these
-/// states a byte that is one of the inputs `among` is below 256.
+/// Returns the byte at an address in every state in which the clauses hold, if an equation among them fixes it,
+/// otherwise `None`. In these states a byte that is one of the inputs `among` is below 256.
 pub fn settled_byte(among: &[Input], clauses: &[Clause], address: u16) -> Option<u8>
     ensures { IfSome result (ClausesSettle clauses.now among.now address) }
 {
@@ -102,7 +103,7 @@ pub fn settled_byte(among: &[Input], clauses: &[Clause], address: u16) -> Option
     }
 }
 
-// Lays the byte that an input is over RAM, if clauses settle it.
+// Writes the byte of an input into RAM, if the clauses settle it.
 fn lay_settled(
     among: &[Input],
     clauses: &[Clause],
@@ -125,7 +126,7 @@ fn lay_settled(
     true
 }
 
-/// Lays the bytes over RAM that clauses settle of inputs; the other inputs, which are free.
+/// Writes the inputs' bytes that the clauses settle into RAM, and returns the other inputs, which are free.
 pub(crate) fn settle(
     alloc: Global,
     among: &[Input],

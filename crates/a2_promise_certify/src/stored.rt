@@ -1,4 +1,4 @@
-//! Where a routine stored, so that it can be taken back.
+//! Records where a routine stored, so that its stores can be undone.
 
 ghost use Rattle.std.specs.Prelude.{◌≡◌, ◌==◌, ◌||◌, ◌∷◌, ℕ, Bool, List, false, IsTrue, IfOk};
 ghost use Rattle.a2_text.specs.Bytes.{is_among};
@@ -10,14 +10,14 @@ use a2_hex::RAM_END;
 use std::alloc::{AllocError, Global};
 use std::marker::Model;
 
-/// The addresses of RAM at which a routine stored. Contracts see the marks of all addresses, from 0 on.
+/// The addresses of RAM at which a routine stored. Contracts see one mark for each address, from 0 on.
 pub struct Stored {
     marks: Vec<bool>,
-    // Those that are marked, each once.
+    // The marked addresses, each once.
     places: Vec<u16>,
 }
 
-// Not derived, for the prover alone: it follows this as one call, and a derived one field by field.
+// Not derived, only for the prover: it sees this as one call, but a derived `Drop` field by field.
 impl Drop for Stored {
     fn drop(self) {
         let Stored {
@@ -40,7 +40,7 @@ impl Model for Stored {
 }
 
 impl Stored {
-    /// None, with room for each address.
+    /// Creates a record with no address marked and with room for every address.
     pub fn new(alloc: Global) -> Result<Stored, AllocError>
         ensures { IfOk result (λ stored. (a : ℕ) → is_set stored a ≡ false) }
     {
@@ -50,19 +50,19 @@ impl Stored {
         })
     }
 
-    /// A mark for each address, from 0 on.
+    /// Returns a mark for each address, from 0 on.
     pub fn marks(&self) -> &[bool]
         ensures { result.now ≡ self.now }
     {
         self.marks.as_slice()
     }
 
-    /// The addresses that are marked, each once, in the order in which they were.
+    /// Returns the marked addresses, each once, in the order in which they were marked.
     pub fn places(&self) -> &[u16] {
         self.places.as_slice()
     }
 
-    /// Marks an address; false where it is not in RAM.
+    /// Marks an address. Returns false if it is not in RAM.
     pub fn mark(&mut self, address: u16) -> bool
         ensures { IsTrue result → (a : ℕ) → is_set self.new a ≡ ((address == a) || is_set self.old a) }
     {
@@ -78,12 +78,12 @@ impl Stored {
                 self.marks[place] = true;
                 true
             }
-            // That is not: each address stands there once, so there is room.
+            // This cannot happen: each address is listed at most once, so there is room.
             Err(_) => false,
         }
     }
 
-    /// Takes back what was stored, so that RAM is as it was before, and marks nothing.
+    /// Undoes the stores, so that RAM is as it was before, and clears all marks.
     pub fn take_back(&mut self, space: &mut AddressSpace<Global>, before: &AddressSpace<Global>)
         ensures space { IsBut (is_set self.old) space.old before.now → space.new ≡ before.now }
         ensures clear { (a : ℕ) → is_set self.new a ≡ false }
@@ -98,7 +98,7 @@ impl Stored {
     }
 }
 
-// Makes the bytes at these addresses what they were before, and clears their marks.
+// Restores the bytes at these addresses from before, and clears their marks.
 fn put_back_all(
     places: &[u16],
     marks: &mut [bool],
@@ -127,7 +127,7 @@ fn clear(marks: &mut [bool], address: u16)
     marks[place] = false;
 }
 
-/// Makes the byte at an address what it is in another RAM; nothing above RAM.
+/// Copies the byte at an address from another RAM; does nothing above RAM.
 pub(crate) fn put_back(address: u16, space: &mut AddressSpace<Global>, other: &AddressSpace<Global>)
     ensures { (there : ℕ → Bool) → IsBut (λ a. (address == a) || there a) space.old other.now → IsBut there space.new other.now }
 {

@@ -1,4 +1,4 @@
-//! A routine on its way to the RTS of its own, where it looks at nothing that is not known.
+//! Follows a routine to its own RTS, as long as it depends only on what is known.
 
 ghost use Rattle.std.specs.Prelude.{◌≡◌, ◌<◌, ◌-◌, ◌+◌, ◌&&◌, ℕ, false, true, ◌∷◌, IsTrue, IfSome};
 ghost use Rattle.std.specs.List.{list_all, list_any};
@@ -33,10 +33,10 @@ use a2_services::live::call;
 use a2_services::{Served, service_at};
 use std::alloc::Global;
 
-/// S where a routine is entered: the caller's return address is on top.
+/// S when a routine is entered: the caller's return address is on top.
 pub const ENTRY_S: u8 = 0xFD;
 
-// Whether the bytes of an instruction of this mode are.
+// Returns whether the bytes of an instruction with this mode are known.
 fn is_fetch_known(known: &[bool], stored: &Stored, pc: u16, mode: Mode) -> bool
     ensures { IsTrue result → Knows (known_now known.now stored.now) (pc ∷ addresses_from (pc + 1) (length_of mode - 1)) }
 {
@@ -46,7 +46,7 @@ fn is_fetch_known(known: &[bool], stored: &Stored, pc: u16, mode: Mode) -> bool
         && (length < 3 || is_known_now(known, stored, pc.wrapping_add(2)))
 }
 
-// The instruction at an address of RAM, if one stands there, and there are two bytes behind its first.
+// Returns the instruction at an address of RAM, if there is one and two more bytes follow its first.
 fn instr_at(pc: u16, space: &AddressSpace<Global>) -> Option<Instr>
     ensures { IfSome result (λ instr. StandsAt instr pc space.now.bytes) }
 {
@@ -56,7 +56,7 @@ fn instr_at(pc: u16, space: &AddressSpace<Global>) -> Option<Instr>
     decode(&[first, second, third], pc)
 }
 
-// Whether what an instruction reads beside its own bytes is known.
+// Returns whether what an instruction reads, apart from its own bytes, is known.
 fn are_reads_known(
     known: &[bool],
     stored: &Stored,
@@ -69,7 +69,8 @@ fn are_reads_known(
         && list_all (known_now known.now stored.now) (effect_reads (effect_of instr.mnemonic)
         (place_of board_access space.now (registers_of regs.now) instr.mode instr.value) (registers_of regs.now).s)) ≡ true }
 {
-    // No such instruction has a greater value: for the prover, whose clauses of an instruction do not say so.
+    // No such instruction has a larger value. This test is only for the prover, because the contract of an
+    // instruction does not say so.
     if matches!(instr.mode, Mode::IndirectIndexed) && instr.value > 255 {
         return false;
     }
@@ -78,7 +79,7 @@ fn are_reads_known(
         && are_known(known, stored, read.operand.as_slice())
 }
 
-// Whether the registers and flags that an instruction looks at are known.
+// Returns whether the registers and flags that an instruction depends on are known.
 fn are_parts_known(parts: &KnownParts, instr: Instr) -> bool
     ensures { result ≡ (list_all (knows_part parts.now) (parts_needed instr.mnemonic)
         && list_all (knows_part parts.now) (parts_of_mode instr.mode)) }
@@ -86,14 +87,15 @@ fn are_parts_known(parts: &KnownParts, instr: Instr) -> bool
     parts.have(needs(instr.mnemonic)) && parts.have(mode_needs(instr.mode))
 }
 
-// Whether none of the three bytes from an address on, which an instruction there has at most, is one of the stack's page.
+// Returns whether none of the three bytes from an address on, the most that an instruction has, is in the stack's
+// page.
 fn is_code_off_stack(pc: u16) -> bool
     ensures { IsTrue result → list_any in_stack (addresses_from pc 3) ≡ false }
 {
     !is_in_stack(pc) && !is_in_stack(pc.wrapping_add(1)) && !is_in_stack(pc.wrapping_add(2))
 }
 
-// A mnemonic that reads where this one reads or stores by its operand, and pulls nothing.
+// Returns a mnemonic that reads wherever this one reads or stores through its operand, and that pulls nothing.
 #[tactic(auto, unfolding(a2_effect::specs::Effect::effect_of))]
 fn as_read(mnemonic: Mnemonic) -> Mnemonic
     ensures { (place : Place) (s : ℕ) → effect_reads (effect_of result) place s ≡ operand_uses (effect_of mnemonic) place }
@@ -105,7 +107,7 @@ fn as_read(mnemonic: Mnemonic) -> Mnemonic
     }
 }
 
-// Whether an operand is none in memory, or lies in page 0, as its mode tells alone: most are so.
+// Returns whether the mode is enough to tell that an operand is not in memory or is in page 0, as most are.
 fn is_beside_stack(instr: Instr) -> bool
     ensures { result ≡ is_beside instr.mode instr.value }
 {
@@ -117,7 +119,8 @@ fn is_beside_stack(instr: Instr) -> bool
     }
 }
 
-// Whether an instruction uses the stack's page by S alone: it is no TSX and no TXS, and its operand lies elsewhere.
+// Returns whether an instruction uses the stack's page only through S: it is neither TSX nor TXS, and its operand is
+// elsewhere.
 fn is_off_stack(instr: Instr, regs: &Regs, space: &AddressSpace<Global>) -> bool
     ensures { IsTrue result → (moves_s instr.mnemonic ≡ false)
         × (list_any in_stack (pointer_reads instr.mode instr.value (registers_of regs.now)) ≡ false)
@@ -130,7 +133,7 @@ fn is_off_stack(instr: Instr, regs: &Regs, space: &AddressSpace<Global>) -> bool
     if is_beside_stack(instr) {
         return true;
     }
-    // As in `are_reads_known`.
+    // The same as in `are_reads_known`.
     if matches!(instr.mode, Mode::IndirectIndexed) && instr.value > 255 {
         return false;
     }
@@ -143,15 +146,15 @@ fn is_off_stack(instr: Instr, regs: &Regs, space: &AddressSpace<Global>) -> bool
     !is_any_in_stack(used.pointer.as_slice()) && !is_any_in_stack(used.operand.as_slice())
 }
 
-// Whether one of these addresses is one of the stack's page.
+// Returns whether one of these addresses is in the stack's page.
 fn is_any_in_stack(addresses: &[u16]) -> bool
     ensures { result ≡ list_any in_stack addresses.now }
 {
     addresses.iter().any(|address| is_in_stack(*address))
 }
 
-// Makes a step, of this instruction, and answers its cycles; none where it is not made, looks at what is not known or at the
-// stack otherwise than by S, or stores where it may not.
+// Executes a step, which is this instruction, and returns its cycles. Returns `None` if it is not executed, depends
+// on something unknown, uses the stack other than through S, or stores where it may not.
 fn make_step(
     walk: &mut Walk,
     instr: Instr,
@@ -183,8 +186,8 @@ fn make_step(
     Some(cycles)
 }
 
-// Calls the service at PC, and answers its cycles; none where there is none or it is not called, it needs a key, looks at what is
-// not known, or stores where it may not.
+// Calls the service at PC and returns its cycles. Returns `None` if there is none, if it is not executed or needs a
+// key, if it depends on something unknown, or if it stores where it may not.
 fn serve(walk: &mut Walk, known: &[bool], stored: &mut Stored, changes: &Changes) -> Option<u32>
     ensures { IfSome result (IsStepOf known.now stored.old stored.new changes.now walk.old walk.new) }
 {
@@ -206,7 +209,8 @@ fn serve(walk: &mut Walk, known: &[bool], stored: &mut Stored, changes: &Changes
     Some(cycles)
 }
 
-// Makes the next step, which is of this instruction, or where there is none a call of a service, and answers its cycles.
+// Executes the next step and returns its cycles. The step is this instruction, or a call of a service if there is
+// none.
 fn go_on(
     walk: &mut Walk,
     instr: Option<Instr>,
@@ -223,7 +227,8 @@ fn go_on(
     }
 }
 
-// Whether the instruction at PC is the RTS of the routine's own, before which S is as it was entered, and its bytes are known.
+// Returns whether the instruction at PC is the routine's own RTS, with known bytes. Before it S is the same as at the
+// entry.
 fn is_home(known: &[bool], stored: &Stored, instr: Instr, regs: &Regs) -> bool
     ensures { IsTrue result → IsOwnRts known.now stored.now instr (registers_of regs.now) }
 {
@@ -238,7 +243,7 @@ fn is_home(known: &[bool], stored: &Stored, instr: Instr, regs: &Regs) -> bool
     }
 }
 
-/// A routine on its way: registers, RAM, the registers and flags that are known, and the cycles since its entry.
+/// A routine in progress: registers, RAM, the registers and flags that are known, and the cycles since its entry.
 #[derive(Drop)]
 pub struct Walk {
     pub regs: Regs,
@@ -247,9 +252,12 @@ pub struct Walk {
     pub cycles: u32,
 }
 
-/// Goes on from a routine's entry, with S = $FD, to the RTS of its own, before which S is that again, and answers the steps up to
-/// there; none where it does not come to it within so many, looks at a byte, a register or a flag that is not known, or stores
-/// where it may not. Which bytes of RAM are known at the entry is said by their addresses; those that are stored at are marked.
+/// Runs a routine from its entry, with S = $FD, to its own RTS, before which S is $FD again. Returns the steps up to
+/// that point.
+///
+/// Returns `None` if the routine does not get there within the largest number of steps, depends on a byte, a register
+/// or a flag that is not known, or stores where it may not. `known` marks the addresses of RAM that are known at the
+/// entry. The addresses that are stored at become marked.
 pub fn walk_home(
     walk: &mut Walk,
     known: &[bool],

@@ -1,4 +1,4 @@
--- Memory taken afresh: behind stores it is a name again, of which only what is used is known.
+-- A new name for memory after stores: from then on, only the facts that are used are known about it.
 use Rattle.std.specs.Prelude.{◌≡◌, ◌≢◌, ◌⊎◌, ◌<◌, ◌≤◌, ℕ, ◌==◌, Bool, true, false, ◌&&◌, ◌||◌, if◌then◌else◌, nat_lt, List, [], ◌∷◌, ◌++◌, Some, refl}
 use Rattle.std.specs.List.{list_all}
 use Rattle.std.proofs.Common.{sym, ap, ◌∙◌, subst, arith, inl, inr, true≢false}
@@ -16,7 +16,7 @@ use Rattle.a2_promise_rules.proofs.Meeting.{Whole, Reaches}
 use Rattle.a2_promise_rules.proofs.Proving.{onto, Fits, whole_with, whole_after}
 use Rattle.a2_promise_rules.proofs.Ranges.{is_in}
 
--- a part that is computed, and what follows in any memory that is the one behind it
+-- a part that is computed, and what follows in any memory that equals the one after it
 pub afresh : (code : Code) (w v : World) (n : ℕ) (Q : World → Type 0) → walked code w n ≡ Some v
     → ((m : Memory) → m ≡ v.memory → Reaches code (record v { memory = m }) Q) → Reaches code w Q
 afresh code w v n Q walk later = onto code w v n Q walk (later v.memory refl)
@@ -48,12 +48,12 @@ module _ (before m : Memory) (at byte : ℕ) (is : m ≡ with_ram before at byte
 
 -- Stores whose addresses are numbers
 
--- what stands at an address behind them, of what stood there
+-- the byte at an address after the stores, given the byte before them
 abbrev pub last_stored : List (ℕ × ℕ) → (a old : ℕ) → ℕ
 last_stored [] a old = old
 last_stored ((at, byte) ∷ later) a old = last_stored later a (if at == a then byte else old)
 
--- stores behind others
+-- stores after other stores
 pub then_stores : (first second : List (ℕ × ℕ)) (before middle m : Memory) → middle ≡ after_stores first before
     → m ≡ after_stores second middle → m ≡ after_stores (first ++ second) before
 then_stores first second before middle m is then_is = then_is ∙ ap (after_stores second) is ∙ joined first before
@@ -67,7 +67,7 @@ module _ (stores : List (ℕ × ℕ)) (before m : Memory) (is : m ≡ after_stor
   pub stores_whole : Whole before → Fits stores → Whole m
   stores_whole whole fits = whole_after stores before m whole fits is
 
-  -- a byte behind them
+  -- a byte after the stores
   pub stores_read : Whole before → (a : ℕ) → ram_byte m a ≡ last_stored stores a (ram_byte before a)
   stores_read whole a = ap (λ q. ram_byte q a) is ∙ go stores before whole.pages
     where
@@ -93,7 +93,7 @@ module _ (stores : List (ℕ × ℕ)) (before m : Memory) (is : m ≡ after_stor
   stores_leave memory ranges taken all it =
       leaves_stores stores memory (is_in ranges) taken (entered 0 before) (entered 0 m) all is it
 
-  -- they leave a byte whose address is another than theirs
+  -- the stores leave a byte unchanged if its address is different from theirs
   pub stores_other : (low high a : ℕ) → list_all (λ s. nat_lt s.0 low || nat_lt high s.0) stores ≡ true → low ≤ a → a ≤ high
       → ram_byte m a ≡ ram_byte before a
   stores_other low high a all from to = ap (λ q. ram_byte q a) is ∙ go stores before all
@@ -115,7 +115,7 @@ module _ (stores : List (ℕ × ℕ)) (before m : Memory) (is : m ≡ after_stor
       go ((at, byte) ∷ later) memory all =
           go later (with_ram memory at byte) (both _ _ all).1 ∙ ram_byte-with_ram memory at byte a (apart at (both _ _ all).0)
 
--- Bytes whose addresses may be the same
+-- Bytes whose addresses may be equal
 
 pub same_byte : (memory : Memory) (a b : ℕ) → (a ≢ b) ⊎ (ram_byte memory a ≡ ram_byte memory b)
 same_byte memory a b = by (a == b) refl
@@ -127,7 +127,7 @@ same_byte memory a b = by (a == b) refl
 pub same_place : (memory : Memory) (a b : ℕ) → a ≡ b → ram_byte memory a ≡ ram_byte memory b
 same_place memory a b is = ap (λ n. ram_byte memory n) is
 
--- What follows where something holds, or it does not hold
+-- A conclusion with a condition: it follows, or the condition is false
 
 pub if_lt : {P : Type 0} (m n : ℕ) → (m < n → P) → (n ≤ m) ⊎ P
 if_lt {P = P} m n follows = by (less_or m n)
@@ -166,7 +166,7 @@ if_ne {P = P} m n follows = by (same_or m n)
     by (inl same) = inl same
     by (inr other) = inr (follows other)
 
--- what holds of each number below another holds of this one, or it is not below
+-- a fact about each number below a bound applies to this number, or this number is not below the bound
 pub at_index : {P : Type 0} (m n : ℕ) → (m < n → P) → (n ≤ m) ⊎ P
 at_index m n each = if_lt m n each
 

@@ -1,4 +1,4 @@
--- What the machine makes of bytes digit by digit is a byte.
+-- The digit-by-digit results of the machine's byte operations are bytes.
 use Rattle.std.specs.Prelude.{◌<◌, ◌≤◌, ℕ, zero, suc, ◌*◌, ◌/◌, ◌%◌, ◌==◌, Bool, true, false}
 use Rattle.std.proofs.Common.{arith}
 use Rattle.a2_effect.specs.Arithmetic.{by_digits}

@@ -1,4 +1,4 @@
--- A walk over a program's statements is the run of the bytes in memory, wherever these are the program's.
+-- A walk over the statements of a program is the run of the bytes in memory, if these are the program's bytes.
 use Rattle.std.specs.Prelude.{◌≡◌, ◌<◌, ℕ, zero, suc, ◌==◌, Bool, true, false, List, [], ◌∷◌, if◌then◌else◌, Option, Some, None, Result, Ok, Err, is_some, unwrap_or, refl}
 use Rattle.std.specs.List.{list_any}
 use Rattle.std.proofs.Common.{sym, ap, ap₂, ◌∙◌, arith, true≢false}
@@ -28,7 +28,7 @@ use Rattle.a2_machine.proofs.Walks.{walked}
 never : {X Y : Type 0} (x : X) → Some x ≡ None → Y
 never x e = absurd (true≢false (ap is_some e))
 
--- what is not stuck beside code is not stuck without it
+-- a step that is not stuck when code is protected is not stuck without the protection
 otherwise : (forbidden : Bool) (cause : Cause) (rest : Option Cause) → (if forbidden then Some cause else rest) ≡ None → rest ≡ None
 otherwise true cause rest h = never cause h
 otherwise false cause rest h = h
@@ -50,7 +50,7 @@ free_instruction protected decoded w h =
     (unstored (refusal_of decoded.row.mnemonic w.registers.flags) (list_any (is_among protected) (stores_of memory_access decoded.row decoded.value w)) h)
     (nothing_stored (stores_of memory_access decoded.row decoded.value w))
 
--- a step of what is found where an instruction may begin
+-- a step of what is found at an address where an instruction may begin
 record SameStep (protected : List ℕ) (guarded found : Result Decoded Cause) (w : World) : Type 0 where
   free : stuck_at [] found w ≡ None
   next : next_at found w ≡ next_at guarded w
@@ -123,7 +123,7 @@ module _ (program : Assembled) (sound : IsSound program) where
           (decoded_or_cause (fetched (peek w.memory) w.registers.pc)) w
           (ap (λ found. stuck_at (guard_of_program program).code found w) (sym says) ∙ h)
 
-  -- none of so many steps of the bytes is stuck, and they lead there
+  -- none of this many steps of the bytes is stuck, and they lead to this world
   pub record Runs (w v : World) (n : ℕ) : Type 0 where
     pub going : (k : ℕ) → k < n → stuck (bytes None) (world_at (bytes None) w k) ≡ None
     pub there : world_at (bytes None) w n ≡ v

@@ -1,4 +1,5 @@
--- What is known behind a call of a service: which registers and bytes it keeps, and that window and cursor lie on the screen.
+-- What is known after a call of a service: the registers and bytes that it keeps, and that window and cursor are on the
+-- screen.
 use Rattle.std.specs.Prelude.{◌≡◌, ◌<◌, ◌≤◌, ℕ, ◌+◌, ◌*◌, ◌/◌, ◌%◌, ◌==◌, ◌&&◌, not, nat_le, nat_lt, Bool, true, false, List, [], ◌∷◌, ◌++◌, Some, None, if◌then◌else◌, refl}
 use Rattle.std.specs.List.{list_any, list_all}
 use Rattle.std.proofs.Common.{sym, ap, ap₂, ◌∙◌, subst, arith}
@@ -30,13 +31,14 @@ use Rattle.a2_promise_rules.proofs.Printing.{printed_whole, to_end_whole, home_w
 use Rattle.a2_promise_rules.proofs.Proving.{onto, stands, weaken, whole_with}
 use Rattle.a2_promise_rules.proofs.Ranges.{is_in, is_beside, out_of_ranges}
 
--- a world behind the call that left a return address on the stack
+-- a world after the call that left a return address on the stack
 pub record Behind (s : ℕ) (w u : World) : Type 0 where
   pub pc_is : u.registers.pc ≡ home s w
   pub s_is : u.registers.s ≡ s + 2
   pub d_is : u.registers.flags.d ≡ false
 
--- Called with this S in any whole world of which `Before` holds, the steps lead behind the call, where `After` holds.
+-- If a service is called with this S in any whole world in which `Before` holds, the steps lead to the place after the
+-- call, and `After` holds there.
 abbrev pub Serves : Code → (to s : ℕ) → (Before : World → Type 0) → (After : World → World → Type 0) → Type 0
 Serves code to s Before After =
     (w : World) → IsWhole w → Before w → Reaches code (enter to s w) (λ u. Behind s w u × After w u)
@@ -54,7 +56,7 @@ call_service code to s behind Before After Q serves v whole before home_is later
     go : Reaches code (enter to s v) (λ u. Behind s v u × After v u) → Reaches code (enter to s v) Q
     go (n, (u, walk, (is, after))) = onto code (enter to s v) u n Q walk (at_last u is after)
 
--- the same, where the world behind the service is written in another way, of which more is computed
+-- the same, if the world after the service is written in another form, from which more can be computed
 pub call_as : (code : Code) (to s behind : ℕ) (Before : World → Type 0) (After : World → World → Type 0) (Q : World → Type 0)
     → Serves code to s Before After → (v : World) → IsWhole v → Before v → home s v ≡ behind
     → (written : World → World) → ((u : World) → After v u → written u ≡ u)
@@ -65,14 +67,14 @@ call_as code to s behind Before After Q serves v whole before home_is written sa
 
 -- Window and cursor
 
--- the window lies on the screen
+-- the window is on the screen
 pub record HasWindow (w : World) : Type 0 where
   pub r1 : 1 ≤ ram_byte w.memory 0x21
   pub r2 : ram_byte w.memory 0x20 + ram_byte w.memory 0x21 ≤ 40
   pub r3 : ram_byte w.memory 0x22 < ram_byte w.memory 0x23
   pub r4 : ram_byte w.memory 0x23 ≤ 24
 
--- and the cursor
+-- the cursor is on the screen too
 pub record HasCursor (w : World) : Type 0 where
   pub r1 : 1 ≤ ram_byte w.memory 0x21
   pub r2 : ram_byte w.memory 0x20 + ram_byte w.memory 0x21 ≤ 40
@@ -81,7 +83,7 @@ pub record HasCursor (w : World) : Type 0 where
   pub r5 : ram_byte w.memory 0x25 < 24
   pub r6 : ram_byte w.memory 0x20 + ram_byte w.memory 0x24 < 40
 
--- and output goes on at COUT1
+-- the output hook also leads to COUT1
 pub record HasHook (w : World) : Type 0 where
   pub r1 : 1 ≤ ram_byte w.memory 0x21
   pub r2 : ram_byte w.memory 0x20 + ram_byte w.memory 0x21 ≤ 40
@@ -91,7 +93,7 @@ pub record HasHook (w : World) : Type 0 where
   pub r6 : ram_byte w.memory 0x20 + ram_byte w.memory 0x24 < 40
   pub r7 : word w.memory 0x36 ≡ 0xFDF0
 
--- nothing is wanted
+-- no condition
 pub record Anywhere (w : World) : Type 0 where
   pub none : Unit {0}
 
@@ -121,7 +123,7 @@ print_ranges = (0x24, 0x25) ∷ (0x28, 0x29) ∷ (0x400, 0x7FF) ∷ []
 not_reached : (b : ℕ) → is_in print_ranges b ≡ false → output_reach b ≡ false
 not_reached b h = grind (arith, nat_tests, h)
 
--- Behind what prints
+-- After a service that prints
 
 pub record Printed (w u : World) : Type 0 where
   pub e1 : ram_byte u.memory 0x25 < 24
@@ -132,7 +134,7 @@ pub record Printed (w u : World) : Type 0 where
   pub rest : Leaves w.memory (is_in print_ranges) [] u
   pub bytes : IsWhole u
 
--- a return is left in A
+-- a RETURN is left in A
 pub record Returned (w u : World) : Type 0 where
   pub e1 : ram_byte u.memory 0x25 < 24
   pub e2 : ram_byte u.memory 0x20 + ram_byte u.memory 0x24 < 40
@@ -142,7 +144,7 @@ pub record Returned (w u : World) : Type 0 where
   pub rest : Leaves w.memory (is_in print_ranges) [] u
   pub bytes : IsWhole u
 
--- Behind others
+-- After other services
 
 pub record Stayed (ranges : List (ℕ × ℕ)) (w u : World) : Type 0 where
   pub keep_a : u.registers.a ≡ w.registers.a
@@ -169,7 +171,7 @@ pub record Waited (w u : World) : Type 0 where
   pub rest : Leaves w.memory (is_in []) [] u
   pub bytes : IsWhole u
 
--- What a service leaves that stores in these ranges at most, and takes these keys
+-- The state that a service leaves if it stores at most in these ranges, and takes these keys
 
 pub record Left (ranges : List (ℕ × ℕ)) (taken : List ℕ) (a x : ℕ) (n : Memory) (w u : World) : Type 0 where
   pub a_is : u.registers.a ≡ a
@@ -186,7 +188,7 @@ module _ (code : Code) (at s : ℕ) (room : s < 254) (service : Service) (w : Wo
     (beside : (b : ℕ) → 0x100 ≤ b → b ≤ 0x1FF → is_in ranges b ≡ false) (taken : List ℕ) (n : Memory) (a x : ℕ)
     (is : effect service (enter at s w) ≡ back (with_memory n (with_x x (with_a a (enter at s w))))) (n_whole : Whole n)
     (small : a < 256) (x_small : x < 256) (keys : w.memory.devices.keys ≡ taken ++ n.devices.keys) where
-  -- the cycles behind it
+  -- the cycles after it
   abbrev there : ℕ
   there = w.cycles + cycles_of (service_row service).takes (enter at s w).registers
 
@@ -197,7 +199,7 @@ module _ (code : Code) (at s : ℕ) (room : s < 254) (service : Service) (w : Wo
     cycles = there;
   }
 
-  -- behind a return that pulls as this one does
+  -- after a return that pulls its address in the same way
   pulled : ℕ → ℕ → ℕ → World
   pulled to low high = record {
     registers = record (enter at s w).registers { a = a; x = x; s = to; pc = (low + 256 * high + 1) % 65536 };
@@ -257,14 +259,14 @@ pub in_stack : (ranges : List (ℕ × ℕ)) → list_all (is_beside 0x100 0x1FF)
     → is_in ranges b ≡ false
 in_stack ranges all b from to = out_of_ranges ranges 0x100 0x1FF b all from to
 
--- the same devices have the same keys
+-- equal devices have equal keys
 same_keys : {d e : Devices} → d ≡ e → e.keys ≡ d.keys
 same_keys same = ap (λ (x : Devices). x.keys) (sym same)
 
 module _ (code : Code) (at s : ℕ) (room : s < 254) (service : Service) (w : World) (whole : IsWhole w)
     (here : service_at at ≡ Some service) (away : (at == return_address) ≡ false)
     (free : service_cause code.protected service (enter at s w) ≡ None) where
-  -- one that prints
+  -- a service that prints
   print : (m : Memory) → effect service (enter at s w) ≡ back (output m (enter at s w))
       → ((b : ℕ) → is_in print_ranges b ≡ false → reach service b ≡ false) → Whole m → CursorFits m
       → m.devices ≡ w.memory.devices → Reaches code (enter at s w) (λ u. Behind s w u × Printed w u)
@@ -289,7 +291,7 @@ module _ (code : Code) (at s : ℕ) (room : s < 254) (service : Service) (w : Wo
         bytes = h.bytes;
       }
 
-  -- one that leaves the registers
+  -- a service that keeps the registers
   stay : (ranges : List (ℕ × ℕ)) → ((b : ℕ) → is_in ranges b ≡ false → reach service b ≡ false)
       → list_all (is_beside 0x100 0x1FF) ranges ≡ true → (n : Memory)
       → effect service (enter at s w) ≡ back (with_memory n (enter at s w)) → Whole n → n.devices ≡ w.memory.devices
@@ -300,7 +302,7 @@ module _ (code : Code) (at s : ℕ) (room : s < 254) (service : Service) (w : Wo
       n_whole whole.a whole.x (same_keys devices))
       (λ u h. (h.0, record { keep_a = h.1.a_is; keep_x = h.1.x_is; keep_y = h.1.keep_y; rest = h.1.rest; bytes = h.1.bytes }))
 
-  -- one that sets the mask of characters
+  -- a service that sets the mask of characters
   mask : (byte : ℕ) → byte < 256 → ((b : ℕ) → is_in mask_ranges b ≡ false → reach service b ≡ false)
       → effect service (enter at s w) ≡ back (with_memory (with_ram w.memory 0x32 byte) (enter at s w))
       → Reaches code (enter at s w) (λ u. Behind s w u × Masked byte w u)
@@ -345,7 +347,7 @@ digit_small digit small = by (nat_lt digit 10)
     by true = omega (arith, small)
     by false = omega (arith, small)
 
--- a world behind a hook: some cycles later, and with this in A
+-- a world after a hook: some cycles later, and with this value in A
 abbrev pub later : (a : ℕ) → World → World
 later a w = record w { registers = record w.registers { a = a }; cycles = w.cycles + 5 }
 

@@ -1,4 +1,4 @@
--- The example is proved, as `a2lab prove` proves each.
+-- The proof of the example, in the form that `a2lab prove` writes.
 use Rattle.std.specs.Prelude.{◌≡◌, ◌<◌, true, ℕ, ◌+◌, ◌*◌, ◌%◌, List, [], ◌∷◌, codes, Some, refl}
 use Rattle.std.proofs.Common.{arith, true≢false}
 use Rattle.a2_opcode.specs.declared.Mnemonic.TheVariants.{Asl, Rts}
@@ -49,7 +49,7 @@ lays : laid_of doubling ≡ laid
 unfolding reading laid
 lays = refl
 
--- a state that is as it requires
+-- a state that meets the requirements
 state : State
 state = record { registers = registers_at 0x300; bytes = [] }
 

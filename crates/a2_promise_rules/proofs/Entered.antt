@@ -1,4 +1,4 @@
--- A world in which a routine is entered and that is as its promise requires, made of a state that was found.
+-- A world in which a routine is entered and that meets its promise's requirements, built from a state that was found.
 use Rattle.std.specs.Prelude.{◌≡◌, ◌<◌, ◌≤◌, ◌⊎◌, ℕ, zero, suc, ◌-◌, ◌==◌, ◌&&◌, nat_le, nat_lt, Bool, true, false, not, IsTrue, List, [], ◌∷◌, ◌++◌, flat_map, Option, Some, None, is_some, unwrap_or, slice_get, if◌then◌else◌, refl}
 use Rattle.std.specs.List.{concat, list_all}
 use Rattle.std.proofs.Common.{sym, ap, ap₂, ◌∙◌, subst, arith, inl, inr}
@@ -49,9 +49,9 @@ keys_told terms = concat terms.takes
 pub same_keys : (promise : Promise) (terms : Terms) → IsPromise promise terms → keys_of promise ≡ keys_told terms
 same_keys promise terms says = ap concat says.takes
 
--- What a text lays
+-- The bytes of a text
 
--- bytes, each with the address from which on they lie
+-- bytes, each with the address at which they start
 abbrev pub Laid : Type 0
 Laid = List (ℕ × List ℕ)
 
@@ -62,11 +62,11 @@ line_laid all place body = if is_statement body then (place.address, line_bytes 
 abbrev rows_laid : {A : Type 0} → Names → List (Row A) → Laid
 rows_laid all rows = flat_map (λ row. line_laid all row.place row.line.body) rows
 
--- those of a text
+-- the bytes of a text
 abbrev pub laid_of : List ℕ → Laid
 laid_of text = rows_laid (names (source_rows (source_of text))) (source_rows (source_of text))
 
--- what they hold at an address
+-- the byte that they hold at an address
 abbrev held_by : Laid → ℕ → Option ℕ
 held_by [] a = None
 held_by ((at, bytes) ∷ more) a = byte_from at bytes a otherwise held_by more a
@@ -153,26 +153,26 @@ abbrev peek_in : List (ℕ × ℕ) → ℕ → Option ℕ
 peek_in [] a = None
 peek_in ((at, byte) ∷ more) a = if at == a then Some byte else peek_in more a
 
--- a byte of RAM where none is laid
+-- a byte of RAM at an address where the program has none
 abbrev is_free : Laid → ℕ × ℕ → Bool
 is_free laid (a, byte) = nat_lt a ram_end && (nat_lt byte 256 && not (is_some (held_by laid a)))
 
--- the bytes that are known: those of a state, and those that are laid
+-- the bytes that are known: those of a state, and those of the program
 abbrev known : Laid → List (ℕ × ℕ) → ℕ → Option ℕ
 known laid bytes a = peek_in bytes a otherwise held_by laid a
 
--- the registers where a routine is entered
+-- the registers when a routine is entered
 abbrev entering : ℕ → Registers → Registers
 entering address registers = record registers { s = 0xFD; pc = address; flags = record registers.flags { d = false } }
 
--- a state is one of bytes, and as is required
+-- a state consists of bytes, and meets the requirements
 abbrev pub is_met : Terms → Laid → State → Bool
 is_met terms laid state =
     nat_lt state.registers.a 256 && (nat_lt state.registers.x 256 && (nat_lt state.registers.y 256
     && (list_all (is_free laid) state.bytes
     && all_seen terms.wanted (entering terms.address state.registers) (known laid state.bytes))))
 
--- all bytes: those that are laid, those of the state, and else 0
+-- all bytes: those of the program, those of the state, and otherwise 0
 abbrev filled : Laid → List (ℕ × ℕ) → ℕ → ℕ
 filled laid bytes a = unwrap_or (held_by laid a) (unwrap_or (peek_in bytes a) 0)
 
@@ -242,7 +242,7 @@ module _ (laid : Laid) (small : are_bytes laid ≡ true) (bytes : List (ℕ × �
             let it = peeked laid bytes a b all is in
             filled_is it.low (ap₂ (λ o p. unwrap_or o (unwrap_or p 0)) it.is is ∙ same_some b byte h)
 
--- THE WORLD: what is computed of the text and of a state makes it one in which a promise's routine is entered
+-- THE WORLD: facts computed from the text and from a state show that a promise's routine is entered in it
 module _ (text : List ℕ) (laid : Laid) (terms : Terms) (state : State) (lays : laid_of text ≡ laid)
     (small : are_bytes laid ≡ true) (met : is_met terms laid state ≡ true) (program : Assembled) (made : IsMade (source_of text) program) (sound : IsSound program)
     (promise : Promise) (says : IsPromise promise terms) where
@@ -258,7 +258,7 @@ module _ (text : List ℕ) (laid : Laid) (terms : Terms) (state : State) (lays :
   abbrev here : Moment
   here = entry registers (bytes_of world.memory)
 
-  -- what is_met says, one behind another
+  -- the parts of is_met, one after another
   record IsMet : Type 0 where
     a : state.registers.a < 256
     x : state.registers.x < 256
@@ -288,7 +288,7 @@ module _ (text : List ℕ) (laid : Laid) (terms : Terms) (state : State) (lays :
       made.laid a ∙ image_held (names (source_rows (source_of text))) (source_rows (source_of text)) a
       ∙ ap (λ l. held_by l a) lays
 
-  -- a byte that is laid lies in RAM
+  -- a byte of the program is in RAM
   inside : (a byte : ℕ) → held_by laid a ≡ Some byte → a < ram_end
   inside a byte is = by (low_or_high a)
     where
@@ -299,7 +299,7 @@ module _ (text : List ℕ) (laid : Laid) (terms : Terms) (state : State) (lays :
       by (inl low) = low
       by (inr high) = none_is byte (sym (sound.outside a high) ∙ held_is a ∙ is)
 
-  -- and the world has it as it is laid
+  -- the world holds this byte of the program
   same_byte : (a : ℕ) → (is_some (held program.image a) && true) ≡ true
       → ram_byte (start_memory (held program.image) (keys_of promise)) a ≡ ram_byte world.memory a
   same_byte a fixed = by (held program.image a) refl (both (is_some (held program.image a)) true fixed).0

@@ -1,4 +1,4 @@
--- What a routine meets, its promise says of the bytes that are run: so it is kept.
+-- What a routine meets is what its promise says about the bytes that run, so the promise is kept.
 use Rattle.std.specs.Prelude.{◌≡◌, ◌<◌, ℕ, suc, ◌+◌, ◌*◌, ◌%◌, ◌&&◌, ◌||◌, Bool, true, false, nat_le, nat_lt, IsTrue, List, [], ◌∷◌, map, Some, None, is_some, refl}
 use Rattle.std.specs.List.{list_all, list_any}
 use Rattle.std.proofs.Common.{sym, ap, ap₂, ◌∙◌, subst, arith, true≢false}
@@ -83,7 +83,7 @@ module _ (w v : World) (steps : ℕ) (bw : OnlyBytes w) (bv : OnlyBytes v) where
 
 -- Bytes that may change
 
--- an address that `changes` names, or one of the routine's own of the stack, where S is $FD
+-- an address that `changes` names, or one in the routine's own part of the stack, with S equal to $FD
 abbrev pub may_be_stored : Terms → ℕ → Bool
 may_be_stored terms a = is_in terms.ranges a || is_own 0xFD a
 
@@ -97,7 +97,7 @@ pub record Before (terms : Terms) (w : World) : Type 0 where
   pub says : all_say terms.wanted w w
   pub waits : Waits (keys_told terms) w
 
--- what is known behind the routine
+-- what is known after the routine
 pub record After (terms : Terms) (changed : List (ℕ × ℕ)) (w v : World) : Type 0 where
   pub says : all_say terms.promised w v
   pub a : terms.a ≡ false → v.registers.a ≡ w.registers.a
@@ -135,7 +135,7 @@ module _ (program : Assembled) (sound : IsSound program) (promise : Promise) (wo
   unfolding start_memory
   keys_wait = ap (λ (d : Devices). d.keys) (sym enters.devices)
 
--- THE PROMISE IS KEPT: of what the routine meets
+-- THE PROMISE IS KEPT, given what the routine meets
 
 module _ (all : List Statement) (program : Assembled) (sound : IsSound program) (stated : program.statements ≡ all)
     (low : list_all (λ n. nat_lt n ram_end) (code_bytes all) ≡ true) (terms : Terms) (promise : Promise) (says : IsPromise promise terms) (changed : List (ℕ × ℕ))
@@ -143,7 +143,7 @@ module _ (all : List Statement) (program : Assembled) (sound : IsSound program) 
   low_program : list_all (λ n. nat_lt n ram_end) (code_bytes program.statements) ≡ true
   low_program = subst (λ l. list_all (λ n. nat_lt n ram_end) (code_bytes l) ≡ true) (sym stated) low
 
-  -- a walk of the statements is one of the program's
+  -- a walk over the statements is a walk over the program's statements
   walk_of : (w v : World) (n : ℕ) → walked (code_of all) w n ≡ Some v → walked (run.code program sound) w n ≡ Some v
   unfolding guard_of_program
   walk_of w v n walk =
@@ -167,7 +167,7 @@ module _ (all : List Statement) (program : Assembled) (sound : IsSound program) 
         run.goes program sound (suc n) w v laid_there
         (walk_of w v (suc n) (subst (λ k. walked (code_of all) w k ≡ Some v) (one_more n) (then (code_of all) w u v n 1 walk back.step)))
 
-    -- behind the RTS, by the S that it was entered with
+    -- after the RTS, given the S at the entry
     returned : World → ℕ → Registers
     returned x s = record x.registers {
       s = (s + 2) % 256;
@@ -243,15 +243,15 @@ MeetsPromise all terms changed = Meets (code_of all) terms.address 0xFD (Before 
 abbrev pub names_of : List ℕ → Names
 names_of text = names (source_rows (source_of text))
 
--- what lines and names tell is told of the text that has them
+-- what lines and names state is stated by the text that has them
 pub told_of : (text label : List ℕ) (lines : List (List ℕ)) (known : Names) (above : ℕ) (terms : Terms) → lines_of_routines text ≡ lines
     → names_of text ≡ known → IsTold lines known above label terms → IsTold (lines_of_routines text) (names_of text) above label terms
 told_of text label lines known above terms cut named told =
     subst (λ l. IsTold l (names_of text) above label terms) (sym cut)
     (subst (λ names. IsTold lines names above label terms) (sym named) told)
 
--- THE THEOREM: a text that is read, whose statements and bytes are these and whose lines tell this, keeps what its routine meets, where
--- a state is as required
+-- THE THEOREM: suppose a text is read, these are its statements and bytes, and its lines state these terms. If its
+-- routine meets the terms, and some state meets the requirements, the promise is proved.
 pub proved : (text label : List ℕ) (all : List Statement) (laid : Laid) (entry above : ℕ) (terms : Terms) (state : State)
     → (changed : List (ℕ × ℕ))
     → entry_of text ≡ Some entry → statements_of text ≡ all → IsTold (lines_of_routines text) (names_of text) above label terms

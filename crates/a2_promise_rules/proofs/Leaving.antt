@@ -1,4 +1,4 @@
--- What routines and services leave as it was, and which keys they take.
+-- The bytes that routines and services leave unchanged, and the keys that they take.
 use Rattle.std.specs.Prelude.{◌≡◌, ℕ, Bool, true, false, List, [], ◌∷◌, ◌++◌, refl}
 use Rattle.std.specs.List.{list_all}
 use Rattle.std.proofs.Common.{sym, ap, ◌∙◌, append_assoc, append-nil}
@@ -8,7 +8,7 @@ use Rattle.a2_services.specs.World.{World}
 use Rattle.a2_theorems.specs.Routines.{Keeps, entered}
 use Rattle.a2_theorems.proofs.Keeping.{after_stores, kept}
 
--- all is as it was but at these addresses: each other byte of RAM. And these keys were taken, in their order
+-- each byte of RAM is unchanged, except at these addresses; and these keys were taken, in this order
 pub record Leaves (memory : Memory) (changed : ℕ → Bool) (taken : List ℕ) (last : World) : Type 0 where
   pub bytes : (a : ℕ) → changed a ≡ false → ram_byte last.memory a ≡ ram_byte memory a
   pub keys : memory.devices.keys ≡ taken ++ last.memory.devices.keys
@@ -17,7 +17,7 @@ pub record Leaves (memory : Memory) (changed : ℕ → Bool) (taken : List ℕ) 
 pub leaves_all : (memory : Memory) (changed : ℕ → Bool) → Leaves memory changed [] (entered 0 memory)
 leaves_all memory changed = record { bytes = λ a h. refl; keys = refl }
 
--- what stores behind a world leave of what that world left
+-- the bytes that later stores leave unchanged, of those that were unchanged until then
 pub leaves_stores : (stores : List (ℕ × ℕ)) (memory : Memory) (changed : ℕ → Bool) (taken : List ℕ) (w v : World)
     → list_all (λ s. changed s.0) stores ≡ true → v.memory ≡ after_stores stores w.memory → Leaves memory changed taken w
     → Leaves memory changed taken v
@@ -28,28 +28,28 @@ leaves_stores stores memory changed taken w v all is rest =
       keys = rest.keys ∙ ap (λ (d : Devices). taken ++ d.keys) (sym same.devices);
     }
 
--- what the stores of a routine leave
+-- the bytes that the stores of a routine leave unchanged
 pub leaves : (stores : List (ℕ × ℕ)) (memory : Memory) (changed : ℕ → Bool) (v : World) → list_all (λ s. changed s.0) stores ≡ true
     → v.memory ≡ after_stores stores memory → Leaves memory changed [] v
 leaves stores memory changed v all is = leaves_stores stores memory changed [] (entered 0 memory) v all is (leaves_all memory changed)
 
--- what is left, by the names of what may change and of the keys
+-- the same for other names of what may change and of the keys
 pub leaves_as : (memory : Memory) (changed : ℕ → Bool) (taken : List ℕ) (v : World) → Leaves memory changed taken v
     → Leaves memory changed taken v
 leaves_as memory changed taken v it = it
 
 -- Keys that wait
 
--- these wait first
+-- these keys wait first
 abbrev pub Waits : List ℕ → World → Type 0
 Waits keys w = (rest : List ℕ) × (w.memory.devices.keys ≡ keys ++ rest)
 
--- the keys behind the first one
+-- the keys after the first one
 abbrev behind_first : List ℕ → List ℕ
 behind_first [] = []
 behind_first (key ∷ keys) = keys
 
--- what waits behind keys that were taken
+-- the keys that wait after those that were taken
 same_behind : (taken one other : List ℕ) → taken ++ one ≡ taken ++ other → one ≡ other
 same_behind [] one other same = same
 same_behind (key ∷ taken) one other same = same_behind taken one other (ap behind_first same)
@@ -62,11 +62,11 @@ still taken first more memory changed v (rest, waits) it = (
       (sym it.keys ∙ waits ∙ append_assoc taken (first ++ more) rest ∙ ap (λ keys. taken ++ keys) (append_assoc first more rest)),
 )
 
--- where just these keys wait, and no other
+-- if exactly these keys wait
 pub waits_all : (keys : List ℕ) (w : World) → w.memory.devices.keys ≡ keys → Waits keys w
 waits_all keys w is = ([], is ∙ sym (append-nil keys))
 
--- and where all of them were taken none waits
+-- if all keys were taken, none waits
 pub none_waits : (keys : List ℕ) (memory : Memory) (changed : ℕ → Bool) (v : World) → memory.devices.keys ≡ keys
     → Leaves memory changed keys v → v.memory.devices.keys ≡ []
 none_waits keys memory changed v is it =

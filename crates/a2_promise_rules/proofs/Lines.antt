@@ -1,4 +1,4 @@
--- A line that is read from keys, without those that edit it.
+-- A line that is read from keys, without editing keys.
 use Rattle.std.specs.Prelude.{◌≡◌, ◌≢◌, ℕ, zero, suc, ◌+◌, ◌-◌, ◌<◌, ◌≤◌, ◌==◌, ◌&&◌, ◌||◌, not, nat_le, nat_lt, Bool, true, false, List, [], ◌∷◌, ◌++◌, length, Option, Some, None, if◌then◌else◌, refl}
 use Rattle.std.specs.List.{list_all}
 use Rattle.std.proofs.Common.{sym, ap, ◌∙◌, subst, arith, inl}
@@ -29,7 +29,7 @@ use Rattle.a2_promise_rules.proofs.Ranges.{both}
 
 -- Keys that are taken
 
--- a memory without its first key is as whole as before, and has the others
+-- after its first key is taken, a memory is still whole, and has the other keys
 pub taken_whole : (m : Memory) → Whole m → Whole (with_key_taken m)
 unfolding ram_byte
 taken_whole m whole = record { bytes = λ a. whole.bytes a; pages = whole.pages }
@@ -40,22 +40,22 @@ taken_keys m key rest waits =
 
 -- Keys of a line
 
--- a key that stands for a byte of a line: no RETURN, left or right arrow and no Ctrl-X
+-- a key that gives a byte of a line: not RETURN, left or right arrow, or Ctrl-X
 abbrev pub is_plain : ℕ → Bool
 is_plain key = nat_lt key 128 && not (key == 0x0D || key == 0x08 || key == 0x15 || key == 0x18)
 
--- that byte: small letters are capitals
+-- the byte of such a key: lower-case letters become upper-case
 abbrev pub plain_byte : ℕ → ℕ
 plain_byte key = if nat_le 0xE0 (0x80 + key) then 0x80 + key - 0x20 else 0x80 + key
 
--- the bytes of a line from an address on, and its return
+-- the bytes of a line that starts at an address, and its RETURN
 abbrev pub line_stores : (at : ℕ) → List ℕ → List (ℕ × ℕ)
 line_stores at [] = (at, 0x8D) ∷ []
 line_stores at (key ∷ line) = (at, plain_byte key) ∷ line_stores (at + 1) line
 
--- A byte of the line stays where a byte is put
+-- A byte of the line is unchanged when a byte is printed
 
--- what holds of a memory, whatever page 1, CH and CV are, holds behind a byte that is put
+-- a fact about a memory that holds for any page 1, CH and CV also holds after a byte is printed
 module _ (P : Memory → Type 0) (page : (cells : Grid) (m : Memory) → P m → P (with_page1 cells m))
     (column : (c : ℕ) (m : Memory) → P m → P (with_cursor_column c m)) (row : (r : ℕ) (m : Memory) → P m → P (with_cursor_row r m)) where
   either : (v : Bool) (x y : Memory) → P x → P y → P (if v then x else y)
@@ -91,7 +91,7 @@ module _ (P : Memory → Type 0) (page : (cells : Grid) (m : Memory) → P m →
       (either (byte == 0x88) _ _ (behind_backspace m h)
       (either (nat_le 0x80 byte && nat_lt byte 0xA0) _ _ h (behind_character byte m h))))
 
--- an address where a line stands
+-- an address in the input line
 pub record InLine (b : ℕ) : Type 0 where
   pub from : 0x200 ≤ b
   pub to : b < 0x300
@@ -111,7 +111,7 @@ put_unmasked-kept b inside byte m =
     behind_put (λ n. ram_byte n b ≡ ram_byte m b) (λ cells n h. page1-kept b o cells n ∙ h) (λ c n h. column-kept b o c n ∙ h)
     (λ r n h. row-kept b o r n ∙ h) byte m refl
 
--- it is no cell
+-- it is not the address of a cell
 no_cell : (b : ℕ) → InLine b → cell_at b ≡ None
 no_cell b inside = go (cell_at b) refl
   where
@@ -125,7 +125,7 @@ no_cell b inside = go (cell_at b) refl
         let stands : StandsAt b cell = cell_at-stands b cell is in
         absurd (at_page cell.page cell.row cell.column stands.row_ok stands.column_ok stands.address_is)
 
--- to store a byte where it stands changes nothing
+-- storing a byte at an address that already holds it changes nothing
 abbrev shows : Memory → ℕ → Option Cell → ℕ
 shows m b found = elim found [ Some cell ↦ byte_in (grid m cell.page) cell.row cell.column | None ↦ m.plain b ]
 
@@ -143,7 +143,7 @@ put_back m b byte free is = ap (λ found. written m b byte found) free ∙ (λ i
         by true e = let at : other ≡ b = grind (arith, nat_tests, e) in sym plain_is ∙ ap (λ n. m.plain n) (sym at)
         by false e = refl
 
--- bytes stand where they are stored
+-- the bytes are at the addresses at which they are stored
 abbrev pub Stand : List (ℕ × ℕ) → Memory → Type 0
 Stand [] m = Unit {0}
 Stand ((at, byte) ∷ later) m = (ram_byte m at ≡ byte) × Stand later m
@@ -160,7 +160,7 @@ line_put_back (key ∷ line) at m n from to same (is, more) =
 
 -- A line is read
 
--- what a line leaves that is read from a memory on, so many bytes of which were there before
+-- the result of reading a line, starting from a memory in which this many bytes of the line were there before
 pub record IsRead (line rest : List ℕ) (m : Memory) (len : ℕ) (last : Reading) : Type 0 where
   pub len_is : last.len ≡ len + length line
   pub whole : Whole last.memory
@@ -169,7 +169,7 @@ pub record IsRead (line rest : List ℕ) (m : Memory) (len : ℕ) (last : Readin
   pub stand : Stand (line_stores (0x200 + len) line) last.memory
   pub early : (b : ℕ) → 0x200 ≤ b → b < 0x200 + len → ram_byte last.memory b ≡ ram_byte m b
 
--- a memory whose first key is taken, with a byte of the line stored
+-- a memory after its first key is taken and a byte of the line is stored
 record IsNoted (m : Memory) (len byte : ℕ) (rest : List ℕ) (n : Memory) : Type 0 where
   whole : Whole n
   fits : CursorFits n
@@ -219,7 +219,7 @@ line_ended rest m len short whole fits waits = record {
     same : (b : ℕ) → InLine b → ram_byte (after_put 0x8D cleared) b ≡ ram_byte before b
     same b inside = put-kept b (outside b inside) 0x8D cleared ∙ cleared_to_end-kept b (outside b inside) before
 
--- what the tests of a plain key say
+-- what the tests for a plain key establish
 record IsPlain (key : ℕ) : Type 0 where
   low : key < 128
   no_return : (plain_byte key == 0x8D) ≡ false
@@ -269,10 +269,10 @@ plain_of key plain = by (nat_le 0xE0 (0x80 + key)) refl
         (λ e. no_return (omega (arith, e))) (λ e. no_backspace (omega (arith, e))) (λ e. no_cancel (omega (arith, e)))
         (omega (arith, low))
 
--- a plain key makes the line longer by its byte, which is put
+-- a plain key adds its byte to the line, and the byte is printed
 module _ (m : Memory) (len key : ℕ) (line rest : List ℕ) (plain : IsPlain key) (short : len < 255) (whole : Whole m) (fits : CursorFits m)
     (waits : m.devices.keys ≡ key ∷ (line ++ (0x0D ∷ rest))) where
-  -- the keys behind it
+  -- the keys after it
   abbrev others : List ℕ
   others = line ++ (0x0D ∷ rest)
 
@@ -325,7 +325,7 @@ module _ (m : Memory) (len key : ℕ) (line rest : List ℕ) (plain : IsPlain ke
       ap (λ (r : Reading). r.memory.devices.keys) (sym put_is)
       ∙ ap (λ (d : Devices). d.keys) (after_byte_devices byte (reading longer len)) ∙ noted_is.keys
 
-  -- what is read behind it is read from it on
+  -- a line that is read after this key is read from this key on
   one_more : (last : Reading) → IsRead line rest behind (len + 1) last → IsRead (key ∷ line) rest m len last
   one_more last later = record {
     len_is = omega (arith, later.len_is);

@@ -1,4 +1,4 @@
--- What a routine meets, wherever it is called from: the words that proofs of promises are made of.
+-- What a routine meets, whatever its caller: the terms in which proofs of promises are written.
 use Rattle.std.specs.Prelude.{◌≡◌, ℕ, ◌<◌, ◌+◌, ◌*◌, ◌%◌, false, Some, unwrap_or}
 use Rattle.a2_bus.specs.Memory.{Memory, ram_byte}
 use Rattle.a2_services.specs.World.{World}
@@ -8,12 +8,13 @@ use Rattle.a2_theorems.specs.Routines.{HasBytes}
 use Rattle.a2_footprint.proofs.Agreeing.{Pages}
 use Rattle.a2_promise_rules.specs.Worlds.{OnlyBytes}
 
--- a memory whose RAM holds bytes, and whose text pages have 24 rows of 40 cells: what is stored in a cell is read back there
+-- a memory whose RAM holds bytes, and whose text pages have 24 rows of 40 cells, so that a byte stored in a cell is
+-- read back there
 pub record Whole (m : Memory) : Type 0 where
   pub bytes : HasBytes m
   pub pages : Pages m
 
--- a world of bytes in such a memory
+-- a world of bytes with such a memory
 pub record IsWhole (w : World) : Type 0 where
   pub a : w.registers.a < 256
   pub x : w.registers.x < 256
@@ -23,23 +24,23 @@ pub record IsWhole (w : World) : Type 0 where
 pub only_bytes : (w : World) → IsWhole w → OnlyBytes w
 only_bytes w whole = record { a = whole.a; x = whole.x; y = whole.y; ram = whole.ram.bytes }
 
--- a world with PC and S there, and D clear
+-- a world with this PC and S, and D clear
 abbrev pub enter : (pc s : ℕ) → World → World
 enter pc s w = record w { registers = record w.registers { pc = pc; s = s; flags = record w.registers.flags { d = false } } }
 
--- so many steps, none of them stuck, lead to a world of which this holds
+-- some number of steps, none of them stuck, leads to a world in which `Q` holds
 abbrev pub Reaches : Code → World → (World → Type 0) → Type 0
 Reaches code w Q = (n : ℕ) × Leads code w n Q
 
--- the world after so many steps
+-- the world after this many steps
 abbrev pub stepped : Code → World → ℕ → World
 stepped code w n = unwrap_or (walked code w n) w
 
--- where the JSR came from that left a return address on the stack
+-- the return address on the stack, which the JSR left
 abbrev pub home : (s : ℕ) → World → ℕ
 home s w = (ram_byte w.memory (0x101 + s) + 256 * ram_byte w.memory (0x102 + s) + 1) % 65536
 
--- a step, an RTS, goes back behind the call
+-- a step, an RTS, returns to the place after the call
 pub record Back (code : Code) (s : ℕ) (w u v : World) : Type 0 where
   pub step : walked code u 1 ≡ Some v
   pub to : ℕ
@@ -48,7 +49,8 @@ pub record Back (code : Code) (s : ℕ) (w u v : World) : Type 0 where
   pub home : to ≡ home s w
   pub decimal : u.registers.flags.d ≡ false
 
--- Entered with this S in any whole world of which `Before` holds, the routine comes to its RTS, behind which `After` holds.
+-- If the routine is entered with this S in any whole world in which `Before` holds, it reaches its RTS, and `After`
+-- holds after it.
 abbrev pub Meets : Code → (to s : ℕ) → (Before : World → Type 0) → (After : World → World → Type 0) → Type 0
 Meets code to s Before After =
     (w : World) → IsWhole w → Before w → Reaches code (enter to s w) (λ u. (v : World) × Back code s w u v × After w v)

@@ -1,4 +1,4 @@
--- V of a sum of two bytes and a carry, by their sizes.
+-- The V flag of a sum of two bytes and a carry, depending on their sizes.
 use Rattle.std.specs.Prelude.{◌≡◌, ◌<◌, ◌≤◌, ◌⊎◌, ℕ, ◌+◌, ◌-◌, ℤ, pos, negsuc, ◌+ℤ◌, int_lt, nat_lt, Bool, true, false, ◌||◌, if◌then◌else◌, refl}
 use Rattle.std.proofs.Common.{ap, ap₂, ◌∙◌, arith, inl, inr}
 use Rattle.std.proofs.lemmas.Bool.Decides.{nat_tests}
@@ -7,11 +7,11 @@ use Rattle.a2_effect.specs.Arithmetic.{overflows, signed}
 use Rattle.a2_effect.specs.Registers.{one_if}
 use Rattle.a2_promise_rules.proofs.Valuing.{Is, at_least_is, less_is}
 
--- a sum that no signed byte is, of two that are not below 0, or of two that are
+-- a sum that is not a signed byte, of two numbers that are both below 0 or both not below 0
 abbrev pub Over : (a b c : ℕ) → Type 0
 Over a b c = ((a < 128) × (b < 128) × (128 ≤ a + b + c)) ⊎ ((128 ≤ a) × (128 ≤ b) × (a + b + c < 384))
 
--- one that is a signed byte
+-- a sum that is a signed byte
 abbrev pub Fits : (a b c : ℕ) → Type 0
 Fits a b c =
     (((a < 128) × (128 ≤ b)) ⊎ ((128 ≤ a) × (b < 128)))

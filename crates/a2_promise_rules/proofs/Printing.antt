@@ -1,4 +1,4 @@
--- What the Monitor's services put on the screen: memory stays whole, and window and cursor lie on the screen.
+-- The Monitor's services that print keep memory whole, and window and cursor on the screen.
 use Rattle.std.specs.Prelude.{◌≡◌, ◌≢◌, ◌⊎◌, ℕ, ◌+◌, ◌-◌, ◌/◌, ◌%◌, ◌<◌, ◌≤◌, ◌==◌, ◌&&◌, nat_lt, nat_le, Bool, true, false, List, [], length, replicate, slice_index, slice_index_or, slice_range, Option, Some, None, if◌then◌else◌, refl}
 use Rattle.std.proofs.Common.{sym, ◌∙◌, subst, arith, inl, inr}
 use Rattle.std.proofs.lemmas.List.{get_or_past, get_or-replicate, length-replicate}
@@ -34,7 +34,7 @@ pub record IsOfBytes (g : Grid) : Type 0 where
 abbrev AreBytes : List ℕ → Type 0
 AreBytes cells = (c : ℕ) → slice_index cells c < 256
 
--- with a part of bytes in place of its own
+-- a row with one part replaced by bytes
 part_bytes : (row : List ℕ) (left : ℕ) (part : List ℕ) → left + length part ≤ length row → AreBytes row → AreBytes part
     → AreBytes (with_part row left part)
 part_bytes row left part fits cells new c = by (cases_lt c left) (cases_lt c (left + length part))
@@ -79,14 +79,14 @@ record IsRow (cells : List ℕ) : Type 0 where
 row_of : (g : Grid) → IsOfBytes g → (row : ℕ) → row < 24 → IsRow (slice_index_or g row [])
 row_of g h row low = record { long = h.shape.width row low; bytes = h.bytes row low }
 
--- with a part in place of its own
+-- a row with one part replaced
 row_with : (row : List ℕ) (left : ℕ) (part : List ℕ) → IsRow row → left + length part ≤ 40 → AreBytes part
     → IsRow (with_part row left part)
 row_with row left part is fits bytes =
     let inside : left + length part ≤ length row = omega (arith, is.long, fits) in
     record { long = spliced-length row left part inside ∙ is.long; bytes = part_bytes row left part inside is.bytes bytes }
 
--- in a window
+-- the same inside a window
 part_row : (w : Window) (row part : List ℕ) → IsWindow w → IsRow row → length part ≡ w.width → AreBytes part
     → IsRow (with_part row w.left part)
 part_row w row part window is long bytes = row_with row w.left part is (omega (arith, long, window.right)) bytes
@@ -177,7 +177,7 @@ cell_bytes g row column byte is low narrow small = record {
 abbrev byte_of : Memory → ℕ → Option Cell → ℕ
 byte_of m a found = elim found [ Some cell ↦ byte_in (grid m cell.page) cell.row cell.column | None ↦ m.plain a ]
 
--- page 1 of a whole memory, and another one in its place
+-- page 1 of a whole memory, and another page in its place
 page_bytes : (m : Memory) → Whole m → IsOfBytes m.page1
 unfolding ram_byte
 page_bytes m whole = record { shape = whole.pages.0; bytes = λ row low c. by row low c (cases_lt c 40) }
@@ -208,7 +208,7 @@ bytes_with m page bytes is a = go (cell_at a) refl
 page_whole : (m : Memory) (page : Grid) → Whole m → IsOfBytes page → Whole (with_page1 page m)
 page_whole m page whole is = record { bytes = bytes_with m page whole.bytes is; pages = (is.shape, whole.pages.1) }
 
--- What puts a byte
+-- Operations that print a byte
 
 column_whole : (m : Memory) (c : ℕ) → Whole m → c < 256 → Whole (with_cursor_column c m)
 column_whole m c whole small = whole_with m 0x24 c whole small
@@ -314,7 +314,7 @@ home_fits m page window = record { line = line; column = omega (arith, line.wind
         ram_byte-with_ram (with_cursor_column 0 (with_page1 page m)) 0x25 (window_of m).top 0x24 (λ e. omega (arith, e))
         ∙ plain_written (with_page1 page m) 0x24 0 no_cell
 
--- where the cursor's row begins
+-- the start of the cursor's row
 
 module _ (m : Memory) (whole : Whole m) (fits : CursorFits m) where
   pub base_whole : Whole (with_base_address m)

@@ -1,4 +1,4 @@
--- The rules by which it is proved that a routine meets its promise.
+-- The rules for proving that a routine meets its promise.
 use Rattle.std.specs.Prelude.{◌≡◌, ◌≢◌, ◌<◌, ◌≤◌, ◌⊎◌, ℕ, zero, suc, ◌+◌, ◌*◌, ◌%◌, ◌&&◌, ◌==◌, nat_le, Bool, true, false, List, [], ◌∷◌, Some, refl}
 use Rattle.std.specs.List.{list_all}
 use Rattle.std.proofs.Common.{sym, ap, ◌∙◌, subst, arith, inl, inr, true≢false}
@@ -20,7 +20,7 @@ use Rattle.a2_promise_rules.proofs.Meeting.{Whole, IsWhole, enter, Reaches, Back
 pub onto : (code : Code) (w v : World) (m : ℕ) (Q : World → Type 0) → walked code w m ≡ Some v → Reaches code v Q → Reaches code w Q
 onto code w v m Q walk (n, leads) = (m + n, along code w v m n Q walk leads)
 
--- a part up to a branch, and both ways
+-- a part up to a branch, and both paths after it
 pub fork : (code : Code) (flag : Flag) (w v : World) (m : ℕ) (Q : World → Type 0) → walked code w m ≡ Some v
     → (flag_of flag v ≡ true → Reaches code (with_flag flag true v) Q)
     → (flag_of flag v ≡ false → Reaches code (with_flag flag false v) Q) → Reaches code w Q
@@ -33,7 +33,7 @@ fork code flag w v m Q walk set clear = by (flag_of flag v) refl
     by true is = go true is (set is)
     by false is = go false is (clear is)
 
--- a world that stands there is one that is entered there
+-- a world with this PC and S is the same as one entered there
 pub stands : (code : Code) (pc s : ℕ) (w : World) (Q : World → Type 0) → w.registers.pc ≡ pc → w.registers.s ≡ s
     → w.registers.flags.d ≡ false
     → Reaches code (enter pc s w) Q → Reaches code w Q
@@ -44,7 +44,7 @@ stands code pc s w Q at is_s d reaches = subst (λ v. Reaches code v Q) same rea
       registers = record w.registers { pc = sym at i; s = sym is_s i; flags = record w.registers.flags { d = sym d i } };
     }
 
--- back at the top of a loop, with less to do
+-- back at the top of a loop, with a smaller measure
 pub record Again (pc s : ℕ) (Inv : World → Type 0) (measure : World → ℕ) (m : ℕ) (u : World) : Type 0 where
   pub pc_is : u.registers.pc ≡ pc
   pub s_is : u.registers.s ≡ s
@@ -52,7 +52,7 @@ pub record Again (pc s : ℕ) (Inv : World → Type 0) (measure : World → ℕ)
   pub less : measure u < m
   pub invariant : Inv u
 
--- a loop, by what holds at its top and a measure that goes down
+-- a loop, given an invariant at its top and a measure that decreases
 pub loops : (code : Code) (pc s : ℕ) (Inv : World → Type 0) (measure : World → ℕ) (Q : World → Type 0)
     → ((v : World) → Inv v → Reaches code (enter pc s v) (λ u. Again pc s Inv measure (measure v) u ⊎ Q u))
     → (v : World) → Inv v → Reaches code (enter pc s v) Q
@@ -86,7 +86,7 @@ call code to s behind Before After Q meets v bytes before home_is later = go (me
     go (n, (u, walk, (last, back, after))) =
         onto code (enter to s v) u n Q walk (onto code u last 1 Q back.step (at_last last u back after))
 
--- bytes that are stored are bytes
+-- the values that are stored are bytes
 abbrev pub Fits : List (ℕ × ℕ) → Type 0
 Fits [] = Unit {0}
 Fits ((at, byte) ∷ later) = (byte < 256) × Fits later
@@ -114,7 +114,7 @@ whole_after stores memory last whole fits is = subst Whole (sym is) (go stores m
     go ((at, byte) ∷ later) memory whole (small, fits) =
         go later (with_ram memory at byte) (whole_with memory at byte whole small) fits
 
--- what ADC leaves and carries
+-- the byte that ADC leaves, and its carry
 pub whole : (sum : ℕ) → sum < 512 → sum % 256 + 256 * one_if (nat_le 256 sum) ≡ sum
 whole sum small = by (nat_le 256 sum) refl
   where
@@ -143,7 +143,7 @@ eq_yes m n is = grind (arith, nat_tests, is)
 pub eq_no : (m n : ℕ) → (m == n) ≡ false → m ≢ n
 eq_no m n is = grind (arith, nat_tests, is)
 
--- and facts as tests
+-- facts as tests
 pub yes_le : (m n : ℕ) → m ≤ n → nat_le m n ≡ true
 yes_le m n h = grind (arith, nat_tests, h)
 
@@ -171,7 +171,7 @@ eq_bit m n = by (m == n) refl
     by true is = inl (refl, (grind (arith, nat_tests, is)))
     by false is = inr (refl, (grind (arith, nat_tests, is)))
 
--- what a test says of each byte, by trying them all
+-- a test that is true for each byte, by trying all of them
 below : (p : ℕ → Bool) (n : ℕ) → list_all p (numbers_from 0 n) ≡ true → (x : ℕ) → x < n → p x ≡ true
 below p n all x less = go n 0 all x (omega arith) (omega (arith, less))
   where
@@ -190,7 +190,7 @@ below p n all x less = go n 0 all x (omega arith) (omega (arith, less))
 pub each_byte : (p : ℕ → Bool) → list_all p (numbers_from 0 256) ≡ true → (x : ℕ) → x < 256 → p x ≡ true
 each_byte p all x less = below p 256 all x less
 
--- a factor that goes down or up
+-- a factor that decreases or increases
 pub product_down : (x y : ℕ) → x ≢ 0 → x < 256 → x * y ≡ (x + 255) % 256 * y + y
 product_down x y some small = go ((x + 255) % 256) (omega (arith, some, small))
   where
@@ -209,7 +209,7 @@ product_zero x y is = ap (λ n. n * y) is ∙ (let e : 0 * y ≡ 0 = grind arith
 pub product_one : (x y : ℕ) → x ≡ 1 → x * y ≡ y
 product_one x y is = ap (λ n. n * y) is ∙ (let e : 1 * y ≡ y = grind arith in e)
 
--- a product is 0, or no less than its factor
+-- a product is 0, or at least its factor
 pub product_ge : (x y : ℕ) → (y ≡ 0) ⊎ (x ≤ x * y)
 product_ge x zero = inl refl
 product_ge x (suc y) = let e : x * suc y ≡ x * y + x = grind arith in inr (omega (arith, e))
@@ -217,7 +217,7 @@ product_ge x (suc y) = let e : x * suc y ≡ x * y + x = grind arith in inr (ome
 pub mul_swap : (x y : ℕ) → x * y ≡ y * x
 mul_swap x y = grind arith
 
--- flags by their numbers
+-- flags as numbers
 pub flag_yes : (b : Bool) → 1 ≤ one_if b → b ≡ true
 flag_yes true h = refl
 flag_yes false h = let never : ⊥ = omega (arith, h) in absurd never
@@ -226,11 +226,11 @@ pub flag_no : (b : Bool) → one_if b < 1 → b ≡ false
 flag_no true h = let never : ⊥ = omega (arith, h) in absurd never
 flag_no false h = refl
 
--- what holds where steps lead, by what is known there
+-- a weaker statement about the world that steps reach
 pub weaken : (code : Code) (w : World) (P Q : World → Type 0) → Reaches code w P → ((u : World) → P u → Q u) → Reaches code w Q
 weaken code w P Q (n, (u, walk, holds)) by = (n, (u, walk, by u holds))
 
--- what holds of each number below another, one number after the other
+-- a statement about each number below a bound, one number after the other
 pub none_below : (P : ℕ → Type 0) (i : ℕ) → i + 0 < 0 → P i
 none_below P i less = let never : ⊥ = omega (arith, less) in absurd never
 

@@ -1,4 +1,4 @@
--- Addresses from one to another: what lies in several such ranges, and what beside them.
+-- Ranges of addresses: what is in one of several ranges, and what is outside all of them.
 use Rattle.std.specs.Prelude.{◌≡◌, ◌≢◌, ◌⊎◌, ◌<◌, ◌≤◌, ℕ, zero, suc, ◌+◌, ◌-◌, ◌==◌, nat_le, nat_lt, Bool, true, false, ◌&&◌, ◌||◌, List, [], ◌∷◌, ◌++◌, refl}
 use Rattle.std.specs.List.{list_all, list_any}
 use Rattle.std.proofs.Common.{sym, ap, ap₂, ◌∙◌, subst, arith, inl, inr, true≢false, append_assoc}
@@ -25,15 +25,15 @@ or_right : (x : Bool) → (x || true) ≡ true
 or_right true = refl
 or_right false = refl
 
--- an address lies in one of several ranges, each from its first address to its last one
+-- an address is in one of several ranges, each given by its first and its last address
 abbrev pub is_in : List (ℕ × ℕ) → ℕ → Bool
 is_in ranges a = list_any (λ range. nat_le range.0 a && nat_le a range.1) ranges
 
--- a range lies in one of several
+-- a range is inside one of several
 abbrev pub has_range : List (ℕ × ℕ) → ℕ × ℕ → Bool
 has_range ranges inner = list_any (λ range. nat_le range.0 inner.0 && nat_le inner.1 range.1) ranges
 
--- a range lies beside another
+-- a range is outside another
 abbrev pub is_beside : (low high : ℕ) → ℕ × ℕ → Bool
 is_beside low high range = nat_lt range.1 low || nat_lt high range.0
 
@@ -65,7 +65,7 @@ beside range low high a h from to = go (or_yes _ _ h)
         let no : nat_le range.0 a ≡ false = grind (arith, nat_tests, less, to) in
         ap (λ x. x && nat_le a range.1) no
 
--- an address of a range that lies in one of several
+-- an address of a range that is inside one of several
 pub in_ranges : (ranges : List (ℕ × ℕ)) (low high a : ℕ) → has_range ranges (low, high) ≡ true → low ≤ a → a ≤ high → is_in ranges a ≡ true
 in_ranges [] low high a h from to = h
 in_ranges (range ∷ more) low high a h from to = go (or_yes _ _ h) (λ e. in_ranges more low high a e from to)
@@ -76,7 +76,7 @@ in_ranges (range ∷ more) low high a h from to = go (or_yes _ _ h) (λ e. in_ra
     go (inr e) rest =
         ap (λ b. (nat_le range.0 a && nat_le a range.1) || b) (rest e) ∙ or_right (nat_le range.0 a && nat_le a range.1)
 
--- an address of a range that lies beside all
+-- an address of a range that is outside all of several
 pub out_of_ranges : (ranges : List (ℕ × ℕ)) (low high a : ℕ) → list_all (is_beside low high) ranges ≡ true → low ≤ a → a ≤ high
     → is_in ranges a ≡ false
 out_of_ranges [] low high a h from to = refl
@@ -84,7 +84,7 @@ out_of_ranges (range ∷ more) low high a h from to =
     let two = both _ _ h in
     ap₂ (λ x y. x || y) (beside range low high a two.0 from to) (out_of_ranges more low high a two.1 from to)
 
--- an address of a range that has none of these addresses
+-- an address of a range that contains none of these addresses
 pub not_among : (ns : List ℕ) (low high a : ℕ) → list_all (λ n. nat_lt n low || nat_lt high n) ns ≡ true → low ≤ a → a ≤ high
     → is_among ns a ≡ false
 not_among [] low high a h from to = refl
@@ -96,7 +96,7 @@ not_among (n ∷ ns) low high a h from to =
     go (inl e) = let less : n < low = grind (arith, nat_tests, e) in grind (arith, nat_tests, less, from)
     go (inr e) = let less : high < n = grind (arith, nat_tests, e) in grind (arith, nat_tests, less, to)
 
--- what lies in none of several ranges lies in none of those within them
+-- an address outside several ranges is outside all ranges inside them
 pub in_none_of : (ranges inner : List (ℕ × ℕ)) (a : ℕ) → list_all (has_range ranges) inner ≡ true → is_in ranges a ≡ false → is_in inner a ≡ false
 in_none_of ranges [] a all out = refl
 in_none_of ranges (range ∷ more) a all out = by (nat_le range.0 a && nat_le a range.1) refl (in_none_of ranges more a two.1 out)
@@ -115,7 +115,7 @@ in_none_of ranges (range ∷ more) a all out = by (nat_le range.0 a && nat_le a 
 abbrev pub all_pass : (ℕ → Bool) → List (ℕ × ℕ) → Bool
 all_pass allowed ranges = list_all (λ range. list_all allowed (numbers_from range.0 (range.1 + 1 - range.0))) ranges
 
--- what does not pass it lies in none of them
+-- an address that does not pass the test is outside all of them
 pub passes_not : (allowed : ℕ → Bool) (ranges : List (ℕ × ℕ)) (a : ℕ) → all_pass allowed ranges ≡ true → allowed a ≡ false → is_in ranges a ≡ false
 passes_not allowed [] a all out = refl
 passes_not allowed (range ∷ more) a all out = by (nat_le range.0 a && nat_le a range.1) refl (passes_not allowed more a two.1 out)
@@ -141,7 +141,7 @@ passes_not allowed (range ∷ more) a all out = by (nat_le range.0 a && nat_le a
         absurd (true≢false (sym (each (range.1 + 1 - range.0) range.0 two.0 from (omega (arith, from, to))) ∙ out))
     by false is rest = ap₂ (λ x y. x || y) is rest
 
--- what is left behind a memory but in some ranges, and before it
+-- what is unchanged outside some ranges: up to a middle memory, and then after it
 pub leaves_behind : (memory middle : Memory) (ranges inner : List (ℕ × ℕ)) (taken more : List ℕ) (v : World)
     → Leaves middle (is_in inner) more v → list_all (has_range ranges) inner ≡ true
     → Leaves memory (is_in ranges) taken (entered 0 middle) → Leaves memory (is_in ranges) (taken ++ more) v
@@ -150,12 +150,13 @@ leaves_behind memory middle ranges inner taken more v behind all before = record
   keys = before.keys ∙ ap (λ keys. taken ++ keys) behind.keys ∙ sym (append_assoc taken more v.memory.devices.keys);
 }
 
--- a byte at an address of a range beside those that may change
+-- a byte at an address of a range that is outside those that may change
 pub kept_beside : {taken : List ℕ} (memory : Memory) (ranges : List (ℕ × ℕ)) (v : World) (low high a : ℕ)
     → Leaves memory (is_in ranges) taken v → list_all (is_beside low high) ranges ≡ true → low ≤ a → a ≤ high → ram_byte v.memory a ≡ ram_byte memory a
 kept_beside memory ranges v low high a keeps all from to = keeps.bytes a (out_of_ranges ranges low high a all from to)
 
--- a byte is kept, or it lies in this range, where each other one that may change lies beside
+-- a byte of a range is unchanged, or it is in the first range given here, if all other ranges that may change are
+-- outside its own
 pub kept_or_in : {taken : List ℕ} (memory : Memory) (ranges : List (ℕ × ℕ)) (v : World) (first last low high a : ℕ)
     → Leaves memory (is_in ranges) taken v
     → list_all (λ range. (nat_le first range.0 && nat_le range.1 last) || is_beside low high range) ranges ≡ true → low ≤ a → a ≤ high

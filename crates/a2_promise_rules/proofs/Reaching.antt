@@ -1,4 +1,4 @@
--- Instructions that reach a byte at an address that is not known by value: one step each.
+-- Instructions that access a byte at an address whose value is not known: one step each.
 use Rattle.std.specs.Prelude.{◌≡◌, ◌<◌, ℕ, ◌+◌, ◌%◌, ◌&&◌, ◌||◌, Bool, false, nat_lt, [], ◌∷◌, Some, None, if◌then◌else◌}
 use Rattle.std.specs.List.{list_any}
 use Rattle.std.proofs.Common.{ap, ◌∙◌}
@@ -20,7 +20,8 @@ use Rattle.a2_machine.proofs.Walks.{walked}
 use Rattle.a2_theorems.proofs.Stepping.{Stands, step}
 use Rattle.a2_theorems.proofs.Indexing.{reads_at, stores_at}
 
--- what an instruction does with the byte that it reads; the byte that it stores; and the byte that it puts in place of another
+-- the effect of an instruction on the byte that it reads, the byte that it stores, and the byte with which it replaces
+-- another
 abbrev pub taken_by : Effect → ℕ → Registers → Registers
 taken_by (takes change) = change
 taken_by _ = λ byte registers. registers
@@ -33,15 +34,15 @@ abbrev pub replaced_by : Effect → ℕ → StatusFlags → Replacement
 replaced_by (replaces change) = change
 replaced_by _ = λ byte flags. record { byte = byte; flags = flags }
 
--- the registers behind an instruction, but for what it does
+-- the registers after an instruction, apart from its effect
 abbrev pub onward : Row → World → Registers
 onward row w = record w.registers { pc = (w.registers.pc + length_of row.mode) % 65536 }
 
--- the cycles behind it, where it reads at this address
+-- the cycles after it, if it reads at this address
 abbrev pub spent : Row → (value at : ℕ) → World → ℕ
 spent row value at w = w.cycles + (row.cycles + one_if (row.crosses && is_other_page (base_address memory_access w.memory row.mode value) at) + 0)
 
--- behind an instruction that reads at an address, one that stores there, and one that does both
+-- the world after an instruction that reads at an address, after one that stores there, and after one that does both
 abbrev pub taking : Row → (value at : ℕ) → World → World
 taking row value at w = record {
   registers = taken_by (effect_of row.mnemonic) (ram_byte w.memory at) (onward row w);

@@ -1,4 +1,4 @@
--- What a phrase says of two worlds, in sums and comparisons of naturals: by this proofs speak of it.
+-- The meaning of a phrase for two worlds, in sums and comparisons of natural numbers; proofs use this form.
 use Rattle.std.specs.Prelude.{◌≡◌, ◌≢◌, ◌⊎◌, ◌<◌, ◌≤◌, ℕ, zero, suc, ◌+◌, ◌-◌, ◌*◌, ◌/◌, ◌%◌, ◌^◌, ◌==◌, pos, Bool, true, false, ◌&&◌, ◌||◌, not, nat_le, nat_lt, min, max, List, [], ◌∷◌, Option, Some, None, if◌then◌else◌}
 use Rattle.a2_bus.specs.Memory.{ram_byte}
 use Rattle.a2_effect.specs.Arithmetic.{by_digits, differ}
@@ -12,9 +12,9 @@ use Rattle.a2_promise.specs.declared.expr.Operation.TheVariants as operation
 use Rattle.a2_promise.specs.Phrases.{Phrase, number, held, bound, old, of, pair, choice, each, sum}
 use Rattle.a2_theorems.specs.Routines.{word}
 
--- Names that are counted
+-- Names that count
 
--- what each name stands for, by its number; outside of what counts it that is 0
+-- the value of each name, given its number; outside the phrase that binds the name, it is 0
 abbrev pub unnamed : ℕ → ℕ
 unnamed name = 0
 
@@ -41,7 +41,7 @@ is_part atom.Cycles = false
 is_part atom.Steps = false
 is_part _ = true
 
--- a number that is never below 0, and one as the difference of two
+-- a number that is never below 0, or one as the difference of two such numbers
 pub record View : Type 0 where
   pub plain : ℕ
   pub up : ℕ
@@ -80,11 +80,11 @@ joined _ below x y = same 0
 abbrev pub size : View → View
 size x = same ((x.up - x.down) + (x.down - x.up))
 
--- an address; what may be below 0 is the difference
+-- an address; if the number may be below 0, the address is the difference
 abbrev pub address : Bool → View → ℕ
 address below x = if below then x.up - x.down else x.plain
 
--- the sum of what is there of each number below another
+-- the sum of the values at each number below a bound
 abbrev pub summed : ℕ → (ℕ → ℕ) → ℕ
 summed zero f = 0
 summed (suc n) f = summed n f + f n
@@ -102,7 +102,7 @@ view (pair op x y) names w v = joined op (minus x) (view x names w v) (view y na
 view (sum name n e) names w v = same (summed (view n names w v).plain (λ i. (view e (with_name names name i) w v).plain))
 view _ names w v = same 0
 
--- a number that both are not above
+-- an upper bound for the result of an operation, given those of its operands
 abbrev pub most_of : Operation → ℕ → ℕ → ℕ
 most_of operation.Plus m n = m + n
 most_of operation.Minus m n = m + n
@@ -113,7 +113,7 @@ most_of operation.Min m n = m
 most_of operation.Max m n = m + n
 most_of _ m n = 255
 
--- by what each name is not above
+-- an upper bound for a phrase, given one for each name
 abbrev pub most : Phrase → (tops : ℕ → ℕ) → ℕ
 most (number (pos n)) tops = n
 most (held a) tops = 255
@@ -127,21 +127,21 @@ most (pair op x y) tops = most_of op (most x tops) (most y tops)
 most (sum name n e) tops = most n tops * most e (with_name tops name (most n tops - 1))
 most _ tops = 0
 
--- a number that both are not below
+-- a lower bound for a phrase
 abbrev pub lowest : Phrase → ℕ
 lowest (number (pos n)) = n
 lowest (old e) = lowest e
 lowest (pair operation.Plus x y) = lowest x + lowest y
 lowest _ = 0
 
--- whether a difference is never below 0, as numbers that are written show
+-- whether the numbers written in a difference show that it is never below 0
 abbrev pub never_below : Phrase → (tops : ℕ → ℕ) → Bool
 never_below (old e) tops = never_below e tops
 never_below (pair operation.Minus x y) tops = not (minus x) && (not (minus y) && nat_le (most y tops) (lowest x))
 never_below (pair operation.Plus x y) tops = (not (minus x) || never_below x tops) && (not (minus y) || never_below y tops)
 never_below _ tops = false
 
--- a divisor is a number that is written, and not 0
+-- a divisor is a number that is written out, and is not 0
 abbrev pub divides : Phrase → Bool
 divides (number (pos (suc n))) = true
 divides _ = false
@@ -158,7 +158,7 @@ is_byte n = nat_lt n 256
 abbrev pub in_range : ℕ → Bool
 in_range n = nat_lt n (2 ^ 63)
 
--- whether the numbers of an operation are such that the rules speak of it
+-- whether the rules cover an operation on these numbers
 abbrev pub may_join : Operation → Phrase → Phrase → (m n : ℕ) → Bool
 may_join operation.Plus x y m n = in_range (m + n)
 may_join operation.Minus x y m n = in_range (m + n)
@@ -173,7 +173,7 @@ may_join operation.Max x y m n = both_plain x y
 may_join operation.Bit x y m n = both_plain x y && (nat_lt m 16 && nat_lt n 65536)
 may_join _ x y m n = false
 
--- whether a phrase is a number of which the rules speak
+-- whether a phrase is a number that the rules cover
 abbrev pub counts : Phrase → (tops : ℕ → ℕ) → Bool
 counts (number (pos n)) tops = true
 counts (held a) tops = is_part a
@@ -191,7 +191,7 @@ counts _ tops = false
 
 -- Facts
 
--- what is so where a fact holds, and where it does not
+-- the statement that a fact holds, and the statement that it does not
 pub record Claim : Type 1 where
   pub says : Type 0
   pub denies : Type 0
@@ -216,7 +216,7 @@ is_flag atom.Negative = true
 is_flag atom.Overflow = true
 is_flag _ = false
 
--- whether a phrase is a fact that is no flag
+-- whether a phrase is a fact that is not a flag
 abbrev pub is_fact : Phrase → Bool
 is_fact (old e) = is_fact e
 is_fact (pair operation.Equal x y) = true
@@ -257,7 +257,7 @@ compared operation.Less below x y = less below x y
 compared operation.AtMost below x y = at_most below x y
 compared _ below x y = nothing
 
--- both, one of two, not, if; or one of two by a third
+-- and, or, not, if-then; in general, one of two facts, chosen by a third
 abbrev pub choose : Option Bool → Option Bool → Claim → Claim → Claim → Claim
 choose None (Some false) c x y = record { says = c.says × x.says; denies = c.denies ⊎ x.denies }
 choose (Some true) None c x y = record { says = c.says ⊎ y.says; denies = c.denies × y.denies }
@@ -272,7 +272,7 @@ abbrev pub one_of : Bool → Claim → Claim → Claim
 one_of true x y = x
 one_of false x y = y
 
--- each number below another, which may be below 0
+-- each number below a bound, which may itself be below 0
 abbrev pub each_below : View → (ℕ → Claim) → Claim
 each_below x of_one = record {
   says = (i : ℕ) → i + x.down < x.up → (of_one i).says;
@@ -301,7 +301,7 @@ compares operation.Less = true
 compares operation.AtMost = true
 compares _ = false
 
--- whether a phrase is a fact of which the rules speak
+-- whether a phrase is a fact that the rules cover
 abbrev pub tells : Phrase → (tops : ℕ → ℕ) → Bool
 tells (number (pos zero)) tops = true
 tells (number (pos (suc zero))) tops = true
@@ -314,7 +314,7 @@ tells (each name n e) tops =
     counts n tops && (nat_lt (most n tops) 65536 && (nat_lt name 4 && tells e (with_name tops name (most n tops - 1))))
 tells _ tops = false
 
--- of each of several
+-- whether this is so for each of several phrases
 abbrev pub all_tell : List Phrase → Bool
 all_tell [] = true
 all_tell (p ∷ more) = tells p unnamed && all_tell more

@@ -1,4 +1,5 @@
--- The value of a phrase at a routine's entry where some bytes are known: so it is in each memory that has these bytes.
+-- The value of a phrase at a routine's entry if some bytes are known; it is the same in each memory that has these
+-- bytes.
 use Rattle.std.specs.Prelude.{◌≡◌, ℕ, zero, suc, ◌+◌, ◌%◌, ℤ, pos, Bool, true, false, ◌&&◌, IsTrue, List, [], ◌∷◌, map, Option, Some, None, is_some, if◌then◌else◌, slice_get, slice_set, refl}
 use Rattle.std.specs.List.{list_all}
 use Rattle.std.proofs.Common.{ap, ap₂, ◌∙◌}
@@ -22,7 +23,7 @@ use Rattle.a2_promise_rules.proofs.Ranges.{both}
 abbrev pub entry : Registers → List ℕ → Moment
 entry registers bytes = record { registers = registers; bytes = bytes; cycles = 0; steps = 0 }
 
--- The value, with a byte where one is known
+-- The value, given the bytes that are known
 
 abbrev byte_seen : (ℕ → Option ℕ) → Option ℕ → Option ℤ
 byte_seen peek None = None
@@ -57,7 +58,7 @@ seen (each name n e) registers peek names =
 seen (sum name n e) registers peek names =
     at_count (count_of (seen n registers peek names)) (λ k. seen e registers peek (slice_set names name (pos k))) sum_below
 
--- Where it is a number, the value is that one
+-- If it is a number, the value is that number
 
 abbrev Under : {X : Type 0} → Option X → Option X → Type 0
 Under {X} o p = (x : X) → o ≡ Some x → p ≡ Some x
@@ -177,7 +178,7 @@ module _ (peek : ℕ → Option ℕ) (all : List ℕ) (shows : (a byte : ℕ) �
       (λ m. sum_under m f g (λ k. under e (slice_set names name (pos k))))
       (count_under (seen (phrase_of n) registers peek names) (value_of n here here names) (under n names)) z h
 
-  -- what is seen to hold does
+  -- what is known to hold does hold
   holds_under : (o p : Option ℤ) → Under o p → holds o ≡ true → holds p ≡ true
   holds_under None p u h = absurd (false≢true h)
   holds_under (Some x) p u h = ap holds (u x refl) ∙ h
@@ -185,14 +186,14 @@ module _ (peek : ℕ → Option ℕ) (all : List ℕ) (shows : (a byte : ℕ) �
 abbrev seen_to_hold : Registers → (ℕ → Option ℕ) → Phrase → Bool
 seen_to_hold registers peek p = holds (seen p registers peek no_names)
 
--- whether all phrases are seen to hold
+-- whether all phrases are known to hold
 abbrev pub all_seen : List Phrase → Registers → (ℕ → Option ℕ) → Bool
 all_seen phrases registers peek = list_all (seen_to_hold registers peek) phrases
 
 abbrev phrases : List Clause → List Phrase
 phrases clauses = map (λ clause. phrase_of clause.expr) clauses
 
--- so do the clauses that say these, in a memory that has the bytes
+-- the clauses that say these phrases hold in a memory that has the bytes
 pub seen_holds : (peek : ℕ → Option ℕ) (all : List ℕ) → ((a byte : ℕ) → peek a ≡ Some byte → slice_get all a ≡ Some byte)
     → (registers : Registers) (clauses : List Clause) → all_seen (phrases clauses) registers peek ≡ true
     → IsTrue (all_hold clauses (entry registers all) (entry registers all))

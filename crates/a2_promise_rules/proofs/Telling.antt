@@ -1,4 +1,5 @@
--- Whether an expression holds, in moments of two worlds of bytes, is what its phrase says or denies of them.
+-- An expression holds, at moments of two worlds of bytes, exactly if its phrase says so, and not if its phrase denies
+-- it.
 use Rattle.std.specs.Prelude.{◌≡◌, ◌≢◌, ◌⊎◌, ◌<◌, ◌≤◌, ℕ, zero, suc, ◌+◌, ◌-◌, ℤ, pos, negsuc, int_le, nat_lt, Bool, true, false, ◌&&◌, ◌||◌, List, Option, Some, None, if◌then◌else◌, slice_get, slice_set, refl}
 use Rattle.std.proofs.Common.{sym, ap, ap₂, ◌∙◌, subst, arith, inl, inr, true≢false}
 use Rattle.std.proofs.lemmas.Bool.{false≢true}
@@ -22,7 +23,7 @@ record Sure (c : Claim) : Type 0 where
   either : c.says ⊎ c.denies
   apart : c.says → c.denies → ⊥
 
--- a value is 1 where a claim holds, and 0 where it is denied
+-- a value is 1 if a claim holds, and 0 if it is denied
 record Shows (c : Claim) (o : Option ℤ) : Type 0 where
   yes : c.says → o ≡ Some (pos 1)
   no : c.denies → o ≡ Some (pos 0)
@@ -226,10 +227,10 @@ agree_tells x y ox oy hx hy = record { sure = record { either = either hx.sure.e
         go (inl a) = value (pos 1) (pos 0) (hx.shows.yes a) (hy.shows.no (s.0 a))
         go (inr a) = value (pos 0) (pos 1) (hx.shows.no a) (hy.shows.yes (s.1 a))
 
--- one of two by a third
+-- one of two, chosen by a third
 
 module _ (c x y : Claim) (oc ox oy : Option ℤ) (hc : Tells c oc) (hx : Tells x ox) (hy : Tells y oy) where
-  -- what is written as true or false is so
+  -- a phrase written as true or false has that value
   abbrev Constant : Option Bool → Claim → Type 0
   Constant None k = Unit {0}
   Constant (Some true) k = k.says
@@ -274,7 +275,7 @@ module _ (c x y : Claim) (oc ox oy : Option ℤ) (hc : Tells c oc) (hx : Tells x
       no_more d (inl a) = first a ∙ hx.shows.no (d.0 a)
       no_more d (inr a) = second a ∙ hy.shows.no (d.1 a)
 
-  -- the same claim in other words
+  -- the same claim in another form
   other_words : (k : Claim) → (k.says → plain_choice.says) → (plain_choice.says → k.says) → (k.denies → plain_choice.denies)
       → (plain_choice.denies → k.denies) → Tells k (chosen oc ox oy)
   other_words k to from to_no from_no = record {
@@ -286,7 +287,7 @@ module _ (c x y : Claim) (oc ox oy : Option ℤ) (hc : Tells c oc) (hx : Tells x
       either (inl s) = inl (from s)
       either (inr d) = inr (from_no d)
 
-  -- both
+  -- and
   both_tell : y.denies → Tells (choose None (Some false) c x y) (chosen oc ox oy)
   both_tell no_y = other_words (choose None (Some false) c x y)
       (λ s. (λ h. s.1, λ h. absurd (hc.sure.apart s.0 h))) (λ s. from s hc.sure.either)
@@ -304,7 +305,7 @@ module _ (c x y : Claim) (oc ox oy : Option ℤ) (hc : Tells c oc) (hx : Tells x
       from_no d (inl a) = inr (d.0 a)
       from_no d (inr a) = inl a
 
-  -- one of two
+  -- or
   one_tells : x.says → Tells (choose (Some true) None c x y) (chosen oc ox oy)
   one_tells yes_x = other_words (choose (Some true) None c x y)
       (λ s. (λ h. yes_x, λ h. to s h)) (λ s. from s hc.sure.either)
@@ -336,7 +337,7 @@ module _ (c x y : Claim) (oc ox oy : Option ℤ) (hc : Tells c oc) (hx : Tells x
       from_no d (inl a) = a
       from_no d (inr a) = absurd (hy.sure.apart yes_y (d.1 a))
 
-  -- if
+  -- if-then
   if_tells : y.says → Tells (choose None (Some true) c x y) (chosen oc ox oy)
   if_tells yes_y = other_words (choose None (Some true) c x y)
       (λ s. (s, λ h. yes_y)) (λ s. s.0)
@@ -357,7 +358,7 @@ module _ (c x y : Claim) (oc ox oy : Option ℤ) (hc : Tells c oc) (hx : Tells x
   choice_tells (Some false) (Some true) a b = not_tells a b
   choice_tells (Some false) (Some false) a b = plain
 
--- of each phrase
+-- for each phrase
 
 constant_tells : (n : ℕ) (names tops : ℕ → ℕ) (w v : World) → tells (number (pos n)) tops ≡ true
     → Tells (claim (number (pos n)) names w v) (Some (pos n))
@@ -434,7 +435,7 @@ choosing (Some false) None c x y oc ox oy hc hx hy a b = choice_tells c x y oc o
 choosing (Some false) (Some true) c x y oc ox oy hc hx hy a b = choice_tells c x y oc ox oy hc hx hy (Some false) (Some true) a b
 choosing (Some false) (Some false) c x y oc ox oy hc hx hy a b = choice_tells c x y oc ox oy hc hx hy (Some false) (Some false) a b
 
--- each number below another
+-- each number below a bound
 
 abbrev each_first : ℕ → (ℕ → Claim) → Claim
 each_first n of_one = record { says = (i : ℕ) → i < n → (of_one i).says; denies = (i : ℕ) × (i < n) × (of_one i).denies }
@@ -522,7 +523,7 @@ below_tell signed x top o of_one f h low known = record {
 below_top : (x : View) (top i : ℕ) → x.up ≤ top → i < x.up - x.down → i ≤ top - 1
 below_top x top i h less = omega (arith, h, less)
 
--- WHAT IS TOLD: an expression holds where its phrase says so, and else not
+-- THE RESULT: an expression holds exactly if its phrase says so
 tell : (e : Expr) (names tops : ℕ → ℕ) (w v : World) (steps : ℕ) (numbers : List ℤ) → OnlyBytes w → OnlyBytes v → Named numbers names tops
     → tells (phrase_of e) tops ≡ true → Tells (claim (phrase_of e) names w v) (value_of e (moment w w 0) (moment w v steps) numbers)
 tell (Number (pos n)) names tops w v steps numbers bw bv named h = constant_tells n names tops w v h
@@ -558,7 +559,7 @@ tell (Each' name p n q e) names tops w v steps numbers bw bv named h =
     (below_top (view (phrase_of n) names w v) (most (phrase_of n) tops) i number.up less)) c.1)
 tell (Sum' name p n q e) names tops w v steps numbers bw bv named h = absurd (false≢true h)
 
--- at first no name stands for a number
+-- at first, no name has a value
 none_named : Named no_names unnamed unnamed
 none_named = record { four = refl; is = is; low = λ i less. omega arith }
   where
@@ -576,11 +577,11 @@ module _ (e : Expr) (w v : World) (steps : ℕ) (bw : OnlyBytes w) (bv : OnlyByt
   told : Tells (claim (phrase_of e) unnamed w v) value
   told = tell e unnamed unnamed w v steps no_names bw bv none_named h
 
-  -- what is said holds
+  -- what the phrase says holds
   pub said_holds : (claim (phrase_of e) unnamed w v).says → holds value ≡ true
   said_holds s = ap holds (told.shows.yes s)
 
-  -- what holds is said
+  -- what holds is what the phrase says
   pub holds_said : holds value ≡ true → (claim (phrase_of e) unnamed w v).says
   holds_said is = go told.sure.either
     where

@@ -1,4 +1,4 @@
--- Lines as they are told.
+-- Lines and the terms that they state.
 use Rattle.std.specs.Prelude.{◌≡◌, ◌≢◌, ℕ, ◌≤◌, ◌==◌, nat_le, Bool, true, false, not, ◌&&◌, List, [], ◌∷◌, codes, Option, Some, None, refl, if◌then◌else◌}
 use Rattle.std.specs.Str.{bytes_eq}
 use Rattle.std.proofs.Common.{sym, ap, ◌∙◌, true≢false}
@@ -12,16 +12,16 @@ abbrev is_nothing : List Token → Bool
 is_nothing (word name ∷ []) = bytes_eq name (codes "nothing")
 is_nothing _ = false
 
--- where something is named that may change, `changes` does not say that nothing may
+-- if something is named that may change, `changes` does not say that nothing may
 pub not_nothing : (tokens : List Token) → is_nothing tokens ≡ false → tokens ≡ word (codes "nothing") ∷ [] → ⊥
 not_nothing tokens other is = true≢false (sym (ap is_nothing is) ∙ other)
 
--- Keys as they are spelt
+-- Keys in their spelling
 
 abbrev is_plain : ℕ → ℕ → Bool
 is_plain c key = nat_le 0x20 c && (nat_le c 0x7E && (not (c == 0x5C) && (key == c)))
 
--- a text spells keys, as it is computed
+-- a text spells keys, by computation
 abbrev spells : List ℕ → List ℕ → Bool
 spells [] [] = true
 spells (c ∷ text) [] = false
@@ -45,7 +45,7 @@ plain_one c key h =
     let other = both (not (c == 0x5C)) (key == c) high.1 in
     (le_yes 0x20 c low.0, le_yes c 0x7E high.0, eq_no c 0x5C (not_so (c == 0x5C) other.0), eq_yes key c other.1)
 
--- a text that begins with two characters, by what is known of the rest behind one and behind both
+-- a text that begins with two characters, given the rest after the first and the rest after both
 spells_two : (c d key : ℕ) (text keys : List ℕ) → (spells text keys ≡ true → SpellsKeys text keys)
     → (spells (d ∷ text) keys ≡ true → SpellsKeys (d ∷ text) keys) → spells (c ∷ d ∷ text) (key ∷ keys) ≡ true
     → SpellsKeys (c ∷ d ∷ text) (key ∷ keys)

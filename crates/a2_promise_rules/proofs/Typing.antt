@@ -1,4 +1,4 @@
--- Services that take keys: KEYIN, RDKEY where its hook leads to KEYIN, and GETLN of a line without keys that edit it.
+-- Services that take keys: KEYIN, RDKEY if its hook leads to KEYIN, and GETLN for a line without editing keys.
 use Rattle.std.specs.Prelude.{◌≡◌, ℕ, ◌+◌, ◌<◌, ◌≤◌, ◌==◌, ◌||◌, not, Bool, true, false, List, [], ◌∷◌, ◌++◌, length, Some, None, if◌then◌else◌, refl}
 use Rattle.std.specs.List.{list_all, list_any}
 use Rattle.std.proofs.Common.{sym, ap, ◌∙◌, subst, arith, append_assoc}
@@ -36,12 +36,12 @@ use Rattle.a2_promise_rules.proofs.Lines.{IsRead, is_plain, line_is_read, line_p
 pub record HasKey (key : ℕ) (w : World) : Type 0 where
   pub waits : Waits (key ∷ []) w
 
--- and the input hook leads to KEYIN
+-- the input hook also leads to KEYIN
 pub record HasKeyHook (key : ℕ) (w : World) : Type 0 where
   pub r1 : word w.memory 0x38 ≡ 0xFD1B
   pub waits : Waits (key ∷ []) w
 
--- it was taken, and stands in A
+-- it was taken, and is in A
 pub record KeyTaken (key : ℕ) (w u : World) : Type 0 where
   pub e1 : u.registers.a ≡ 0x80 + key
   pub keep_x : u.registers.x ≡ w.registers.x
@@ -98,7 +98,7 @@ module _ (code : Code) (s : ℕ) (room : s < 254) (key : ℕ) (low : key < 128) 
 
 -- GETLN
 
--- the keys of a line and RETURN wait first; window and cursor lie on the screen
+-- the keys of a line and RETURN wait first; window and cursor are on the screen
 pub record HasLine (line : List ℕ) (w : World) : Type 0 where
   pub r1 : 1 ≤ ram_byte w.memory 0x21
   pub r2 : ram_byte w.memory 0x20 + ram_byte w.memory 0x21 ≤ 40
@@ -108,11 +108,11 @@ pub record HasLine (line : List ℕ) (w : World) : Type 0 where
   pub r6 : ram_byte w.memory 0x20 + ram_byte w.memory 0x24 < 40
   pub waits : Waits (line ++ 0x0D ∷ []) w
 
--- what GETLN changes: what output does, and the line from $0200 on
+-- the bytes that GETLN changes: those that output changes, and the line at $0200
 abbrev pub line_ranges : List (ℕ × ℕ)
 line_ranges = (0x24, 0x25) ∷ (0x28, 0x29) ∷ (0x200, 0x2FF) ∷ (0x400, 0x7FF) ∷ []
 
--- the line was taken, and stands at $0200: to store it there once more changes nothing
+-- the line was taken, and is at $0200: storing it there again changes nothing
 pub record LineTaken (line : List ℕ) (w u : World) : Type 0 where
   pub e1 : ram_byte u.memory 0x25 < 24
   pub e2 : ram_byte u.memory 0x20 + ram_byte u.memory 0x24 < 40

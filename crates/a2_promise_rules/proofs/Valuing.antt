@@ -1,4 +1,4 @@
--- The value of an expression, in moments of two worlds of bytes, is what its phrase says of them.
+-- The value of an expression, at moments of two worlds of bytes, is what its phrase says.
 use Rattle.std.specs.Prelude.{◌≡◌, ◌≢◌, ◌⊎◌, ◌<◌, ◌≤◌, ℕ, zero, suc, ◌+◌, ◌-◌, ◌*◌, ◌/◌, ◌%◌, ◌^◌, ℤ, pos, negsuc, ◌+ℤ◌, ◌-ℤ◌, neg_ℤ, int_lt, int_le, Bool, true, false, ◌&&◌, ◌||◌, not, nat_le, nat_lt, min, max, bit_and, bit_or, bit_xor, List, Option, Some, None, if◌then◌else◌, slice_get, slice_set, get_or, map, length, ◌==◌, refl}
 use Rattle.std.specs.Int.{int_rem_euclid}
 use Rattle.std.specs.List.{range_with_len}
@@ -51,7 +51,7 @@ is_below m n h = grind (arith, nat_tests, h)
 
 -- Numbers as differences
 
--- a number and what it is the difference of
+-- a number, and the two numbers whose difference it is
 abbrev pub Is : ℤ → ℕ → ℕ → Type 0
 Is z up down = z +ℤ pos down ≡ pos up
 
@@ -85,9 +85,10 @@ less_is x y u d v e a b h = grind (arith, ints, a, b, h)
 pub at_least_is : (x y : ℤ) (u d v e : ℕ) → Is x u d → Is y v e → v + d ≤ u + e → int_lt x y ≡ false
 at_least_is x y u d v e a b h = grind (arith, ints, a, b, h)
 
--- A phrase that counts
+-- A phrase that is a number
 
--- a value is the number that a view shows, and not above a bound; where it is never below 0, it is the plain one
+-- a value is the number that a view shows, and is at most a bound; if it is never below 0, the view is that plain
+-- number
 pub record Counts (signed : Bool) (x : View) (top : ℕ) (o : Option ℤ) : Type 0 where
   pub z : ℤ
   pub is : o ≡ Some z
@@ -115,7 +116,7 @@ plain_of signed x top o h e =
     let zero_down : Is h.z x.plain 0 = omega (arith, ints, sum, up_is, down_is) in
     record { is = h.is ∙ ap (λ z. Some z) (natural h.z x.plain zero_down); small = omega (arith, low, up_is) }
 
--- Operations of numbers that are never below 0
+-- Operations on numbers that are never below 0
 
 module _ (a b : ℕ) where
   times_value : a * b < 2 ^ 63 → operated operation.Times (pos a) (pos b) ≡ Some (pos (a * b))
@@ -187,7 +188,7 @@ remainder z u d n is h =
     whole : z +ℤ pos (d * n) ≡ pos (u + (n - 1) * d)
     whole = let e = turned n h in omega (arith, ints, is, e)
 
--- what is known of a divisor
+-- what is known about a divisor
 abbrev Divisor : Bool → View → Bool → Type 0
 Divisor divides y signed = divides ≡ true → (0 < y.plain) × (signed ≡ false)
 
@@ -204,7 +205,7 @@ module _ (p q : Phrase) (m n : ℕ) (x y : View) (ox oy : Option ℤ) (hx : Coun
   apart : both_plain p q ≡ true → (minus p ≡ false) × (minus q ≡ false)
   apart h = let two = both (not (minus p)) (not (minus q)) h in (no (minus p) two.0, no (minus q) two.1)
 
-  -- an operation of two that are never below 0
+  -- an operation on two numbers that are never below 0
   of_plain : (op : Operation) (k top : ℕ) → minus p ≡ false → minus q ≡ false
       → operated op (pos x.plain) (pos y.plain) ≡ Some (pos k) → k ≤ top → Counts false (same k) top (operated_on op ox oy)
   of_plain op k top ep eq is low =
@@ -487,13 +488,13 @@ divisor_of (sum name n e) names w v h = absurd (true≢false (sym h))
 
 -- Names
 
--- what names stand for, as the numbers of an expression and as those of its phrase, and what each is not above
+-- the values of names, as numbers of an expression and as numbers of its phrase, with an upper bound for each
 pub record Named (numbers : List ℤ) (names tops : ℕ → ℕ) : Type 0 where
   pub four : length numbers ≡ 4
   pub is : (i : ℕ) → i < 4 → slice_get numbers i ≡ Some (pos (names i))
   pub low : (i : ℕ) → i < 4 → names i ≤ tops i
 
--- one more
+-- one more name
 pub one_more : (numbers : List ℤ) (names tops : ℕ → ℕ) (name k top : ℕ) → Named numbers names tops → name < 4 → k ≤ top
     → Named (slice_set numbers name (pos k)) (with_name names name k) (with_name tops name top)
 one_more numbers names tops name k top named here low = record {
@@ -526,7 +527,7 @@ one_more numbers names tops name k top named here low = record {
     lower i less true e = low
     lower i less false e = named.low i less
 
--- how many numbers are below another, which may be below 0
+-- how many numbers are below a bound, which may itself be below 0
 pub count_is : (signed : Bool) (x : View) (top : ℕ) (o : Option ℤ) → Counts signed x top o → top < 65536
     → count_of o ≡ Some (x.up - x.down)
 count_is signed x top o h low = ap count_of h.is ∙ go h.z h.sum
@@ -592,7 +593,7 @@ size_counts signed x top all o h low =
 of_view : (x : View) (top : ℕ) (o : Option ℤ) → Plain x top o → Plain (same x.plain) top o
 of_view x top o h = record { is = h.is; small = h.small }
 
--- what a name stands for is not above this
+-- an upper bound for the value of a name
 pub below_count : (n top i : ℕ) → n ≤ top → i < n → i ≤ top - 1
 below_count n top i h less = omega (arith, h, less)
 
@@ -642,7 +643,7 @@ address_plain true x top o h above =
     record { is = h.is ∙ ap (λ z. Some z) (natural h.z (x.up - x.down) is); small = omega (arith, low) }
 address_plain false x top o h above = let p = plain_of false x top o h refl in record { is = p.is; small = p.small }
 
--- where a difference stands as an address
+-- a difference that is used as an address
 where_below : (p : Phrase) (tops : ℕ → ℕ) (x : View) → (not (minus p) || never_below p tops) ≡ true → Above p tops x
     → minus p ≡ true → x.down ≤ x.up
 where_below p tops x known above is = go (or_known (not (minus p)) (never_below p tops) known)
@@ -651,7 +652,7 @@ where_below p tops x known above is = go (or_known (not (minus p)) (never_below 
     go (inl e) = absurd (true≢false (sym is ∙ no (minus p) e))
     go (inr e) = above e
 
--- no difference is above 0 as it is
+-- an unsigned number is never below 0
 level : (signed : Bool) (x : View) (top : ℕ) (o : Option ℤ) → Counts signed x top o → not signed ≡ true → x.down ≤ x.up
 level signed x top o h e = let is = (h.plain (no signed e)).1 in omega (arith, is)
 
@@ -697,8 +698,8 @@ above_joined operation.Equal p q names tops w v ox oy hx hy ax ay h = absurd (tr
 above_joined operation.Less p q names tops w v ox oy hx hy ax ay h = absurd (true≢false (sym h))
 above_joined operation.AtMost p q names tops w v ox oy hx hy ax ay h = absurd (true≢false (sym h))
 
--- WHAT COUNTS: the value of an expression is the number of its phrase
--- and no difference that is never below 0 is below it
+-- THE RESULT FOR NUMBERS: the value of an expression is the number of its phrase, and a difference that is never below
+-- 0 is at least 0
 record Known (e : Expr) (names tops : ℕ → ℕ) (w v : World) (o : Option ℤ) : Type 0 where
   number : Counts (minus (phrase_of e)) (view (phrase_of e) names w v) (most (phrase_of e) tops) o
   above : Above (phrase_of e) tops (view (phrase_of e) names w v)

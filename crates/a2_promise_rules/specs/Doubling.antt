@@ -1,4 +1,4 @@
--- A promise that is proved, as an example: a routine doubles A, where it is below 128. This project's own.
+-- An example of a promise that is proved: a routine doubles A if A is below 128. This project's own.
 use Rattle.std.specs.Prelude.{pos, true, false, ℕ, List, [], ◌∷◌, codes}
 use Rattle.std.specs.List.{concat}
 use Rattle.a2_promise.specs.declared.expr.Atom.TheVariants as atom

@@ -1,4 +1,4 @@
--- Of two ways to read the same words and signs one fits, as examples. This project's own.
+-- Examples of expressions where only one of two ways to read the same tokens fits. This project's own.
 use Rattle.std.specs.Prelude.{◌≡◌, ℕ, false, IsTrue, List, [], codes}
 use Rattle.a2_promise.specs.declared.expr.Atom.TheVariants.{A, X, Y, Carry, Zero, Negative, Overflow}
 use Rattle.a2_promise.specs.declared.expr.Operation.TheVariants.{Plus, Minus, Times}
@@ -29,7 +29,7 @@ difference = joined (Apply Minus)
 abbrev product : Written → Written → Written
 product = joined (Apply Times)
 
--- a text is written as both trees are, and the first one fits
+-- a text has the tokens of both trees, and only the first tree fits
 abbrev pub IsReadAs : List ℕ → Written → Written → Type 0
 IsReadAs text e other =
     (tokens text ≡ spelled e) × (tokens text ≡ spelled other) × IsTrue (fits nowhere e) × (fits nowhere other ≡ false)

@@ -1,20 +1,21 @@
-//! Rules by which it is proved that a routine keeps what it promises in comments: proofs that `./a2lab prove` writes are made of
-//! them. They are definitions and lemmas; the calls do nothing, their contracts are theorems, as examples.
+//! Rules for proving that a routine keeps the promises in its comments. They are definitions and lemmas, and the proofs
+//! that `./a2lab prove` writes are built from them. The calls do nothing: their contracts are theorems, given as
+//! examples.
 //!
-//! How it is called is shown in CALLING.md.
+//! CALLING.md shows how to use this crate.
 #![tactic(auto)]
 
 ghost use Rattle.a2_promise_rules.specs.Doubling.{DoublingIsProved, DoublingTells};
 ghost use Rattle.a2_promise_rules.specs.Readings.{OneReadingFits};
 
-/// A theorem, and no code: in every world of bytes in which A is below 128, the routine of `doubling` doubles A, and all else
-/// stays. That this is what it promises is read in its lines.
+/// A theorem, and no code: in every world of bytes in which A is below 128, the routine of `doubling` doubles A and
+/// changes nothing else. The lines of the routine promise exactly this.
 pub fn doubling_is_proved()
     ensures told { DoublingTells }
     ensures kept { DoublingIsProved }
 {}
 
-/// A theorem, and no code: of two ways to read the same words and signs of a promise one fits, in examples.
+/// A theorem, and no code: in these examples, only one of two ways to read the same tokens of a promise fits.
 pub fn one_reading_fits()
     ensures { OneReadingFits }
 {}

@@ -1,10 +1,10 @@
--- RAM that is filled, an address at a time.
+-- Filling RAM, one address at a time.
 use Rattle.std.specs.Prelude.{◌≡◌, ◌⊎◌, ℕ, ◌+◌, ◌<◌, ◌≤◌, Option, Some, None, IfSome, refl}
 use Rattle.std.proofs.Common.{sym, subst, arith, inl, inr}
 use Rattle.a2_hex.specs.Images.{IsImage, ram_end}
 use Rattle.a2_promise_try.specs.Failing.{IsFilled}
 
--- below an address
+-- RAM is filled below an address
 abbrev pub FilledTo : (ℕ → Option ℕ) → (ℕ → Option ℕ) → ℕ → Type 0
 FilledTo program filled n = (a : ℕ) → a < n → IfSome (program a) (λ byte. filled a ≡ Some byte)
 
@@ -22,7 +22,7 @@ filled_next program before after n so here elsewhere a lt = go (low_or_last a n 
     go (inl low) = subst (λ (o : Option ℕ). IfSome (program a) (λ byte. o ≡ Some byte)) (sym (elsewhere a low)) (so a low)
     go (inr e) = subst (λ (k : ℕ). IfSome (program k) (λ byte. after k ≡ Some byte)) (sym e) here
 
--- a program lies in RAM
+-- a program is in RAM
 pub filled_all : (program filled : ℕ → Option ℕ) (n : ℕ) → ram_end ≤ n → IsImage program → FilledTo program filled n
     → IsFilled program filled
 filled_all program filled n all image so a = go (program a) refl (image a)

@@ -1,4 +1,4 @@
--- Registers and flags that a machine is given for the inputs of a state.
+-- The registers and flags that a machine gets for the inputs of a state.
 use Rattle.std.specs.Prelude.{◌≡◌, ℕ, refl}
 use Rattle.std.proofs.Common.{sym, ap, ◌∙◌}
 use Rattle.a2_bus.specs.View.{memory_of}
@@ -11,7 +11,7 @@ use Rattle.a2_promise_certify.specs.States.{with_value}
 use Rattle.a2_promise_certify.specs.declared.input.Input.{Input}
 use Rattle.a2_promise_certify.specs.declared.input.Input.TheVariants.{A, X, Y, Carry, Zero, Negative, Overflow, Interrupt, Byte}
 
--- an input that is no byte is one of the registers, whatever memory and cycles are
+-- an input that is not a byte is one of the registers, whatever memory and cycles are
 only_registers : (input : Input) (value : ℕ) (world : World) → ((a : ℕ) → input ≡ Byte a → ⊥)
     → with_value input value world ≡ record world {
       registers = (with_value input value
@@ -27,7 +27,7 @@ only_registers Overflow value world other = refl
 only_registers Interrupt value world other = refl
 only_registers (Byte a) value world other = absurd (other a refl)
 
--- other registers alone
+-- only the registers differ
 abbrev HasRegisters : Device → Device → Type 0
 HasRegisters old new = new ≡ record old { state = record old.state { regs = new.state.regs } }
 

@@ -1,5 +1,5 @@
--- What is found of a promise: that it is kept everywhere, where it is said so; of one that says what is printed or which keys are taken,
--- that is never said. This project's own.
+-- The verdict on a promise: if it says that the promise holds everywhere, the promise is kept everywhere. It never
+-- says so of a promise about printing or keys. This project's own.
 use Rattle.std.specs.Prelude.{ℕ, Option, IsTrue}
 use Rattle.a2_promise.specs.declared.promises.Promise.{Promise}
 use Rattle.a2_promise_try.specs.declared.verdict.PromiseVerdict.{PromiseVerdict}

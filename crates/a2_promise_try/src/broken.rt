@@ -1,4 +1,4 @@
-//! What of a promise a run did not keep.
+//! Finds which part of a promise a run does not keep.
 
 use crate::exit::{Exit, TrialRun};
 use crate::printing::prints_so;
@@ -9,37 +9,38 @@ use a2_promise::{Changes, Clause, Expr, Operation, Promise, Sight, Text, Visit, 
 use a2_promise_certify::{Input, NO_NAMES, is_own_stack, may_change, number_of, sight_of};
 use std::alloc::{AllocError, Global};
 
-/// Why what a line says is not so.
+/// Why a clause is not met.
 #[derive(Clone, Copy)]
 pub enum Unmet {
-    /// The fact does not hold; and what stands at the left and the right of what decides it, where it compares.
+    /// The fact is false. If a comparison decides it, holds the values of the two sides.
     Fact(Option<(i64, i64)>),
-    /// It has no value.
+    /// The clause has no value.
     NoValue,
     /// The measure is below 0.
     BelowZero(i64),
-    /// It is not less than before where the run comes back: what it was, and what it is.
+    /// The measure is not less than before when the run returns to the label: its old value, and its new one.
     NotLess(i64, i64),
 }
 
-/// What of a promise does not hold.
+/// The part of a promise that is not kept.
 #[derive(Clone, Copy)]
 pub enum Broken {
-    /// The routine leaves so, and does not return.
+    /// The routine leaves in this way instead of returning.
     Left(Exit),
-    /// What this line says is not so, behind the routine or where a run comes to its label.
+    /// The clause in this line is not met, either after the routine or when a run reaches its label.
     Line(usize, Unmet),
-    /// It prints otherwise than the text of this index says.
+    /// The routine does not print the text with this index.
     Prints(usize),
-    /// Keys are left that were typed.
+    /// Typed keys are left.
     Keys,
-    /// A register that does not stand behind `changes`, its byte before, and behind.
+    /// A register that is not listed in `changes`, its value before the routine, and its value after it.
     Register(Input, u8, u8),
-    /// A byte that does not.
+    /// The same for a byte of RAM.
     Byte(u16, u8, u8),
 }
 
-// What a fact compares that decides it: of two that both have to hold the first that does not.
+// Returns the two sides of the comparison that decides a fact. For two facts joined by `and`, this is in the first
+// one that is false.
 fn sides(
     expr: &Expr,
     entry: &Sight<Global>,
@@ -64,7 +65,7 @@ fn sides(
     }
 }
 
-/// The first of clauses that does not hold.
+/// Returns the first clause that is not met.
 pub(crate) fn broken_line(
     clauses: &[Clause],
     entry: &Sight<Global>,
@@ -82,7 +83,7 @@ pub(crate) fn broken_line(
     None
 }
 
-// A register that is other than before, and may not be.
+// Returns a register that differs from before but must not.
 fn broken_register(changes: &Changes, before: &Regs, behind: &Regs) -> Option<Broken> {
     let registers = [
         (Input::A, changes.a, before.a, behind.a),
@@ -97,7 +98,7 @@ fn broken_register(changes: &Changes, before: &Regs, behind: &Regs) -> Option<Br
     None
 }
 
-// A byte that is other than before, and may not be.
+// Returns a byte that differs from before but must not.
 fn broken_byte(changes: &Changes, machine: &TrialMachine) -> Option<Broken> {
     for address in machine.stored.places() {
         let address = *address;
@@ -113,7 +114,8 @@ fn broken_byte(changes: &Changes, machine: &TrialMachine) -> Option<Broken> {
     None
 }
 
-// The index of the first text that is not printed behind those before it; of the last, where more is printed.
+// Returns the index of the first text that is not printed after those before it. If everything is printed and more
+// follows, returns the last index.
 fn unprinted(texts: &[Text], printed: &[u8]) -> usize {
     let mut rest = printed;
     for (index, text) in texts.iter().enumerate() {
@@ -127,7 +129,7 @@ fn unprinted(texts: &[Text], printed: &[u8]) -> usize {
     texts.len().saturating_sub(1)
 }
 
-// What a promise says of texts and is not so.
+// Returns the part of a promise about texts and keys that is not kept.
 fn broken_text(promise: &Promise, machine: &TrialMachine) -> Result<Option<Broken>, AllocError> {
     let printed = machine.printed.as_slice();
     if !prints_so(machine.alloc, &promise.texts, printed)? {
@@ -141,7 +143,7 @@ fn broken_text(promise: &Promise, machine: &TrialMachine) -> Result<Option<Broke
     }
 }
 
-/// What of a promise does not hold of a run from these registers that ended so.
+/// Returns the part of a promise that is not kept by a run that began with these registers and has ended.
 pub(crate) fn broken_by(
     promise: &Promise,
     machine: &TrialMachine,

@@ -1,4 +1,4 @@
-//! How a run of a routine goes and ends.
+//! How a run of a routine proceeds and ends.
 
 use a2_cpu::Regs;
 
@@ -7,30 +7,30 @@ use a2_cpu::Regs;
 pub enum Exit {
     /// It returns to its caller.
     Returned,
-    /// It takes the caller's return address from the stack, or leaves something on it.
+    /// It pulls the caller's return address from the stack, or leaves something on the stack.
     Stack,
-    /// It comes to an address where no instruction of the source begins.
+    /// It reaches an address at which no instruction of the source begins.
     Elsewhere(u16),
-    /// It goes to where no service is, above RAM.
+    /// It reaches an address above RAM where there is no service.
     Above(u16),
-    /// The service at this address needs window, cursor or blocks to lie otherwise.
+    /// The service at this address does not work with the current window, cursor or block positions.
     Window(u16),
-    /// It waits for a key, and none is typed.
+    /// It waits for a key, and no key is typed.
     Keys(u16),
     /// It would store at a byte of the program.
     Code(u16),
     /// It would store at a switch or a device.
     Device(u16),
-    /// It would read one, or a byte of the ROM.
+    /// It would read a switch, a device or a byte of the ROM.
     Read(u16),
     Brk,
     Decimal,
-    /// It makes 1,000,000 steps, and is still under way.
+    /// It has executed 1,000,000 steps and is still running.
     Endless,
 }
 
-/// A run up to where it stands, or ended: the registers, where the last step was made, the cycles and steps since the entry, and
-/// how it left, or that it is still under way.
+/// A run that has ended or is still in progress: the registers, the address of the last step, the cycles and steps
+/// since the entry, and how the routine left, if it did.
 #[derive(Clone, Copy)]
 pub(crate) struct TrialRun {
     pub regs: Regs,
@@ -41,7 +41,7 @@ pub(crate) struct TrialRun {
 }
 
 impl TrialRun {
-    /// Before the first step.
+    /// Creates a run before its first step.
     pub fn at(regs: Regs) -> TrialRun {
         TrialRun {
             regs,
@@ -52,7 +52,7 @@ impl TrialRun {
         }
     }
 
-    /// A step is made, in so many cycles, that leaves these registers.
+    /// Records a step that took this many cycles and left these registers.
     pub fn advance(&mut self, regs: Regs, cycles: u32) {
         self.from = Some(self.regs.pc);
         self.regs = regs;
@@ -61,14 +61,15 @@ impl TrialRun {
     }
 }
 
-/// Where a run went on into another routine, without calling it: its last step before, and the routine's address.
+/// A place where a run continued into another routine without calling it: its last step before that, and the
+/// routine's address.
 #[derive(Clone, Copy)]
 pub struct FallThrough {
     pub from: u16,
     pub to: u16,
 }
 
-/// A step of a run: where it was made, and the registers behind it.
+/// A step of a run: its address, and the registers after it.
 #[derive(Clone, Copy)]
 pub struct TracedStep {
     pub address: u16,

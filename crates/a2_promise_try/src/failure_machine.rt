@@ -16,7 +16,7 @@ use a2_machine::Machine;
 use a2_promise_certify::{Input, put_register};
 use std::alloc::{AllocError, Global};
 
-// Gives an input a value; a byte that is not in RAM has none.
+// Gives an input a value. A byte that is not in RAM has no value.
 fn lay_value(input: Input, value: u8, machine: &mut Machine<Global>)
     ensures world { IsTrue (is_input_in_ram input)
         → world_of_state machine.new.state ≡ with_value input value (world_of_state machine.old.state) }
@@ -49,10 +49,13 @@ fn lay_values(inputs: &[Input], values: &[u8], machine: &mut Machine<Global>)
     lay_value(*input, *value, machine);
 }
 
-/// A machine that enters the routine of a program at this address in the state of a failure, as its trial did: the program is
-/// laid over bytes that may be any, but for those of page 0 that services look at, which are as the machine is switched on; PC is
-/// the address, S is $FD, and the return address leads to $FF69; its keys are typed, and each input has its value. It has made no
-/// step, and has no guard. Refused only for want of memory.
+/// Creates a machine that enters a routine of a program at this address in the state of a failure, as its trial did:
+///
+/// - The program is laid over arbitrary bytes. The bytes of page 0 that services read are as after power-on.
+/// - PC is the address, S is $FD, and the return address leads to $FF69.
+/// - The keys of the failure are typed, and each input has its value.
+///
+/// The machine has not executed a step and has no guard. Fails only if memory runs out.
 pub fn machine_at_entry(
     alloc: Global,
     program: &Program<Global>,

@@ -1,4 +1,4 @@
-//! What is told of a state in which a promise does not hold.
+//! Reports a state in which a promise does not hold.
 
 use crate::broken::{Broken, Unmet};
 use crate::exit::{Exit, TracedStep};
@@ -13,7 +13,7 @@ use a2_stream::{Output, WriteFault, put_all};
 use a2_text::{behind_blanks, hex_pair, hex_word};
 use std::alloc::Global;
 
-// The address that is told of how a routine leaves.
+// Returns the address to report for an exit, if it has one.
 fn address_of(exit: Exit) -> Option<u16> {
     match exit {
         Exit::Elsewhere(to) | Exit::Above(to) => Some(to),
@@ -23,7 +23,7 @@ fn address_of(exit: Exit) -> Option<u16> {
     }
 }
 
-// What is told of how a routine leaves: before its address, and behind it.
+// Returns the message for an exit: the text before its address and the text after it.
 fn told_around(exit: Exit) -> (&'static str, &'static str) {
     match exit {
         Exit::Returned => ("it returns", ""),
@@ -57,7 +57,7 @@ fn put_exit<W: Output>(exit: Exit, output: &mut W) -> Result<(), WriteFault> {
     put_all(&[behind.as_bytes()], output)
 }
 
-// Writes what has changed and may not.
+// Writes what has changed but must not.
 fn put_change<W: Output>(
     input: Input,
     before: u8,
@@ -70,7 +70,7 @@ fn put_change<W: Output>(
     put_number(b"", u64::from(before), b"", output)
 }
 
-// What a comparison that decides compares.
+// Writes the values of the comparison that decides.
 fn put_sides<W: Output>(sides: Option<(i64, i64)>, output: &mut W) -> Result<(), WriteFault> {
     let Some((left, right)) = sides else {
         return Ok(());
@@ -80,7 +80,7 @@ fn put_sides<W: Output>(sides: Option<(i64, i64)>, output: &mut W) -> Result<(),
     put_all(&[b"\n"], output)
 }
 
-// The text of the clause of a line, of several.
+// Returns the text of the clause in a line, if it is among these clauses.
 fn text_in<'a>(clauses: &[Clause<'a>], line: usize) -> Option<&'a [u8]> {
     for clause in clauses {
         if clause.line == line {
@@ -90,7 +90,7 @@ fn text_in<'a>(clauses: &[Clause<'a>], line: usize) -> Option<&'a [u8]> {
     None
 }
 
-// What a line of a promise says.
+// Returns the text of a promise's line.
 fn said_at<'a>(promise: &Promise<'a>, line: usize) -> &'a [u8] {
     if let Some(text) = text_in(promise.promised.as_slice(), line) {
         return text;
@@ -106,7 +106,7 @@ fn said_at<'a>(promise: &Promise<'a>, line: usize) -> &'a [u8] {
     b""
 }
 
-// Writes in one line what a line of a promise says that is not so.
+// Writes on one line which clause is not met.
 fn put_line_claim<W: Output>(
     promise: &Promise,
     line: usize,
@@ -119,7 +119,7 @@ fn put_line_claim<W: Output>(
     put_line(line, said_at(promise, line), output)
 }
 
-// Writes in one line which text is not printed.
+// Writes on one line which text is not printed.
 fn put_text_claim<W: Output>(
     texts: &[Text],
     index: usize,
@@ -132,7 +132,7 @@ fn put_text_claim<W: Output>(
     put_all(&[text.written], output)
 }
 
-/// Writes in one line, without its end, what of a promise does not hold: `FAILS: ` and what it is.
+/// Writes on one line, without a line end, `FAILS: ` and the part of a promise that is not kept.
 pub(crate) fn put_claim<W: Output>(
     promise: &Promise,
     failure: &Failure,
@@ -156,7 +156,7 @@ pub(crate) fn put_claim<W: Output>(
     }
 }
 
-// Writes why what a line says is not so, in a line of its own.
+// Writes why a clause is not met, on a line of its own.
 fn put_reason<W: Output>(unmet: Unmet, output: &mut W) -> Result<(), WriteFault> {
     match unmet {
         Unmet::NoValue => Ok(()),
@@ -173,7 +173,7 @@ fn put_reason<W: Output>(unmet: Unmet, output: &mut W) -> Result<(), WriteFault>
     }
 }
 
-// Writes the lines below a claim that say more of it.
+// Writes the lines below a claim that give details.
 fn put_details<W: Output>(failure: &Failure, output: &mut W) -> Result<(), WriteFault> {
     match failure.broken {
         Broken::Line(_, unmet) => put_reason(unmet, output),
@@ -188,8 +188,8 @@ fn put_details<W: Output>(failure: &Failure, output: &mut W) -> Result<(), Write
     }
 }
 
-/// Writes in one line, without its end, the state in which a routine is entered: what its promise names, and of the rest what is
-/// not 0.
+/// Writes on one line, without a line end, the state in which a routine is entered: the inputs that its promise
+/// names, and any others that are not 0.
 pub(crate) fn put_entry_state<W: Output>(
     failure: &Failure,
     output: &mut W,
@@ -212,7 +212,7 @@ pub(crate) fn put_entry_state<W: Output>(
     put_all(&[rest], output)
 }
 
-/// The number of the line of the instruction at an address; 0 where there is none.
+/// Returns the number of the line with the instruction at an address, or 0 if there is none.
 pub(crate) fn line_at(program: &Program<Global>, address: u16) -> usize {
     for statement in program.statements() {
         if statement.addr == address && statement.instr.is_some() {
@@ -222,7 +222,7 @@ pub(crate) fn line_at(program: &Program<Global>, address: u16) -> usize {
     0
 }
 
-// The text of the line of a number, without the blanks before it.
+// Returns the text of a line by its number, without leading spaces.
 fn text_of<'a>(lines: &[&'a [u8]], number: usize) -> &'a [u8] {
     match lines.get(number.saturating_sub(1)) {
         Some(line) => behind_blanks(*line),
@@ -230,7 +230,7 @@ fn text_of<'a>(lines: &[&'a [u8]], number: usize) -> &'a [u8] {
     }
 }
 
-// Writes registers, and the carry.
+// Writes the registers and the carry.
 fn put_registers<W: Output>(regs: Regs, output: &mut W) -> Result<(), WriteFault> {
     let (a, x, y) = (hex_pair(regs.a), hex_pair(regs.x), hex_pair(regs.y));
     put_all(&[b"  A=", &a, b" X=", &x, b" Y=", &y], output)?;
@@ -238,7 +238,7 @@ fn put_registers<W: Output>(regs: Regs, output: &mut W) -> Result<(), WriteFault
     put_all(&[carry], output)
 }
 
-// Writes a step: the registers behind it, its line, and what stands there.
+// Writes a step: the registers after it, the number of its line, and the line's text.
 fn put_step<W: Output>(
     program: &Program<Global>,
     lines: &[&[u8]],
@@ -257,7 +257,7 @@ fn put_step<W: Output>(
     put_all(&[b"\n"], output)
 }
 
-/// Writes what is told of a state in which a promise does not hold, for a source with these lines.
+/// Writes the report of a state in which a promise does not hold, for a source with these lines.
 pub(crate) fn put_failure<W: Output>(
     program: &Program<Global>,
     lines: &[&[u8]],

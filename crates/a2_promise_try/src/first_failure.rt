@@ -1,4 +1,4 @@
-//! The first promise of a text that fails in a state, as a value from which its run is shown.
+//! The first promise of a text that fails in some state, as a value from which its run can be shown.
 
 use crate::failure_report::{put_claim, put_entry_state};
 use crate::verdict::{Failure, PromiseVerdict};
@@ -7,22 +7,22 @@ use a2_run::RunFault;
 use a2_stream::{ToWrite, put_all};
 use std::alloc::Global;
 
-/// A promise that fails in a state: its routine, and the run in which it fails.
+/// A promise that fails in some state: its routine, and the run in which it fails.
 #[derive(Drop)]
 pub struct FirstFailure {
     /// The name of the routine.
     pub routine: Vec<u8>,
-    /// Where it begins.
+    /// The routine's address.
     pub address: u16,
-    /// The state in which it is entered, and the steps up to where the promise fails.
+    /// The state in which the routine is entered, and the steps up to the failure.
     pub failure: Failure,
-    /// What fails, in one line, as the report says it: `ADD: FAILS: line 1: A = 3`.
+    /// What fails, on one line as in the report: `ADD: FAILS: line 1: A = 3`.
     pub claim: Vec<u8>,
-    /// The state, in one line, as the report says it: `entered with A=1, and 0 in other registers and flags`.
+    /// The state, on one line as in the report: `entered with A=1, and 0 in other registers and flags`.
     pub entered: Vec<u8>,
 }
 
-// The failure of a promise as a value.
+// Returns the failure of a promise as a value.
 fn failure_as_value(
     alloc: Global,
     promise: &Promise,
@@ -43,8 +43,8 @@ fn failure_as_value(
     })
 }
 
-/// The failure that a verdict of a promise has found; none where it has found no state in which the promise fails. Refused only
-/// for want of memory.
+/// Returns the failure in the verdict on a promise, or `None` if the verdict has no state in which the promise fails.
+/// Fails only if memory runs out.
 pub(crate) fn failure_in(
     alloc: Global,
     promise: &Promise,

@@ -1,4 +1,4 @@
-//! All promises of a text judged: those of its routines, and that of its own run.
+//! Judges all promises of a text: those of its routines and that of its own run.
 
 use crate::first_failure::{FirstFailure, failure_in};
 use crate::report::{put_refusal, put_verdict};
@@ -13,29 +13,29 @@ use a2_tests::{Asked, Verdict, asked_of, cases_of, is_asking, judge_source};
 use a2_text::cut;
 use std::alloc::{AllocError, Global};
 
-/// What is found of the promises of a text.
+/// The result for the promises of a text.
 #[derive(Drop)]
 pub struct Judgement {
-    /// How many there are; that of the run is one.
+    /// The number of promises; the promise of the run counts as one.
     pub promises: usize,
-    /// One is none: its lines say nothing.
+    /// Whether the lines of some promise have an error.
     pub is_any_refused: bool,
-    /// One does not hold.
+    /// Whether some promise does not hold.
     pub is_any_failed: bool,
-    /// The first that fails in a state of its routine.
+    /// The first promise that fails in a state of its routine.
     pub first: Option<FirstFailure>,
 }
 
-// What the lines of a text promise.
+// The lines of a text, sorted by what they promise.
 #[derive(Drop)]
 struct PromiseLines<'a> {
-    // What its run promises: the lines after `;:` that are those of a WANT.
+    // The promise of the text's own run: the lines after `;:` that have the form of a WANT.
     run: Vec<Asked<'a>>,
-    // All lines, but blank ones in their place.
+    // All lines, with blank ones in place of those.
     others: Vec<&'a [u8]>,
 }
 
-// Parts the lines that say what the run promises from the others.
+// Separates the lines about the run from the others.
 fn parted<'a>(alloc: Global, lines: &[&'a [u8]]) -> Result<PromiseLines<'a>, AllocError> {
     let mut parts = PromiseLines {
         run: Vec::new(alloc),
@@ -53,7 +53,7 @@ fn parted<'a>(alloc: Global, lines: &[&'a [u8]]) -> Result<PromiseLines<'a>, All
     Ok(parts)
 }
 
-// What the promises of routines are judged by.
+// The data for judging the promises of routines.
 #[derive(Clone, Copy)]
 struct Routines<'a> {
     alloc: Global,
@@ -63,7 +63,7 @@ struct Routines<'a> {
     trials: Trials,
 }
 
-// Notes what is found of a promise; of the first that fails in a state, also that.
+// Records the verdict on a promise, and the failure if it is the first one with a state.
 fn note_verdict(
     alloc: Global,
     promise: &Promise,
@@ -80,7 +80,7 @@ fn note_verdict(
     Ok(())
 }
 
-// Tries a promise of those that are found, or reports why it is none.
+// Tries one of the promises found, or reports its error.
 fn judge_one<W: Output>(
     routines: &Routines,
     one: &Found,
@@ -108,7 +108,7 @@ fn judge_one<W: Output>(
     Ok(())
 }
 
-// Judges what a text's own run promises.
+// Judges the promise of a text's own run.
 fn judge_run<W: Output>(
     alloc: Global,
     text: &[u8],
@@ -135,8 +135,9 @@ fn judge_run<W: Output>(
     Ok(())
 }
 
-/// Judges all promises of the text of this program, and writes what is found of each: those that its comments make of routines,
-/// each tried in as many states as `trials` says, and that of its own run. Refused where a write fails, and for want of memory.
+/// Judges all promises of the text of this program, and writes a report on each. These are the promises in comments
+/// about routines, each tried in as many states as `trials` says, and the promise of the text's own run. Fails if a
+/// write fails or memory runs out.
 pub fn judge_all<W: Output>(
     alloc: Global,
     program: &Program<Global>,

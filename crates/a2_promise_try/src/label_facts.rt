@@ -1,4 +1,4 @@
-//! What is said at labels within a routine, tried where a run comes to them.
+//! Checks the clauses at labels within a routine when a run reaches them.
 
 use crate::broken::{Broken, Unmet, broken_line};
 use crate::exit::TrialRun;
@@ -9,14 +9,14 @@ use a2_promise::{Clause, Promise, Sight, Visit, Within, value_in};
 use a2_promise_certify::{NO_NAMES, sight_of};
 use std::alloc::{AllocError, Global};
 
-/// The measures of a routine's labels as a run last came to them, in the order in which they stand, and the states at those that
-/// `at` names.
+/// For each label of a routine, the measures when a run last reached it, in source order; and the states at the
+/// labels that `at` names.
 pub(crate) struct Tally {
     lasts: Vec<i64>,
     visits: Vec<Visit<Global>>,
 }
 
-// Not derived, for the prover alone: it follows this as one call, and a derived one field by field.
+// Written by hand only for the prover: it handles this as one call, but a derived `Drop` field by field.
 impl Drop for Tally {
     fn drop(self) {
         let Tally {
@@ -27,7 +27,7 @@ impl Drop for Tally {
 }
 
 impl Tally {
-    /// Before a run has come to any.
+    /// Creates the tally of a run that has not reached any label.
     pub fn new(alloc: Global, promise: &Promise) -> Result<Tally, AllocError> {
         let mut measures: usize = 0;
         let mut visits = Vec::new(alloc);
@@ -48,7 +48,7 @@ impl Tally {
         Ok(Tally { lasts, visits })
     }
 
-    // Notes the state in which a run comes to a label, where `at` names that.
+    // Records the state when a run reaches a label, if `at` names that label.
     fn note_visit(&mut self, machine: &TrialMachine, run: &TrialRun) {
         for visit in self.visits.as_mut_slice() {
             if visit.address == run.regs.pc {
@@ -57,8 +57,8 @@ impl Tally {
         }
     }
 
-    // A measure that is below 0, or not less than it was where a run comes back to its label. Theirs are the numbers from this
-    // place on.
+    // Returns a measure that is below 0, or that is not less than before when the run returns to its label. `first`
+    // is the index of the label's first measure.
     fn broken_measure(
         &mut self,
         measures: &[Clause],
@@ -88,7 +88,7 @@ impl Tally {
     }
 }
 
-// Notes the state in which a run stands.
+// Records the current state of a run.
 fn note(visit: &mut Visit<Global>, machine: &TrialMachine, run: &TrialRun) {
     visit.is_there = true;
     visit.regs = run.regs;
@@ -97,7 +97,7 @@ fn note(visit: &mut Visit<Global>, machine: &TrialMachine, run: &TrialRun) {
     visit.steps = run.steps;
 }
 
-/// What is said at the label where a run stands and is not so, if a label within its routine is there.
+/// Returns the clause that is not met at the label where a run is, if the routine has a label there.
 pub(crate) fn broken_within(
     promise: &Promise,
     machine: &TrialMachine,
@@ -115,7 +115,7 @@ pub(crate) fn broken_within(
     None
 }
 
-// The same of a label where a run stands, whose measures are those from this place on.
+// Checks one label where a run is. Its measures begin at this index.
 fn broken_at(
     within: &Within,
     machine: &TrialMachine,

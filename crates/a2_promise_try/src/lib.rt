@@ -1,6 +1,6 @@
-//! Tries what routines promise: enters each in many states, judges its runs, and reports what it finds.
+//! Tries what routines promise: runs each one from many states, judges the runs, and reports the result.
 //!
-//! How it is called is shown in CALLING.md.
+//! CALLING.md shows how to use this crate.
 #![tactic(auto)]
 
 mod broken;

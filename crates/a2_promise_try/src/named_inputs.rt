@@ -1,4 +1,4 @@
-//! What a promise names at the entry of its routine.
+//! Finds the inputs that a promise names at the entry of its routine.
 
 use a2_asm::Program;
 use a2_hex::RAM_END;
@@ -7,7 +7,7 @@ use a2_promise::{Atom, Changes, Clause, Expr, Function, Promise};
 use a2_promise_certify::{Input, may_change, number_of, settled_byte};
 use std::alloc::{AllocError, Global};
 
-// The registers and flags that a state has.
+// The registers and flags of a state.
 const REGISTERS: [Input; 8] = [
     Input::A,
     Input::X,
@@ -19,29 +19,29 @@ const REGISTERS: [Input; 8] = [
     Input::Interrupt,
 ];
 
-/// The inputs of a promise: those that it names, those that its routine looks at beside them, and behind them the registers and
-/// flags that are neither.
+/// The inputs of a promise: those that it names, then the others that its routine reads, then the remaining registers
+/// and flags.
 #[derive(Drop)]
 pub(crate) struct Inputs {
     pub all: Vec<Input>,
-    /// How many it names.
+    /// The number of inputs that the promise names.
     pub named: usize,
-    /// How many it names or its routine looks at.
+    /// The number of inputs that the promise names or its routine reads.
     varied: usize,
-    /// The byte of each that what it requires settles.
+    /// For each input, its byte if the requirements allow only one value.
     pub settled: Vec<Option<u8>>,
-    /// How many states those have that are varied and not settled; 2^64 - 1 stands for more.
+    /// The number of states of the varied inputs that are not settled; 2^64 - 1 stands for any greater number.
     pub states: u64,
 }
 
 impl Inputs {
-    /// Those that it names or its routine looks at.
+    /// Returns the inputs that the promise names or its routine reads.
     pub fn varied(&self) -> &[Input] {
         self.all.as_slice().get(..self.varied).unwrap_or(&[])
     }
 }
 
-/// Adds an input, unless it is among them.
+/// Adds an input, unless it is already there.
 pub(crate) fn add(inputs: &mut Vec<Input>, input: Input) -> Result<(), AllocError> {
     for known in inputs.as_slice() {
         if *known == input {
@@ -51,7 +51,7 @@ pub(crate) fn add(inputs: &mut Vec<Input>, input: Input) -> Result<(), AllocErro
     Ok(inputs.push(input)?)
 }
 
-// The input that an atom is; those that are none are S, D and the counts.
+// Returns the input for a register or flag. S, D and the counts of the run are not inputs.
 fn input_of(atom: Atom) -> Option<Input> {
     match atom {
         Atom::A => Some(Input::A),
@@ -66,7 +66,7 @@ fn input_of(atom: Atom) -> Option<Input> {
     }
 }
 
-// Whether an input is behind the routine what it was at its entry.
+// Returns whether an input has the same value after the routine as at its entry.
 fn is_kept(changes: &Changes, input: Input) -> bool {
     match input {
         Input::A => !changes.a,
@@ -77,15 +77,15 @@ fn is_kept(changes: &Changes, input: Input) -> bool {
     }
 }
 
-/// What a promise names: inputs, and the values that are tried first, as bounds, the bytes of its numbers, and the numbers of its
-/// program with their neighbours.
+/// The inputs that a promise names, and the values to try first: limits, the bytes of its numbers, and the numbers of
+/// its program and their neighbours.
 #[derive(Drop)]
 pub(crate) struct Named {
     pub inputs: Vec<Input>,
     pub corners: Vec<u8>,
 }
 
-// Adds the bytes of a number, the low one first, where it is one of two bytes.
+// Adds the bytes of a number, low byte first, if it fits in two bytes.
 fn add_corners(named: &mut Named, number: i64) -> Result<(), AllocError> {
     if 0 <= number && number < 65536 {
         named.corners.push((number % 256) as u8)?;
@@ -94,7 +94,7 @@ fn add_corners(named: &mut Named, number: i64) -> Result<(), AllocError> {
     Ok(())
 }
 
-// Adds an input that an expression names; of a state behind the routine only one that it does not change.
+// Adds an input that an expression names. In the state after the routine, only an input that does not change counts.
 fn add_named(named: &mut Named, input: Input, behind: Option<&Changes>) -> Result<(), AllocError> {
     match behind {
         Some(changes) if !is_kept(changes, input) => Ok(()),
@@ -102,7 +102,7 @@ fn add_named(named: &mut Named, input: Input, behind: Option<&Changes>) -> Resul
     }
 }
 
-// Adds so many bytes from an address on.
+// Adds this many bytes from an address on.
 fn add_bytes(
     named: &mut Named,
     address: i64,
@@ -118,11 +118,11 @@ fn add_bytes(
     Ok(())
 }
 
-// Adds what an expression names, of the entry, or of a state behind the routine with these changes.
+// Adds the inputs that an expression names, at the entry, or after the routine with these changes.
 fn search_in(named: &mut Named, expr: &Expr, behind: Option<&Changes>) -> Result<(), AllocError> {
     match expr {
         Expr::Number(number) => add_corners(named, *number),
-        // What was at a label is no part of a promise's own clauses.
+        // The value at a label is not an input of the promise's own clauses.
         Expr::Bound(_) | Expr::At(_, _) => Ok(()),
         Expr::Held(atom) => match input_of(*atom) {
             Some(input) => add_named(named, input, behind),
@@ -146,7 +146,7 @@ fn search_in(named: &mut Named, expr: &Expr, behind: Option<&Changes>) -> Result
     }
 }
 
-// Adds the numbers of a program, with their neighbours.
+// Adds the numbers of a program and their neighbours.
 fn add_program(corners: &mut Vec<u8>, program: &Program<Global>) -> Result<(), AllocError> {
     for statement in program.statements() {
         if let Some(instr) = statement.instr
@@ -160,7 +160,7 @@ fn add_program(corners: &mut Vec<u8>, program: &Program<Global>) -> Result<(), A
     Ok(())
 }
 
-/// What a promise of a program names.
+/// Returns the inputs and first values that the promise of a routine names.
 pub(crate) fn named_by(
     alloc: Global,
     program: &Program<Global>,
@@ -180,7 +180,8 @@ pub(crate) fn named_by(
     Ok(named)
 }
 
-/// The byte that an input is in every state in which clauses hold; none where they do not settle it.
+/// Returns the byte that an input must have in every state that satisfies the clauses, or `None` if they do not
+/// settle it.
 pub(crate) fn settled_value(among: &[Input], clauses: &[Clause], input: Input) -> Option<u8> {
     match input {
         Input::Byte(address) => settled_byte(among, clauses, address),
@@ -188,7 +189,7 @@ pub(crate) fn settled_value(among: &[Input], clauses: &[Clause], input: Input) -
     }
 }
 
-/// The inputs of a promise that names these, and whose routine looks at these.
+/// Returns all inputs of a promise, given those that it names and those that its routine reads.
 pub(crate) fn inputs_of(
     alloc: Global,
     promise: &Promise,

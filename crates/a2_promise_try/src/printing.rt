@@ -1,4 +1,4 @@
-//! What the Monitor's services print, and what a promise says of it.
+//! What the Monitor's services print, and what a promise says about it.
 
 ghost use Rattle.std.specs.Prelude.{◌≡◌, ◌+◌, ◌%◌, ◌++◌, ◌↔◌, true, map, OnOk, IfOk, IsTrue};
 ghost use Rattle.std.specs.List.{flat_map};
@@ -15,7 +15,7 @@ use a2_services::bytes::{BACKSLASH, BACKSPACE, CANCEL, LINE_FEED, RETURN, digit_
 use a2_services::{OnScreen, Service, load, row_of};
 use std::alloc::{AllocError, Global};
 
-// Adds a byte that is put, if that is a character.
+// Adds a printed byte if it is a character.
 fn push_shown(printed: &mut Vec<u8>, byte: u8) -> Result<(), AllocError>
     ensures { OnOk result (printed.new.items ≡ printed.old.items ++ said.shown byte) }
 {
@@ -25,7 +25,7 @@ fn push_shown(printed: &mut Vec<u8>, byte: u8) -> Result<(), AllocError>
     Ok(())
 }
 
-// The byte that a key is echoed as.
+// Returns the byte that echoes a key.
 fn echo_of(key: u8) -> u8
     ensures { result ≡ said.echo_of key }
 {
@@ -33,7 +33,7 @@ fn echo_of(key: u8) -> u8
     if byte >= 0xE0 { byte - 0x20 } else { byte }
 }
 
-// Adds a new line, and the prompt.
+// Adds a new line and the prompt.
 fn push_prompt(printed: &mut Vec<u8>, prompt: u8) -> Result<(), AllocError>
     ensures { OnOk result (printed.new.items ≡ printed.old.items ++ said.prompted prompt) }
 {
@@ -41,7 +41,7 @@ fn push_prompt(printed: &mut Vec<u8>, prompt: u8) -> Result<(), AllocError>
     push_shown(printed, prompt)
 }
 
-// Adds what is put behind the echo of a byte, where the line has so many before it.
+// Adds what is printed after the echo of a byte, if the line has this many bytes before it.
 fn push_behind(printed: &mut Vec<u8>, prompt: u8, byte: u8, length: u8) -> Result<(), AllocError>
     ensures { OnOk result (printed.new.items ≡ printed.old.items ++ said.behind_echo prompt byte length) }
 {
@@ -58,7 +58,7 @@ fn push_behind(printed: &mut Vec<u8>, prompt: u8, byte: u8, length: u8) -> Resul
     }
 }
 
-// How many bytes the line has behind one.
+// Returns the length of the line after a byte.
 fn length_behind(byte: u8, length: u8) -> u8
     ensures { result ≡ said.length_behind byte length }
 {
@@ -71,7 +71,7 @@ fn length_behind(byte: u8, length: u8) -> u8
     }
 }
 
-// Adds what a line prints that these keys make, of which so many bytes are there.
+// Adds what is printed while these keys are typed into a line that already has this many bytes.
 fn push_line(printed: &mut Vec<u8>, prompt: u8, keys: &[u8], length: u8) -> Result<(), AllocError>
     ensures { OnOk result (printed.new.items ≡ printed.old.items ++ said.line_printed prompt keys.now length) }
 {
@@ -88,7 +88,7 @@ fn push_line(printed: &mut Vec<u8>, prompt: u8, keys: &[u8], length: u8) -> Resu
     push_line(printed, prompt, rest, length_behind(byte, length))
 }
 
-// The keys that wait.
+// Returns the waiting keys.
 #[tactic(auto, unfolding(a2_bus::specs::View::memory_of))]
 fn keys_of(space: &AddressSpace<Global>) -> &[u8]
     ensures { result.now ≡ (memory_of space.now).devices.keys }
@@ -96,7 +96,7 @@ fn keys_of(space: &AddressSpace<Global>) -> &[u8]
     space.waiting()
 }
 
-// Adds what GETLN prints of these keys: the prompt, and the line that they make.
+// Adds what GETLN prints for these keys: the prompt and the line.
 fn push_getln(printed: &mut Vec<u8>, prompt: u8, keys: &[u8]) -> Result<(), AllocError>
     ensures { OnOk result (printed.new.items ≡ printed.old.items ++ (said.shown prompt ++ said.line_printed prompt keys.now 0)) }
 {
@@ -104,9 +104,9 @@ fn push_getln(printed: &mut Vec<u8>, prompt: u8, keys: &[u8]) -> Result<(), Allo
     push_line(printed, prompt, keys, 0)
 }
 
-/// Adds the bytes that a call of a service prints, with these registers and memory before it: each byte that it puts and that is
-/// a character, before INVFLG masks it. Apple II Reference Manual (1979), chapter 3, has the services. Refused only for want of
-/// memory.
+/// Adds the bytes that a call of a service prints, given the registers and memory before it. These are the bytes it
+/// prints that are characters, before INVFLG masks them. The services are from the Apple II Reference Manual (1979),
+/// chapter 3. Fails only if memory runs out.
 pub fn push_printed(
     printed: &mut Vec<u8>,
     service: Service,
@@ -128,7 +128,7 @@ pub fn push_printed(
     }
 }
 
-// Adds the bytes of characters: bit 7 is set in each.
+// Adds the bytes of characters, with bit 7 set in each.
 fn push_characters(bytes: &mut Vec<u8>, characters: &[u8]) -> Result<(), AllocError>
     ensures { OnOk result (bytes.new.items ≡ bytes.old.items ++ map (λ c. 128 + c % 128) characters.now) }
 {
@@ -138,7 +138,7 @@ fn push_characters(bytes: &mut Vec<u8>, characters: &[u8]) -> Result<(), AllocEr
     Ok(())
 }
 
-// Adds the bytes that texts say.
+// Adds the bytes of texts.
 fn push_texts(bytes: &mut Vec<u8>, texts: &[Text]) -> Result<(), AllocError>
     ensures { OnOk result (bytes.new.items ≡ bytes.old.items ++ said.bytes_of_texts texts.now) }
 {
@@ -148,7 +148,7 @@ fn push_texts(bytes: &mut Vec<u8>, texts: &[Text]) -> Result<(), AllocError>
     Ok(())
 }
 
-// The bytes that texts say, each text behind the one before.
+// Returns the bytes of texts, one text after another.
 fn bytes_of(alloc: Global, texts: &[Text]) -> Result<Vec<u8>, AllocError>
     ensures { IfOk result (λ bytes. bytes.items ≡ said.bytes_of_texts texts.now) }
 {
@@ -157,7 +157,8 @@ fn bytes_of(alloc: Global, texts: &[Text]) -> Result<Vec<u8>, AllocError>
     Ok(bytes)
 }
 
-/// Whether a run printed what a promise says: just these bytes, where it says anything of that. Refused only for want of memory.
+/// Returns whether a run printed exactly what a promise says; true if the promise says nothing about printing. Fails
+/// only if memory runs out.
 pub fn prints_so(alloc: Global, texts: &Texts, printed: &[u8]) -> Result<bool, AllocError>
     ensures { IfOk result (λ so. (so ≡ true) ↔ said.PrintsSo texts.now printed.now) }
 {
@@ -168,7 +169,7 @@ pub fn prints_so(alloc: Global, texts: &Texts, printed: &[u8]) -> Result<bool, A
     Ok(wanted.as_slice() == printed)
 }
 
-/// Whether a promise says nothing of what is printed and of keys.
+/// Returns whether a promise says nothing about printing or keys.
 pub(crate) fn has_no_text(texts: &Texts) -> bool
     ensures { IsTrue result → said.HasNoText texts.now }
 {

@@ -1,4 +1,4 @@
-//! What is reported of promises.
+//! Writes the report on a promise.
 
 use crate::exit::FallThrough;
 use crate::failure_report::{line_at, put_failure};
@@ -12,10 +12,11 @@ use a2_promise_certify::Input;
 use a2_stream::{Output, WriteFault, put_all};
 use std::alloc::Global;
 
-// How many inputs are told.
+// How many inputs a report lists.
 const MOST_TOLD: usize = 8;
 
-// Writes inputs but those that are settled, and how many more there are than are told; answers how many are not settled.
+// Writes the inputs that are not settled, and how many more there are than are listed. Returns the number of inputs
+// that are not settled.
 fn put_inputs<W: Output>(
     promise: &Promise,
     inputs: &[Input],
@@ -48,7 +49,7 @@ fn put_holds<W: Output>(kept: u64, tried: u64, output: &mut W) -> Result<(), Wri
     put_grouped(b"", tried, b" tried)\n", output)
 }
 
-// Writes in how many states a promise held, which may be all that there are.
+// Writes in how many states a promise held, and whether these are all states.
 fn put_count<W: Output>(kept: u64, is_all: bool, output: &mut W) -> Result<(), WriteFault> {
     match (kept, is_all) {
         (1, true) => put_all(&[b"held in the one state"], output),
@@ -58,7 +59,8 @@ fn put_count<W: Output>(kept: u64, is_all: bool, output: &mut W) -> Result<(), W
     }
 }
 
-// Writes in how many states a promise held, of which inputs, and of how many; or that its routine looks at nothing at the entry.
+// Writes in how many states a promise held, of how many, and of which inputs; or that its routine reads nothing at
+// the entry.
 fn put_held<W: Output>(promise: &Promise, held: &Held, output: &mut W) -> Result<(), WriteFault> {
     let inputs = held.inputs.as_slice();
     if inputs.is_empty() {
@@ -87,7 +89,7 @@ fn put_total<W: Output>(total: u64, output: &mut W) -> Result<(), WriteFault> {
     }
 }
 
-// Writes where a routine goes on into another.
+// Writes where a routine continues into another one.
 fn put_fall_through<W: Output>(
     program: &Program<Global>,
     fall_through: Option<FallThrough>,
@@ -107,7 +109,7 @@ fn put_fall_through<W: Output>(
     put_number(b"", to, behind, output)
 }
 
-// Writes that none of these states is as a promise requires.
+// Writes that no state tried satisfies the requirements of a promise.
 fn put_no_state<W: Output>(tried: u64, output: &mut W) -> Result<(), WriteFault> {
     put_all(&[b"FAILS: "], output)?;
     if tried == 1 {
@@ -118,7 +120,7 @@ fn put_no_state<W: Output>(tried: u64, output: &mut W) -> Result<(), WriteFault>
     put_all(&[b" as it requires, so it promises nothing\n"], output)
 }
 
-/// Writes what is found of a promise of a source with these lines.
+/// Writes the verdict on a promise, for a source with these lines.
 pub fn put_verdict<W: Output>(
     program: &Program<Global>,
     lines: &[&[u8]],
@@ -144,7 +146,7 @@ pub fn put_verdict<W: Output>(
     }
 }
 
-/// Writes why lines before a label are no promise.
+/// Writes the error in the lines before a label.
 pub fn put_refusal<W: Output>(
     name: &[u8],
     refusal: &Refusal,

@@ -1,11 +1,11 @@
-//! What is reported of promises of a source's own run.
+//! Writes the report on the promises of a source's own run.
 
 use a2_stream::{Output, WriteFault, put_all};
 use a2_tests::{Asked, Line, Verdict};
 use a2_text::decimal;
 use std::alloc::Global;
 
-// Writes why a line says nothing of a run.
+// Writes why a line about a run cannot be understood.
 fn put_unknown<W: Output>(asked: &Asked, output: &mut W) -> Result<(), WriteFault> {
     let number = decimal(asked.number as u64);
     put_all(
@@ -18,7 +18,7 @@ fn put_unknown<W: Output>(asked: &Asked, output: &mut W) -> Result<(), WriteFaul
     )
 }
 
-/// Writes of each line that says nothing of a run that it is refused; whether all say something.
+/// Writes an error for each line about a run that cannot be understood. Returns whether all can be.
 pub(crate) fn are_known<W: Output>(run: &[Asked], output: &mut W) -> Result<bool, WriteFault> {
     let mut known = true;
     for asked in run {
@@ -30,7 +30,7 @@ pub(crate) fn are_known<W: Output>(run: &[Asked], output: &mut W) -> Result<bool
     Ok(known)
 }
 
-// Writes what a run missed: the line that asks for it, and what is so instead.
+// Writes a failed expectation of a run: the line that asks for it, and what happened instead.
 fn put_missed<W: Output>(line: usize, told: &[u8], output: &mut W) -> Result<(), WriteFault> {
     let number = decimal(line as u64);
     put_all(
@@ -39,7 +39,7 @@ fn put_missed<W: Output>(line: usize, told: &[u8], output: &mut W) -> Result<(),
     )
 }
 
-/// Writes what is found of a run that the lines of a case ask for.
+/// Writes the result of a run that the lines of a case ask for.
 pub(crate) fn put_run<W: Output>(
     name: &[u8],
     verdict: &Verdict<Global>,

@@ -1,4 +1,4 @@
-//! A state in which a promise fails made simpler: with lesser values that break it too.
+//! Simplifies a state in which a promise fails: finds lower values that also break it.
 
 use crate::trial_machine::TrialMachine;
 use crate::trial_states::{Tried, try_state};
@@ -6,7 +6,8 @@ use a2_promise::Promise;
 use a2_promise_certify::Input;
 use std::alloc::AllocError;
 
-// Lets one value of a state that breaks the promise be 0, if it does then, or else one of these, if it does with it.
+// Lowers one value of a state that breaks the promise: to 0 if the promise is still broken, or otherwise, for a short
+// run, to the lowest value that breaks it.
 fn lessen(
     machine: &mut TrialMachine,
     promise: &Promise,
@@ -30,13 +31,13 @@ fn lessen(
     Ok(())
 }
 
-// A run of more steps is told as it was found: a lesser state would be looked for too long.
+// A failure with more steps than this is reported as found, since lowering its values would take too long.
 const MOST_LESSENED: u32 = 20_000;
 
-// With more steps of a run for each input no value but 0 is looked for in place of another.
+// If steps times inputs exceed this number, 0 is the only lower value tried for each input.
 const MOST_LESSENED_BY_ONE: u64 = 200_000;
 
-/// Lessens the values of a state that breaks the promise behind so many steps.
+/// Lowers the values of a state that breaks the promise after this many steps.
 pub(crate) fn lessen_all(
     machine: &mut TrialMachine,
     promise: &Promise,

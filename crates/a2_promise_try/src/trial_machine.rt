@@ -1,5 +1,5 @@
-//! Where a routine is run: RAM as it was entered, RAM as it is, which bytes were stored at, and what was looked at before it was
-//! known.
+//! A machine that runs a routine. It keeps RAM as it was at the entry and as it is now. It records which bytes were
+//! stored, and what was read before it was known.
 
 use crate::entry_ram::filled;
 use crate::exit::{Exit, FallThrough, TracedStep, TrialRun};
@@ -25,13 +25,13 @@ use std::alloc::{AllocError, Global};
 /// The most steps of a routine.
 pub(crate) const ROUTINE_MAX_STEPS: u32 = 1_000_000;
 
-/// How much is noted at most that a routine looks at and its promise does not name.
+/// The most inputs recorded that a routine reads and its promise does not name.
 pub(crate) const MAX_LOOKED: usize = 1024;
 
 // No service stores at this address or above.
 const REACH_END: u16 = 0x0800;
 
-// S behind its return.
+// The value of S after the routine returns.
 const EXIT_S: u8 = 0xFF;
 
 // What is known of an address.
@@ -39,15 +39,16 @@ const EXIT_S: u8 = 0xFF;
 struct Mark {
     /// The instruction that begins there.
     instr: Option<Instr>,
-    /// A byte of an instruction is there.
+    /// Whether a byte of an instruction is there.
     is_code: bool,
-    /// What it holds at the entry is known: it is one of the values that are tried, or the same in each run.
+    /// Whether its contents at the entry are known: either the byte is one of the values tried, or it is the same in
+    /// each run.
     is_known: bool,
-    /// A routine begins there that promises something.
+    /// Whether a routine with a promise begins there.
     is_entry: bool,
 }
 
-// Why no step is made: the routine leaves, or memory is wanting.
+// Why no step is executed: the routine leaves, or memory runs out.
 #[derive(Clone, Copy)]
 enum Stop {
     Left(Exit),
@@ -60,31 +61,32 @@ impl From<AllocError> for Stop {
     }
 }
 
-/// Where a routine is run.
+/// A machine that runs a routine.
 pub(crate) struct TrialMachine {
     pub alloc: Global,
     pub before: AddressSpace<Global>,
     pub now: AddressSpace<Global>,
-    /// Where the run stored, or called a service that may have.
+    /// The addresses where the run stored, or called a service that may have stored.
     pub stored: Stored,
-    /// Where an instruction did, so that what stands there is known.
+    /// The addresses where an instruction stored, so that their contents are known.
     set: Stored,
-    /// What runs looked at before it was set, and is not known at the entry, each once; none behind the first 1,024.
+    /// What the runs read before it was set and without it being known at the entry. Each is recorded once, and at
+    /// most 1,024 in all.
     pub looked: Vec<Input>,
-    /// Where the first run that did so went on into another routine.
+    /// Where a run first continued into another routine.
     pub fall_through: Option<FallThrough>,
-    /// What the run printed, if that is noted.
+    /// What the run printed, if this is recorded.
     pub printed: Vec<u8>,
     is_heard: bool,
-    /// Keys are typed at the entry, and the run may take them from the keyboard itself.
+    /// Whether keys are typed at the entry, so that the run may read them from the keyboard directly.
     has_keys: bool,
     marks: Vec<Mark>,
     known: KnownParts,
-    /// Those that the run set are known too.
+    /// The known parts, including those that the run set.
     known_now: KnownParts,
 }
 
-// Not derived, for the prover alone: it follows this as one call, and a derived one field by field.
+// Written by hand only for the prover: it handles this as one call, but a derived `Drop` field by field.
 impl Drop for TrialMachine {
     fn drop(self) {
         let TrialMachine {
@@ -105,7 +107,7 @@ impl Drop for TrialMachine {
     }
 }
 
-// Nothing is known of an address.
+// The mark of an address of which nothing is known.
 const NO_MARK: Mark = Mark {
     instr: None,
     is_code: false,
@@ -134,7 +136,7 @@ fn mark_program(marks: &mut [Mark], program: &Program<Global>) {
     }
 }
 
-// RAM and devices where routines are entered over this image, with the caller's return address on the stack.
+// Returns RAM and devices with this image laid, and the caller's return address on the stack.
 fn entered(alloc: Global, image: &Image<Global>) -> Result<AddressSpace<Global>, AllocError> {
     let mut space = AddressSpace::new(alloc)?;
     space.load(image);
@@ -144,7 +146,7 @@ fn entered(alloc: Global, image: &Image<Global>) -> Result<AddressSpace<Global>,
     Ok(space)
 }
 
-// How a routine leaves that comes to the caller's return address with this S.
+// Returns how a routine leaves if it reaches the caller's return address with this S.
 fn exit_of_return(s: u8) -> Exit {
     if s == EXIT_S {
         Exit::Returned
@@ -153,10 +155,10 @@ fn exit_of_return(s: u8) -> Exit {
     }
 }
 
-/// The keys that a promise says are taken, which are typed where its routine is entered: the first 4,096.
+/// Returns the first 4,096 keys that a promise says are taken. They are typed when its routine is entered.
 pub(crate) fn keys_taken(texts: &Texts) -> Keys {
     let mut keys = Keys::new();
-    // None is refused: no more keys are promised than fit.
+    // No key is refused, since a promise cannot have more keys than fit.
     for text in &texts.takes {
         for character in &text.characters {
             let _ = keys.push(*character);
@@ -166,7 +168,7 @@ pub(crate) fn keys_taken(texts: &Texts) -> Keys {
 }
 
 impl TrialMachine {
-    /// One for the routines of a program.
+    /// Creates a machine for the routines of a program.
     pub fn new(alloc: Global, program: &Program<Global>) -> Result<TrialMachine, AllocError> {
         let image = filled(alloc, program.image())?;
         let before = entered(alloc, &image)?;
@@ -190,33 +192,34 @@ impl TrialMachine {
         })
     }
 
-    /// Lets these texts be promised: what is printed is noted, and the keys wait where the routine is entered, 4,096 at most.
+    /// Sets the texts of a promise. What is printed is then recorded, and at most 4,096 keys wait when the routine is
+    /// entered.
     pub fn hear(&mut self, texts: &Texts) {
         self.is_heard = !texts.prints.is_empty();
         self.has_keys = !texts.takes.is_empty();
-        // They fit, for none waits yet.
+        // They fit, since no key is waiting yet.
         let _ = self.before.type_keys(&keys_taken(texts));
     }
 
-    // Whether an address is the keyboard's, and keys were typed.
+    // Returns whether an address belongs to the keyboard, and keys were typed.
     fn is_keyboard(&self, address: u16) -> bool {
         self.has_keys && (address == KBD || address == KBDSTRB)
     }
 
-    /// Puts a byte where routines are entered.
+    /// Sets a byte of RAM as it is when a routine is entered.
     pub fn set(&mut self, address: u16, byte: u8) {
         self.before.write(address, byte);
         self.now.write(address, byte);
     }
 
-    /// Lets a routine that promises something begin at an address.
+    /// Marks an address as the beginning of a routine with a promise.
     pub fn begin_at(&mut self, address: u16) {
         if let Some(mark) = self.marks.get_mut(usize::from(address)) {
             mark.is_entry = true;
         }
     }
 
-    /// Lets what an input holds at the entry be known.
+    /// Marks the value of an input at the entry as known.
     pub fn know(&mut self, input: Input) {
         if let Input::Byte(address) = input {
             if let Some(mark) = self.marks.get_mut(usize::from(address)) {
@@ -227,7 +230,7 @@ impl TrialMachine {
         }
     }
 
-    /// Makes RAM and keys what they were at the entry, and forgets what was printed.
+    /// Restores RAM and keys as they were at the entry, and discards what was printed.
     pub fn restore(&mut self) {
         if self.has_keys {
             self.now.copy_from(&self.before);
@@ -238,12 +241,12 @@ impl TrialMachine {
         self.known_now = self.known;
     }
 
-    // What is known of an address, nothing of one above RAM.
+    // Returns what is known of an address; nothing is known of an address above RAM.
     fn mark(&self, address: u16) -> Option<Mark> {
         self.marks.get(usize::from(address)).copied()
     }
 
-    // Notes a store, whose byte is known if an instruction makes it.
+    // Records a store. If an instruction stores, the byte is known.
     fn note(&mut self, address: u16, is_set: bool) -> Result<(), Stop> {
         if self.is_keyboard(address) {
             return Ok(());
@@ -253,7 +256,7 @@ impl TrialMachine {
             Some(Mark { is_code: true, .. }) => return Err(Stop::Left(Exit::Code(address))),
             Some(_) => {}
         }
-        // They are marked: all are in RAM.
+        // Every address here is in RAM, so it can be marked.
         self.stored.mark(address);
         if is_set {
             self.set.mark(address);
@@ -261,7 +264,7 @@ impl TrialMachine {
         Ok(())
     }
 
-    // Notes the stores of the next step.
+    // Records the stores of the next step.
     fn note_stores(&mut self, regs: &Regs) -> Result<(), Stop> {
         let targets = writes(regs, &self.now);
         for address in targets.as_slice() {
@@ -270,7 +273,7 @@ impl TrialMachine {
         Ok(())
     }
 
-    // Notes what was looked at before it was known.
+    // Records an input that was read before it was known.
     fn note_look(&mut self, input: Input) -> Result<(), AllocError> {
         if self.looked.len() < MAX_LOOKED {
             add(&mut self.looked, input)?;
@@ -278,7 +281,7 @@ impl TrialMachine {
         Ok(())
     }
 
-    // Notes reads.
+    // Records reads of memory.
     fn note_reads(&mut self, addresses: &[u16]) -> Result<(), Stop> {
         for address in addresses {
             match self.mark(*address) {
@@ -291,7 +294,7 @@ impl TrialMachine {
         Ok(())
     }
 
-    // Notes registers and flags that are looked at.
+    // Records reads of registers and flags.
     fn note_parts(&mut self, parts: &[Part]) -> Result<(), AllocError> {
         for part in parts {
             if !self.known_now.has(*part)
@@ -303,9 +306,9 @@ impl TrialMachine {
         Ok(())
     }
 
-    // Notes what an instruction looks at and sets.
+    // Records what an instruction reads and sets.
     fn note_looks(&mut self, instr: Instr, regs: &Regs) -> Result<(), Stop> {
-        // No such instruction has a greater value: for the prover, whose clauses of a program do not say so.
+        // No such instruction has a greater value. This is for the prover: the clauses of a program do not state it.
         if instr.mode == Mode::IndirectIndexed && instr.value > 255 {
             return Ok(());
         }
@@ -318,7 +321,7 @@ impl TrialMachine {
         Ok(())
     }
 
-    // Notes where a service may store.
+    // Records where a service may store.
     fn note_reach(&mut self, service: Service) -> Result<(), Stop> {
         for address in 0..REACH_END {
             if reach(service, address) {
@@ -350,7 +353,7 @@ impl TrialMachine {
         Err(Stop::Left(refused))
     }
 
-    // Does an instruction, and adds its cycles.
+    // Executes an instruction, and adds its cycles.
     fn do_instr(&mut self, instr: Instr, run: &mut TrialRun) -> Result<(), Stop> {
         self.note_looks(instr, &run.regs)?;
         self.note_stores(&run.regs)?;
@@ -368,7 +371,8 @@ impl TrialMachine {
         Err(Stop::Left(refused))
     }
 
-    // Notes that the routine itself went on into another, without calling it: where an RTS leads there, it is the JSR before.
+    // Records that the routine continued into another one without calling it. If an RTS led there, the step recorded
+    // is the JSR that ends just before the other routine.
     fn note_fall_through(&mut self, instr: Instr, run: &TrialRun) {
         let to = run.regs.pc;
         let is_entry = matches!(self.mark(to), Some(Mark { is_entry: true, .. }));
@@ -385,7 +389,7 @@ impl TrialMachine {
         };
     }
 
-    // Goes on from PC, and adds the cycles of the step.
+    // Continues at PC, and adds the cycles of the step.
     fn go_on(&mut self, run: &mut TrialRun) -> Result<(), Stop> {
         let pc = run.regs.pc;
         if pc == RETURN_ADDRESS {
@@ -403,7 +407,7 @@ impl TrialMachine {
         }
     }
 
-    /// Makes a step, and adds its cycles; false where there is none, and it is noted how the routine leaves.
+    /// Executes a step, and adds its cycles. Returns false if the routine leaves instead; `run` then records how.
     pub fn make_step(&mut self, run: &mut TrialRun) -> Result<bool, AllocError> {
         match self.go_on(run) {
             Ok(()) => Ok(true),
@@ -416,10 +420,11 @@ impl TrialMachine {
     }
 }
 
-// How many of the last steps are told.
+// How many of the last steps are reported.
 const TOLD: u32 = 8;
 
-/// The last steps of a run of so many from these registers, with RAM as it is at the entry.
+/// Returns the last steps of a run of this many steps. The run begins with these registers, and with RAM as at the
+/// entry.
 pub(crate) fn last_steps(
     machine: &mut TrialMachine,
     regs: Regs,

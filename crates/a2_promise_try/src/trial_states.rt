@@ -12,16 +12,16 @@ use a2_promise::Promise;
 use a2_promise_certify::{Input, all_hold, put_register, sight_of};
 use std::alloc::AllocError;
 
-/// What came of a state.
+/// The result of trying a state.
 #[derive(Clone, Copy)]
 pub(crate) enum Tried {
-    /// The promise does not admit it.
+    /// The promise does not allow the state.
     LeftOut,
     Kept,
     Broken(Broken, TrialRun),
 }
 
-/// Makes RAM that of a state, and answers the registers with which the routine at an address is entered.
+/// Sets RAM to that of a state, and returns the registers with which the routine at an address is entered.
 pub(crate) fn enter(
     machine: &mut TrialMachine,
     inputs: &[Input],
@@ -39,8 +39,8 @@ pub(crate) fn enter(
     live.regs()
 }
 
-// Runs a routine from these registers, with RAM as it is at the entry, until it leaves, or what is said at a label within it is
-// not so; and what of the promise does not hold.
+// Runs a routine from these registers, with RAM as at the entry, until it leaves or a clause at a label within it is
+// not met. Also returns the part of the promise that is not kept.
 fn run_routine(
     machine: &mut TrialMachine,
     promise: &Promise,
@@ -59,7 +59,7 @@ fn run_routine(
     Ok((run, broken_by(promise, machine, regs, &run)?))
 }
 
-/// Tries the state in which inputs have these values.
+/// Tries the state in which the inputs have these values.
 pub(crate) fn try_state(
     machine: &mut TrialMachine,
     promise: &Promise,
@@ -77,7 +77,7 @@ pub(crate) fn try_state(
     }
 }
 
-// The value of the input of an index in a state that is like any other; of each two one is a corner.
+// Returns an arbitrary value for the input with this index; half of the values are taken from `corners`.
 fn any_value(corners: &[u8], number: u64, index: usize) -> u8 {
     let seed = number.wrapping_mul(64).wrapping_add(index as u64);
     let byte = any_byte(seed);
@@ -89,8 +89,9 @@ fn any_value(corners: &[u8], number: u64, index: usize) -> u8 {
     }
 }
 
-/// Makes values those of the state of a number: in their order where all are tried, and else like any others. Those that are not
-/// varied always are, and those that are settled always the same.
+/// Sets the values of the state with this number. If all states are tried, they are counted through in order;
+/// otherwise the values are arbitrary. Inputs that are not varied always get arbitrary values, and settled ones
+/// always their only value.
 pub(crate) fn put_values(
     values: &mut [u8],
     inputs: &Inputs,

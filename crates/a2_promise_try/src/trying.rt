@@ -1,4 +1,4 @@
-//! A promise tried: its routine entered in many states.
+//! Tries a promise by entering its routine in many states.
 
 ghost use Rattle.std.specs.Prelude.{IfOk, IsTrue};
 ghost use Rattle.a2_hex.specs.Images.{held};
@@ -18,7 +18,7 @@ use a2_promise::{Found, Promise};
 use a2_promise_certify::{Input, holds_in_every_state};
 use std::alloc::{AllocError, Global};
 
-// The text that is told of what does not hold: what was printed, or the keys that are left.
+// Returns the text to report for a failure: what was printed, or the keys that are left.
 fn told_of(machine: &TrialMachine, broken: Broken) -> Result<Vec<u8>, AllocError> {
     let mut told = Vec::new(machine.alloc);
     match broken {
@@ -33,7 +33,7 @@ fn told_of(machine: &TrialMachine, broken: Broken) -> Result<Vec<u8>, AllocError
     Ok(told)
 }
 
-// What is told of a state that breaks the promise.
+// Collects what is reported of a state that breaks the promise.
 fn failure_of(
     machine: &mut TrialMachine,
     promise: &Promise,
@@ -61,10 +61,10 @@ fn failure_of(
     }))
 }
 
-/// How many states there are at least, so that what is not named is tried in several ways.
+/// The least number of trials, so that inputs that are not named take several values.
 pub(crate) const LEAST_TRIED: u64 = 4096;
 
-// What is found of a promise that was kept in so many states of inputs, and broken in none that were tried.
+// Returns the verdict on a promise that was kept in this many states and broken in none.
 fn unbroken(
     machine: &TrialMachine,
     inputs: &Inputs,
@@ -84,7 +84,7 @@ fn unbroken(
     }))
 }
 
-// Tries states of inputs, up to one that breaks the promise; none where a run looks at what is not varied.
+// Tries states of the inputs until one breaks the promise. Returns `None` if a run reads an input that is not varied.
 fn try_inputs(
     machine: &mut TrialMachine,
     promise: &Promise,
@@ -118,7 +118,7 @@ fn try_inputs(
     Ok(Some(unbroken(machine, inputs, kept, states)?))
 }
 
-// Where the routine of a promise is run, of those that are found.
+// Creates the machine for the routine of a promise, given all promises found.
 fn trial_machine_of(
     alloc: Global,
     program: &Program<Global>,
@@ -137,7 +137,7 @@ fn trial_machine_of(
     Ok(machine)
 }
 
-// Tries a promise, where only states are tried.
+// Tries a promise in states only, without a proof for all of them.
 fn try_states(
     machine: &mut TrialMachine,
     program: &Program<Global>,
@@ -145,7 +145,7 @@ fn try_states(
     trials: Trials,
 ) -> Result<PromiseVerdict, AllocError> {
     let named = named_by(machine.alloc, program, promise)?;
-    // Each round but the last finds one more thing at least that is looked at, and so many are noted.
+    // Each round except the last finds at least one more input, and at most this many are recorded.
     for _ in 0..=MAX_LOOKED {
         let inputs = inputs_of(
             machine.alloc,
@@ -166,8 +166,8 @@ fn try_states(
     Ok(PromiseVerdict::NoState(0))
 }
 
-// Whether a promise that held in all states of these inputs holds everywhere; of one that says what is printed or which keys are
-// taken, that is not said.
+// Returns whether a promise that held in all states of these inputs is known to hold everywhere. If it says anything
+// about printing or keys, the answer is always no.
 fn is_certain(
     alloc: Global,
     program: &Program<Global>,
@@ -183,7 +183,7 @@ fn is_certain(
     holds_in_every_state(alloc, program.image(), promise, inputs, ROUTINE_MAX_STEPS)
 }
 
-// What is found of a promise, and whether it holds everywhere, if it held in all states.
+// Returns the verdict on a promise. If the promise held in all states, includes whether it holds everywhere.
 fn certified(
     alloc: Global,
     program: &Program<Global>,
@@ -205,12 +205,14 @@ fn certified(
     }
 }
 
-/// Tries a promise of a program, one of those that are found in its source: its routine is entered in states of what the promise
-/// names and of what the routine looks at before it sets it, which is noted as it runs; bytes that the program lays are as it
-/// lays them, unless the promise names them. Where it held in all states, and neither the routine nor the promise looks at
-/// anything else, it holds in every world in which the routine is entered as the promise requires, wherever S points, within
-/// 1,000,000 steps; of a promise that says what is printed or which keys are taken, that is not said. Refused only for want of
-/// memory.
+/// Tries one of the promises found in a program's source. The routine is entered in states of the inputs that the
+/// promise names, and of those that the routine reads before it sets them; they are found while it runs. Bytes that
+/// the program lays have the program's values, unless the promise names them.
+///
+/// If the promise held in all states, and neither it nor the routine reads anything else, it holds in every world.
+/// That means every world in which the routine is entered as the promise requires, wherever S points, within
+/// 1,000,000 steps. This is never claimed of a promise that says anything about printing or keys. Fails only if
+/// memory runs out.
 pub fn try_promise(
     alloc: Global,
     program: &Program<Global>,

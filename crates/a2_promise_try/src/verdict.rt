@@ -1,4 +1,4 @@
-//! What is found of a promise.
+//! The verdict on a promise.
 
 use crate::broken::Broken;
 use crate::exit::{FallThrough, TracedStep};
@@ -9,32 +9,32 @@ use a2_promise_certify::Input;
 /// How many states are tried.
 #[derive(Clone, Copy)]
 pub struct Trials {
-    /// All, where they are no more than these.
+    /// If there are at most this many states, all are tried.
     pub all: u64,
-    /// So many of them, where they are more.
+    /// If there are more, this many are tried.
     pub some: u64,
 }
 
 /// A state in which a promise does not hold.
 pub struct Failure {
-    /// What it has at the entry, and how many of that the promise names.
+    /// The inputs at the entry; the first `named` of them are those that the promise names.
     pub inputs: Vec<Input>,
     pub named: usize,
-    /// The value of each.
+    /// The value of each input.
     pub values: Vec<u8>,
     /// The keys that are typed at the entry.
     pub keys: Keys,
     pub broken: Broken,
     pub fall_through: Option<FallThrough>,
-    /// What it printed, where that is not as promised, or the keys that it left, with bit 7 set.
+    /// The printed text if it differs from the promise, or the keys that were left, with bit 7 set.
     pub told: Vec<u8>,
-    /// How many steps were made, and the registers behind the last one.
+    /// The number of steps executed, and the registers after the last one.
     pub steps: u32,
     pub regs: Regs,
     pub last: Vec<TracedStep>,
 }
 
-// Not derived, for the prover alone: it follows this as one call, and a derived one field by field.
+// Written by hand only for the prover: it handles this as one call, but a derived `Drop` field by field.
 impl Drop for Failure {
     fn drop(self) {
         let Failure {
@@ -52,9 +52,9 @@ impl Drop for Failure {
     }
 }
 
-/// A promise that held in so many states that it admits, of so many tried, of so many that there are of these inputs: those that
-/// it names, and those that its routine looks at; a byte that what it requires settles has one value. Whether it holds in every
-/// world at the routine's entry is known too, or not.
+/// A promise that held in `kept` states out of `tried`, and these inputs have `total` states in all. The inputs are
+/// those that the promise names and those that its routine reads. An input that the requirements settle has one
+/// value. `is_everywhere` says whether the promise is known to hold in every world at the routine's entry.
 #[derive(Drop)]
 pub struct Held {
     pub inputs: Vec<Input>,
@@ -65,12 +65,12 @@ pub struct Held {
     pub fall_through: Option<FallThrough>,
 }
 
-/// What is found of a promise.
+/// The verdict on a promise.
 #[derive(Drop)]
 pub enum PromiseVerdict {
     Held(Held),
-    /// It does not hold in a state.
+    /// The promise does not hold in some state.
     Fails(Failure),
-    /// None of so many states is one that it admits.
+    /// The promise allows none of this many states.
     NoState(u64),
 }

@@ -1,10 +1,10 @@
-//! Numbers, addresses, inputs and texts as reports write them.
+//! Writes numbers, addresses, inputs and texts as they appear in reports.
 
 use a2_promise_certify::Input;
 use a2_stream::{Output, WriteFault, put_all};
 use a2_text::{decimal, hex_pair, hex_word};
 
-/// Writes a number between words.
+/// Writes a number between two texts.
 pub(crate) fn put_number<W: Output>(
     before: &[u8],
     number: u64,
@@ -14,7 +14,7 @@ pub(crate) fn put_number<W: Output>(
     put_all(&[before, decimal(number).as_slice(), behind], output)
 }
 
-/// Writes a number between words, with a comma before each three digits.
+/// Writes a number between two texts, with a comma before each group of three digits.
 pub(crate) fn put_grouped<W: Output>(
     before: &[u8],
     number: u64,
@@ -34,7 +34,7 @@ pub(crate) fn put_grouped<W: Output>(
     put_all(&[behind], output)
 }
 
-/// Writes words, and a number behind them that may be below 0.
+/// Writes a text followed by a number, which may be negative.
 pub(crate) fn put_signed<W: Output>(
     words: &[u8],
     number: i64,
@@ -45,7 +45,7 @@ pub(crate) fn put_signed<W: Output>(
     put_all(&[words, sign, digits.as_slice()], output)
 }
 
-/// Writes words, and an address behind them: in page 0 with two digits.
+/// Writes a text followed by an address; addresses in page 0 have two digits.
 pub(crate) fn put_address<W: Output>(
     words: &[u8],
     address: u16,
@@ -58,7 +58,7 @@ pub(crate) fn put_address<W: Output>(
     }
 }
 
-/// Writes words, and behind them what an input is called.
+/// Writes a text followed by the name of an input.
 pub(crate) fn put_input<W: Output>(
     words: &[u8],
     input: Input,
@@ -78,7 +78,7 @@ pub(crate) fn put_input<W: Output>(
     put_all(&[words, name], output)
 }
 
-/// Writes the number of a line and a text that stands in it.
+/// Writes the number of a line, and its text.
 pub(crate) fn put_line<W: Output>(
     line: usize,
     text: &[u8],
@@ -102,7 +102,7 @@ fn put_spelt<W: Output>(byte: u8, output: &mut W) -> Result<(), WriteFault> {
     put_all(&[spelt], output)
 }
 
-/// Writes a text between quotes.
+/// Writes a text in quotes.
 pub(crate) fn put_text<W: Output>(text: &[u8], output: &mut W) -> Result<(), WriteFault> {
     put_all(&[b"\""], output)?;
     for byte in text {

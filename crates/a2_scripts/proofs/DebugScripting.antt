@@ -1,4 +1,4 @@
--- What a script of debugger lines rests on: each line has a text, and what is read of source and script is enough.
+-- Facts about a script of debugger lines: each line has a text, and enough of source and script is read.
 use Rattle.std.specs.Prelude.{codes, IsErr}
 use Rattle.std.specs.Result.{IsErrAnd}
 use Rattle.std.proofs.Common.{◌≡◌, ◌≢◌, ℕ, List, ◌++◌, Option, Some, None, IfSome, Result, Ok, Err, refl, sym, ◌∙◌, subst, inl, inr}
@@ -28,7 +28,7 @@ use Rattle.a2_scripts.proofs.Reading.{script_of_read, replies_of_read}
 
 -- Lines
 
--- a debugger's keys were typed at counts up to now
+-- a debugger's keys were typed at counts up to the current one
 abbrev pub IsPast : Stored → Type 0
 IsPast s = NoneAbove s.count s.log
 
@@ -63,7 +63,7 @@ line_told line old new a b c why answer other (inl (down, same, unsent)) sends =
 )
 line_told line old new a b c why answer other (inr (is, broke)) sends = absurd (other is)
 
--- What is read
+-- Reading
 
 text_of_read : (source script output : List ℕ) → IsDebugText (read_of source) (read_of script) output → IsDebugText source script output
 text_of_read source script output is =
@@ -75,11 +75,11 @@ refusal_of_read source script (Source fault) p = source_of_read source fault p
 refusal_of_read source script (Script fault) p = ((p.0.0, program_of_read source p.0.0 p.0.1), script_of_read script fault p.1)
 refusal_of_read source script _ p = p
 
--- the answers of a call for a source with a script
+-- the results of a call for a source with a script
 abbrev pub AreAnswers : List ℕ → List ℕ → Taker → Taker → Result (Unit {0}) RunFault → Type 0
 AreAnswers source script a b r = Answers (IsDebugRefusal source script) (λ _. IsDebugText source script) a b r
 
--- the meaning of what was read is that of the inputs
+-- the meaning of what was read is the meaning of the inputs
 pub debug_of_inputs : (source script : Option (List ℕ)) (text lines slice slice' : List ℕ) (a b : Taker) (r : Result (Unit {0}) RunFault)
     → IfSome source (λ input. text ≡ read_of input) → IfSome script (λ input. lines ≡ read_of input) → slice ≡ text → slice' ≡ lines
     → AreAnswers slice slice' a b r
@@ -90,7 +90,7 @@ debug_of_inputs (Some source) (Some script) text lines slice slice' a b r e e' f
     Answers-wider _ _ _ _ a b r (refusal_of_read source script) (λ _ output. text_of_read source script output)
     (subst (λ (s : List ℕ). AreAnswers s (read_of script) a b r) (f ∙ e) (subst (λ (t : List ℕ). AreAnswers slice t a b r) (f' ∙ e') p))
 
--- The faults of the call
+-- The errors of the call
 
 pub refused_script : (source script : List ℕ) (program : Assembled) (a : Taker) (fault : Fault) (why : RunFault) → IsProgramOf source program
     → (fault ≢ refusal.Memory → size_refusal script ≡ Some fault) → why ≡ script_fault fault → AreAnswers source script a a (Err why)

@@ -1,4 +1,4 @@
--- A source with a script of debugger lines has one refusal, or one output.
+-- A source with a script of debugger lines has one error or one output.
 use Rattle.std.specs.Prelude.{codes}
 use Rattle.std.specs.Option.{unwrap_or}
 use Rattle.std.proofs.Common.{◌≡◌, ℕ, List, ◌++◌, Option, Some, None, refl, sym, ap, ◌∙◌, inl, inr}
@@ -22,7 +22,7 @@ use Rattle.a2_scripts.proofs.DebugScripting.{IsPast, each_line}
 use Rattle.a2_run.proofs.OneText.{alike, first-refusal-one, refused-no-program}
 use Rattle.a2_run.proofs.EachText.{refused-or-program}
 
--- a line has one text, and what it leaves looks alike
+-- a line has one text, and the states after it look alike
 meets-one : (line text words : List ℕ) (old other new next : Stored) → LookAlike old other
     → Meets line old text new → Meets line other words next → (text ≡ words) × LookAlike new next
 meets-one line text words old other new next like (inl a) (inl b) = one-answer line text words old other new next like a b

@@ -1,4 +1,4 @@
--- What is read of a script is enough: a front that shows that it is too long means what the whole script means.
+-- Enough of a script is read: a front that shows that the script is too long means the same as the whole script.
 use Rattle.std.proofs.Common.{◌≡◌, ℕ, List, None, sym, ◌∙◌}
 use Rattle.a2_text.specs.Lines.{lines}
 use Rattle.a2_syntax.specs.declared.fault.Fault.{Fault}

@@ -8,7 +8,8 @@ use Rattle.a2_stream.proofs.Joined.{Sends-nil, Sends-then, Breaks-then, Breaks-m
 use Rattle.a2_stream.specs.declared.WriteFault.{WriteFault}
 use Rattle.a2_scripts.specs.Replies.{echo, AreReplied, AnswersEach, RepliesTo, RepliesToAll}
 
--- where states that are alike have one text for a line, and leave such states, they have one for all lines
+-- if states that are alike have the same text for a line, and leave states that are alike, they have the same text for
+-- all lines
 module _ {S : Type 0} (Meets : List ℕ → S → List ℕ → S → Type 0) (mark : List ℕ) (Alike : S → S → Type 0)
     (one : (line text words : List ℕ) (old other new next : S) → Alike old other → Meets line old text new → Meets line other words next
     → (text ≡ words) × Alike new next) where
@@ -19,7 +20,7 @@ module _ {S : Type 0} (Meets : List ℕ → S → List ℕ → S → Type 0) (ma
       let (same, after) = one line text words old other new next alike meets met in
       is ∙ ap₂ (λ t r. echo mark line ++ (t ++ r)) same (all_one others new next rest left after are were) ∙ sym was
 
--- what went out so far, with whatever answers the lines that are left, answers all, and P holds of the state that was met last
+-- what was sent so far, followed by the answers to the lines left, answers all lines; and P holds in the current state
 pub record IsFront {S : Type 0} (Meets : List ℕ → S → List ℕ → S → Type 0) (mark : List ℕ) (P : S → Type 0) (lines left : List (List ℕ)) (start here : S) (a b : Taker) : Type 0 where
   pub text : List ℕ
   pub sent : Sends a b text
@@ -33,7 +34,7 @@ module _ {S : Type 0} {Meets : List ℕ → S → List ℕ → S → Type 0} {ma
   pub front-all : {here : S} {b : Taker} → IsFront Meets mark P lines [] start here a b → (output : List ℕ) × AreReplied Meets mark lines start output × Sends a b output
   front-all front = (front.text, rw append-nil at (front.whole [] refl), front.sent)
 
--- each line has a text where P holds
+-- each line has a text if P holds
 module _ {S : Type 0} (Meets : List ℕ → S → List ℕ → S → Type 0) (mark : List ℕ) (P : S → Type 0) (each : AnswersEach Meets P) where
   pub all_met : (lines : List (List ℕ)) (old : S) → P old → (output : List ℕ) × AreReplied Meets mark lines old output
   all_met [] old holds = ([], refl)
@@ -45,7 +46,7 @@ module _ {S : Type 0} (Meets : List ℕ → S → List ℕ → S → Type 0) (ma
 abbrev now : Bor (List ℕ) → List ℕ
 now x = x.now
 
--- the lines of a slice that are left, of which this is the first
+-- the lines of a slice that are left, given the first of them
 module _ {S : Type 0} {Meets : List ℕ → S → List ℕ → S → Type 0} {mark : List ℕ} {P : S → Type 0} {start here : S} {a b : Taker} (items : List (Bor (List ℕ))) (i : ℕ)
     (front : IsFront Meets mark P (map now items) (drop i (map now items)) start here a b) where
   pub none-left : length items ≤ i → IsFront Meets mark P (map now items) [] start here a b
@@ -57,7 +58,7 @@ module _ {S : Type 0} {Meets : List ℕ → S → List ℕ → S → Type 0} {ma
     abbrev line : List ℕ
     line = (get_or items i d).now
 
-    -- with its text, whatever answers the others answers all
+    -- with the text of the first line, whatever answers the others answers all
     behind : (text rest : List ℕ) (next : S) → Meets line here text next → AreReplied Meets mark (drop (i + 1) (map now items)) next rest
         → AreReplied Meets mark (map now items) start (front.text ++ (echo mark line ++ (text ++ rest)))
     behind text rest next meets are =
@@ -73,7 +74,7 @@ module _ {S : Type 0} {Meets : List ℕ → S → List ℕ → S → Type 0} {ma
       holds = each.stays line here text next meets front.holds;
     }
 
-    -- where a write failed, the answers of the lines that are left are there all the same
+    -- if a write failed, the lines left have answers all the same
     pub front-broke-echo : {c : Taker} (answer : Result (Unit {0}) WriteFault) → IsErr answer → Breaks b c (echo mark line) → RepliesToAll Meets mark (map now items) start a c answer
     front-broke-echo (Ok _) failed breaks = cc
     front-broke-echo {c = c} (Err _) failed breaks =

@@ -25,11 +25,11 @@ Always _ = Unit {0}
 pub each_line : AnswersEach IsReply Always
 each_line = record { text = λ line old _. each-reply line old; stays = λ line old text new reply always. tt }
 
--- and so have all
+-- so all lines have replies
 each-output : (lines : List (List ℕ)) (old : Sitting) → (output : List ℕ) × AreReplied IsReply (codes "*") lines old output
 each-output lines old = all_met IsReply (codes "*") Always each_line lines old tt
 
--- and only one
+-- a line has only one reply
 reply-one : (line text words : List ℕ) (old other new next : Sitting) → old ≡ other
     → IsReply line old text new → IsReply line other words next → (text ≡ words) × (new ≡ next)
 reply-one line text words old other new next same a b =
@@ -39,7 +39,7 @@ one-output : (lines : List (List ℕ)) (old : Sitting) (output other : List ℕ)
     → AreReplied IsReply (codes "*") lines old other → output ≡ other
 one-output lines old output other a b = all_one IsReply (codes "*") (λ s t. s ≡ t) reply-one lines old old output other refl a b
 
--- The same of a script, and of its refusal
+-- The same for a script, and for its error
 
 pub one-script-refusal : (script : List ℕ) (f g : Fault) → IsRefusedScript script f → IsRefusedScript script g → f ≡ g
 one-script-refusal script f g h k = ap (λ o. unwrap_or o f) (sym h ∙ k)
@@ -55,7 +55,7 @@ script-output script h =
 pub one-script-output : (script output other : List ℕ) → IsMonText script output → IsMonText script other → output ≡ other
 one-script-output script output other a b = one-output (lines script) start_sitting output other a.1 b.1
 
--- a line's refusal is told
+-- the error of a line is reported
 pub told_line : (line : List ℕ) (old new : Sitting) (a b c : Taker) (answer : Result (Unit {0}) WriteFault) (why : MonFault) → why ≢ fault.Write
     → LineAnswers line old new a b (Err why) → SendsOrBreaks b c answer (monitor_fault_text why ++ codes "\n") → RepliesTo IsReply line old new a c answer
 told_line line old new a b c answer fault.Write other answers sends = absurd (other refl)

@@ -1,4 +1,4 @@
--- What a source with a script of debugger lines means: its first refusal, or the lines with their answers.
+-- What a source with a script of debugger lines means: its first error, or the lines with their answers.
 use Rattle.std.specs.Prelude.{◌≡◌, ◌⊎◌, ℕ, Bool, true, false, List, ◌++◌, codes, None}
 use Rattle.a2_text.specs.Lines.{lines}
 use Rattle.a2_stream.specs.Stream.{Giver, count_after}
@@ -14,32 +14,33 @@ use Rattle.a2_run.specs.Meaning.{IsProgramOf, IsRefused}
 use Rattle.a2_scripts.specs.Scripts.{IsRefusedScript}
 use Rattle.a2_scripts.specs.Replies.{AreReplied}
 
--- a line is refused, by a line of text
+-- a line is rejected with a line of text
 pub record IsRefusedBy (line : List ℕ) (old : Stored) (text : List ℕ) (new : Stored) : Type 0 where
   pub fault : DebugFault
   pub refused : IsLineRefused line old fault
   pub told : text ≡ debug_fault_text fault ++ codes "\n"
   pub kept : new ≡ old
 
--- a line's text, and what it leaves
+-- the text of a line, and the state after it
 abbrev pub Meets : List ℕ → Stored → List ℕ → Stored → Type 0
 Meets line old text new = IsDebugAnswer line old text new ⊎ IsRefusedBy line old text new
 
--- the source has a program and the script is within the limits: the script's lines, answered by a debugger of that program
+-- the source has a program and the script is within the limits: the lines of the script, answered by a debugger of that
+-- program
 pub record IsDebugText (source script output : List ℕ) : Type 0 where
   pub program : Assembled
   pub is_program : IsProgramOf source program
   pub fits : size_refusal script ≡ None
   pub answers : AreReplied Meets (codes ">") (lines script) (begun program 0) output
 
--- the source is refused for this; or it has a program, and the script is over the limits
+-- the source has this error; or it has a program, and the script is over the limits
 abbrev pub IsDebugRefusal : List ℕ → List ℕ → RunFault → Type 0
 IsDebugRefusal source script (Source fault) = IsRefused source fault
 IsDebugRefusal source script (Script fault) = ((program : Assembled) × IsProgramOf source program) × IsRefusedScript script fault
 IsDebugRefusal source script _ = ⊥
 
--- where a read fault is told, a read of one of two readers failed: of the first, and the second is as it was, or of the
--- second; else none failed
+-- if a read error is reported, a read of one of two readers failed: of the first, with the second unchanged, or of the
+-- second; otherwise none failed
 abbrev pub ReadsFail : Bool → Giver → Giver → Giver → Giver → Type 0
 ReadsFail true first first' second second' =
     ((first'.failures ≡ count_after true first.failures) × (second' ≡ second))

@@ -1,5 +1,5 @@
--- What a script of Monitor lines means: its first refusal, or its lines, each repeated behind `*`, with their replies. This
--- project's profile.
+-- What a script of Monitor lines means: its first error, or its lines, each repeated after `*`, with their replies.
+-- This project's profile.
 use Rattle.std.specs.Prelude.{◌≡◌, ℕ, List, codes, Some, None}
 use Rattle.a2_text.specs.Lines.{lines}
 use Rattle.a2_syntax.specs.declared.fault.Fault.{Fault}
@@ -11,20 +11,20 @@ use Rattle.a2_run.specs.declared.fault.RunFault.{RunFault}
 use Rattle.a2_run.specs.declared.fault.RunFault.TheVariants.{Script, Memory}
 use Rattle.a2_scripts.specs.Replies.{AreReplied}
 
--- the refusals of a script where there is no source
+-- the errors of a script that comes without a source
 abbrev pub OfScript : (Fault → Type 0) → RunFault → Type 0
 OfScript refuses (Script fault) = refuses fault
 OfScript refuses _ = ⊥
 
--- the script has this refusal: of its size
+-- the script has this error, because of its size
 abbrev pub IsRefusedScript : List ℕ → Fault → Type 0
 IsRefusedScript script fault = size_refusal script ≡ Some fault
 
--- the script is within the limits, and its lines are answered by this output
+-- the script is within the limits, and this output answers its lines
 abbrev pub IsMonText : List ℕ → List ℕ → Type 0
 IsMonText script output = (size_refusal script ≡ None) × AreReplied IsReply (codes "*") (lines script) start_sitting output
 
--- a fault of a script, but want of memory by itself
+-- an error of a script; running out of memory is a separate error
 abbrev pub script_fault : Fault → RunFault
 script_fault refusal.Memory = Memory
 script_fault fault = Script fault

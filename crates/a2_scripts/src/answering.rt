@@ -5,26 +5,26 @@ ghost use Rattle.a2_scripts.specs.Replies.{AnswersEach, RepliesTo, RepliesToAll}
 
 use a2_stream::{Output, WriteFault, put_all};
 
-/// Whoever answers the lines of a script: a session of the Monitor, or a debugger.
+/// A type that answers the lines of a script: a session of the Monitor, or a debugger.
 pub trait Answering {
-    /// What contracts see of it.
+    /// The state that contracts see.
     ghost State: { Type 0 };
 
     ghost state: { Self → State };
 
-    /// Which text a line has in a state, and which state it leaves.
+    /// The text of a line in a state, and the state after it.
     ghost meets: { List ℕ → State → List ℕ → State → Type 0 };
 
-    /// What holds of each state in which a line is answered.
+    /// The condition that holds in each state in which a line is answered.
     ghost Holds: { State → Type 0 };
 
-    /// Does what a line says, and writes its answer, or the text of its refusal. Refused where a write fails: a front of that
-    /// went out then.
+    /// Executes a line, and writes its answer or the text of its error. Fails if a write fails; then a front of the
+    /// text was sent.
     fn answer<W: Output>(&mut self, line: &[u8], writer: &mut W) -> Result<(), WriteFault>
         ensures { RepliesTo meets line.now (state self.old) (state self.new) (W.taker writer.old) (W.taker writer.new) result };
 }
 
-/// Writes each line, behind `mark`, and its answer. Refused where a write fails: a front of that went out then.
+/// Writes each line after `mark`, followed by its answer. Fails if a write fails; then a front of the text was sent.
 pub fn answer_all<S: Answering, W: Output>(
     answering: &mut S,
     mark: &[u8],

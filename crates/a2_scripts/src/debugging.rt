@@ -1,4 +1,4 @@
-//! A source and a script of debugger lines in, the script's answers out.
+//! Answering a script of debugger lines for a source.
 
 ghost use Rattle.std.specs.Prelude.{◌≡◌, false, IfOk};
 ghost use Rattle.a2_debug_script.specs.Stored.{begun};
@@ -39,7 +39,7 @@ impl<A: Allocator> Answering for Debugger<A> {
     }
 }
 
-// A debugger of the program, at its start.
+// Returns a debugger of the program, at its start.
 fn opened<A: Allocator + Copy>(alloc: A, program: Program<A>) -> Result<Debugger<A>, AllocError>
     ensures { IfOk result (λ debugger. debugger ≡ begun program 0) }
 {
@@ -47,7 +47,7 @@ fn opened<A: Allocator + Copy>(alloc: A, program: Program<A>) -> Result<Debugger
     Debugger::new(alloc, machine, program).map_err(|_| AllocError)
 }
 
-/// Debugs the program of a source by the lines of a script.
+/// Debugs the program of a source with the lines of a script.
 pub fn debug_script<A: Allocator + Copy, W: Output>(
     alloc: A,
     source: &[u8],

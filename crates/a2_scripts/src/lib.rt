@@ -1,6 +1,6 @@
-//! A script of Monitor lines in, or a source and a script of debugger lines; the answers out.
+//! Answers scripts, either of Monitor lines or, with a source, of debugger lines.
 //!
-//! How it is called is shown in CALLING.md.
+//! CALLING.md shows how to call it.
 #![tactic(auto)]
 
 mod answering;

@@ -1,4 +1,4 @@
-//! A script of Monitor lines in, its answers out.
+//! Answering a script of Monitor lines.
 
 ghost use Rattle.std.specs.Prelude.{◌≡◌, false, IfOk};
 ghost use Rattle.a2_monitor.specs.Sittings.{sitting_of, start_sitting};
@@ -13,7 +13,7 @@ use a2_stream::{Output, WriteFault, put_all};
 use a2_syntax::{Fault, lines};
 use std::alloc::{AllocError, Allocator};
 
-/// A fault of the script, but want of memory by itself.
+/// Returns the error of the script; running out of memory is a separate error.
 pub fn refusal(fault: Fault) -> RunFault
     ensures { result ≡ script_fault fault }
 {
@@ -46,7 +46,7 @@ impl<A: Allocator> Answering for Session<A> {
     }
 }
 
-// A session at its start.
+// Returns a session at its start.
 fn opened<A: Allocator + Copy>(alloc: A) -> Result<Session<A>, AllocError>
     ensures { IfOk result (λ session. sitting_of session ≡ start_sitting) }
 {

@@ -25,7 +25,7 @@ pub cleared_devices : (m : Memory) → (cleared_to_end m).devices ≡ m.devices
 unfolding cleared_to_end
 cleared_devices m = refl
 
--- a line leaves no more keys than there were
+-- a line that leaves no more keys than there were
 pub record Fewer (n : ℕ) (line : Reading) : Type 0 where
   pub is : length line.memory.devices.keys ≤ n
 

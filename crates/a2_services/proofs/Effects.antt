@@ -1,4 +1,4 @@
--- What each service leaves, service by service: it changes no byte out of its reach, and adds no key.
+-- The effect of each service: it changes no byte outside its reach, and adds no key.
 use Rattle.std.specs.Prelude.{◌≡◌, ◌⊎◌, ℕ, ◌+◌, ◌<◌, ◌≤◌, List, [], ◌∷◌, Bool, true, false, ◌||◌, length, refl, ◌≢◌, fold}
 use Rattle.std.proofs.Common.{ap, ◌∙◌, arith, true≢false}
 use Rattle.std.proofs.lemmas.Bool.Decides.{nat_tests}
@@ -20,7 +20,7 @@ use Rattle.a2_services.proofs.Counting.{Fewer, fewer_taken, fewer_read, base_dev
 use Rattle.a2_services.proofs.Kept.{IsOffPage, IsOffBase, off_page, off_base, other_than, off_base-kept, off_page-cleared}
 use Rattle.a2_services.specs.Blocks.{painted, painted_across, painted_down, span_of, colour_of, black}
 
--- blocks painted
+-- painting blocks
 painted-kept : (b : ℕ) → IsOffPage b → (row column : ℕ) (m : Memory) → ram_byte (painted row column m) b ≡ ram_byte m b
 unfolding painted
 painted-kept b off row column m = ram_byte-page1 m (plotted row column (colour_of row m) m.page1) b off
@@ -29,7 +29,7 @@ painted_devices : (row column : ℕ) (m : Memory) → (painted row column m).dev
 unfolding painted
 painted_devices row column m = refl
 
--- one after another
+-- one block after another
 steps-kept : (b : ℕ) (step : ℕ → Memory → Memory) → ((k : ℕ) (m : Memory) → ram_byte (step k m) b ≡ ram_byte m b)
     → (ks : List ℕ) (m : Memory) → ram_byte (fold (λ m k. step k m) m ks) b ≡ ram_byte m b
 steps-kept b step keeps [] m = refl
@@ -40,12 +40,12 @@ steps_devices : (step : ℕ → Memory → Memory) → ((k : ℕ) (m : Memory) �
 steps_devices step keeps [] m = refl
 steps_devices step keeps (k ∷ ks) m = steps_devices step keeps ks (step k m) ∙ keeps k m
 
--- the page black in any grid's place
+-- clearing page 1 to any grid
 cleared-kept : (page : Grid) (world : World) (b : ℕ) → IsOffPage b → b ≢ 0x30 → b ≢ 0x2D
     → ram_byte (with_ram (with_ram (with_page1 page world.memory) 0x30 0) 0x2D 47) b ≡ ram_byte world.memory b
 cleared-kept page world b off color v2 = grind (arith, ram_byte-with_ram, ram_byte-page1)
 
--- what a service leaves differs only in its reach
+-- the effect of a service changes only bytes in its reach
 effect-kept : (service : Service) (world : World) (b : ℕ) → reach service b ≡ false
     → ram_byte (effect service world).memory b ≡ ram_byte world.memory b
 unfolding effect reach ram_byte
@@ -119,7 +119,7 @@ effect-kept Scrn world b h =
 effect-kept Clrscr world b h =
     returned-kept (with_memory (with_ram (with_ram (with_page1 black world.memory) 0x30 0) 0x2D 47) world) b
     ∙ cleared-kept black world b (grind (arith, nat_tests, h)) (grind (arith, nat_tests, h)) (grind (arith, nat_tests, h))
--- one whose row says that it may store at one byte stores it and returns
+-- a service whose row allows a store to one byte stores it and returns
 effect-kept _ world b h =
     returned-kept (with_memory (with_ram world.memory _ _) world) b ∙ ram_byte-with_ram world.memory _ _ b (other_than b _ h)
 
@@ -129,7 +129,7 @@ pub served-kept : (service : Service) (world : World) (b : ℕ) → reach servic
 unfolding served
 served-kept service world b h = effect-kept service world b h
 
--- a service whose row says that it needs no key leaves the devices as they are
+-- a service whose row needs no key leaves the devices unchanged
 pub effect_devices : (service : Service) (w : World) → is_without (service_row service).needs [] ≡ false
     → (effect service w).memory.devices ≡ w.memory.devices
 unfolding effect
@@ -165,7 +165,7 @@ effect_devices Clrscr w keyless =
     ∙ ram_devices (with_ram page 0x30 0) 0x2D 47 ∙ ram_devices page 0x30 0
 effect_devices _ w keyless = left_devices (with_ram w.memory _ _) w ∙ ram_devices w.memory _ _
 
--- what a service leaves has no more keys
+-- the effect of a service leaves no more keys
 effect_fewer : (service : Service) (w : World) → length (effect service w).memory.devices.keys ≤ length w.memory.devices.keys
 unfolding effect
 effect_fewer Keyin w = go w.memory.devices.keys refl

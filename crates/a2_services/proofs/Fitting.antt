@@ -40,7 +40,7 @@ fits_from m n h e row column = record {
   column = omega (arith, ap (λ (w : Window). w.left) e, column);
 }
 
--- the cursor's column set
+-- setting the cursor's column
 
 pub row_at_column : (m : Memory) (c : ℕ) → cursor_row (with_cursor_column c m) ≡ cursor_row m
 row_at_column m c = ram_byte-with_ram m 0x24 c 0x25 (λ e. differ 0x24 0x25 (omega arith) (sym e))
@@ -53,7 +53,7 @@ column_fits m c h lt =
     fits_from m (with_cursor_column c m) h (window_kept m 0x24 c (omega arith)) (omega (arith, row_at_column m c, h.row))
     (omega (arith, plain_written m 0x24 c column_free, lt))
 
--- the cursor's row set
+-- setting the cursor's row
 
 pub row_line : (m : Memory) (r : ℕ) → LineFits m → r < 24 → LineFits (with_cursor_row r m)
 row_line m r h lt = line_from m (with_cursor_row r m) h (window_kept m 0x25 r (omega arith)) (omega (arith, plain_written m 0x25 r row_free, lt))
@@ -63,7 +63,7 @@ row_fits m r h lt =
     fits_from m (with_cursor_row r m) h.line (window_kept m 0x25 r (omega arith)) (omega (arith, plain_written m 0x25 r row_free, lt))
     (omega (arith, ram_byte-with_ram m 0x25 r 0x24 (differ 0x24 0x25 (omega arith)), h.column))
 
--- page 1 replaced
+-- replacing page 1
 
 pub page_line : (m : Memory) (page : Grid) → LineFits m → LineFits (with_page1 page m)
 page_line m page h = line_from m (with_page1 page m) h (window_kept-page m page) (omega (arith, ram_byte-page1 m page 0x25 (inl (omega arith)), h.row))
@@ -74,7 +74,7 @@ page_fits m page h =
     (omega (arith, ram_byte-page1 m page 0x25 (inl (omega arith)), h.line.row))
     (omega (arith, ram_byte-page1 m page 0x24 (inl (omega arith)), h.column))
 
--- a write elsewhere
+-- a write to another address
 pub other_fits : (m : Memory) (a byte : ℕ) → 0x26 ≤ a → CursorFits m → CursorFits (with_ram m a byte)
 other_fits m a byte high h =
     fits_from m (with_ram m a byte) h.line (window_kept m a byte (omega (arith, high)))
@@ -94,7 +94,7 @@ either : (P : Memory → Type 0) (v : Bool) (x y : Memory) → (v ≡ true → P
 either P true x y h g = h refl
 either P false x y h g = g refl
 
--- What puts a byte keeps both on the screen
+-- Putting a byte keeps both on the screen
 
 is_below : (a b : ℕ) → nat_lt a b ≡ true → a < b
 is_below a b e = grind (arith, nat_tests, e)
@@ -148,7 +148,7 @@ pub put_fits : (byte : ℕ) (m : Memory) → CursorFits m → CursorFits (after_
 unfolding after_put
 put_fits byte m h = put_unmasked_fits (masked_by byte (inverse_mask m)) m h
 
--- the cursor at the window's top left, whatever stood there
+-- the cursor at the window's top left, wherever it was
 pub home_line : (m : Memory) (page : Grid) → IsWindow (window_of m)
     → LineFits (with_cursor_row (window_of m).top (with_cursor_column 0 (with_page1 page m)))
 home_line m page w =

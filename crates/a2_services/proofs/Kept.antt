@@ -1,4 +1,4 @@
--- Bytes off page 1 and off the base address stay where only these are written.
+-- Bytes outside page 1 and the base address are unchanged if only these are written.
 use Rattle.std.specs.Prelude.{◌≡◌, ◌≢◌, ◌⊎◌, ℕ, ◌+◌, ◌-◌, ◌/◌, ◌%◌, ◌<◌, ◌≤◌, ◌==◌, false, replicate}
 use Rattle.std.proofs.Common.{◌∙◌, arith}
 use Rattle.std.proofs.lemmas.Bool.Decides.{nat_tests}
@@ -10,7 +10,7 @@ use Rattle.a2_bus.proofs.Frame.{ram_byte-with_ram, ram_byte-page1}
 use Rattle.a2_services.specs.Put.{window_of, cursor_row, cursor_column, screen_column, with_base_address}
 use Rattle.a2_services.specs.Services.{page_reach, base_reach, cleared_to_end}
 
--- an address off page 1
+-- an address outside page 1
 abbrev pub IsOffPage : ℕ → Type 0
 IsOffPage b = (b < 0x400) ⊎ (0x800 ≤ b)
 

@@ -14,7 +14,7 @@ use Rattle.a2_services.specs.World.{World}
 use Rattle.a2_services.specs.declared.rows.Service.TheVariants.{Keyin}
 use Rattle.a2_services.specs.Reading.{reading, rest_of, kept, first_of}
 
--- What is put changes no device
+-- Putting a byte changes no device
 
 pub ram_devices : (m : Memory) (a byte : ℕ) → (with_ram m a byte).devices ≡ m.devices
 unfolding with_ram
@@ -130,13 +130,13 @@ fewer_keys m len key byte next first step = go m.devices.keys refl first
     go [] e h = cc
     go (k ∷ keys) e h = omega (arith, ap (λ (l : List ℕ). length l) (next_keys m len byte k keys next e step), ap (λ (l : List ℕ). length l) e)
 
--- What GETLN and RDKEY begin with
+-- The start of GETLN and RDKEY
 
 pub line_from_prompt : (m n : Memory) (mark : ℕ) → mark ≡ prompt_character m → n ≡ after_put mark m
     → rest_of n 0 ≡ line_read m.devices.keys (reading (after_put (prompt_character m) m) 0)
 line_from_prompt m n mark is step = grind (arith, put_devices)
 
--- no key is there exactly where there is no first one
+-- no key is waiting exactly if there is no first key
 pub lacks_unless : (m : Memory) (lacking : Bool) → is_some (first_of m.devices.keys) ≡ not lacking → lacking ≡ lacks_keys Keyin m
 lacks_unless m lacking e = go m.devices.keys lacking e
   where
@@ -158,7 +158,7 @@ effect_key w key first = go w.memory.devices.keys first
     go [] h = cc
     go (k ∷ keys) h = ap (λ j. back (with_a (0x80 + j) (with_memory (with_key_taken w.memory) w))) (same_key k key keys h)
 
--- a key is there
+-- a key is waiting
 
 pub some_key : (bus : BusState) (keys : List ℕ) → keys ≡ bus.devices.keys → lacks_keys Keyin (memory_of bus) ≡ false → 0 < length keys
 unfolding memory_of

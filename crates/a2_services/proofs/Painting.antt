@@ -1,4 +1,4 @@
--- Blocks of page 1 that take a colour.
+-- Colouring blocks of page 1.
 use Rattle.std.specs.Prelude.{◌≡◌, ℕ, zero, suc, ◌+◌, ◌-◌, ◌/◌, ◌≤◌, fold}
 use Rattle.std.proofs.Common.{ap, ◌∙◌, arith}
 use Rattle.std.proofs.lemmas.Bool.Decides.{nat_tests}
@@ -28,9 +28,9 @@ pub paint_made : (m : Memory) (row column color colour old byte : ℕ) (half : H
 unfolding painted
 paint_made m row column color colour old byte half is_half is_color is_colour is_old is_byte = grind (arith, plotted_half)
 
--- Blocks in a row or a column, one after another
+-- Blocks of a row or a column, one after another
 
--- the memory after so many steps, each at its number
+-- the memory after this many steps, each with its number
 abbrev pub after_steps : (ℕ → Memory → Memory) → ℕ → ℕ → Memory → Memory
 after_steps step first count memory = fold (λ m number. step number m) memory (numbers_from first count)
 
@@ -41,7 +41,7 @@ one_more step first (suc count) m =
     ap (λ number. step number (after_steps step (suc first) count (step first m))) (let e : first + suc count ≡ suc first + count = omega arith in e)
     ∙ one_more step (suc first) count (step first m)
 
--- up to this number, without it
+-- the steps up to this number, which is excluded
 pub record IsStepped (step : ℕ → Memory → Memory) (m n : Memory) (first number : ℕ) : Type 0 where
   pub is : n ≡ after_steps step first (number - first) m
 

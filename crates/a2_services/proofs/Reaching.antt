@@ -1,4 +1,4 @@
--- A service changes no byte out of its reach.
+-- A service changes no byte outside its reach.
 use Rattle.std.specs.Prelude.{◌≡◌, ◌≢◌, ◌⊎◌, ℕ, zero, suc, ◌+◌, ◌<◌, ◌≤◌, List, [], ◌∷◌, Bool, true, false, ◌==◌, if◌then◌else◌, refl}
 use Rattle.std.proofs.Common.{◌∙◌, arith, inl, inr}
 use Rattle.std.proofs.lemmas.Bool.Decides.{nat_tests}
@@ -11,7 +11,7 @@ use Rattle.a2_services.specs.Put.{with_cursor_column, with_cursor_row, prompt_ch
 use Rattle.a2_services.specs.Services.{output_reach, cleared_to_end, Reading, byte_of_key, after_byte, after_cancel, after_prompt, line_read, with_key_taken, back, output}
 use Rattle.a2_services.proofs.Kept.{off_base-kept, off_page-cleared}
 
--- an address that no output service stores at
+-- an address where no output service stores
 pub record IsOutside (b : ℕ) : Type 0 where
   pub page : (b < 0x400) ⊎ (0x800 ≤ b)
   pub column : b ≢ 0x24
@@ -71,7 +71,7 @@ module _ (b : ℕ) (outside : IsOutside b) where
   pub cleared_to_end-kept : (m : Memory) → ram_byte (cleared_to_end m) b ≡ ram_byte m b
   cleared_to_end-kept m = off_page-cleared b outside.page m
 
-  -- a line, short enough, whose memory shows the same byte
+  -- a line, short enough, whose memory has the same byte
   pub record Fine (was : ℕ) (line : Reading) : Type 0 where
     pub same : ram_byte line.memory b ≡ was
     pub short : line.len < 256
@@ -133,7 +133,7 @@ module _ (b : ℕ) (outside : IsOutside b) where
       go true rest = put-kept 0x8D (cleared_to_end kept) ∙ cleared_to_end-kept kept ∙ stored
       go false rest = rest (after_byte byte noted) (after_byte-fine was byte noted (record { same = stored; short = h.short }))
 
--- the return keeps every byte
+-- the return changes no byte
 pub returned-kept : (world : World) (b : ℕ) → ram_byte (returned memory_access world).memory b ≡ ram_byte world.memory b
 unfolding returned
 returned-kept world b =

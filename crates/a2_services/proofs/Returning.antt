@@ -1,4 +1,4 @@
--- Calls of services: the return, and what the tests of window and cursor tell.
+-- Calls of services: the return, and what the tests of window and cursor imply.
 use Rattle.std.specs.Prelude.{◌≡◌, ℕ, ◌+◌, ◌*◌, ◌%◌, ◌<◌, true, ◌&&◌}
 use Rattle.std.proofs.Common.{arith}
 use Rattle.std.proofs.lemmas.Bool.Decides.{nat_tests}

@@ -21,11 +21,11 @@ part_more : (m n k : Memory) (row left : ℕ) (part : List ℕ) (c byte : ℕ) �
     → k ≡ with_page1 (with_row_part m.page1 row left (part ++ byte ∷ [])) m
 part_more m n k row left part c byte h row_ok e lt is step = grind (arith, with_row_part-more)
 
--- the board's bytes with some laid from an address on
+-- the board's bytes with some replaced from an address on
 abbrev laid : BusState → ℕ → List ℕ → BusState
 laid bus address part = record bus { bytes = with_part bus.bytes address part }
 
--- they are those of a part of a row, where they lie there
+-- these are the bytes of a part of a row, if they lie in it
 pub row_laid : (bus : BusState) (row left : ℕ) (part : List ℕ) → length bus.bytes ≡ ram_end → row < 24 → left + length part ≤ 40
     → memory_of (laid bus (address_of One row left) part) ≡ with_page1 (with_row_part (memory_of bus).page1 row left part) (memory_of bus)
 row_laid bus row left part size row_ok right =
@@ -107,7 +107,7 @@ part_below m row left width = slice_range (slice_index_or m.page1 (row + 1) []) 
 pub below_long : (m : Memory) (row left width : ℕ) → IsGrid m.page1 → row + 1 < 24 → left + width ≤ 40 → length (part_below m row left width) ≡ width
 below_long m row left width h row_ok right = range_long (slice_index_or m.page1 (row + 1) []) left width (omega (arith, h.width (row + 1) row_ok, right))
 
--- A window turned into a target, row by row
+-- Turning a window into a target, row by row
 
 pub record Turning (target : Grid) (m n : Memory) (top row : ℕ) : Type 0 where
   pub same : n ≡ with_page1 n.page1 m
@@ -177,7 +177,7 @@ clear_all w m n row w_is g_is h e =
     let P : ℕ → Type 0 = λ r. Turning (cleared w m.page1) m n w.top r in
     turned (cleared w m.page1) m n w.top w.bottom (subst P e h) (cleared-height w m.page1 w_is g_is.height) (cleared-out w m.page1 w_is g_is.height)
 
--- Page 1 made black, row by row
+-- Making page 1 black, row by row
 
 pub record IsBlack (target : Grid) : Type 0 where
   pub height : length target ≡ 24

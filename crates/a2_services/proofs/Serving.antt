@@ -1,4 +1,4 @@
--- A service that did what it does was called.
+-- A service that had its effect was called.
 use Rattle.std.specs.Prelude.{◌≡◌, ℕ, ◌+◌, true, false}
 use Rattle.std.proofs.Common.{sym, ap, ◌∙◌}
 use Rattle.a2_bus.specs.BusState.{BusState}

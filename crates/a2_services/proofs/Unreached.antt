@@ -1,4 +1,4 @@
--- What a call leaves as it was.
+-- What a call leaves unchanged.
 use Rattle.std.specs.Prelude.{◌≡◌, ℕ, ◌+◌, ◌≤◌, length}
 use Rattle.std.proofs.Common.{sym, ap, ◌∙◌, arith}
 use Rattle.a2_bus.specs.BusState.{BusState}
@@ -12,7 +12,7 @@ use Rattle.a2_services.specs.Services.{served}
 use Rattle.a2_services.specs.Called.{IsUnreached}
 use Rattle.a2_services.proofs.Effects.{served-kept, served_fewer}
 
--- the bytes out of its reach
+-- bytes outside the service's reach
 pub unreached_by : (service : Service) (registers : Registers) (bus : BusState) (new_registers : Registers) (new_bus : BusState) (cycles : ℕ)
     → length bus.bytes ≡ ram_end → length new_bus.bytes ≡ ram_end
     → world_of new_registers new_bus (0 + cycles) ≡ served service (world_of registers bus 0) → IsUnreached service bus new_bus

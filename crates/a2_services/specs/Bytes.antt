@@ -1,5 +1,5 @@
--- Bytes and keys that the Monitor gives a meaning of their own. Apple II Reference Manual (1979), chapter 2, on
--- standard output, standard input and GETLN.
+-- Bytes and keys with a special meaning in the Monitor. Apple II Reference Manual (1979), chapter 2, on standard output,
+-- standard input and GETLN.
 use Rattle.std.specs.Prelude.{ℕ}
 
 abbrev pub carriage_return : ℕ
@@ -11,7 +11,7 @@ line_feed = 0x8A
 abbrev pub backspace : ℕ
 backspace = 0x88
 
--- control X, which gives a line up, and the backslash that tells it
+-- control X, which cancels a line, and the backslash that is shown then
 abbrev pub cancel : ℕ
 cancel = 0x98
 

@@ -1,5 +1,5 @@
--- The services' rows. Apple II Reference Manual (1979), chapter 3, "Some useful Monitor subroutines", has the addresses;
--- all else is this project's profile.
+-- The table of services. The addresses come from the Apple II Reference Manual (1979), chapter 3, "Some useful Monitor
+-- subroutines"; everything else is this project's profile.
 use Rattle.std.specs.Prelude.{ℕ, List, [], ◌∷◌, codes}
 use Rattle.a2_bus.specs.Locations as at
 use Rattle.a2_services.specs.declared.rows.Service.{Service}
@@ -16,8 +16,8 @@ use Rattle.a2_services.specs.declared.rows.OnScreen.{OnScreen}
 use Rattle.a2_services.specs.declared.rows.OnScreen.TheVariants as cells
 use Rattle.a2_services.specs.declared.rows.Row.{Row}
 
--- where it is called, what it needs, where it may store, and how long it takes; the registers that it looks at and those that it
--- sets, and what it does with cells of the screen
+-- a row: the service's address, what it needs, where it may store, how long it takes, the registers it reads and those it sets,
+-- and what it does with cells of the screen
 abbrev pub row_at : ℕ → Needs → Reach → Takes → RegisterSet → RegisterSet → OnScreen → Row
 row_at address needs reach takes looks_at sets on_screen = record {
   address = address;
@@ -52,7 +52,7 @@ service_row Vline = row_at 0xF828 need.Down reaches.Page span.Six set.AAndY set.
 service_row Scrn = row_at 0xF871 need.Block reaches.Nowhere span.Six set.AAndY set.A cells.LooksAtBlock
 service_row Clrscr = row_at 0xF832 need.Nothing reaches.Graphics span.Six set.Empty set.Empty cells.ClearsBlocks
 
--- the services, in order
+-- all services, in order
 abbrev pub services : List Service
 services =
     Cout ∷ Cout1 ∷ Crout ∷ Home ∷ Prbyte ∷ Prhex ∷ Setinv ∷ Setnorm ∷ Vtab ∷ Clreol ∷ Clreop

@@ -1,6 +1,6 @@
--- The Monitor's services. Apple II Reference Manual (1979), chapter 3, "The System Monitor", has their names, addresses
--- and purposes, and chapter 2, on standard input and GETLN, how a line is read; the exact effects and the cycles are
--- this project's profile.
+-- The Monitor's services. Their names, addresses and purposes come from the Apple II Reference Manual (1979), chapter 3, "The
+-- System Monitor", and chapter 2, on standard input and GETLN, describes how a line is read; the exact effects and the cycles
+-- are this project's profile.
 use Rattle.std.specs.Prelude.{ℕ, zero, suc, ◌+◌, ◌-◌, ◌*◌, ◌/◌, ◌%◌, Bool, true, false, not, ◌&&◌, ◌||◌, List, [], ◌∷◌, ◌==◌, nat_lt, nat_le, if◌then◌else◌, Option, find, replicate}
 use Rattle.std.specs.List.{list_any}
 use Rattle.a2_text.specs.Bytes.{is_between}
@@ -25,7 +25,7 @@ use Rattle.a2_services.specs.World.{World}
 use Rattle.a2_services.specs.Blocks.{painted, painted_across, painted_down, span_of, black}
 use Rattle.a2_services.specs.Put.{window_of, cursor_column, cursor_row, with_cursor_column, with_cursor_row, screen_column, prompt_character, with_page1, after_put, after_put_unmasked, with_base_address}
 
--- the service at an address, if there is one
+-- the service at an address, if any
 unfoldable pub service_at : ℕ → Option Service
 service_at address = find (λ service. (service_row service).address == address) services
 
@@ -37,11 +37,11 @@ window_fits memory =
     let window = window_of memory in
     nat_le 1 window.width && nat_le (window.left + window.width) 40 && nat_lt window.top window.bottom && nat_le window.bottom 24
 
--- the cursor lies on the screen
+-- the cursor is on the screen
 abbrev pub cursor_fits : Memory → Bool
 cursor_fits memory = nat_lt (cursor_row memory) 24 && nat_lt (screen_column memory) 40
 
--- A is a row of blocks and Y a column
+-- A is a row of blocks and Y is a column
 abbrev pub block_fits : Registers → Bool
 block_fits registers = nat_lt registers.a 48 && nat_lt registers.y 40
 
@@ -55,7 +55,7 @@ lies_right need.Across registers memory = block_fits registers && nat_lt (ram_by
 lies_right need.Down registers memory = block_fits registers && nat_lt (ram_byte memory at.v2) 48
 lies_right _ registers memory = true
 
--- window, cursor and blocks lie where the service needs them
+-- window, cursor and blocks are where the service needs them
 abbrev pub fits : Service → Registers → Memory → Bool
 fits service registers memory = lies_right (service_row service).needs registers memory
 
@@ -63,13 +63,13 @@ fits service registers memory = lies_right (service_row service).needs registers
 abbrev pub has_return : List ℕ → Bool
 has_return keys = list_any (λ key. key == return_key) keys
 
--- the keys that are needed do not wait: a key, or a whole line
+-- the needed keys are not waiting: a key, or a whole line
 abbrev pub is_without : Needs → List ℕ → Bool
 is_without need.Key keys = elim keys [ [] ↦ true | key ∷ rest ↦ false ]
 is_without need.Line keys = not (has_return keys)
 is_without _ keys = false
 
--- the keys that the service needs are not there
+-- keys that the service needs are missing
 abbrev pub lacks_keys : Service → Memory → Bool
 lacks_keys service memory = is_without (service_row service).needs memory.devices.keys
 
@@ -83,7 +83,7 @@ line_buffer = 0x200
 abbrev pub base_reach : ℕ → Bool
 base_reach address = is_between at.basl at.bash address
 
--- page 1, the bytes between its rows too
+-- page 1, including the bytes between its rows
 abbrev pub page_reach : ℕ → Bool
 page_reach address = is_between 0x400 0x7FF address
 
@@ -109,37 +109,37 @@ reach service address = is_reached (service_row service).reach address
 
 -- Reading a line. Apple II Reference Manual (1979), chapter 2, GETLN
 
--- a line being read: the memory, and how many bytes the line has
+-- a line being read: the memory, and the line's length in bytes
 pub record Reading : Type 0 where
   pub memory : Memory
   pub len : ℕ
 
--- the first waiting key is taken
+-- the memory after the first waiting key is taken
 abbrev pub with_key_taken : Memory → Memory
 with_key_taken memory = record memory { devices = key_taken memory.devices }
 
--- the byte that a key stands for: the right arrow takes the byte of the cursor's cell, and small letters become capitals
+-- the byte that a key stands for: the right arrow stands for the byte in the cursor's cell, and small letters become capitals
 abbrev pub byte_of_key : Memory → ℕ → ℕ
 byte_of_key memory key =
     let byte = if key == right_arrow_key then byte_in memory.page1 (cursor_row memory) (screen_column memory) else 0x80 + key in
     if nat_le 0xE0 byte then byte - 0x20 else byte
 
--- the cells from the cursor to the window's right edge become blanks
+-- the memory after the cells from the cursor to the window's right edge are made blank
 unfoldable pub cleared_to_end : Memory → Memory
 cleared_to_end memory =
     let blanks = replicate ((window_of memory).width - cursor_column memory) blank in
     with_page1 (with_row_part memory.page1 (cursor_row memory) (screen_column memory) blanks) memory
 
--- a new line, and a prompt at its start
+-- a new line with the prompt at its start
 abbrev pub after_prompt : Memory → Memory
 after_prompt memory = after_put (prompt_character memory) (after_put carriage_return memory)
 
--- the line given up: a backslash, and a new line
+-- a cancelled line: a backslash and a new line
 abbrev pub after_cancel : Memory → Reading
 after_cancel memory = record { memory = after_prompt (after_put backslash memory); len = 0 }
 
--- the line after a byte that does not end it: echoed, then a backspace, a cancellation or one byte more; a line of 256
--- bytes is given up
+-- the line after a byte that does not end it: the byte is echoed and then treated as a backspace, a cancellation or one more
+-- byte; a line of 256 bytes is cancelled
 abbrev pub after_byte : ℕ → Reading → Reading
 after_byte byte line =
     let echoed = after_put_unmasked byte line.memory in
@@ -149,7 +149,7 @@ after_byte byte line =
     else if line.len == 255 then after_cancel echoed
     else record { memory = echoed; len = line.len + 1 }
 
--- the line that keys make, from what was read so far, up to and without its return
+-- the line that the keys produce, starting from what has been read so far, up to its return, which is not included
 unfoldable pub line_read : List ℕ → Reading → Reading
 line_read [] line = line
 line_read (key ∷ keys) line =
@@ -158,7 +158,7 @@ line_read (key ∷ keys) line =
     if byte == carriage_return then record { memory = after_put carriage_return (cleared_to_end kept.memory); len = kept.len }
     else line_read keys (after_byte byte kept)
 
--- What each service does
+-- The effect of each service
 
 abbrev pub with_memory : Memory → World → World
 with_memory memory world = record world { memory = memory }
@@ -169,40 +169,40 @@ with_a a world = record world { registers = record world.registers { a = a } }
 abbrev pub with_x : ℕ → World → World
 with_x x world = record world { registers = record world.registers { x = x } }
 
--- an output service leaves this memory, and then the base address
+-- an output service leaves this memory, with the base address stored at the end
 abbrev pub output : Memory → World → World
 output memory world = with_memory (with_base_address memory) world
 
--- the character of a hexadecimal digit, bit 7 set
+-- the character of a hexadecimal digit, with bit 7 set
 abbrev pub digit_byte : ℕ → ℕ
 digit_byte digit = if nat_lt digit 10 then 0xB0 + digit else 0xB7 + digit
 
--- how long WAIT takes
+-- the cycles of WAIT
 abbrev pub wait_cycles : ℕ → ℕ
 wait_cycles a = if a == 0 then 167293 else (14 + 27 * a + 5 * a * a) / 2
 
--- how long a service takes, by the registers before it
+-- the cycles of a service, given the registers before it
 abbrev pub cycles_of : Takes → Registers → ℕ
 cycles_of span.OutputHook registers = 5
 cycles_of span.InputHook registers = 5
 cycles_of span.Six registers = 6
 cycles_of span.Wait registers = wait_cycles registers.a
 
--- PC is pulled as RTS does
+-- PC is pulled from the stack, as RTS does
 abbrev pub back : World → World
 back world = returned memory_access world
 
--- PC goes through a hook: to the word that stands there, low byte first
+-- PC is set through a hook: to the 16-bit word stored there, low byte first
 abbrev pub through : ℕ → World → World
 through hook world = with_pc (ram_byte world.memory hook + 256 * ram_byte world.memory (hook + 1)) world
 
--- the window's rows below the cursor's become blank
+-- the memory after the window's rows below the cursor's are made blank
 abbrev pub cleared_below : Memory → Memory
 cleared_below memory =
     let below = record (window_of memory) { top = cursor_row memory + 1 } in
     with_page1 (cleared below memory.page1) memory
 
--- what a call of a service that fits and lacks no keys leaves, but for the cycles
+-- the effect of a call of a service that fits and lacks no keys, apart from the cycles
 unfoldable pub effect : Service → World → World
 effect Cout world = through at.csw world
 effect Cout1 world = back (output (after_put world.registers.a world.memory) world)

@@ -10,6 +10,6 @@ use Rattle.a2_effect.specs.Registers.{Registers}
 abbrev pub World : Type 0
 World = State Memory
 
--- the world that registers and a board stand for, so many cycles after the start
+-- the world that registers and a board represent, this many cycles after the start
 abbrev pub world_of : Registers → BusState → ℕ → World
 world_of registers bus cycles = record { registers = registers; memory = memory_of bus; cycles = cycles }

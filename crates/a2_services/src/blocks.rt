@@ -1,4 +1,4 @@
-//! The services that draw and look at lo-res blocks.
+//! Services that draw lo-res blocks and read their colours.
 #![tactic(auto, unfolding(crate::specs::Services::effect))]
 
 ghost use Rattle.std.specs.Prelude.{◌≡◌, ◌<◌, true};
@@ -76,7 +76,7 @@ pub(crate) fn clrscr<A: Allocator>(live: &mut Live, space: &mut AddressSpace<A>)
     return_from(live, space);
 }
 
-// The half of its cell that a row's blocks are.
+// The half of a screen cell that holds the blocks of a row.
 fn half_of(row: u8) -> Half
     ensures { result ≡ half_by row }
 {
@@ -87,7 +87,7 @@ fn half_of(row: u8) -> Half
     }
 }
 
-// A block takes its colour.
+// Colours one block.
 #[tactic(auto, using(a2_bus::proofs::Viewing::cell_seen, a2_bus::proofs::Viewing::cell_written, crate::proofs::Painting::paint_made), unfolding(crate::specs::Blocks::painted))]
 fn paint<A: Allocator>(space: &mut AddressSpace<A>, row: u8, column: u8)
     requires row { row < 48 }

@@ -1,4 +1,4 @@
-//! The services.
+//! Calling a service: what it needs, its effect and its cycles.
 
 ghost use Rattle.std.specs.Prelude.{◌≡◌, ◌<◌, ◌≤◌, ◌+◌, true, false, length};
 ghost use Rattle.a2_page.specs.Window.{IsWindow};
@@ -27,34 +27,36 @@ use a2_bus::locations::{CH, CV, PROMPT};
 use a2_effect::Live;
 use std::alloc::Allocator;
 
-// How long a hook takes.
+// Cycles of a hook.
 const HOOK_CYCLES: u32 = 5;
 
-// How long all other services take but WAIT.
+// Cycles of every other service except WAIT.
 const CYCLES: u32 = 6;
 
-/// One call of a service, as [`Service`] says of each: the registers and the address space become what it leaves, and PC is
-/// pulled as RTS does, or for a hook is where it leads. The answer is `Served::Next` with the cycles that it took. Apple II
-/// Reference Manual (1979), chapters 2 and 3; the exact effects are this project's profile.
+/// Calls a service, with the effect described at its variant of [`Service`].
 ///
-/// Where the service lacks something the answer is what [`refusal`] tells, and nothing changes. No byte of RAM changes outside
-/// the service's [`reach`](crate::reach).
+/// The registers and the address space change as the service changes them. Then PC is pulled from the stack as RTS does; a hook
+/// instead sets PC to the address it holds. Returns `Served::Next` with the number of cycles. Apple II Reference Manual (1979),
+/// chapters 2 and 3; the exact effects are this project's profile.
+///
+/// If something that the service needs is missing, returns what [`refusal`] returns, and nothing changes. No byte of RAM
+/// outside the service's [`reach`](crate::reach) changes.
 #[inline(always)]
 pub fn call<A: Allocator>(service: Service, live: &mut Live, space: &mut AddressSpace<A>) -> Served
     ensures called { IsCalled service (live_registers live.old) space.old (live_registers live.new) space.new result }
 
-    // The count of cycles is the caller's.
+    // The caller counts the cycles.
     ensures cycles { live.new.cycles ≡ live.old.cycles }
 
-    // No byte changes but where `reach` says.
+    // Only bytes in the service's `reach` can change.
     ensures unreached { IsUnreached service space.old space.new }
 
-    // RAM stays as long as it is, and no key is added.
+    // The size of RAM is unchanged, and no key is added.
     ensures size { length space.new.bytes ≡ length space.old.bytes }
     ensures keys { length space.new.devices.keys ≤ length space.old.devices.keys }
 {
-    // What is called for each character, block and screen is done in place, as its row says of it. (So little stands here that it
-    // is inlined where steps are made, and the registers stay in those of the host.)
+    // The services called for each character, block or screen are handled here, as their rows describe them. This macro is kept
+    // small so that it is inlined into the step loop and the registers stay in host registers.
     macro_rules! in_place {
         ($act:ident $cycles:ident $fits:expr) => {
             if $fits {
@@ -65,7 +67,7 @@ pub fn call<A: Allocator>(service: Service, live: &mut Live, space: &mut Address
             }
         };
     }
-    // For the prover alone: a look at RAM tells how long it is.
+    // Only for the prover: this read shows how long RAM is.
     let _ = space.ram();
     match service {
         Service::Cout => in_place!(cout HOOK_CYCLES true),
@@ -74,7 +76,7 @@ pub fn call<A: Allocator>(service: Service, live: &mut Live, space: &mut Address
         Service::Rdkey => in_place!(rdkey HOOK_CYCLES true),
         Service::Plot => in_place!(plot CYCLES block_fits(live)),
         Service::Home => in_place!(home CYCLES window_fits(space)),
-        // (a copy, for what is lent to a call stands in memory)
+        // Works on a copy: registers lent to a call would be kept in memory.
         _ => {
             let mut next = *live;
             let answer = call_apart(service, &mut next, space);
@@ -84,7 +86,7 @@ pub fn call<A: Allocator>(service: Service, live: &mut Live, space: &mut Address
     }
 }
 
-// One call of a service that is looked up, or why it is not made.
+// Handles a service that needs a lookup: calls it, or returns why it cannot be called.
 #[cold]
 #[inline(never)]
 fn call_apart<A: Allocator>(
@@ -104,7 +106,7 @@ fn call_apart<A: Allocator>(
     }
 }
 
-// A call that has what it needs: the cycles that it takes.
+// Executes a call whose needs are met, and returns its cycles.
 #[inline(always)]
 #[tactic(auto, unfolding(crate::specs::Services::served))]
 fn serve<A: Allocator>(service: Service, live: &mut Live, space: &mut AddressSpace<A>) -> u32
@@ -119,7 +121,7 @@ fn serve<A: Allocator>(service: Service, live: &mut Live, space: &mut AddressSpa
     cycles
 }
 
-// How long a service takes.
+// The number of cycles a service takes.
 #[inline(always)]
 fn cycles_of(takes: Takes, live: &Live) -> u32
     ensures { result ≡ cycles_by takes (live_registers live.now) }
@@ -131,7 +133,7 @@ fn cycles_of(takes: Takes, live: &Live) -> u32
     }
 }
 
-// How long WAIT takes.
+// The number of cycles WAIT takes.
 fn wait_cycles(a: u8) -> u32
     ensures { result ≡ wait_cycles_of a }
 {
@@ -143,7 +145,7 @@ fn wait_cycles(a: u8) -> u32
     }
 }
 
-// What a call that has what it needs leaves.
+// Applies the effect of a call whose needs are met.
 #[inline(always)]
 fn act<A: Allocator>(service: Service, live: &mut Live, space: &mut AddressSpace<A>)
     requires fitting { fits_of service (live_registers live.old) (memory_of space.old) ≡ true }
@@ -172,7 +174,7 @@ fn cout1<A: Allocator>(live: &mut Live, space: &mut AddressSpace<A>)
     end_output(live, space);
 }
 
-// (Where it is not inlined the registers are lent to it, and so stand in memory in every burst.)
+// Inlined because otherwise the registers are lent to it, and are then kept in memory in every burst of steps.
 #[inline(always)]
 #[tactic(auto, unfolding(crate::specs::Services::effect))]
 fn home<A: Allocator>(live: &mut Live, space: &mut AddressSpace<A>)

@@ -1,4 +1,4 @@
-//! The services that edit the screen without putting a byte.
+//! Services that edit the screen without putting a byte on it.
 #![tactic(auto, unfolding(crate::specs::Services::effect))]
 
 ghost use Rattle.std.specs.Prelude.{◌≡◌};
@@ -19,7 +19,7 @@ use std::alloc::Allocator;
 /// The mask that makes characters inverse.
 const INVERSE: u8 = 0x3F;
 
-/// The mask that leaves characters as they are.
+/// The mask that leaves characters unchanged.
 const NORMAL: u8 = 0xFF;
 
 pub(crate) fn setinv<A: Allocator>(live: &mut Live, space: &mut AddressSpace<A>)
@@ -60,7 +60,7 @@ pub(crate) fn clreop<A: Allocator>(live: &mut Live, space: &mut AddressSpace<A>)
     end_output(live, space);
 }
 
-// The window's rows below the cursor's become blank.
+// Makes the window's rows below the cursor blank.
 fn clear_below<A: Allocator>(space: &mut AddressSpace<A>)
     requires { CursorFits (memory_of space.old) }
     ensures memory { memory_of space.new ≡ cleared_below (memory_of space.old) }

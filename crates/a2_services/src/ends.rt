@@ -1,4 +1,4 @@
-//! How services end.
+//! How a service ends.
 
 ghost use Rattle.std.specs.Prelude.{◌≡◌, ℕ, length};
 ghost use Rattle.a2_bus.specs.Memory.{memory_access, ram_end};
@@ -16,7 +16,7 @@ use a2_effect::Live;
 use a2_effect::families::return_from_call;
 use std::alloc::Allocator;
 
-/// The end of an output service.
+/// Ends an output service.
 #[inline(always)]
 pub(crate) fn end_output<A: Allocator>(live: &mut Live, space: &mut AddressSpace<A>)
     requires { LineFits (memory_of space.old) }
@@ -30,7 +30,7 @@ pub(crate) fn end_output<A: Allocator>(live: &mut Live, space: &mut AddressSpace
     return_from(live, space);
 }
 
-/// PC is pulled as RTS does.
+/// Pulls PC from the stack, as RTS does.
 #[inline(always)]
 pub(crate) fn return_from<A: Allocator>(live: &mut Live, space: &mut AddressSpace<A>)
     ensures returned { (cycles : ℕ) → world_of (live_registers live.new) space.new cycles
@@ -38,7 +38,7 @@ pub(crate) fn return_from<A: Allocator>(live: &mut Live, space: &mut AddressSpac
     ensures cycles { live.new.cycles ≡ live.old.cycles }
     ensures size { length space.new.bytes ≡ ram_end }
 {
-    // Shows the prover how long RAM is before the pulls.
+    // Only for the prover: shows how long RAM is before the pulls.
     let _ = space.ram();
     return_from_call(live, space);
 }

@@ -1,4 +1,4 @@
-//! The hooks: steps that go on where two bytes of page 0 say.
+//! Hooks: services that jump to an address stored on page 0.
 #![tactic(auto, unfolding(crate::specs::Services::effect))]
 
 ghost use Rattle.std.specs.Prelude.{◌≡◌, ◌+◌, ◌<◌, ℕ, length};
@@ -38,7 +38,7 @@ pub(crate) fn rdkey<A: Allocator>(live: &mut Live, space: &AddressSpace<A>)
     go_through(KSW, live, space);
 }
 
-// PC becomes the word at a hook.
+// Sets PC to the 16-bit word stored at a hook.
 #[inline(always)]
 fn go_through<A: Allocator>(hook: u16, live: &mut Live, space: &AddressSpace<A>)
     requires { hook + 1 < ram_end }

@@ -1,17 +1,17 @@
-//! The Monitor's services: each call of one as a single step on the registers and the board.
+//! The services of the modelled Apple II's Monitor: each call is a single step on the registers and the board.
 //!
-//! [`call`] calls a service. Who makes many steps in a row and keeps the registers apart meanwhile has [`live::call`]. Who
-//! follows a service without calling it has its row, [`row_of`], and what it looks at and puts: [`load`], [`window`], [`masked`] and
-//! [`bytes`].
+//! [`call`] calls a service. Code that executes many steps in a row and keeps the registers separate from the board calls
+//! [`live::call`]. Code that only needs to know what a service does can read its row, [`row_of`], and use [`load`], [`window`],
+//! [`masked`] and [`bytes`] to compute what it reads and puts.
 //!
-//! The names, addresses and purposes are those of the Apple II Reference Manual (1979), chapter 3, "The System
-//! Monitor", chapter 2, "Conversation with Apples", on standard output, the text window, standard input and GETLN, and
-//! chapter 1 on low-resolution graphics. The exact effects and the cycles are this project's profile: a service takes its
-//! row from CV and always works on page 1, keeps A, X, Y and P except where it answers in one of them, writes no byte of
-//! the stack, and at its end pulls PC as RTS does. COUT, CROUT and RDKEY are hooks: they pull nothing and only go on where
-//! two bytes of page 0 say.
+//! The names, addresses and purposes come from the Apple II Reference Manual (1979): chapter 3, "The System Monitor"; chapter
+//! 2, "Conversation with Apples", on standard output, the text window, standard input and GETLN; and chapter 1, on
+//! low-resolution graphics. The exact effects and the cycles are this project's profile. A service takes its row from CV and
+//! always works on page 1. It leaves A, X, Y and P unchanged, except a register that holds its result. It writes no byte of the
+//! stack, and at its end it pulls PC as RTS does. COUT, CROUT and RDKEY are hooks: they pull nothing and jump to the address
+//! stored in two bytes of page 0.
 //!
-//! How it is called is shown in CALLING.md.
+//! CALLING.md shows how to call it.
 #![tactic(auto)]
 
 mod blocks;
@@ -36,13 +36,14 @@ pub use rows::{Needs, OnScreen, Reach, RegisterSet, Row, Service, Takes, row_of,
 pub use screen::{Edges, load, window};
 pub use stores::reach;
 
-/// What a call answered.
+/// The result of a call.
 #[derive(Clone, Copy, Debug, PartialEq, Eq)]
 pub enum Served {
-    /// The call was made, and took this many cycles: 5 for a hook, else 6, or those of WAIT, from 23 to 167,293.
+    /// The call was executed and took this many cycles: 5 for a hook, 23 to 167,293 for WAIT, and 6 for any other service.
     Next(u32),
-    /// The window, the cursor or a place of blocks does not lie where the service needs it, and nothing changed.
+    /// The position of the window, the cursor or the blocks does not fit the service, and nothing changed.
     Window,
-    /// They lie there, but the keys that the service needs are not waiting, and nothing changed. [`live::refusal`] tells both.
+    /// The positions fit, but the keys that the service needs are not waiting, and nothing changed. [`live::refusal`] returns
+    /// this answer and `Window`.
     Keys,
 }

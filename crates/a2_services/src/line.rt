@@ -15,7 +15,7 @@ use a2_bus::locations::{CH, CV, PROMPT};
 use a2_page::BLANK;
 use std::alloc::Allocator;
 
-/// The first waiting key.
+/// Returns the first waiting key, or `None` if no key is waiting.
 #[tactic(auto, using(a2_bus::proofs::Viewing::devices_seen))]
 pub(crate) fn first_key<A: Allocator>(space: &AddressSpace<A>) -> Option<u8>
     ensures key { result ≡ first_of (memory_of space.now).devices.keys }
@@ -24,7 +24,7 @@ pub(crate) fn first_key<A: Allocator>(space: &AddressSpace<A>) -> Option<u8>
     space.waiting().first().copied()
 }
 
-/// The first waiting key is taken.
+/// Removes the first waiting key.
 #[tactic(auto, using(a2_bus::proofs::Viewing::take_seen))]
 pub(crate) fn take_key<A: Allocator>(space: &mut AddressSpace<A>)
     ensures { memory_of space.new ≡ with_key_taken (memory_of space.old) }
@@ -48,7 +48,7 @@ fn byte_of_key<A: Allocator>(space: &AddressSpace<A>, key: u8) -> u8
     if byte >= 0xE0 { byte - 0x20 } else { byte }
 }
 
-// The first waiting key is taken, and a byte stored in the line.
+// Removes the first waiting key and stores a byte in the line.
 fn keep<A: Allocator>(space: &mut AddressSpace<A>, length: u8, byte: u8)
     requires { CursorFits (memory_of space.old) }
     ensures memory { memory_of space.new ≡ kept (memory_of space.old) length byte }
@@ -58,7 +58,7 @@ fn keep<A: Allocator>(space: &mut AddressSpace<A>, length: u8, byte: u8)
     store(space, LINE_BUFFER + u16::from(length), byte);
 }
 
-/// The cells from the cursor to the window's right edge become blanks.
+/// Makes the cells from the cursor to the window's right edge blank.
 #[tactic(auto, unfolding(crate::specs::Services::cleared_to_end))]
 pub(crate) fn clear_to_end<A: Allocator>(space: &mut AddressSpace<A>)
     requires { CursorFits (memory_of space.old) }
@@ -72,7 +72,7 @@ pub(crate) fn clear_to_end<A: Allocator>(space: &mut AddressSpace<A>)
     fill_part(space, row, edges.left + column, width, BLANK);
 }
 
-// A new line with a prompt.
+// Starts a new line with the prompt.
 fn prompt<A: Allocator>(space: &mut AddressSpace<A>)
     requires { CursorFits (memory_of space.old) }
     ensures memory { memory_of space.new ≡ after_prompt (memory_of space.old) }
@@ -83,7 +83,7 @@ fn prompt<A: Allocator>(space: &mut AddressSpace<A>)
     put(space, mark);
 }
 
-// The line after a byte that does not end it: its new length.
+// Handles a byte that does not end the line, and returns the line's new length.
 fn after_byte<A: Allocator>(space: &mut AddressSpace<A>, byte: u8, length: u8) -> u8
     requires { CursorFits (memory_of space.old) }
     ensures line { reading (memory_of space.new) result ≡ after_byte_of byte (reading (memory_of space.old) length) }
@@ -105,7 +105,7 @@ fn after_byte<A: Allocator>(space: &mut AddressSpace<A>, byte: u8, length: u8) -
     }
 }
 
-/// The line that the waiting keys make: its length.
+/// Reads a line from the waiting keys and returns its length.
 #[tactic(auto, using(crate::proofs::Lines::line_none, crate::proofs::Lines::line_end))]
 pub(crate) fn read_line<A: Allocator>(space: &mut AddressSpace<A>) -> u8
     requires { CursorFits (memory_of space.old) }

@@ -1,5 +1,5 @@
-//! Services over registers that stand apart and an address space: for who makes many steps in a row, and packs the flags
-//! into a byte behind the last of them alone.
+//! Services for callers that keep the registers separate from the address space: they execute many steps in a row and pack the
+//! flags into a byte only after the last one.
 
 pub use crate::calls::call;
 pub use crate::needs::refusal;

@@ -1,4 +1,4 @@
-//! What a service needs of window, cursor and keys.
+//! What a service needs: positions of window, cursor and blocks, and waiting keys.
 
 ghost use Rattle.std.specs.Prelude.{◌≡◌, length, not};
 ghost use Rattle.a2_bus.specs.View.{memory_of};
@@ -18,15 +18,16 @@ use a2_bus::{AddressSpace, Bus};
 use a2_effect::Live;
 use std::alloc::Allocator;
 
-/// Why a call of a service would not be made: what it would answer in place of the cycles. `None` where it would be made.
+/// Returns why a call of a service cannot be executed, or `None` if it can.
 ///
-/// First `Served::Window`, where window, cursor or registers are not as the service needs them. The window fits where it
-/// has a column and a row and lies on the screen: $21 >= 1, $20 + $21 <= 40 and $22 < $23 <= 24; the cursor where it is on
-/// the screen, inside the window or not: $25 < 24 and $20 + $24 < 40. HOME needs the window; COUT1, PRBYTE, PRHEX, GETLN,
-/// VTAB, CLREOL and CLREOP both. PLOT, SCRN, HLINE and VLINE need A < 48 and Y < 40, HLINE also $2C < 40, VLINE $2D < 48.
+/// Returns `Served::Window` if window, cursor or registers do not fit the service. The window fits if it has at least one
+/// column and one row and lies on the screen: $21 >= 1, $20 + $21 <= 40 and $22 < $23 <= 24. The cursor fits if it is on the
+/// screen, inside the window or not: $25 < 24 and $20 + $24 < 40. HOME needs the window; COUT1, PRBYTE, PRHEX, GETLN, VTAB,
+/// CLREOL and CLREOP need both. PLOT, SCRN, HLINE and VLINE need A < 48 and Y < 40; HLINE also needs $2C < 40, and VLINE $2D <
+/// 48.
 ///
-/// Then `Served::Keys`, where keys that it needs are not waiting: for KEYIN a key, for GETLN a return ($0D), which need not
-/// be the first key. The other services need nothing. This project's profile.
+/// Otherwise, returns `Served::Keys` if keys that the service needs are not waiting. KEYIN needs a key; GETLN needs a return
+/// ($0D), which need not be the first key. The other services need nothing. This project's profile.
 #[inline(always)]
 pub fn refusal<A: Allocator>(
     service: Service,
@@ -46,13 +47,13 @@ pub fn refusal<A: Allocator>(
     }
 }
 
-// Window, cursor and registers are as they are needed.
+// Whether window, cursor and registers are as the service needs them.
 #[inline(always)]
 fn fits<A: Allocator>(needs: Needs, live: &Live, space: &AddressSpace<A>) -> bool
     ensures answer { result ≡ lies_right needs (live_registers live.now) (memory_of space.now) }
     ensures size { length space.now.bytes ≡ ram_end }
 {
-    // For the prover alone: a read tells how long RAM is.
+    // Only for the prover: this read shows how long RAM is.
     let _ = space.peek(H2);
     match needs {
         Needs::Nothing | Needs::Key => true,
@@ -64,7 +65,7 @@ fn fits<A: Allocator>(needs: Needs, live: &Live, space: &AddressSpace<A>) -> boo
     }
 }
 
-// A is a row of blocks and Y a column.
+// Whether A is a row of blocks and Y a column.
 #[inline(always)]
 pub(crate) fn block_fits(live: &Live) -> bool
     ensures { result ≡ block_fits_of (live_registers live.now) }
@@ -72,7 +73,7 @@ pub(crate) fn block_fits(live: &Live) -> bool
     live.a < BLOCK_ROWS && live.y < COLUMNS
 }
 
-// The window lies on the screen.
+// Whether the window lies on the screen.
 #[inline(always)]
 pub(crate) fn window_fits<A: Allocator>(space: &AddressSpace<A>) -> bool
     ensures answer { result ≡ window_fits_of (memory_of space.now) }
@@ -85,7 +86,7 @@ pub(crate) fn window_fits<A: Allocator>(space: &AddressSpace<A>) -> bool
         && edges.bottom <= 24
 }
 
-// The cursor lies on the screen.
+// Whether the cursor is on the screen.
 #[inline(always)]
 pub(crate) fn cursor_fits<A: Allocator>(space: &AddressSpace<A>) -> bool
     ensures { result ≡ cursor_fits_of (memory_of space.now) }
@@ -94,7 +95,7 @@ pub(crate) fn cursor_fits<A: Allocator>(space: &AddressSpace<A>) -> bool
     load(space, CV) < 24 && u16::from(left) + u16::from(load(space, CH)) < 40
 }
 
-// The keys that are needed are not waiting.
+// Whether keys that the service needs are missing.
 #[inline(always)]
 #[tactic(auto, using(crate::proofs::Lines::lacks_unless, a2_bus::proofs::Viewing::devices_seen))]
 fn lacks_keys<A: Allocator>(needs: Needs, space: &AddressSpace<A>) -> bool
@@ -107,7 +108,7 @@ fn lacks_keys<A: Allocator>(needs: Needs, space: &AddressSpace<A>) -> bool
     }
 }
 
-// RETURN is among the keys.
+// Whether RETURN is among the keys.
 fn has_return(keys: &[u8]) -> bool
     ensures { result ≡ has_return_of keys.now }
 {

@@ -1,4 +1,4 @@
-//! A call of a service over registers and board.
+//! Calling a service with the packed registers and a board.
 
 ghost use Rattle.std.specs.Prelude.{◌≡◌, length};
 ghost use Rattle.a2_effect.specs.View.{spare_bits_of, registers_of};
@@ -10,9 +10,9 @@ use a2_cpu::Regs;
 use a2_effect::Live;
 use std::alloc::Allocator;
 
-/// One call of a service, as [`live::call`] makes it: registers and board become what it leaves. A call that is made leaves bits 5
-/// and 4 of the flags clear, which are none. What is kept of the screen is not looked at: a row that the call changed counts as marked,
-/// as [`Board::marked`] says.
+/// Calls a service as [`live::call`] does, and updates registers and board. An executed call clears bits 5 and 4 of the flags
+/// byte, which are not flags. The board's cached screen is not read: a row that the call changed counts as marked, as described
+/// at [`Board::marked`].
 pub fn call<A: Allocator>(service: Service, regs: &mut Regs, board: &mut Board<A>) -> Served
     ensures called { IsCalled service (registers_of regs.old) board.old.bus (registers_of regs.new) board.new.bus result }
     ensures refused { OnUnserved result ((regs.new ≡ regs.old) × (board.new ≡ board.old)) }

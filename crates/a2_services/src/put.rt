@@ -1,4 +1,4 @@
-//! Putting a byte: a character, a return, a line feed or a backspace.
+//! Putting a byte on the screen: a character, a return, a line feed or a backspace.
 
 ghost use Rattle.std.specs.Prelude.{◌≡◌, ◌<◌, ◌+◌};
 ghost use Rattle.a2_bus.specs.View.{memory_of};
@@ -12,7 +12,7 @@ use a2_bus::locations::{BASH, BASL, CH, CV, INVFLG};
 use a2_page::{BLANK, Page, address};
 use std::alloc::Allocator;
 
-// The cursor goes down, or at the window's bottom the window scrolls.
+// Moves the cursor down, or scrolls the window if the cursor is at its bottom.
 #[tactic(auto, unfolding(crate::specs::Put::after_line_feed))]
 fn feed<A: Allocator>(space: &mut AddressSpace<A>)
     requires { LineFits (memory_of space.old) }
@@ -27,7 +27,7 @@ fn feed<A: Allocator>(space: &mut AddressSpace<A>)
     }
 }
 
-// The cursor goes to the window's left edge, and down.
+// Moves the cursor to the window's left edge and down.
 #[tactic(auto, unfolding(crate::specs::Put::after_return))]
 fn return_line<A: Allocator>(space: &mut AddressSpace<A>)
     requires { LineFits (memory_of space.old) }
@@ -37,7 +37,7 @@ fn return_line<A: Allocator>(space: &mut AddressSpace<A>)
     feed(space);
 }
 
-// The cursor goes back.
+// Moves the cursor back.
 #[tactic(auto, unfolding(crate::specs::Put::after_backspace))]
 fn back<A: Allocator>(space: &mut AddressSpace<A>)
     requires { CursorFits (memory_of space.old) }
@@ -56,7 +56,7 @@ fn back<A: Allocator>(space: &mut AddressSpace<A>)
     }
 }
 
-// The byte stands in the cursor's cell, and the cursor goes on.
+// Writes the byte to the cursor's cell and moves the cursor forward.
 #[tactic(auto, unfolding(crate::specs::Put::after_character))]
 fn show<A: Allocator>(space: &mut AddressSpace<A>, byte: u8)
     requires { CursorFits (memory_of space.old) }
@@ -72,7 +72,7 @@ fn show<A: Allocator>(space: &mut AddressSpace<A>, byte: u8)
     }
 }
 
-/// A byte is put as it is.
+/// Puts a byte without applying the mask.
 #[tactic(auto, unfolding(crate::specs::Put::after_put_unmasked))]
 pub(crate) fn put_unmasked<A: Allocator>(space: &mut AddressSpace<A>, byte: u8)
     requires { CursorFits (memory_of space.old) }
@@ -88,8 +88,9 @@ pub(crate) fn put_unmasked<A: Allocator>(space: &mut AddressSpace<A>, byte: u8)
     }
 }
 
-/// A byte as COUT1 puts it: under the mask, bit by bit, if it is a blank ($A0) or more; else as it is. Both are from 0 to 255, and the
-/// mask is the byte at $32. Apple II Reference Manual (1979), chapter 2, on standard output; the exact effects are this project's profile.
+/// Returns a byte as COUT1 puts it: ANDed with the mask if the byte is a blank ($A0) or above, otherwise unchanged. Both are
+/// from 0 to 255, and the mask is the byte at $32. Apple II Reference Manual (1979), chapter 2, on standard output; the exact
+/// effects are this project's profile.
 #[tactic(auto, using(a2_effect::proofs::Digits::and_is))]
 pub fn masked(byte: u8, mask: u8) -> u8
     ensures { result ≡ masked_by byte mask }
@@ -97,7 +98,7 @@ pub fn masked(byte: u8, mask: u8) -> u8
     if byte >= BLANK { byte & mask } else { byte }
 }
 
-/// A byte from a blank on is put under the mask.
+/// Puts a byte, after applying the mask if the byte is a blank or above.
 #[tactic(auto, unfolding(crate::specs::Put::after_put))]
 pub(crate) fn put<A: Allocator>(space: &mut AddressSpace<A>, byte: u8)
     requires { CursorFits (memory_of space.old) }
@@ -108,7 +109,7 @@ pub(crate) fn put<A: Allocator>(space: &mut AddressSpace<A>, byte: u8)
     put_unmasked(space, masked(byte, mask));
 }
 
-/// BASL and BASH hold the address of the window's left edge in the cursor's row.
+/// Stores the address of the window's left edge in the cursor's row at BASL and BASH.
 #[tactic(auto, unfolding(crate::specs::Put::with_base_address))]
 pub(crate) fn set_base<A: Allocator>(space: &mut AddressSpace<A>)
     requires { LineFits (memory_of space.old) }

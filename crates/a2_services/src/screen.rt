@@ -1,4 +1,4 @@
-//! RAM, the cells of page 1, and the window.
+//! Access to RAM, to the cells of page 1 and to the text window.
 
 ghost use Rattle.std.specs.Prelude.{◌≡◌, ◌<◌, ◌≤◌, ◌+◌, ◌/◌, slice_range, slice_index_or, length, replicate, []};
 ghost use Rattle.a2_page.specs.Grid.{byte_in, with_byte, with_row_part, scrolled, cleared};
@@ -13,8 +13,8 @@ use a2_bus::{AddressSpace, Bus};
 use a2_page::{BLANK, Page, address};
 use std::alloc::Allocator;
 
-/// The window's edges: its first column, how many columns it has, its first row, and the row below its last. Each is from 0 to 255: the
-/// window need not lie on the screen.
+/// The edges of the window: its first column, its width in columns, its first row, and the row below its last. Each is from 0
+/// to 255: the window may lie outside the screen.
 #[derive(Clone, Copy)]
 pub struct Edges {
     pub left: u8,
@@ -23,8 +23,8 @@ pub struct Edges {
     pub bottom: u8,
 }
 
-/// The byte at an address of RAM, from 0 to $BFFF, as the services look at it: nothing changes, and no device sees an access. Apple II
-/// Reference Manual (1979), chapter 4, the memory map.
+/// Returns the byte at an address of RAM, from 0 to $BFFF, as the services read it: nothing changes, and no device sees an
+/// access. Apple II Reference Manual (1979), chapter 4, the memory map.
 #[inline(always)]
 #[tactic(auto, using(crate::proofs::Access::looked_at))]
 pub fn load<A: Allocator>(space: &AddressSpace<A>, address: u16) -> u8
@@ -35,7 +35,7 @@ pub fn load<A: Allocator>(space: &AddressSpace<A>, address: u16) -> u8
     space.peek(address).unwrap_or(0)
 }
 
-/// The byte at an address of RAM becomes another.
+/// Stores a byte at an address of RAM.
 #[inline(always)]
 #[tactic(auto, using(crate::proofs::Access::written_to))]
 pub(crate) fn store<A: Allocator>(space: &mut AddressSpace<A>, address: u16, byte: u8)
@@ -45,7 +45,7 @@ pub(crate) fn store<A: Allocator>(space: &mut AddressSpace<A>, address: u16, byt
     space.write(address, byte);
 }
 
-/// The byte of a cell of page 1.
+/// Returns the byte in a cell of page 1.
 #[tactic(auto, using(a2_bus::proofs::Viewing::cell_seen))]
 pub(crate) fn cell<A: Allocator>(space: &AddressSpace<A>, row: u8, column: u8) -> u8
     requires row { row < 24 }
@@ -55,7 +55,7 @@ pub(crate) fn cell<A: Allocator>(space: &AddressSpace<A>, row: u8, column: u8) -
     load(space, address(Page::One, row, column))
 }
 
-/// The byte of a cell of page 1 becomes another.
+/// Stores a byte in a cell of page 1.
 #[tactic(auto, using(a2_bus::proofs::Viewing::cell_written))]
 pub(crate) fn set_cell<A: Allocator>(space: &mut AddressSpace<A>, row: u8, column: u8, byte: u8)
     requires row { row < 24 }
@@ -66,8 +66,8 @@ pub(crate) fn set_cell<A: Allocator>(space: &mut AddressSpace<A>, row: u8, colum
     store(space, address(Page::One, row, column), byte);
 }
 
-/// The window's edges, as its four locations, $20 to $23, say them. Nothing changes. Apple II Reference Manual (1979), chapter 2, on the
-/// text window.
+/// Returns the window's edges, as stored in its four locations, $20 to $23. Nothing changes. Apple II Reference Manual (1979),
+/// chapter 2, on the text window.
 #[inline(always)]
 pub fn window<A: Allocator>(space: &AddressSpace<A>) -> Edges
     ensures edges { window_at result ≡ window_of (memory_of space.now) }
@@ -81,7 +81,7 @@ pub fn window<A: Allocator>(space: &AddressSpace<A>) -> Edges
     }
 }
 
-/// The cells of a part of a row take one byte.
+/// Fills part of a row with one byte.
 pub(crate) fn fill_part<A: Allocator>(
     space: &mut AddressSpace<A>,
     row: u8,
@@ -98,7 +98,7 @@ pub(crate) fn fill_part<A: Allocator>(
     space.fill_bytes(address(Page::One, row, left), u16::from(width), byte);
 }
 
-/// A part of a row takes the bytes of the row below.
+/// Copies part of a row from the row below it.
 #[tactic(auto, using(crate::proofs::Screens::row_laid, crate::proofs::Screens::row_taken, crate::proofs::Screens::below_long, a2_bus::proofs::Viewing::page1_is_grid))]
 pub(crate) fn copy_up<A: Allocator>(space: &mut AddressSpace<A>, row: u8, left: u8, width: u8)
     requires row { row + 1 < 24 }
@@ -112,7 +112,7 @@ pub(crate) fn copy_up<A: Allocator>(space: &mut AddressSpace<A>, row: u8, left: 
     space.move_bytes(below, address(Page::One, row, left), u16::from(width));
 }
 
-/// The window scrolls.
+/// Scrolls the window.
 pub(crate) fn scroll<A: Allocator>(space: &mut AddressSpace<A>, edges: Edges)
     requires { IsWindow (window_at edges) }
     ensures { let memory = memory_of space.old in
@@ -124,7 +124,7 @@ pub(crate) fn scroll<A: Allocator>(space: &mut AddressSpace<A>, edges: Edges)
     fill_part(space, edges.bottom - 1, edges.left, edges.width, BLANK);
 }
 
-/// The window becomes blank.
+/// Clears the window.
 pub(crate) fn clear<A: Allocator>(space: &mut AddressSpace<A>, edges: Edges)
     requires { IsWindow (window_at edges) }
     ensures { let memory = memory_of space.old in

@@ -8,10 +8,13 @@ use crate::locations::{LINE_BUFFER, LINE_BUFFER_LAST, PAGE1, PAGE1_LAST};
 use crate::rows::{Reach, row_of};
 use a2_bus::locations::{BASH, BASL, CH, COLOR, CV, INVFLG, V2};
 
-/// Whether a service may store at an address, from 0 to $FFFF, whatever the window: the output services at $24, $25,
-/// $28, $29 and $0400 to $07FF, GETLN at $0200 to $02FF too; SETINV and SETNORM at $32; VTAB at $28 and $29; CLREOL, PLOT,
-/// HLINE and VLINE at $0400 to $07FF, and CLREOP there and at $28 and $29; SETCOL at $30; CLRSCR at $2D, $30 and $0400 to
-/// $07FF; the hooks, KEYIN, WAIT and SCRN nowhere. [`call`](crate::call) stores nowhere else. This project's profile.
+/// Returns whether a service may store at an address from 0 to $FFFF, whatever the window is. [`call`](crate::call) stores
+/// nowhere else.
+///
+/// The output services may store at $24, $25, $28, $29 and $0400 to $07FF, and GETLN also at $0200 to $02FF. SETINV and SETNORM
+/// may store at $32; VTAB at $28 and $29; CLREOL, PLOT, HLINE and VLINE at $0400 to $07FF, and CLREOP there and at $28 and $29.
+/// SETCOL may store at $30; CLRSCR at $2D, $30 and $0400 to $07FF. The hooks, KEYIN, WAIT and SCRN store nowhere. This
+/// project's profile.
 #[tactic(auto, unfolding(crate::specs::Services::reach))]
 pub fn reach(service: Service, address: u16) -> bool
     ensures { result ≡ reach_of service address }
@@ -31,21 +34,21 @@ pub fn reach(service: Service, address: u16) -> bool
     }
 }
 
-// Where the output services may store.
+// Whether the output services may store at the address.
 fn output_reach(address: u16) -> bool
     ensures { result ≡ output_reach_of address }
 {
     matches!(address, CH..=CV) || base_reach(address) || page_reach(address)
 }
 
-// The base address.
+// Whether the address is BASL or BASH.
 fn base_reach(address: u16) -> bool
     ensures { result ≡ base_reach_of address }
 {
     matches!(address, BASL..=BASH)
 }
 
-// Page 1.
+// Whether the address lies on page 1.
 fn page_reach(address: u16) -> bool
     ensures { result ≡ page_reach_of address }
 {

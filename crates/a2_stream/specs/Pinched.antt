@@ -3,23 +3,23 @@ use Rattle.std.specs.Prelude.{◌≡◌, ℕ, ◌-◌, Result, Ok, IsErr}
 use Rattle.a2_stream.specs.declared.pinched.Failing.{Failing}
 use Rattle.a2_stream.specs.declared.pinched.Failing.TheVariants.{Refuses, TakesNothing}
 
--- the most bytes that go through in a call, how many more calls go through, and how those behind them fail
+-- the most bytes that go through in a call, how many more calls go through, and how later calls fail
 pub record Pinch : Type 0 where
   pub per_call : ℕ
   pub calls : ℕ
   pub failing : Failing
 
--- what it stands before, how it pinches, and how many of its calls failed
+-- the inner reader or writer, its limits, and the number of failed calls
 pub record Pinching (T : Type 0) : Type 0 where
   pub inner : T
   pub pinch : Pinch
   pub failures : ℕ
 
--- a call was made: one fewer goes through
+-- the limits after a call: one call fewer goes through
 abbrev pub after_call : Pinch → Pinch
 after_call pinch = record pinch { calls = pinch.calls - 1 }
 
--- the answer of a write behind the calls that go through
+-- the result of a write after the calls that go through
 abbrev pub FailsAs : {E : Type 0} → Failing → Result ℕ E → Type 0
 FailsAs Refuses result = IsErr result
 FailsAs TakesNothing result = result ≡ Ok 0

@@ -1,4 +1,4 @@
-//! A writer that keeps what it takes, so that it can go out together.
+//! A writer that collects bytes so that they can be sent together.
 
 ghost use Rattle.std.specs.Prelude.{◌≡◌, ◌<◌, ◌≤◌, [], Some, length};
 
@@ -6,10 +6,11 @@ use crate::failures::counted;
 use crate::{Output, WriteFault};
 use arrayvec::ArrayVec;
 
-// The most bytes that are kept.
+// The largest number of bytes it holds.
 const CAPACITY: usize = 4096;
 
-/// The bytes that it took, at most 4,096. Where it is full a write takes nothing, which is a failed call.
+/// A writer that holds the bytes it has taken, at most 4,096. When it is full, a write takes nothing, which counts as a
+/// failed call.
 #[derive(Drop)]
 pub struct Gathered {
     bytes: ArrayVec<u8, CAPACITY>,
@@ -19,7 +20,7 @@ pub struct Gathered {
 }
 
 impl Gathered {
-    /// None yet, and no call failed.
+    /// Returns an empty writer with no failed calls.
     pub fn new() -> Gathered
         ensures { ⟦<Gathered as Output>⟧.taker result ≡ record { bytes = Some []; failures = 0 } }
     {
@@ -29,7 +30,7 @@ impl Gathered {
         }
     }
 
-    /// The bytes that it took, in order, at most 4,096.
+    /// Returns the bytes taken so far, in order, at most 4,096.
     pub fn as_slice(&self) -> &[u8]
         ensures { (⟦<Gathered as Output>⟧.taker self.now).bytes ≡ Some result.now }
     {

@@ -1,4 +1,4 @@
-//! A writer that keeps all that it takes.
+//! A writer that keeps everything it takes.
 
 ghost use Rattle.std.specs.Prelude.{◌≡◌, [], Some};
 
@@ -6,7 +6,7 @@ use crate::failures::counted;
 use crate::{Output, WriteFault};
 use std::alloc::Allocator;
 
-/// The bytes that it took. A write fails only for want of memory, and takes nothing then.
+/// A writer that keeps the bytes it has taken. A write fails only if memory runs out, and then takes nothing.
 #[derive(Drop)]
 pub struct Kept<A: Allocator> {
     bytes: Vec<u8, A>,
@@ -14,7 +14,7 @@ pub struct Kept<A: Allocator> {
 }
 
 impl<A: Allocator> Kept<A> {
-    /// None yet, and no call failed; they will lie in memory of `alloc`.
+    /// Returns an empty writer with no failed calls. Its bytes are kept in memory of `alloc`.
     pub fn new(alloc: A) -> Kept<A>
         ensures { ⟦<Kept<A> as Output>⟧.taker result ≡ record { bytes = Some []; failures = 0 } }
     {
@@ -24,7 +24,7 @@ impl<A: Allocator> Kept<A> {
         }
     }
 
-    /// The bytes that it took, in order.
+    /// Returns the bytes taken so far, in order.
     pub fn as_slice(&self) -> &[u8]
         ensures { (⟦<Kept<A> as Output>⟧.taker self.now).bytes ≡ Some result.now }
     {

@@ -5,12 +5,12 @@ use Rattle.a2_services.specs.World.{World}
 use Rattle.a2_symbols.specs.declared.routines.Entry.{Entry}
 use Rattle.a2_symbols.specs.Routines.{is_within, with_call, entered}
 
--- at the start there are none
+-- At the start no routine has been entered.
 pub entered-start : (worlds : ℕ → World) (entries : List Entry) → entries ≡ [] → entries ≡ entered worlds 0
 unfolding entered
 entered-start worlds entries is = is
 
--- a step further
+-- one step further
 pub entered-next : (worlds : ℕ → World) (n : ℕ) (old mid new : List Entry) (here : World) (position : ℕ) (there : World) → old ≡ entered worlds n
     → mid ≡ with_call position here old → position ≡ n → here ≡ worlds n → new ≡ filter (is_within there) mid → there ≡ worlds (n + 1)
     → new ≡ entered worlds (n + 1)

@@ -1,4 +1,4 @@
--- The addresses that words say. This project's profile.
+-- The addresses that arguments give. This project's profile.
 use Rattle.std.specs.Prelude.{ℕ, ◌+◌, ◌==◌, not, nat_le, nat_lt, List, [], ◌∷◌, take, drop, if◌then◌else◌, Option, Some, None}
 use Rattle.std.specs.List.{prefix_len}
 use Rattle.a2_text.specs.Signs.{sign}
@@ -23,11 +23,11 @@ unfoldable pub number_of : List ℕ → Option ℕ
 number_of [] = None
 number_of (c ∷ cs) = if c == sign "$" then number_in 16 4 cs else number_in 10 5 (c ∷ cs)
 
--- what stands before the first of this sign, and from it on
+-- the number of characters before the first occurrence of this one
 abbrev pub front_of : ℕ → List ℕ → ℕ
 front_of sign word = prefix_len (λ c. not (c == sign)) word
 
--- the number of a line: 1 to 5 decimal digits, alone or with a colon behind them
+-- the number of a line: 1 to 5 decimal digits, which a colon may follow
 abbrev pub line_by : List ℕ → List ℕ → Option ℕ
 line_by digits [] = number_in 10 5 digits
 line_by digits (colon ∷ []) = number_in 10 5 digits
@@ -45,7 +45,7 @@ base_of program (c ∷ cs) =
     else if is_name (c ∷ cs) then name_value program.names (c ∷ cs)
     else None
 
--- so many addresses further, where there is one
+-- the address this many bytes further, if there is one
 abbrev pub further : ℕ → Option ℕ → Option ℕ
 further address None = None
 further address (Some count) = if nat_lt (address + count) 65536 then Some (address + count) else None
@@ -55,12 +55,12 @@ moved [] base = base
 moved (plus ∷ count) None = None
 moved (plus ∷ count) (Some address) = further address (number_of count)
 
--- one of these, alone, or with + and a number behind it
+-- one of these, which + and a number may follow
 unfoldable pub place_of : Assembled → List ℕ → Option ℕ
 place_of program word =
     let n = front_of (sign "+") word in moved (drop n word) (base_of program (take n word))
 
--- the addresses from one to another, which is not below it
+-- the addresses from one to another, which is not below the first
 abbrev pub spanned : Option ℕ → Option ℕ → Option Span
 spanned None last = None
 spanned (Some first) None = None
@@ -71,7 +71,7 @@ span_by program first [] = spanned first first
 span_by program first (dot ∷ []) = None
 span_by program first (dot ∷ next ∷ last) = if next == sign "." then spanned first (place_of program last) else None
 
--- one place, or two with .. between
+-- one place, or two with .. between them
 unfoldable pub span_of : Assembled → List ℕ → Option Span
 span_of program word =
     let n = front_of (sign ".") word in span_by program (place_of program (take n word)) (drop n word)

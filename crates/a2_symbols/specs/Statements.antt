@@ -1,4 +1,4 @@
--- Statements by their line, and by their address.
+-- Statements by their line or their address.
 use Rattle.std.specs.Prelude.{ℕ, ◌+◌, Bool, ◌&&◌, ◌==◌, nat_le, nat_lt, List, find, Option, is_some}
 use Rattle.a2_asm.specs.declared.program.Statement.{Statement}
 

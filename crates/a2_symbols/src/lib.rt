@@ -1,6 +1,7 @@
-//! How addresses, calls and lines are named to a person: places by the names and lines of a program, and the routines of a run.
+//! Names the addresses, calls and lines of a program for its user: places by the program's names and lines, and the
+//! routines of a run.
 //!
-//! How it is called is shown in CALLING.md.
+//! CALLING.md shows how to call this crate.
 #![tactic(auto)]
 
 mod places;

@@ -1,4 +1,4 @@
-//! Addresses, one or from one up to another.
+//! Reads addresses and ranges of addresses that the user typed.
 
 ghost use Rattle.std.specs.Prelude.{◌≡◌, ◌∷◌, ◌≤◌, Some, true, length, take, drop};
 ghost use Rattle.a2_syntax.specs.Names.{is_name as is_name_of};
@@ -11,15 +11,15 @@ use a2_syntax::is_name;
 use a2_text::{front_len, number_in};
 use std::alloc::Allocator;
 
-/// The addresses from one up to another, both among them.
+/// A range of addresses, from `first` to `last`, including both.
 #[derive(Clone, Copy, Debug, Default, PartialEq, Eq, Drop)]
 pub struct Span {
     pub first: u16,
-    /// Not below the first, where [`span_of`] gives it.
+    /// The last address; not below `first` if it comes from [`span_of`].
     pub last: u16,
 }
 
-// The value of a name of the program.
+// Returns the value of a name of the program.
 fn value_of<A: Allocator>(program: &Program<A>, name: &[u8]) -> Option<u16>
     requires { is_name_of name.now ≡ true }
     ensures { result ≡ name_value program.now.names name.now }
@@ -30,7 +30,7 @@ fn value_of<A: Allocator>(program: &Program<A>, name: &[u8]) -> Option<u16>
     }
 }
 
-// The address of the instruction on a line.
+// Returns the address of the instruction on a line.
 fn address_on(statements: &[Statement], number: u16) -> Option<u16>
     ensures { result ≡ place.address_on statements.now number }
 {
@@ -40,8 +40,8 @@ fn address_on(statements: &[Statement], number: u16) -> Option<u16>
     }
 }
 
-/// The number that a word says: `$` and 1 to 4 hexadecimal digits, or 1 to 5 decimal ones, up to 65,535. This
-/// project's profile.
+/// Returns the number that an argument holds, or `None` if it holds none. A number is `$` and 1 to 4 hexadecimal
+/// digits, or 1 to 5 decimal digits, up to 65,535. This project's profile.
 #[tactic(auto, unfolding(crate::specs::Places::number_of))]
 pub fn number_of(word: &[u8]) -> Option<u16>
     ensures { result ≡ place.number_of word.now }
@@ -53,7 +53,7 @@ pub fn number_of(word: &[u8]) -> Option<u16>
     }
 }
 
-// What stands before the first of a sign, and from it on.
+// Splits an argument before the first occurrence of a character.
 fn split_at_sign(word: &[u8], sign: u8) -> (&[u8], &[u8])
     ensures front { result.0.now ≡ take (place.front_of sign word.now) word.now }
     ensures behind { result.1.now ≡ drop (place.front_of sign word.now) word.now }
@@ -61,7 +61,7 @@ fn split_at_sign(word: &[u8], sign: u8) -> (&[u8], &[u8])
     word.split_at(front_len(word, |c| c != sign))
 }
 
-// The number of a line: decimal digits, alone or with a colon behind them.
+// Returns a line number: decimal digits, which a colon may follow.
 #[tactic(auto, unfolding(crate::specs::Places::line_of))]
 fn line_of(word: &[u8]) -> Option<u16>
     ensures { result ≡ place.line_of word.now }
@@ -73,7 +73,7 @@ fn line_of(word: &[u8]) -> Option<u16>
     }
 }
 
-// The address that a word says which moves by nothing.
+// Returns the address that an argument without an offset gives.
 #[tactic(auto, unfolding(crate::specs::Places::base_of))]
 fn base_of<A: Allocator>(program: &Program<A>, word: &[u8]) -> Option<u16>
     ensures { result ≡ place.base_of program.now word.now }
@@ -86,7 +86,7 @@ fn base_of<A: Allocator>(program: &Program<A>, word: &[u8]) -> Option<u16>
     }
 }
 
-// The address so many further as a text says behind its first byte; this one, where the text is empty.
+// Returns the base plus the number after the first byte of `behind`, or the base itself if `behind` is empty.
 fn moved(base: Option<u16>, behind: &[u8]) -> Option<u16>
     ensures { result ≡ place.moved behind.now base }
 {
@@ -99,9 +99,14 @@ fn moved(base: Option<u16>, behind: &[u8]) -> Option<u16>
     }
 }
 
-/// The address that a word says: `$` and 1 to 4 hexadecimal digits; the decimal number of a line, from 1, with `:` behind it or not, where
-/// an instruction stands on it; or a name that a line of the program defines. Behind each may stand `+` and a number, which is added; none
-/// where the sum is above 65,535. This project's profile.
+/// Returns the address that an argument gives, or `None` if it gives none.
+///
+/// An address is one of these, which `+` and a number to be added may follow:
+/// - `$` and 1 to 4 hexadecimal digits;
+/// - the decimal number of a line, from 1, with or without a `:` after it, if the line has an instruction;
+/// - a name that a line of the program defines.
+///
+/// If the sum is above 65,535, there is no address. This project's profile.
 #[tactic(auto, unfolding(crate::specs::Places::place_of))]
 pub fn place_of<A: Allocator>(program: &Program<A>, word: &[u8]) -> Option<u16>
     ensures { result ≡ place.place_of program.now word.now }
@@ -110,7 +115,7 @@ pub fn place_of<A: Allocator>(program: &Program<A>, word: &[u8]) -> Option<u16>
     moved(base_of(program, front), behind)
 }
 
-// The addresses from one to another.
+// Returns the range from one address to another.
 fn spanned(first: Option<u16>, last: Option<u16>) -> Option<Span>
     ensures { result ≡ place.spanned first last }
 {
@@ -122,8 +127,8 @@ fn spanned(first: Option<u16>, last: Option<u16>) -> Option<Span>
     }
 }
 
-/// The addresses from one to another that a word says: one place, or two with `..` between, the second not below the first.
-/// This project's profile.
+/// Returns the range of addresses that an argument gives, or `None` if it gives none. It is one place, or two with
+/// `..` between, the second not below the first. This project's profile.
 #[tactic(auto, unfolding(crate::specs::Places::span_of))]
 pub fn span_of<A: Allocator>(program: &Program<A>, word: &[u8]) -> Option<Span>
     ensures { result ≡ place.span_of program.now word.now }

@@ -1,4 +1,4 @@
-//! The routines that a run entered and did not leave.
+//! Keeps the list of routines that a run has entered and not yet left.
 
 ghost use Rattle.std.specs.Prelude.{◌≡◌, filter, IfOk};
 ghost use Rattle.a2_machine.specs.State.{world_of_state};
@@ -7,21 +7,21 @@ ghost use Rattle.a2_symbols.specs.Routines.{is_call as is_call_of, is_within as 
 use a2_machine::Machine;
 use std::alloc::{AllocError, Allocator};
 
-// JSR's operation code.
+// JSR's opcode.
 const JSR: u8 = 0x20;
 
 /// A routine that was entered by a JSR.
 #[derive(Clone, Copy, Debug, PartialEq, Eq)]
 pub struct Entry {
-    /// The position of the JSR: how many steps were made before it.
+    /// The position of the JSR: the number of steps executed before it.
     pub position: u64,
     /// The address of the JSR.
     pub call: u16,
-    /// The stack pointer before it.
+    /// The stack pointer before the JSR.
     pub s: u8,
 }
 
-/// Whether a machine's next step is a JSR.
+/// Returns whether a machine's next step is a JSR.
 pub fn is_call<A: Allocator>(machine: &Machine<A>) -> bool
     ensures { result ≡ is_call_of (world_of_state machine.now.state) }
 {
@@ -31,7 +31,8 @@ pub fn is_call<A: Allocator>(machine: &Machine<A>) -> bool
     }
 }
 
-/// Adds to `entries` what the next step of `machine` enters, if it is a JSR. Refused only for want of memory.
+/// Adds the routine that the next step of `machine` enters to `entries`, if that step is a JSR. Fails only if memory
+/// is short.
 pub fn enter<A: Allocator, M: Allocator>(
     entries: &mut Vec<Entry, A>,
     machine: &Machine<M>,
@@ -50,7 +51,7 @@ pub fn enter<A: Allocator, M: Allocator>(
     Ok(())
 }
 
-/// Takes those away from `entries` that the last step of `machine` left.
+/// Removes the routines that the last step of `machine` left from `entries`.
 pub fn leave<A: Allocator, M: Allocator>(entries: &mut Vec<Entry, A>, machine: &Machine<M>)
     ensures { entries.new.items ≡ filter (is_within_of (world_of_state machine.now.state)) entries.old.items }
 {

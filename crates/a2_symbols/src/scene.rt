@@ -1,4 +1,4 @@
-//! The places of a program: its lines, their statements and addresses.
+//! Writes places of a program for its user: lines, statements and addresses.
 
 use crate::statements::statement_at;
 use a2_asm::Program;
@@ -13,7 +13,7 @@ pub struct Scene<'a, A: Allocator> {
     pub lines: &'a [&'a [u8]],
 }
 
-/// The text of the line with this number, without the blanks before and behind it; empty where there is none.
+/// Returns the text of the line with this number, without the blanks around it; empty if there is no such line.
 fn line_text<'a>(lines: &[&'a [u8]], number: u16) -> &'a [u8] {
     match lines.get(usize::from(number).saturating_sub(1)) {
         Some(line) => line.trim_ascii(),
@@ -21,7 +21,7 @@ fn line_text<'a>(lines: &[&'a [u8]], number: u16) -> &'a [u8] {
     }
 }
 
-// Writes a line by its number and text.
+// Writes a line as its number and text.
 fn put_line<W: Output>(number: &[u8], text: &[u8], writer: &mut W) -> Result<(), WriteFault> {
     put_all(&[b"line ", number, b" `", text, b"`"], writer)
 }
@@ -32,12 +32,13 @@ pub fn put_address<W: Output>(address: u16, writer: &mut W) -> Result<(), WriteF
     put(&hex_word(address), writer)
 }
 
-/// Writes a number.
+/// Writes a number in decimal.
 pub fn put_number<W: Output>(number: u64, writer: &mut W) -> Result<(), WriteFault> {
     put(decimal(number).as_slice(), writer)
 }
 
-/// Writes where an address lies, in words: the line of its statement, as ``line 3 `RTS` ``, or the address itself, as `$6801`.
+/// Writes where an address is: the line of its statement, as in ``line 3 `RTS` ``, or else the address itself, as in
+/// `$6801`.
 pub fn put_place<A: Allocator, W: Output>(
     scene: &Scene<A>,
     address: u16,

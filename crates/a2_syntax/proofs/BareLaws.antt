@@ -1,4 +1,4 @@
--- The grammar says of a line what it says of the same line beside another allocator.
+-- The grammar gives a line the same meaning whatever its allocator type is.
 use Rattle.std.proofs.Common.{refl, sym, ap, subst, inl, inr, ◌≡◌, ℕ, List, [], ◌∷◌, map, Option, None, IsTrue}
 use Rattle.a2_opcode.specs.declared.Mnemonic.{Mnemonic}
 use Rattle.a2_syntax.specs.Bare.{bare_term, bare_signed, bare_expr, bare_operand, bare_body, bare_line}

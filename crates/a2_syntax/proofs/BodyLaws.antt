@@ -1,4 +1,4 @@
--- What an operation does with pieces is one thing at most.
+-- The pieces of an operation have at most one meaning.
 use Rattle.std.proofs.Common.{◌≡◌, ℕ, true, List, [], ◌∷◌, ◌++◌, map, refl, sym, ap, ◌∙◌, inl, inr, Option, Some, None, if◌then◌else◌}
 use Rattle.std.proofs.lemmas.Bool.{cases_Bool}
 use Rattle.std.proofs.lemmas.List.{same_from_push}
@@ -17,7 +17,7 @@ use Rattle.a2_syntax.proofs.OperandLaws.{IsOperand-one}
 
 -- Texts in quotes
 
--- between a first and a last byte stands one text
+-- the text between a first and a last byte is unique
 pub quotes-one : (q last r : ℕ) (text more : List ℕ) → q ∷ text ++ last ∷ [] ≡ r ∷ more ++ r ∷ [] → (q ≡ r) × (text ≡ more)
 quotes-one q last r text more e = (cc, (same_from_push text more last r (cc)).0)
 
@@ -29,7 +29,7 @@ IsText-one ps a b (q, text, piece, e, (_, _, is), _, codes) (r, more, other, f, 
 
 -- Operands of instructions
 
--- but for a shift with nothing behind it, an operand is what its pieces say
+-- the pieces determine the operand, except for a shift that has none
 pub operand_of-to : {A : Type 0} (m : Mnemonic) (ps : List (List ℕ)) → (is_shift m ≡ true → ps ≡ [] → ⊥) → (o : Operand A) → IsOperand ps o → IsOperandOf m ps o
 operand_of-to m ps never Nothing e = elim (cases_Bool (is_shift m)) [ inl s ↦ absurd (never s e) | inr s ↦ (s, e) ]
 operand_of-to m ps never Accumulator h = inl h
@@ -57,7 +57,7 @@ IsOperandOf-one m (p ∷ ps) a b h k = IsOperand-one (p ∷ ps) a b (operand_of-
 
 -- Operations
 
--- a body that is made of something in a relation
+-- a body built from a value that satisfies a relation
 abbrev pub Made : {X Y : Type 0} → (X → Type 0) → (X → Y) → Y → Type 0
 Made {X} R make y = (x : X) × R x × (y ≡ make x)
 

@@ -1,4 +1,4 @@
--- A text has one refusal at most, and none is without lines and without a refusal.
+-- A text has at most one error, and every text has either lines or an error.
 use Rattle.std.proofs.Common.{◌≡◌, ℕ, ◌+◌, List, [], ◌∷◌, ◌++◌, length, drop, refl, sym, ap, ◌∙◌, inl, inr, subst, arith}
 use Rattle.std.proofs.lemmas.Option.{none-some, same_Some}
 use Rattle.a2_syntax.specs.Grammar.{IsLine}
@@ -10,7 +10,7 @@ use Rattle.a2_syntax.specs.declared.fault.Fault.TheVariants.{Syntax}
 use Rattle.a2_syntax.proofs.OneReading.{lines-parts}
 use Rattle.a2_syntax.proofs.Deciding.{told}
 
--- lines are read up to the same one
+-- two readings of the lines stop at the same line
 as-long : (b c : List (List ℕ)) (t u : List ℕ) (p q : List (List ℕ)) (r s : List BareLine) → b ++ t ∷ p ≡ c ++ u ∷ q → AreLines b r → AreLines c s
     → ((l : BareLine) → IsLine t l → ⊥) → ((l : BareLine) → IsLine u l → ⊥) → length b ≡ length c
 as-long [] [] t u p q r s e br cs nt nu = refl
@@ -38,7 +38,7 @@ no-gap (t ∷ ts) none whole =
     (λ n u. let (b, x, p, e, en, (r, br), nx) = u in whole (n + 1) (t ∷ b, x, p, ap (λ z. t ∷ z) e, omega (arith, en), (l ∷ r, (is, br)), nx)) in
     whole 1 ([], t, ts, refl, refl, ([], tt), unread)
 
--- no text is without both lines and a refusal
+-- no text lacks both lines and an error
 pub some-reading : (text : List ℕ) → ((source : List BareLine) → IsSource text source → ⊥) → ((f : Fault) → IsTextRefusal text f → ⊥) → ⊥
 some-reading text none nothing = told (size_refusal text) (λ f e. nothing f (inl e))
     (λ e. no-gap _ (λ s is. none s (e, is)) (λ n u. nothing (Syntax n) (inr (e, n, refl, u))))

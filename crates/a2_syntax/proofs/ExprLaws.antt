@@ -1,4 +1,4 @@
--- Pieces are one expression at most, and so are those with commas between them.
+-- Pieces form at most one expression, or at most one list of expressions separated by commas.
 use Rattle.std.proofs.Common.{◌≡◌, ℕ, ◌+◌, ◌-◌, ◌<◌, ◌≤◌, Bool, true, false, List, [], ◌∷◌, ◌++◌, length, take, drop, map, refl, sym, ap, ◌∙◌, inl, inr, arith, Option, Some, None, option_map, MatchOption, codes, get_or, if◌then◌else◌, Bor, nat_lt}
 use Rattle.std.proofs.lemmas.Bool.{false≢true, eqb-true, or_parts, or_right, cases_Bool, cases_lt, lt-ltb, le-ltb}
 use Rattle.std.proofs.lemmas.Bool.Decides.{nat_tests}
@@ -20,12 +20,12 @@ use Rattle.a2_syntax.specs.declared.source.Expr.{Expr}
 
 -- Terms
 
--- a piece that no expression has: `#`, `,`, `(`, `)` or the letter A alone
+-- a piece that cannot occur in an expression: `#`, `,`, `(`, `)` or just the letter A
 abbrev pub is_outer : List ℕ → Bool
 is_outer (c ∷ []) = is_among (codes "#,()Aa") c
 is_outer piece = false
 
--- a term is no such piece, and not the sign of a part
+-- a term is not such a piece, nor is it `<` or `>`
 term-not : {A : Type 0} (piece : List ℕ) (t : Term A) → IsTerm piece t → (is_outer piece ≡ false) × (is_byte 60 piece ≡ false) × (is_byte 62 piece ≡ false)
 term-not [] t h = (refl, refl, refl)
 term-not (c ∷ d ∷ ds) t h = (refl, refl, refl)
@@ -53,7 +53,7 @@ IsTerm-one piece (Named x) (Named y) h k = ap Named (sym h.0 ∙ k.0)
 IsTerm-one piece Here b h k = sym (star-here b (rw h at k))
 IsTerm-one piece a Here h k = star-here a (rw k at h)
 
--- what stands in further terms
+-- the parts of further terms
 pub more-parts : {A : Type 0} {ps : List (List ℕ)} {sign piece : List ℕ} {rest : List (List ℕ)} (ts : List (Signed A)) → ps ≡ sign ∷ piece ∷ rest → AreMoreTerms ps ts
     → (t : Signed A) × (more : List (Signed A)) × (ts ≡ t ∷ more) × IsSign sign t.minus × IsTerm piece t.term × AreMoreTerms rest more
 more-parts [] e h = cc
@@ -63,17 +63,17 @@ more-parts {sign = sign} {piece = piece} {rest = rest} (t ∷ more) e (g, p, rs,
     let rests : rs ≡ rest = cc in
     (t, more, refl, rw signs at s, rw pieces at k, rw rests at m)
 
--- one piece is no further term
+-- a single piece is not a further term
 pub no-more : {A : Type 0} (ps : List (List ℕ)) (ts : List (Signed A)) → AreMoreTerms ps ts → 0 < length ps → length ps < 2 → ⊥
 no-more ps [] h some few = omega (arith, ap length h, some)
 no-more ps (t ∷ ts) (sign, piece, more, e, _, _, _) some few = omega (arith, ap length e, few)
 
--- terms are further terms behind a `+`
+-- terms are further terms if they are preceded by a `+`
 pub plus-terms : {A : Type 0} (ps : List (List ℕ)) (ts : List (Signed A)) → AreTerms ps ts → AreMoreTerms (codes "+" ∷ ps) ts
 plus-terms ps [] h = absurd h
 plus-terms ps (t ∷ ts) (piece, more, e, plus, term, are) = (codes "+", piece, more, ap (λ z. codes "+" ∷ z) e, rw plus refl, term, are)
 
--- a sign is a minus where it is that byte
+-- a sign is a minus if it is that byte
 sign-is : (sign : List ℕ) (m : Bool) → IsSign sign m → is_byte 45 sign ≡ m
 sign-is sign false h = rw h refl
 sign-is sign true h = rw h refl
@@ -146,7 +146,7 @@ pub expr-some : {A : Type 0} (ps : List (List ℕ)) (e : Expr A) → IsExpr ps e
 expr-some [] e h = absurd (no-more (codes "+" ∷ []) e.terms (plus-terms [] e.terms (expr-parts [] e h).1) (omega arith) (omega arith))
 expr-some (p ∷ ps) e h = omega arith
 
--- Expressions with commas between them
+-- Expressions separated by commas
 
 inner-comma : (ps : List (List ℕ)) → list_any is_outer ps ≡ false → has_comma ps ≡ false
 inner-comma [] h = refl
@@ -157,7 +157,7 @@ inner-comma (p ∷ ps) h = let (first, rest) = or_parts _ _ h in rw (inner_first
     inner_first (c ∷ []) h = grind (arith, nat_tests)
     inner_first (c ∷ d ∷ ds) h = refl
 
--- the pieces before the first comma are one front
+-- the pieces before the first comma are unique
 cut-one : (f g a b : List (List ℕ)) → f ++ codes "," ∷ a ≡ g ++ codes "," ∷ b → has_comma f ≡ false → has_comma g ≡ false → (g ≡ f) × (b ≡ a)
 cut-one [] [] a b e h k = (refl, ap (drop 1) (sym e))
 cut-one [] (q ∷ qs) a b e h k = absurd (false≢true (sym (or_parts (is_byte 44 q) _ k).0 ∙ ap (λ z. is_byte 44 (get_or z 0 [])) (sym e)))
@@ -170,12 +170,12 @@ cut-one (p ∷ ps) (q ∷ qs) a b e h k =
 comma-behind : (front back : List (List ℕ)) → has_comma (front ++ codes "," ∷ back) ≡ true
 comma-behind front back = list_any-append (is_byte 44) front (codes "," ∷ back) ∙ or_right _ _ refl
 
--- pieces up to the first comma, or to the end, and what is behind it
+-- the pieces before the first comma, or all of them, and what follows the comma
 abbrev pub IsCut : List (List ℕ) → List (List ℕ) → Option (List (List ℕ)) → Type 0
 IsCut pieces front None = (pieces ≡ front) × (has_comma front ≡ false)
 IsCut pieces front (Some back) = (pieces ≡ front ++ codes "," ∷ back) × (has_comma front ≡ false)
 
--- the first expression stands before the first comma, and the others behind it
+-- the first expression is before the first comma, and the others are after it
 pub exprs-parts : {A : Type 0} (ps front : List (List ℕ)) (back : Option (List (List ℕ))) (es : List (Expr A)) → IsCut ps front back → AreExprs ps es
     → (e : Expr A) × (more : List (Expr A)) × (es ≡ e ∷ more) × IsExpr front e × MatchOption back (more ≡ []) (λ rest. AreExprs rest more)
 exprs-parts ps front back [] is h = absurd h
@@ -208,7 +208,7 @@ now = map (λ x. x.now)
 abbrev pub no_piece : Bor (List ℕ)
 no_piece = record { ref_ptr = (0, 0); now = [] }
 
--- a place among pieces, at the first comma or at their end, cuts them
+-- an index at the first comma, or at the end, cuts the pieces there
 pub place-cut : (ps : List (Bor (List ℕ))) (end : ℕ) → has_comma (now (take end ps)) ≡ false → (end < length ps → now (drop end ps) ≡ codes "," ∷ now (drop (end + 1) ps))
     → IsCut (now ps) (now (take end ps)) (if nat_lt end (length ps) then Some (now (drop (end + 1) ps)) else None)
 place-cut ps end c h = elim (cases_lt end (length ps)) [
@@ -217,7 +217,7 @@ place-cut ps end c h = elim (cases_lt end (length ps)) [
   | inr ge ↦ rw (le-ltb end (length ps) ge) (ap now (sym (take_all end ps ge)), c)
 ]
 
--- the first two of pieces
+-- the first two pieces
 pub two-pieces : (ps : List (Bor (List ℕ))) → 2 ≤ length ps
     → now ps ≡ (get_or ps 0 no_piece).now ∷ (get_or ps 1 no_piece).now ∷ now (take (length ps - 2) (drop 2 ps))
 two-pieces [] h = absurd (omega (arith, h))

@@ -1,4 +1,5 @@
--- Loops over what is read from its front: what is left reads on behind what is read, and whatever reads all reads what is left.
+-- Loops that read from the front. What is read so far, followed by any reading of the rest, is a reading of the
+-- whole, and every reading of the whole arises this way.
 use Rattle.std.proofs.Common.{List, [], ◌∷◌, ◌++◌, sym, subst}
 use Rattle.std.proofs.lemmas.List.{append_assoc, append-nil}
 

@@ -1,4 +1,4 @@
--- A line has one reading at most.
+-- A line has at most one reading.
 use Rattle.std.proofs.Common.{◌≡◌, ℕ, ◌<◌, Bool, true, false, eqb, List, [], ◌∷◌, ◌++◌, length, map, take, drop, refl, sym, ap, ◌∙◌, inl, inr, arith, Option, Some, None}
 use Rattle.std.specs.List.{AllPass}
 use Rattle.std.proofs.lemmas.Bool.{false≢true, eqb-true}
@@ -21,7 +21,7 @@ use Rattle.a2_syntax.proofs.NameLaws.{name-bytes, word-names, same-letters}
 use Rattle.a2_syntax.proofs.PieceLaws.{Stops, front-one, behind-is, behind-self, name-first, Spells-at, Spells-one}
 use Rattle.a2_syntax.proofs.BodyLaws.{IsOperation-one}
 
--- Words before a gap
+-- Names before a gap
 
 gap-first : (after : List ℕ) → is_gap after ≡ true → Stops is_name_byte after × (is_starred after ≡ false)
 gap-first [] h = (tt, refl)
@@ -30,13 +30,13 @@ gap-first (c ∷ cs) h = byte c h
     byte : (c : ℕ) → is_gap (c ∷ []) ≡ true → (is_name_byte c ≡ false) × (eqb c 42 ≡ false)
     byte c h = (grind (arith, nat_tests), grind (arith, nat_tests))
 
--- name bytes before a gap are the front of name bytes
+-- name bytes before a gap are the longest run of name bytes
 word-front : (text word after : List ℕ) → text ≡ word ++ after → AllPass is_name_byte word → is_gap after ≡ true → (take (run_len text) text ≡ word) × (drop (run_len text) text ≡ after)
 word-front text word after e h gap = let (_, front, back) = front-one is_name_byte word after h (gap-first after gap).0 in rw e (front, back)
 
 -- Bodies
 
--- what stands behind a label, by whether it is over
+-- what follows a label, depending on whether it is empty or a comment
 abbrev BodyAt : {A : Type 0} → Bool → List ℕ → Body A → Type 0
 BodyAt true here body = body ≡ Empty
 BodyAt false here body =
@@ -66,7 +66,7 @@ pub body-parts : {A : Type 0} (text here word after : List ℕ) → here ≡ beh
     → (o : Operation) × (ps : List (List ℕ)) × (is_gap after ≡ true) × (map capital word ≡ letters_of o) × Spells after ps × IsOperation o ps body
 body-parts text here word after e over w a body h = rw (w, a) (rw over at (rw (← e) at (body-at text body h)))
 
--- what an operation does with the pieces behind it is what the text does
+-- the body read from an operation's pieces is the body of the text
 pub body-found : {A : Type 0} (text here word after : List ℕ) (o : Operation) (ps : List (List ℕ)) (r : Option (Body A)) → here ≡ behind_blanks text → is_over here ≡ false
     → word ≡ take (run_len here) here → after ≡ drop (run_len here) here → is_gap after ≡ true → letters_of o ≡ map capital word → Spells after ps
     → Finds (IsOperation o ps) r → Finds (IsBody text) r
@@ -86,7 +86,7 @@ IsBody-one text a b h k = one (is_over (behind_blanks text)) (body-at text a h) 
 
 -- Lines
 
--- the label that a front of name bytes is
+-- the label formed by the name bytes at the start
 abbrev pub LabelIs : List ℕ → Option (List ℕ) → Type 0
 LabelIs word None = word ≡ []
 LabelIs word (Some name) = (name ≡ word) × (is_name word ≡ true)
@@ -108,7 +108,7 @@ label-at text rest (Some (c ∷ cs)) (e, is) gap =
     let (front, back) = word-front text (c ∷ cs) rest e bytes gap in
     (rw e star, (sym front, ap is_name front ∙ is), back)
 
--- what a line is, by whether it begins with `*`
+-- what a line is, depending on whether it begins with `*`
 abbrev LineAt : {A : Type 0} → Bool → List ℕ → Line A → Type 0
 LineAt true text line = (line.label ≡ None) × (line.body ≡ Empty)
 LineAt false text line =
@@ -147,7 +147,7 @@ IsLine-one text a b h k = one (is_starred text) (line-at text a h) (line-at text
     one true (l, m) (l', m') = λ i. record { label = (l ∙ sym l') i; body = (m ∙ sym m') i }
     one false (_, l, m, _) (_, l', m', _) = λ i. record { label = LabelIs-one _ a.label b.label l l' i; body = IsBody-one _ a.body b.body m m' i }
 
--- a line without a label in which its body may not stand, and one whose label is no name
+-- a line without a label whose body needs one, and a line whose label is not a valid name
 pub unlabelled : {A : Type 0} (rest : List ℕ) (line : Line A) (body : Body A) → LabelIs [] line.label → IsBody rest line.body → IsBody rest body
     → may_stand line.label line.body ≡ true → may_stand None body ≡ false → ⊥
 unlabelled rest line body l h k fits fails =

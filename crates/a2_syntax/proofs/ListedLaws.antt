@@ -1,4 +1,4 @@
--- What a listing shows is read as what it lists.
+-- Text shown in a listing is read back as what it lists.
 use Rattle.std.proofs.Common.{◌≡◌, ℕ, ◌/◌, ◌%◌, ◌<◌, ◌≤◌, true, eqb, ltb, List, [], ◌∷◌, ◌++◌, length, map, take, drop, refl, sym, ap, ◌∙◌, subst, inl, inr, arith, Option, Some, None, codes, slice_index}
 use Rattle.std.specs.List.{AllPass, All, list_all}
 use Rattle.std.proofs.lemmas.Bool.{agree_below_at, eqb-true, false≢true, cases_lt, cond_both, and_from}
@@ -34,7 +34,7 @@ use Rattle.a2_syntax.specs.declared.operation.Operation.TheVariants as operation
 use Rattle.a2_syntax.proofs.BodyLaws.{operand_of-to}
 use Rattle.a2_syntax.proofs.OperandLaws.{IsOperand-one}
 
--- Digits behind `$`
+-- Digits after `$`
 
 hex-digit : (n : ℕ) → n < 16 → (is_digit_in 16 (hex_digit n) ≡ true) × (digit (hex_digit n) ≡ n) × (is_name_byte (hex_digit n) ≡ true)
 hex-digit n h = (
@@ -47,7 +47,7 @@ number-digits : (digits : List ℕ) → 0 < length digits → length digits ≤ 
     → number (36 ∷ digits) ≡ Some (value_of_digits 16 digits)
 number-digits digits some few all small = grind (arith, nat_tests)
 
--- digits that stand for a number
+-- digits that spell a number
 record Digits (digits : List ℕ) (n : ℕ) : Type 0 where
   some : 0 < length digits
   names : AllPass is_name_byte digits
@@ -79,7 +79,7 @@ word-digits a h =
 
 -- Operands
 
--- a text's pieces, from its front
+-- the pieces of a text, read from its start
 record Reads (text : List ℕ) (pieces : List (List ℕ)) : Type 0 where
   spells : Spells text pieces
 
@@ -148,7 +148,7 @@ column-gap : (mode : Mode) (n : ℕ) → is_gap (operand_column mode n) ≡ true
 column-gap Implied n = refl
 column-gap _ n = refl
 
--- a blank before the pieces
+-- a space before the pieces
 blank-first : (text : List ℕ) (ps : List (List ℕ)) → Spells text ps → Spells (32 ∷ text) ps
 blank-first text ps h = go ps h
   where
@@ -163,7 +163,7 @@ column-spells : (mode : Mode) (n : ℕ) (ps : List (List ℕ)) → Spells (opera
 column-spells Implied n ps h = h
 column-spells mode n ps h = blank-first _ ps (blank-first _ ps (blank-first _ ps h))
 
--- a shift has no row of the implied mode, which alone is listed without an operand
+-- a shift has no row for the implied mode, which is the only mode listed without an operand
 shift-row : (m : Mnemonic) (r : Row) → is_shift m ≡ true → row m Implied ≡ Some r → ⊥
 unfolding row table
 shift-row Asl r s e = cc
@@ -180,7 +180,7 @@ name-capitals : (m : Mnemonic) → map capital (name_of m) ≡ name_of m
 name-capitals Adc = refl
 name-capitals _ = refl
 
--- an instruction that has bytes, behind a blank
+-- an instruction that has bytes, preceded by a space
 line-reads : (i : opcode.Instr) (at : ℕ) (bytes : List ℕ) → i.value < 65536 → encoded i at ≡ Some bytes
     → IsLine (32 ∷ (name_of i.mnemonic ++ operand_column i.mode i.value)) (listed_line i)
 line-reads i at bytes small e =
@@ -203,7 +203,7 @@ line-reads i at bytes small e =
     ) in
     inr (32 ∷ rest, refl, refl, inr (operations.Instr i.mnemonic, pieces, has, (refl, operand_of-to i.mnemonic pieces never (listed_operand i.mode i.value) operand)), refl)
 
--- a value that is decoded is one of two bytes
+-- a decoded value has one or two bytes
 value-small : (mode : Mode) (at : ℕ) (operand : List ℕ) → slice_index operand 0 < 256 → slice_index operand 1 < 256 → value_of mode at operand < 65536
 value-small Relative at operand a b = cond_both (ltb (slice_index operand 0) 128) _ _ (λ v. v < 65536) (λ _. omega arith) (λ _. omega arith)
 value-small _ at operand a b = omega (arith, a, b)
@@ -218,7 +218,7 @@ unfolding decoded
 decoded-small [] at i small e = cc
 decoded-small (op ∷ operand) at i small e = let (m, v) = value-row op operand at i (row_of op) e in omega (arith, v, value-small m at operand (small 1) (small 2))
 
--- the columns before the mnemonic have 19 places, of which the last is a blank
+-- the columns before the mnemonic have 19 places, and the last one is a space
 columns-cut : (at : ℕ) (xs name column : List ℕ) → length xs ≤ 3 → drop 18 (columns_before at xs ++ name ++ column) ≡ 32 ∷ (name ++ column)
 columns-cut at [] name column few = refl
 columns-cut at (a ∷ []) name column few = refl

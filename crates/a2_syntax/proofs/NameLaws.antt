@@ -1,4 +1,4 @@
--- Names and the words of operations are made of name bytes.
+-- Names, and the names of operations, consist of name bytes.
 use Rattle.std.proofs.Common.{◌≡◌, ℕ, ◌<◌, Bool, true, List, [], ◌∷◌, length, map, refl, sym, ap, ◌∙◌, arith, Option, Some, None, find}
 use Rattle.std.specs.List.{AllPass, list_all}
 use Rattle.std.specs.Str.{IsUtf8, bytes_eq}
@@ -32,7 +32,7 @@ name-text word h = IsUtf8-from_ascii word (IsAscii-from_all word (All-weaker (λ
     ascii : (c : ℕ) → is_name_byte c ≡ true → c < 128
     ascii c h = grind (arith, nat_tests)
 
--- an operation's letters are capitals, one or more
+-- the letters of an operation are one or more capitals
 are_letters : List ℕ → Bool
 are_letters letters = list_all (is_between 65 90) letters
 
@@ -46,7 +46,7 @@ unfolding are_letters
 operation-letters (Instr m) = name-letters m
 operation-letters _ = (omega arith, refl)
 
--- so the word of one is made of name bytes, one or more
+-- so the name of an operation is one or more name bytes
 pub word-names : (word : List ℕ) (o : Operation) → map capital word ≡ letters_of o → (0 < length word) × AllPass is_name_byte word
 unfolding are_letters
 word-names word o e =
@@ -62,7 +62,7 @@ word-names word o e =
 abbrev pub directives : List Operation
 directives = Org ∷ Equ ∷ Dfb ∷ Dw ∷ Asc ∷ Ds ∷ []
 
--- the directive of letters
+-- the directive with these letters
 directive_of : List ℕ → Option Operation
 directive_of letters = find (λ o. bytes_eq (letters_of o) letters) directives
 
@@ -86,6 +86,6 @@ same-directive (Instr m) (Instr n) d e = ap Instr (same_name m n e)
 same-directive a (Instr n) d e = cc
 same-directive a b d e = cc
 
--- two operations with the same letters are one
+-- two operations with the same letters are the same
 pub same-letters : (a b : Operation) → letters_of a ≡ letters_of b → a ≡ b
 same-letters a b e = same-directive a b (sym (directive-is a) ∙ ap directive_of e ∙ directive-is b) e

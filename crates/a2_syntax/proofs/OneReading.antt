@@ -1,4 +1,4 @@
--- A text has one reading at most, and none where it is refused.
+-- A text has at most one reading, and none if it has an error.
 use Rattle.std.proofs.Common.{◌≡◌, ℕ, List, [], ◌∷◌, ◌++◌, refl, sym, ◌∙◌, inl, inr}
 use Rattle.a2_syntax.specs.Grammar.{IsLine}
 use Rattle.a2_syntax.specs.Bare.{BareLine}

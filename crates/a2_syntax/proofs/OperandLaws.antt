@@ -1,4 +1,4 @@
--- An operand is what its pieces say: nothing, a letter alone, or a shape round an expression.
+-- The pieces determine the operand: nothing, a single letter, or a shape around an expression.
 use Rattle.std.proofs.Common.{◌≡◌, ℕ, Bool, true, false, List, [], ◌∷◌, ◌++◌, refl, sym, ap, ◌∙◌, inl, inr, Option, Some, None, option_map, codes, length, ◌<◌, arith, if◌then◌else◌}
 use Rattle.std.specs.List.{list_any}
 use Rattle.std.proofs.lemmas.Bool.{false≢true, cases_Bool, eqb-true, eq-eqb, or_parts}
@@ -28,7 +28,7 @@ is-letter c [] h = cc
 is-letter c (x ∷ []) h = eq-eqb _ c (cc)
 is-letter c (x ∷ y ∷ more) h = cc
 
--- a last piece
+-- appends a last piece
 pub before_push : (passes : List ℕ → Bool) (es : List (List ℕ)) (p : List ℕ) → before passes (es ++ p ∷ []) ≡ (if passes p then Some es else None)
 before_push passes [] p = refl
 before_push passes (e ∷ []) p = grind arith
@@ -73,7 +73,7 @@ enclosed-is ps es e = told (behind (is_byte 40) ps)
     behind-is 40 ps rest a ∙ ap (λ z. codes "(" ∷ z) (is ∙ ap (λ z. es ++ z ∷ []) (byte-is 41 x b))))
     (λ a. absurd (none-some es (rw a at e)))
 
--- where an expression stands there is no comma and letter, and there are no parentheses
+-- in an expression there is no comma with a register letter, and it is not in parentheses
 never : {X : Type 0} (o : Option X) → ((x : X) → o ≡ Some x → ⊥) → o ≡ None
 never None none = refl
 never (Some x) none = absurd (none x refl)
@@ -101,13 +101,13 @@ first-inner p ps h = let (letter, hash, round) = bytes p h in (no-letter p ps le
     bytes (c ∷ []) h = (grind (arith, nat_tests), grind (arith, nat_tests), grind (arith, nat_tests))
     bytes (c ∷ d ∷ ds) h = (refl, refl, refl)
 
--- the letter Y is no X, and no parenthesis
+-- the letter Y is neither X nor a parenthesis
 y-apart : (piece : List ℕ) → IsLetter (89 ∷ []) piece → (is_letter 88 piece ≡ false) × (is_byte 41 piece ≡ false)
 y-apart [] h = (refl, refl)
 y-apart (x ∷ []) h = let e : capital x ≡ 89 = cc in (grind (arith, nat_tests, e), grind (arith, nat_tests, e))
 y-apart (x ∷ y ∷ more) h = (refl, refl)
 
--- what pieces say of their operand
+-- what the pieces say about their operand
 abbrev Shaped : {A : Type 0} → Bool → List (List ℕ) → Operand A → Type 0
 Shaped true ps o = o ≡ Accumulator
 Shaped {A} false ps o = (e : Expr A) × IsExpr (shape_of ps).1 e × (o ≡ of_shape (shape_of ps).0 e)

@@ -20,7 +20,7 @@ lines-push [] [] text line h is = (is, tt)
 lines-push (t ∷ ts) (l ∷ ls) text line h is = (h.0, lines-push ts ls text line h.1 is)
 lines-push _ _ text line h is = absurd h
 
--- the line at a place, before which all are read, is the first that is not
+-- if all earlier lines are read and this one cannot be, it is the first such line
 pub first-unread : {A : Type 0} (texts : List (Bor (List ℕ))) (i : ℕ) (parsed : List (Line A)) → i < length texts → AreLines (now (take i texts)) parsed
     → Finds (IsLine {A = A} (get_or texts i no_piece).now) None → FirstUnread (now texts) (i + 1)
 first-unread texts i parsed lt read none = (

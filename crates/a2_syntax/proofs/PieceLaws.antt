@@ -1,4 +1,4 @@
--- A text spells one list of pieces at most.
+-- A text spells at most one list of pieces.
 use Rattle.std.proofs.Common.{◌≡◌, ℕ, suc, ◌+◌, ◌<◌, ◌≤◌, Bool, true, false, eqb, ◌||◌, List, [], ◌∷◌, ◌++◌, length, take, drop, refl, sym, ap, ◌∙◌, inl, inr, arith, length-append}
 use Rattle.std.specs.List.{prefix_len, AllPass, All}
 use Rattle.std.proofs.lemmas.Bool.Decides.{nat_tests}
@@ -14,7 +14,7 @@ use Rattle.a2_syntax.specs.Numbers.{is_quote, is_quotable}
 use Rattle.a2_syntax.specs.Pieces.{is_sign, is_mark, EndsRun, IsNameRun, IsPiece, IsBehindBlanks, is_over, Spells}
 use Rattle.a2_syntax.specs.Reading.{run_len, closed_len, quoted_len, marked_len, piece_len}
 
--- Fronts that pass
+-- Prefixes whose bytes pass
 
 abbrev pub Stops : (ℕ → Bool) → List ℕ → Type 0
 Stops p [] = Unit {0}
@@ -27,7 +27,7 @@ front-length p (x ∷ xs) ys h s =
     let more = front-length p xs ys (All-tail (λ c. p c ≡ true) x xs h) s in
     rw (All-head (λ c. p c ≡ true) x xs h) (omega (arith, more))
 
--- what stands before the first byte that fails, and from there on
+-- the bytes before the first one that fails, and the rest
 pub front-one : (p : ℕ → Bool) (front rest : List ℕ) → AllPass p front → Stops p rest
     → (let n = prefix_len p (front ++ rest) in (n ≡ length front) × (take n (front ++ rest) ≡ front) × (drop n (front ++ rest) ≡ rest))
 front-one p front rest h s = let n = front-length p front rest h s in (n, rw n (take_at front rest (length front) refl), rw n (drop_at front rest (length front) refl))
@@ -109,7 +109,7 @@ piece-front (c ∷ cs) rest (inr (inr (inr h))) =
     let (s, m, q) = name-kind c is in
     (omega arith, blank, over, rw (s, m, q) (run-length (c ∷ cs) rest h))
 
--- the front of the length of a piece is one
+-- the prefix with the length of a piece is a piece
 mark-front : (c : ℕ) (cs : List ℕ) → is_mark c ≡ true → 0 < marked_len cs → IsPiece (take (marked_len cs) (c ∷ cs)) (drop (marked_len cs) (c ∷ cs))
 mark-front c cs m h = elim (cases_Bool (eqb (run_len cs) 0)) [
   | inl none ↦ absurd (omega (arith, rw none at h))
@@ -152,12 +152,12 @@ front-piece (c ∷ cs) h = elim (cases_Bool (is_sign c)) [
 pub Spells-over : (text : List ℕ) → is_over (behind_blanks text) ≡ true → Spells text []
 Spells-over text h = (behind_blanks text, behind-self text, h)
 
--- a text that is not over spells the piece at its front, and then what the rest spells
+-- a text that is not over spells its first piece, and then the pieces of the rest
 pub Spells-more : (text here : List ℕ) (ps : List (List ℕ)) → here ≡ behind_blanks text → 0 < piece_len here → Spells (drop (piece_len here) here) ps
     → Spells text (take (piece_len here) here ∷ ps)
 Spells-more text here ps e some h = (here, drop (piece_len here) here, rw e (behind-self text), sym (take-append-drop (piece_len here) here), front-piece here some, h)
 
--- it spells nothing else
+-- it has no other pieces
 abbrev pub SpellsAt : List ℕ → List (List ℕ) → Type 0
 SpellsAt here [] = is_over here ≡ true
 SpellsAt here (p ∷ ps) = (is_over here ≡ false) × (0 < piece_len here) × (p ≡ take (piece_len here) here) × Spells (drop (piece_len here) here) ps

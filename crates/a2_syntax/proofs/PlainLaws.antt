@@ -1,4 +1,4 @@
--- Lists of numbers that are read without the pieces of their text.
+-- Lists of numbers that are read without splitting the text into pieces.
 use Rattle.std.proofs.Common.{◌≡◌, ℕ, ◌+◌, ◌<◌, ◌≤◌, true, List, ◌++◌, [], ◌∷◌, length, take, drop, refl, sym, ap, inr, inl, arith, Some, codes}
 use Rattle.std.proofs.lemmas.List.{take-append-drop, length-drop}
 use Rattle.std.proofs.lemmas.List.Folds.{length-prefix_len}
@@ -14,7 +14,7 @@ use Rattle.a2_syntax.specs.declared.source.Expr.{Expr}
 use Rattle.a2_syntax.proofs.Going.{Leads, leads-more}
 use Rattle.a2_syntax.proofs.PieceLaws.{behind-self, behind-within, run-front, Spells-over}
 
--- a number in its place: its digits, and what is behind them and behind blanks
+-- a number at its position: its digits, and what follows them and any spaces
 pub record Placed (rest digits behind next : List ℕ) (n : ℕ) : Type 0 where
   pub digits_are : digits ≡ take (run_len (behind_blanks rest)) (behind_blanks rest)
   pub behind_is : behind ≡ drop (run_len (behind_blanks rest)) (behind_blanks rest)
@@ -33,7 +33,7 @@ module _ {rest digits behind next : List ℕ} {n : ℕ} (p : Placed rest digits 
       some [] h = cc
       some (c ∷ cs) h = omega arith
 
-  -- a number takes a byte at least
+  -- a number takes at least one byte
   pub placed-shorter : length next + 1 ≤ length rest
   placed-shorter = omega (arith, some-digits, ap length p.behind_is, length-drop (run_len (behind_blanks rest)) (behind_blanks rest), prefix_len-le-length is_name_byte (behind_blanks rest), behind-within rest _ refl, behind-within behind next p.next_is)
 

@@ -1,5 +1,5 @@
--- A reader of source texts by recursion: for any text that it reads, the lines that it finds are the text's, by one
--- computation. No code follows it; it is for proofs about given texts.
+-- A recursive reader of source texts. For any text that it reads, one computation proves that the lines it finds are
+-- the lines of the text. No code uses it; it serves proofs about given texts.
 use Rattle.std.specs.List.{list_all}
 use Rattle.std.proofs.Common.{sym, ap, ◌∙◌, subst, inl, inr, ◌≡◌, ℕ, suc, zero, nat_lt, ◌==◌, true, false, List, [], ◌∷◌, ◌++◌, length, map, take, drop, codes, Option, Some, None, option_map, is_some, refl}
 use Rattle.std.specs.Str.{bytes_eq}
@@ -42,7 +42,7 @@ some x xs e = cc
 
 -- Pieces
 
--- the pieces of a text, at most so many
+-- the pieces of a text, at most this many
 abbrev pub read_pieces : (most : ℕ) (text : List ℕ) → Found (Spells text)
 read_pieces zero text = where_so (is_over (behind_blanks text)) (λ h. Some ([], Spells-over text h))
 read_pieces (suc most) text =
@@ -87,7 +87,7 @@ read_cut (piece ∷ more) =
     tested (is_byte 44 piece) (λ h. Some ([], more, ap (λ p. p ∷ more) (byte-is 44 piece h)))
     (λ _. and_then (read_cut more) (λ (front, back, e). Some (piece ∷ front, back, ap (λ ps. piece ∷ ps) e)))
 
--- expressions with commas between them, at most so many
+-- expressions separated by commas, at most this many
 abbrev pub read_exprs : {A : Type 0} (most : ℕ) (pieces : List (List ℕ)) → Found (AreExprs {A = A} pieces)
 read_exprs zero pieces = None
 read_exprs {A} (suc most) pieces =
@@ -102,18 +102,18 @@ read_exprs {A} (suc most) pieces =
 
 -- Operands
 
--- an operand that is something
+-- an operand that is not empty
 abbrev pub read_operand : {A : Type 0} (pieces : List (List ℕ)) → Found (IsOperand {A = A} pieces)
 read_operand pieces =
     tested (is_accumulator pieces) (λ h. Some (Accumulator, accumulator-is pieces h))
     (λ _. and_then (read_expr (shape_of pieces).1) (λ (e, is). Some (of_shape (shape_of pieces).0 e, shape-operand pieces e is)))
 
--- a shift with nothing behind it means the accumulator
+-- a shift without an operand uses the accumulator
 abbrev pub read_operand_of : {A : Type 0} (m : Mnemonic) (pieces : List (List ℕ)) → Found (IsOperandOf {A = A} m pieces)
 read_operand_of m [] = tested (is_shift m) (λ h. Some (Accumulator, inr (h, refl))) (λ h. Some (Nothing, (h, refl)))
 read_operand_of m (piece ∷ more) = and_then (read_operand (piece ∷ more)) (λ (operand, is). Some (operand, operand_of-to m (piece ∷ more) (λ _ e. some piece more e) operand is))
 
--- what stands before a last byte
+-- the bytes before a last byte
 abbrev pub read_last : (last : ℕ) (bytes : List ℕ) → Option ((front : List ℕ) × (bytes ≡ front ++ last ∷ []))
 read_last last [] = None
 read_last last (c ∷ []) = where_so (c == last) (λ h. Some ([], ap (λ z. z ∷ []) (eqb-true c last h)))
@@ -140,7 +140,7 @@ read_operation operations.Dw pieces = and_then (read_exprs (length pieces) piece
 read_operation operations.Asc pieces = and_then (read_text pieces) (λ (bytes, is). Some (Asc bytes, is))
 read_operation operations.Ds pieces = and_then (read_expr pieces) (λ (e, is). Some (Ds e, is))
 
--- the operation of these letters, among some
+-- the operation with these letters, among a given list
 abbrev pub named_in : (all : List Operation) (word : List ℕ) → Option ((o : Operation) × (word ≡ letters_of o))
 named_in [] word = None
 named_in (o ∷ more) word = or_else (where_so (bytes_eq word (letters_of o)) (λ h. Some (o, (bytes_eq-Decides word (letters_of o)).0 h))) (named_in more word)
@@ -159,7 +159,7 @@ read_body text =
     (λ (pieces, spells). and_then (read_operation o pieces)
     (λ (body, is). Some (body, inr (o, pieces, HasOperation-from text here o pieces refl named gap spells, is)))))))
 
--- a line without its label: what is left
+-- a line whose label is already read: the rest
 abbrev pub read_behind : {A : Type 0} (text : List ℕ) (label : Option (List ℕ)) (rest : List ℕ) → IsLabelled text label rest → Found (IsLine {A = A} text)
 read_behind text label rest labelled =
     where_so (is_gap rest) (λ gap. and_then (read_body rest)
@@ -180,7 +180,7 @@ abbrev pub read : (text : List ℕ) → Found (IsSource text)
 read text =
     told (size_refusal text) (λ _ _. None) (λ fits. and_then (read_lines (lines text)) (λ (source, are). Some (source, (fits, are))))
 
--- the lines of a text, if it is one
+-- the lines of a text, if it is a source
 unfoldable pub read_source : List ℕ → Option (List BareLine)
 unfolding read_name
 read_source text = option_map (λ found. found.0) (read text)

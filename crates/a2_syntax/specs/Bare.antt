@@ -1,5 +1,5 @@
--- Source lines without their allocator. A line's type names the allocator that holds its parts, and what a text means
--- depends on none: so meanings speak of these. This project's own.
+-- Source lines without their allocator. A line's type names the allocator that holds its parts, but the meaning of a
+-- text does not depend on any allocator. Definitions of meaning therefore use these types. This project's own.
 use Rattle.std.specs.Prelude.{List, map}
 use Rattle.a2_syntax.specs.declared.source.Term.{Term}
 use Rattle.a2_syntax.specs.declared.source.Term.TheVariants.{Number, Named, Here}
@@ -11,7 +11,7 @@ use Rattle.a2_syntax.specs.declared.source.Body.{Body}
 use Rattle.a2_syntax.specs.declared.source.Body.TheVariants.{Empty, Instr, Org, Equ, Dfb, Dw, Asc, Ds}
 use Rattle.a2_syntax.specs.declared.source.Line.{Line}
 
--- stands in a type where an allocator would
+-- the type used in place of an allocator
 abbrev pub NoAllocator : Type 0
 NoAllocator = Unit {0}
 
@@ -19,7 +19,7 @@ NoAllocator = Unit {0}
 abbrev pub BareLine : Type 0
 BareLine = Line NoAllocator
 
--- the same term, beside another allocator
+-- the same term with another allocator type
 abbrev pub bare_term : {A B : Type 0} → Term A → Term B
 bare_term (Number n) = Number n
 bare_term (Named name) = Named name
@@ -52,7 +52,7 @@ bare_body (Dw es) = Dw (map bare_expr es)
 bare_body (Asc bytes) = Asc bytes
 bare_body (Ds e) = Ds (bare_expr e)
 
--- the same line, beside another allocator
+-- the same line with another allocator type
 abbrev pub bare_line : {A B : Type 0} → Line A → Line B
 bare_line line = record { label = line.label; body = bare_body line.body }
 

@@ -32,13 +32,13 @@ abbrev pub IsSign : List ℕ → Bool → Type 0
 IsSign piece false = piece ≡ codes "+"
 IsSign piece true = piece ≡ codes "-"
 
--- further terms, each behind its sign
+-- further terms, each preceded by its sign
 abbrev pub AreMoreTerms : {A : Type 0} → List (List ℕ) → List (Signed A) → Type 0
 AreMoreTerms pieces [] = pieces ≡ []
 AreMoreTerms pieces (t ∷ ts) =
     (sign piece : List ℕ) × (more : List (List ℕ)) × (pieces ≡ sign ∷ piece ∷ more) × IsSign sign t.minus × IsTerm piece t.term × AreMoreTerms more ts
 
--- a term without a sign, and further terms
+-- a term without a sign, followed by any further terms
 abbrev pub AreTerms : {A : Type 0} → List (List ℕ) → List (Signed A) → Type 0
 AreTerms pieces [] = ⊥
 AreTerms pieces (t ∷ ts) = (piece : List ℕ) × (more : List (List ℕ)) × (pieces ≡ piece ∷ more) × (t.minus ≡ false) × IsTerm piece t.term × AreMoreTerms more ts
@@ -49,25 +49,25 @@ IsPart Whole pieces rest = pieces ≡ rest
 IsPart Low pieces rest = pieces ≡ codes "<" ∷ rest
 IsPart High pieces rest = pieces ≡ codes ">" ∷ rest
 
--- a part of a sum of terms
+-- an optional `<` or `>`, then a sum of terms
 abbrev pub IsExpr : {A : Type 0} → List (List ℕ) → Expr A → Type 0
 IsExpr pieces e = (rest : List (List ℕ)) × IsPart e.part pieces rest × AreTerms rest e.terms
 
--- expressions with commas between them, one or more
+-- one or more expressions, separated by commas
 abbrev pub AreExprs : {A : Type 0} → List (List ℕ) → List (Expr A) → Type 0
 AreExprs pieces [] = ⊥
 AreExprs pieces (e ∷ []) = IsExpr pieces e
 AreExprs pieces (e ∷ f ∷ es) = (front back : List (List ℕ)) × (pieces ≡ front ++ codes "," ∷ back) × IsExpr front e × AreExprs back (f ∷ es)
 
--- the letter of a register, in either case
+-- the letter of a register, in upper or lower case
 abbrev pub IsLetter : List ℕ → List ℕ → Type 0
 IsLetter letter piece = map capital piece ≡ letter
 
--- a comma and the letter of a register behind these pieces
+-- these pieces followed by a comma and a register letter
 abbrev pub IsIndexed : List ℕ → List (List ℕ) → List (List ℕ) → Type 0
 IsIndexed letter pieces es = (x : List ℕ) × (pieces ≡ es ++ codes "," ∷ x ∷ []) × IsLetter letter x
 
--- parentheses round these pieces
+-- these pieces in parentheses
 abbrev pub IsEnclosed : List (List ℕ) → List (List ℕ) → Type 0
 IsEnclosed pieces es = pieces ≡ codes "(" ∷ es ++ codes ")" ∷ []
 
@@ -83,7 +83,7 @@ IsOperand pieces (InParenthesesX e) = (inner es : List (List ℕ)) × IsEnclosed
 IsOperand pieces (ParenthesesY e) = (front es : List (List ℕ)) × IsIndexed (codes "Y") pieces front × IsEnclosed front es × IsExpr es e
 IsOperand pieces (InParentheses e) = (es : List (List ℕ)) × IsEnclosed pieces es × IsExpr es e
 
--- the operations that shift a byte
+-- the instructions that shift a byte
 abbrev pub is_shift : Mnemonic → Bool
 is_shift Asl = true
 is_shift Lsr = true
@@ -91,18 +91,18 @@ is_shift Rol = true
 is_shift Ror = true
 is_shift m = false
 
--- the operand of an instruction; a shift with nothing behind it means the accumulator
+-- the operand of an instruction; a shift without an operand uses the accumulator
 abbrev pub IsOperandOf : {A : Type 0} → Mnemonic → List (List ℕ) → Operand A → Type 0
 IsOperandOf m pieces Nothing = (is_shift m ≡ false) × (pieces ≡ [])
 IsOperandOf {A} m pieces Accumulator = IsOperand {A = A} pieces Accumulator ⊎ ((is_shift m ≡ true) × (pieces ≡ []))
 IsOperandOf m pieces operand = IsOperand pieces operand
 
--- one character or more in quotes, and what they stand for
+-- one or more characters in quotes, and the bytes they stand for
 abbrev pub IsText : List (List ℕ) → List ℕ → Type 0
 IsText pieces bytes =
     (quote : ℕ) × (text piece : List ℕ) × (pieces ≡ piece ∷ []) × IsQuoted quote text piece × (0 < length text) × (bytes ≡ map (code_in quote) text)
 
--- an operation with these pieces behind it
+-- an operation followed by these pieces
 abbrev pub IsOperation : {A : Type 0} → Operation → List (List ℕ) → Body A → Type 0
 IsOperation (operations.Instr m) pieces (Instr mnemonic operand) = (mnemonic ≡ m) × IsOperandOf m pieces operand
 IsOperation operations.Org pieces (Org e) = IsExpr pieces e
@@ -113,27 +113,27 @@ IsOperation operations.Asc pieces (Asc bytes) = IsText pieces bytes
 IsOperation operations.Ds pieces (Ds e) = IsExpr pieces e
 IsOperation operation pieces body = ⊥
 
--- blanks, an operation in either case, and the pieces behind it
+-- spaces, the name of an operation in upper or lower case, and the pieces after it
 abbrev pub HasOperation : List ℕ → Operation → List (List ℕ) → Type 0
 HasOperation text operation pieces =
     (rest word after : List ℕ) × IsBehindBlanks text rest × (rest ≡ word ++ after) × (map capital word ≡ letters_of operation) × IsTrue (is_gap after) × Spells after pieces
 
--- what stands behind the label: nothing, or an operation
+-- what follows the label: nothing, or an operation
 abbrev pub IsBody : {A : Type 0} → List ℕ → Body A → Type 0
 IsBody text body =
     (Spells text [] × (body ≡ Empty)) ⊎ ((operation : Operation) × (pieces : List (List ℕ)) × HasOperation text operation pieces × IsOperation operation pieces body)
 
--- a label in the first column, and what stands behind it
+-- an optional label in the first column, and what follows it
 abbrev pub IsLabelled : List ℕ → Option (List ℕ) → List ℕ → Type 0
 IsLabelled text None rest = text ≡ rest
 IsLabelled text (Some name) rest = (text ≡ name ++ rest) × IsTrue (is_name name)
 
--- EQU has to have a label
+-- EQU must have a label
 abbrev pub may_stand : {A : Type 0} → Option (List ℕ) → Body A → Bool
 may_stand None (Equ e) = false
 may_stand label body = true
 
--- an optional label, and, behind a blank, nothing or an operation
+-- an optional label, then nothing, or a space and an operation
 abbrev pub IsStatement : {A : Type 0} → List ℕ → Line A → Type 0
 IsStatement text line = (rest : List ℕ) × IsLabelled text line.label rest × IsTrue (is_gap rest) × IsBody rest line.body × IsTrue (may_stand line.label line.body)
 

@@ -5,11 +5,12 @@ use Rattle.a2_text.specs.Refusals.{◌otherwise◌, refuse_if, first_line}
 use Rattle.a2_syntax.specs.declared.fault.Fault.{Fault}
 use Rattle.a2_syntax.specs.declared.fault.Fault.TheVariants.{TooLarge}
 
--- a line of more than 255 bytes
+-- a line must not have more than 255 bytes
 abbrev pub refuse_long_line : ℕ → List ℕ → Option Fault
 refuse_long_line n line = refuse_if (nat_lt 255 (length line)) (TooLarge n)
 
--- the refusal of a text of more than 65,536 bytes, else of one of more than 4,096 lines, else of its first line that is too long
+-- the error of a text that is too large: more than 65,536 bytes, otherwise more than 4,096 lines, otherwise the first
+-- line that is too long
 abbrev pub size_refusal : List ℕ → Option Fault
 size_refusal text =
     refuse_if (nat_lt 65536 (length text)) (TooLarge 0) otherwise

@@ -1,4 +1,4 @@
--- Listed instructions, as the source language reads them. This project's profile.
+-- Instructions in a listing, read as source text. This project's profile.
 use Rattle.std.specs.Prelude.{◌≡◌, ℕ, ◌<◌, false, IsTrue, List, [], ◌∷◌, drop, Some, None}
 use Rattle.std.specs.List.{All}
 use Rattle.a2_opcode.specs.declared.Mode.{Mode}
@@ -16,11 +16,11 @@ use Rattle.a2_syntax.specs.declared.source.Operand.{Operand}
 use Rattle.a2_syntax.specs.declared.source.Operand.TheVariants as form
 use Rattle.a2_syntax.specs.declared.source.Body.TheVariants.{Instr}
 
--- the expression that is one number
+-- the expression that consists of one number
 abbrev pub one_number : {A : Type 0} → ℕ → Expr A
 one_number n = record { part = Whole; terms = record { minus = false; term = Number n } ∷ [] }
 
--- the operand that is listed for a mode and a value
+-- the operand that a listing shows for a mode and a value
 abbrev pub listed_operand : Mode → ℕ → Operand NoAllocator
 listed_operand Implied value = form.Nothing
 listed_operand Accumulator value = form.Accumulator
@@ -36,11 +36,11 @@ listed_operand IndirectIndexed value = form.ParenthesesY (one_number value)
 listed_operand Indirect value = form.InParentheses (one_number value)
 listed_operand Relative value = form.Plain (one_number value)
 
--- a text whose pieces are an operand
+-- a text whose pieces form this operand
 abbrev pub SpellsOperand : List ℕ → Operand NoAllocator → Type 0
 SpellsOperand text operand = (pieces : List (List ℕ)) × Spells text pieces × IsOperand pieces operand
 
--- the operand's text, for each value that the mode can have
+-- the operand text of a listing is that operand, for each value that the mode can have
 abbrev pub ListedOperandIsOperand : Type 0
 ListedOperandIsOperand =
     (mode : Mode) (at value : ℕ) → value < 65536 → IsTrue (can_have mode at value)
@@ -50,7 +50,7 @@ ListedOperandIsOperand =
 abbrev pub listed_line : opcode.Instr → BareLine
 listed_line i = record { label = None; body = Instr i.mnemonic (listed_operand i.mode i.value) }
 
--- a line of a listing that shows an instruction, from its 19th place on: a blank, the mnemonic and the operand
+-- a listing line that shows an instruction, from column 19 on: a space, the mnemonic and the operand
 abbrev pub ListingIsLine : Type 0
 ListingIsLine =
     (bytes : List ℕ) (at : ℕ) (i : opcode.Instr) → All (λ byte. byte < 256) bytes → at < 65536 → decoded bytes at ≡ Some i

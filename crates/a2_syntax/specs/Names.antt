@@ -12,7 +12,7 @@ begins_name c = is_between (sign "A") (sign "Z") c || is_between (sign "a") (sig
 abbrev pub is_name_byte : ℕ → Bool
 is_name_byte c = begins_name c || is_digit c
 
--- A name is a letter or `_`, then letters, digits and `_`, at most 32 bytes, but not `A` or `a` alone.
+-- A name is a letter or `_`, then letters, digits and `_`. It has at most 32 bytes and is not just `A` or `a`.
 abbrev pub is_name : List ℕ → Bool
 is_name [] = false
 is_name (c ∷ cs) = begins_name c && list_all is_name_byte cs && nat_le (length cs) 31 && not (length cs == 0 && capital c == sign "A")

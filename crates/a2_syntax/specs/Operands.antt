@@ -1,4 +1,4 @@
--- What stands in an operand. This project's profile, the source language.
+-- The parts of an operand. This project's profile, the source language.
 use Rattle.std.specs.Prelude.{Option, Some, None}
 use Rattle.a2_syntax.specs.declared.source.Expr.{Expr}
 use Rattle.a2_syntax.specs.declared.source.Operand.{Operand}

@@ -1,4 +1,5 @@
--- A text of pieces: signs, words and texts in quotes, with blanks between them. This project's profile.
+-- The pieces (tokens) of a text: signs, names, numbers and quoted texts, with optional spaces between them. This
+-- project's profile.
 use Rattle.std.specs.Prelude.{◌≡◌, ℕ, ◌<◌, Bool, true, false, IsTrue, ◌||◌, ◌==◌, List, [], ◌∷◌, ◌++◌, length, ◌⊎◌, codes}
 use Rattle.std.specs.List.{AllPass}
 use Rattle.a2_text.specs.Bytes.{is_among, is_blank}
@@ -14,12 +15,12 @@ is_sign c = is_among (codes "#,()<>+-*") c
 abbrev pub is_mark : ℕ → Bool
 is_mark c = is_among (codes "$%") c
 
--- no name byte comes next
+-- the next byte, if any, is not a name byte
 abbrev pub EndsRun : List ℕ → Type 0
 EndsRun [] = Unit {0}
 EndsRun (c ∷ cs) = is_name_byte c ≡ false
 
--- one name byte or more, and no further one
+-- one or more name bytes that are not followed by another one
 abbrev pub IsNameRun : List ℕ → List ℕ → Type 0
 IsNameRun run rest = (0 < length run) × AllPass is_name_byte run × EndsRun rest
 
@@ -27,7 +28,8 @@ IsNameRun run rest = (0 < length run) × AllPass is_name_byte run × EndsRun res
 abbrev pub IsQuoted : ℕ → List ℕ → List ℕ → Type 0
 IsQuoted quote text piece = IsTrue (is_quote quote) × AllPass (is_quotable quote) text × (piece ≡ quote ∷ text ++ quote ∷ [])
 
--- a piece and what follows it: a sign, a mark and a run of name bytes, a text in quotes, or a run of name bytes
+-- a piece and what follows it. A piece is a sign, a mark and a run of name bytes, a quoted text, or a run of name
+-- bytes.
 abbrev pub IsPiece : List ℕ → List ℕ → Type 0
 IsPiece piece rest =
     ((c : ℕ) × (piece ≡ c ∷ []) × IsTrue (is_sign c)) ⊎
@@ -35,21 +37,21 @@ IsPiece piece rest =
     (((quote : ℕ) × (text : List ℕ) × IsQuoted quote text piece) ⊎
     IsNameRun piece rest))
 
--- text is blanks, and then rest
+-- text consists of spaces followed by rest
 abbrev pub IsBehindBlanks : List ℕ → List ℕ → Type 0
 IsBehindBlanks text rest = (gap : List ℕ) × AllPass is_blank gap × (text ≡ gap ++ rest)
 
--- nothing, or `;` and a comment, which may hold any byte
+-- the text is empty, or `;` and a comment, which may hold any byte
 abbrev pub is_over : List ℕ → Bool
 is_over [] = true
 is_over (c ∷ cs) = c == sign ";"
 
--- nothing, a blank, or the `;` of a comment
+-- the text is empty, or starts with a space or the `;` of a comment
 abbrev pub is_gap : List ℕ → Bool
 is_gap [] = true
 is_gap (c ∷ cs) = is_blank c || c == sign ";"
 
--- the pieces of a text, in which blanks may stand before each piece and at the end, and a comment behind them
+-- the pieces of a text; there may be spaces before each piece and at the end, and then a comment
 abbrev pub Spells : List ℕ → List (List ℕ) → Type 0
 Spells text [] = (rest : List ℕ) × IsBehindBlanks text rest × IsTrue (is_over rest)
 Spells text (piece ∷ pieces) =

@@ -1,4 +1,4 @@
--- What stands at the front of a text, and kinds of operations. No public clause cites this file.
+-- Functions that read the start of a text, and kinds of operations. No public clause cites this file.
 use Rattle.std.specs.Prelude.{ℕ, ◌+◌, Bool, ◌==◌, List, [], ◌∷◌, drop, false, if◌then◌else◌}
 use Rattle.std.specs.List.{prefix_len, list_any}
 use Rattle.a2_text.specs.Signs.{sign}
@@ -15,20 +15,20 @@ use Rattle.a2_syntax.specs.declared.source.Expr.{Expr}
 abbrev pub run_len : List ℕ → ℕ
 run_len text = prefix_len is_name_byte text
 
--- how much a closing quote adds to what stands before it, and 0 where there is none
+-- how much a closing quote adds to the length before it, or 0 if there is no closing quote
 abbrev pub closed_len : ℕ → ℕ → List ℕ → ℕ
 closed_len quote n [] = 0
 closed_len quote n (c ∷ cs) = if c == quote then n + 2 else 0
 
--- how long a quoted text is, from what stands behind the opening quote, or 0 where there is none
+-- the length of a quoted text, given what follows the opening quote; 0 if there is no quoted text
 abbrev pub quoted_len : ℕ → List ℕ → ℕ
 quoted_len quote text = closed_len quote (prefix_len (is_quotable quote) text) (drop (prefix_len (is_quotable quote) text) text)
 
--- how long a mark and a run are, from what stands behind the mark, or 0 where there is no run
+-- the length of a mark and its run, given what follows the mark; 0 if there is no run
 abbrev pub marked_len : List ℕ → ℕ
 marked_len text = if run_len text == 0 then 0 else 1 + run_len text
 
--- how long the piece at the front is, or 0 where there is none
+-- the length of the first piece, or 0 if the text does not start with a piece
 abbrev pub piece_len : List ℕ → ℕ
 piece_len [] = 0
 piece_len (c ∷ cs) =
@@ -37,12 +37,12 @@ piece_len (c ∷ cs) =
     if is_quote c then quoted_len c cs else
     run_len (c ∷ cs)
 
--- a piece that is this one byte
+-- a piece that is just this byte
 abbrev pub is_byte : ℕ → List ℕ → Bool
 is_byte c (x ∷ []) = x == c
 is_byte c piece = false
 
--- the part that an expression asks for, and the pieces of its terms
+-- which part of its sum an expression selects, and the pieces of its terms
 abbrev pub part_of : List (List ℕ) → Part × List (List ℕ)
 part_of [] = (Whole, [])
 part_of (piece ∷ pieces) =
@@ -53,12 +53,12 @@ part_of (piece ∷ pieces) =
 abbrev pub has_comma : List (List ℕ) → Bool
 has_comma pieces = list_any (is_byte (sign ",")) pieces
 
--- an instruction, and no directive
+-- an instruction, not a directive
 abbrev pub IsInstr : Operation → Type 0
 IsInstr (Instr m) = Unit {0}
 IsInstr directive = ⊥
 
--- the pieces of a text are these expressions, with commas between them
+-- the pieces of a text are these expressions, separated by commas
 abbrev pub SpellsExprs : {A : Type 0} → List ℕ → List (Expr A) → Type 0
 SpellsExprs text es = (pieces : List (List ℕ)) × Spells text pieces × AreExprs pieces es
 

@@ -1,4 +1,4 @@
--- What stands round the expression of an operand. No public clause cites this file.
+-- The punctuation and register letter around the expression of an operand. No public clause cites this file.
 use Rattle.std.specs.Prelude.{ℕ, Bool, false, ◌==◌, List, [], ◌∷◌, Option, Some, None, option_map, option_and_then, if◌then◌else◌}
 use Rattle.a2_text.specs.Bytes.{capital}
 use Rattle.a2_text.specs.Signs.{sign}
@@ -18,7 +18,7 @@ of_shape shapes.InParenthesesX e = InParenthesesX e
 of_shape shapes.ParenthesesY e = ParenthesesY e
 of_shape shapes.InParentheses e = InParentheses e
 
--- a letter alone, in either case
+-- a single letter, in upper or lower case
 abbrev pub is_letter : ℕ → List ℕ → Bool
 is_letter c (x ∷ []) = capital x == c
 is_letter c piece = false
@@ -27,26 +27,26 @@ abbrev pub is_accumulator : List (List ℕ) → Bool
 is_accumulator (piece ∷ []) = is_letter (sign "A") piece
 is_accumulator pieces = false
 
--- what stands behind a first piece that passes
+-- the pieces after a first piece that passes
 abbrev pub behind : (List ℕ → Bool) → List (List ℕ) → Option (List (List ℕ))
 behind passes [] = None
 behind passes (piece ∷ pieces) = if passes piece then Some pieces else None
 
--- what stands before a last piece that passes
+-- the pieces before a last piece that passes
 abbrev pub before : (List ℕ → Bool) → List (List ℕ) → Option (List (List ℕ))
 before passes [] = None
 before passes (piece ∷ []) = if passes piece then Some [] else None
 before passes (piece ∷ next ∷ pieces) = option_map (λ front. piece ∷ front) (before passes (next ∷ pieces))
 
--- what stands before a comma and the letter of a register
+-- the pieces before a final comma and register letter
 abbrev pub indexed : ℕ → List (List ℕ) → Option (List (List ℕ))
 indexed c pieces = option_and_then (before (is_byte (sign ","))) (before (is_letter c) pieces)
 
--- what stands in parentheses
+-- the pieces between parentheses
 abbrev pub enclosed : List (List ℕ) → Option (List (List ℕ))
 enclosed pieces = option_and_then (before (is_byte (sign ")"))) (behind (is_byte (sign "(")) pieces)
 
--- the shape of an operand of pieces that are no letter alone, and the pieces of its expression
+-- the shape of an operand that is not a single letter, and the pieces of its expression
 abbrev pub shape_of : List (List ℕ) → Shape × List (List ℕ)
 shape_of pieces = elim (behind (is_byte (sign "#")) pieces) [
   | Some es ↦ (shapes.Immediate, es)

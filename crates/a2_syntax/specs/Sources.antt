@@ -1,4 +1,4 @@
--- A source text and its lines, or its first refusal. This project's profile.
+-- A source text and its lines, or its first error. This project's profile.
 use Rattle.std.specs.Prelude.{◌≡◌, ℕ, ◌+◌, List, ◌∷◌, ◌++◌, length, Some, None, ◌⊎◌}
 use Rattle.std.specs.List.{AllZip}
 use Rattle.a2_text.specs.Lines.{lines}
@@ -17,13 +17,13 @@ AreLines {A} = AllZip (IsLine {A = A})
 abbrev pub IsSource : List ℕ → List BareLine → Type 0
 IsSource text source = (size_refusal text ≡ None) × AreLines (lines text) source
 
--- the line of this number is the first that is not in the grammar
+-- the line with this number is the first that does not follow the grammar
 abbrev pub FirstUnread : List (List ℕ) → ℕ → Type 0
 FirstUnread texts n =
     (before : List (List ℕ)) × (text : List ℕ) × (after : List (List ℕ)) × (texts ≡ before ++ text ∷ after) × (n ≡ length before + 1) ×
     ((read : List BareLine) × AreLines before read) × ((line : BareLine) → IsLine text line → ⊥)
 
--- the first refusal of a text that is no source
+-- the first error of a text that is not a valid source
 abbrev pub IsTextRefusal : List ℕ → Fault → Type 0
 IsTextRefusal text fault =
     (size_refusal text ≡ Some fault) ⊎

@@ -1,10 +1,10 @@
--- The texts of refusals. This project's profile.
+-- The texts of error messages. This project's profile.
 use Rattle.std.specs.Prelude.{ℕ, List, codes}
 use Rattle.a2_text.specs.Refusals.{of_line}
 use Rattle.a2_syntax.specs.declared.fault.Fault.{Fault}
 use Rattle.a2_syntax.specs.declared.fault.Fault.TheVariants.{TooLarge, Syntax, TooManyNames, Duplicate, Unknown, Forward, NoMode, Range, Branch, Outside, Overlap, NoCode, Memory}
 
--- the line of a refusal, or 0 where it is of no line, and its text behind the line
+-- the line of an error, or 0 if it belongs to no line, and the message after the line
 abbrev pub fault_parts : Fault → ℕ × List ℕ
 fault_parts (TooLarge n) = (n, codes "E1 TOO LARGE")
 fault_parts (Syntax n) = (n, codes "E2 SYNTAX")

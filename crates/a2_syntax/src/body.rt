@@ -1,4 +1,4 @@
-//! What operations do with the pieces behind them.
+//! Reads the operands of operations from their pieces.
 
 ghost use Rattle.std.specs.Prelude.{◌≡◌, ◌≤◌, ◌<◌, ℕ, List, true, length, map, IfOk, MatchOption};
 ghost use Rattle.std.specs.List.{list_all, All};
@@ -22,7 +22,8 @@ fn all_quotable(quote: u8, text: &[u8]) -> bool
     text.iter().all(|c| is_quotable(quote, *c))
 }
 
-// The quote and the characters of a text in quotes that has any.
+// Returns the quote character and the text of a quoted piece, or `None` if the piece is not quoted or the text is
+// empty.
 fn unquoted(piece: &[u8]) -> Option<(u8, &[u8])>
     ensures { MatchOption result
         ((quote : ℕ) (text : List ℕ) → IsQuoted quote text piece.now → 0 < length text → ⊥)
@@ -39,7 +40,7 @@ fn unquoted(piece: &[u8]) -> Option<(u8, &[u8])>
     Some((*quote, text))
 }
 
-// The codes of the characters in quotes of this kind.
+// Returns the codes of characters between quotes of this kind.
 fn codes<A: Allocator>(alloc: A, quote: u8, text: &[u8]) -> Result<Bytes<A>, AllocError>
     requires plain { All (λ c. c ≤ 127) text.now }
     requires short { length text.now ≤ 255 }
@@ -52,7 +53,7 @@ fn codes<A: Allocator>(alloc: A, quote: u8, text: &[u8]) -> Result<Bytes<A>, All
     Ok(Few::of(bytes))
 }
 
-// What a text in quotes, the only piece, stands for.
+// Returns the bytes of a quoted text, which must be the only piece.
 fn text<A: Allocator>(alloc: A, pieces: &[&[u8]]) -> Result<Option<Bytes<A>>, AllocError>
     requires { All (λ p. length p ≤ 255) (map (λ x. x.now) pieces.now) }
     ensures { IfOk result (λ o. Finds (IsText (map (λ x. x.now) pieces.now)) o) }
@@ -66,7 +67,7 @@ fn text<A: Allocator>(alloc: A, pieces: &[&[u8]]) -> Result<Option<Bytes<A>>, Al
     Ok(Some(codes(alloc, quote, text)?))
 }
 
-// The operand of an instruction.
+// Reads the operand of an instruction.
 fn operand_of<A: Allocator + Copy>(
     alloc: A,
     mnemonic: Mnemonic,
@@ -84,7 +85,7 @@ fn operand_of<A: Allocator + Copy>(
     }))
 }
 
-// What an operation does with these pieces behind it.
+// Reads the body of an operation from the pieces after its name.
 pub(crate) fn operation_body<A: Allocator + Copy>(
     alloc: A,
     operation: Operation,

@@ -1,4 +1,4 @@
-//! Expressions, alone and with commas between them.
+//! Reads expressions, single or separated by commas.
 
 ghost use Rattle.std.specs.Prelude.{◌<◌, ◌∷◌, codes, ◌≡◌, ◌+◌, ◌≤◌, ◌++◌, List, take, drop, length, map, true, false, None, IfOk};
 ghost use Rattle.a2_syntax.specs.Relations.{Finds};
@@ -10,7 +10,8 @@ use crate::source::{Expr, Exprs, Few, Part, Signed, Terms};
 use crate::term::{minus, term};
 use std::alloc::{AllocError, Allocator};
 
-// Puts the terms, each behind its sign, behind those found; false where the pieces are none.
+// Appends further terms, each preceded by its sign, to those already found. Returns false if the pieces are not such
+// terms.
 #[inline(never)]
 fn more_terms<A: Allocator + Copy>(
     alloc: A,
@@ -42,7 +43,7 @@ fn more_terms<A: Allocator + Copy>(
     }
 }
 
-// The terms of an expression.
+// Reads the terms of an expression.
 fn terms<A: Allocator + Copy>(alloc: A, pieces: &[&[u8]]) -> Result<Option<Terms<A>>, AllocError>
     requires { length pieces.now ≤ 255 }
     ensures { IfOk result (λ o. Finds (AreTerms (map (λ x. x.now) pieces.now)) o) }
@@ -53,7 +54,7 @@ fn terms<A: Allocator + Copy>(alloc: A, pieces: &[&[u8]]) -> Result<Option<Terms
     let Some(term) = term(alloc, *first)? else {
         return Ok(None);
     };
-    // Between two terms stands a sign.
+    // There is a sign between any two terms.
     let mut found = Vec::with_capacity(alloc, pieces.len() / 2 + 1)?;
     found.push_reserved(Signed { minus: false, term });
     if others.len() == 0 {
@@ -65,14 +66,14 @@ fn terms<A: Allocator + Copy>(alloc: A, pieces: &[&[u8]]) -> Result<Option<Terms
     Ok(Some(Few::of(found)))
 }
 
-// Whether a piece is this one byte.
+// Returns whether a piece is just this byte.
 pub(crate) fn is_byte(piece: &[u8], c: u8) -> bool
     ensures { result ≡ is_byte c piece.now }
 {
     matches!(piece, [x] if *x == c)
 }
 
-// The part that an expression asks for, and the pieces of its terms.
+// Returns which part of its sum the expression selects, and the pieces of its terms.
 fn part<'a, 'b>(pieces: &'a [&'b [u8]]) -> (Part, &'a [&'b [u8]])
     ensures is { (result.0, map (λ x. x.now) result.1.now) ≡ part_of (map (λ x. x.now) pieces.now) }
     ensures within { length result.1.now ≤ length pieces.now }
@@ -84,7 +85,7 @@ fn part<'a, 'b>(pieces: &'a [&'b [u8]]) -> (Part, &'a [&'b [u8]])
     }
 }
 
-// The expression that pieces are.
+// Reads the pieces as one expression.
 pub(crate) fn expr<A: Allocator + Copy>(
     alloc: A,
     pieces: &[&[u8]],
@@ -96,7 +97,7 @@ pub(crate) fn expr<A: Allocator + Copy>(
     made!(terms(alloc, rest)?, terms => Expr { part, terms })
 }
 
-// Where the first comma is, or the end.
+// Returns the index of the first comma, or the number of pieces if there is no comma.
 fn comma_at(pieces: &[&[u8]]) -> usize
     ensures front { has_comma (map (λ x. x.now) (take result pieces.now)) ≡ false }
     ensures comma { result < length pieces.now
@@ -111,7 +112,7 @@ fn comma_at(pieces: &[&[u8]]) -> usize
     pieces.len()
 }
 
-// The expressions that pieces with commas between them are.
+// Reads the pieces as expressions separated by commas.
 pub(crate) fn exprs<A: Allocator + Copy>(
     alloc: A,
     pieces: &[&[u8]],
@@ -119,7 +120,7 @@ pub(crate) fn exprs<A: Allocator + Copy>(
     requires { length pieces.now ≤ 255 }
     ensures { IfOk result (λ o. Finds (AreExprs (map (λ x. x.now) pieces.now)) o) }
 {
-    // Between two expressions stands a comma.
+    // There is a comma between any two expressions.
     let mut found = Vec::with_capacity(alloc, pieces.len() / 2 + 1)?;
     let mut rest = &pieces[..];
     'exprs: loop {

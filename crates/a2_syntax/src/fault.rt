@@ -1,4 +1,4 @@
-//! Why a source text is refused.
+//! The errors of a source text.
 
 ghost use Rattle.std.specs.Prelude.{◌≡◌, ◌≤◌, Some, length};
 ghost use Rattle.a2_syntax.specs.Texts.{fault_line, fault_parts, fault_text};
@@ -9,40 +9,40 @@ use std::alloc::{AllocError, AllocFailed};
 use std::error::Error;
 use std::fmt;
 
-/// Why a source text is refused. A line counts from 1, and 0 is no line.
+/// An error of a source text. Most variants hold a line number, counted from 1; 0 means no particular line.
 #[derive(Clone, Copy, Debug, PartialEq, Eq, Drop)]
 pub enum Fault {
     /// E1: the text has more than 65,536 bytes (line 0), more than 4,096 lines (line 4,097), or a line of more than
     /// 255 bytes.
     TooLarge(u16),
-    /// E2: the line is not in the grammar.
+    /// E2: the line does not follow the grammar.
     Syntax(u16),
     /// E3: the line has the 1,025th label.
     TooManyNames(u16),
-    /// E4: the line's label is that of an earlier line.
+    /// E4: an earlier line already has this label.
     Duplicate(u16),
-    /// E5: a name of the line is defined nowhere.
+    /// E5: the line uses a name that no line defines.
     Unknown(u16),
-    /// E6: a name in ORG, EQU or DS is not defined in an earlier line.
+    /// E6: ORG, EQU or DS uses a name that no earlier line defines.
     Forward(u16),
-    /// E7: the instruction has no such addressing mode.
+    /// E7: the instruction does not have this addressing mode.
     NoMode(u16),
-    /// E8: a value of the line is out of its range.
+    /// E8: a value in the line is out of range.
     Range(u16),
-    /// E9: the branch goes too far.
+    /// E9: the branch target is too far away.
     Branch(u16),
-    /// E10: a byte of the line lies at or above $C000.
+    /// E10: a byte of the line is at or above $C000.
     Outside(u16),
-    /// E11: a byte of the line lies where an earlier statement holds one.
+    /// E11: a byte of the line is at an address where an earlier statement already has one.
     Overlap(u16),
-    /// E12: there is no instruction.
+    /// E12: the source has no instruction.
     NoCode,
-    /// A growth of memory was refused.
+    /// Memory could not be allocated.
     Memory,
 }
 
 impl Fault {
-    // The line of the refusal, and what it says behind it.
+    // Returns the error's line number and the message that follows it.
     fn parts(&self) -> (u16, &'static str)
         ensures said { (result.0, result.1.now) ≡ fault_parts self.now }
         ensures short { length result.1.now ≤ 22 }
@@ -64,14 +64,15 @@ impl Fault {
         }
     }
 
-    /// The line of the refusal, counted from 1, or 0 where it is of no line.
+    /// Returns the line of the error, counted from 1, or 0 if it belongs to no line.
     pub fn line(&self) -> u16
         ensures { result ≡ fault_line self.now }
     {
         self.parts().0
     }
 
-    /// How the refusal is spelt: `LINE `, the line and a blank, where it is of a line, and what it says.
+    /// Returns the error message. If the error belongs to a line, the message starts with `LINE `, the line number
+    /// and a space.
     pub fn text(&self) -> RefusalText
         ensures { result.bytes ≡ fault_text self.now }
     {

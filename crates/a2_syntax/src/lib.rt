@@ -1,9 +1,9 @@
-//! Source texts of the assembler: their lines, and what each line says.
+//! Parses source texts of the assembler into lines, each with its label and its operation.
 //!
-//! How it is called is shown in CALLING.md.
+//! CALLING.md shows how to use this crate.
 #![tactic(auto)]
 
-// What is made of something, where that was found: `map` of an `Option`, which the prover follows without a closure.
+// Wraps a found value with `$made`, like `Option::map`. The prover can follow a macro, which has no closure.
 macro_rules! made {
     ($found:expr, $it:ident => $made:expr) => {
         match $found {

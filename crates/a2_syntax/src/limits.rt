@@ -10,12 +10,16 @@ use crate::fault::Fault;
 use a2_text::cut;
 use std::alloc::Allocator;
 
-/// The lines of a text, in order, without their ends: its pieces between line feeds, each without a carriage return
-/// at its end. A final empty piece is no line.
+/// Returns the lines of a text in order, without line ends. Lines end at a line feed, and a carriage return at the
+/// end of a line is removed. An empty last line is not counted.
 ///
-/// Refused by `TooLarge` where the text has more than 65,536 bytes (line 0), else where it has more than 4,096 lines
-/// (line 4,097), else where a line has more than 255 bytes (the first such line, counted from 1); and for want of
-/// memory.
+/// Returns `TooLarge` in these cases, checked in this order:
+///
+/// - The text has more than 65,536 bytes (line 0).
+/// - It has more than 4,096 lines (line 4,097).
+/// - A line has more than 255 bytes (the first such line, counted from 1).
+///
+/// Returns `Memory` if memory runs out.
 pub fn lines<A: Allocator>(alloc: A, text: &[u8]) -> Result<Vec<&[u8], A>, Fault>
     ensures found { IfOk result (λ found. map (λ x. x.now) found.items ≡ cut.lines text.now) }
     ensures few { IfOk result (λ found. vec_len found ≤ 4096) }
@@ -36,7 +40,7 @@ pub fn lines<A: Allocator>(alloc: A, text: &[u8]) -> Result<Vec<&[u8], A>, Fault
     }
 }
 
-// The number of the first line that is too long.
+// Returns the number of the first line that is too long.
 fn first_long(found: &[&[u8]]) -> Option<u16>
     requires { length found.now ≤ 4096 }
     ensures { MatchOption result

@@ -1,4 +1,4 @@
-//! A source line.
+//! Parses one source line.
 
 ghost use Rattle.std.specs.Prelude.{◌≡◌, ◌≤◌, not, length, None, IfOk};
 ghost use Rattle.a2_syntax.specs.Relations.{Finds};
@@ -15,7 +15,7 @@ use crate::word::is_name;
 use a2_text::behind_blanks;
 use std::alloc::{AllocError, Allocator};
 
-// What stands behind the label. The pieces found before are dropped.
+// Parses what follows the label. The previous contents of `pieces` are discarded.
 fn body<'a, A: Allocator + Copy>(
     alloc: A,
     text: &'a [u8],
@@ -50,14 +50,14 @@ fn needs_label<A: Allocator>(body: &Body<A>) -> bool
     matches!(body, Body::Equ(_))
 }
 
-// Whether a line begins with `*`.
+// Returns whether a line begins with `*`.
 fn is_starred(text: &[u8]) -> bool
     ensures { result ≡ is_starred text.now }
 {
     matches!(text, [b'*', ..])
 }
 
-// A line, or None where it is not in the grammar. The pieces found before are dropped.
+// Parses a line; returns `None` if it does not follow the grammar. The previous contents of `pieces` are discarded.
 pub(crate) fn line<'a, A: Allocator + Copy>(
     alloc: A,
     text: &'a [u8],

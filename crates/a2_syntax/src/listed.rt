@@ -1,15 +1,15 @@
-//! Laws: what a listing shows, as source text. The calls do nothing: their contracts are the laws.
+//! Laws: text shown in a listing is valid source text. The functions do nothing; their contracts are the laws.
 
 ghost use Rattle.a2_syntax.specs.Listed.{ListedOperandIsOperand, ListingIsLine};
 
-/// For every addressing mode and each value that it can have, the operand's text in a listing is, by the grammar, an
-/// operand of the form listed, with the value listed.
+/// For every addressing mode and each value it can have, the operand text in a listing follows the grammar. It is an
+/// operand of the listed form with the listed value.
 pub fn a_listed_operand_is_its_operand()
     ensures { ListedOperandIsOperand }
 {}
 
-/// For all bytes that decode to an instruction, their line of a listing is, from its 19th place on, the source line of
-/// that instruction, without a label: a blank, the mnemonic and the operand.
+/// For all bytes that decode to an instruction, their listing line from column 19 on is the source line of that
+/// instruction without a label. That is a space, the mnemonic and the operand.
 pub fn a_listing_is_its_line()
     ensures { ListingIsLine }
 {}

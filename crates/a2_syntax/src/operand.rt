@@ -1,4 +1,4 @@
-//! The operands of instructions.
+//! Reads the operands of instructions.
 
 ghost use Rattle.std.specs.Prelude.{◌≡◌, ◌<◌, ◌≤◌, length, map, IfOk, IfSome, option_map};
 ghost use Rattle.a2_syntax.specs.Relations.{Finds};
@@ -11,7 +11,7 @@ use crate::source::{Expr, Operand};
 use a2_text::capital;
 use std::alloc::{AllocError, Allocator};
 
-// What stands round an operand's expression.
+// The punctuation and register letter around an operand's expression.
 #[derive(Clone, Copy, Drop)]
 pub(crate) enum Shape {
     Immediate,
@@ -23,14 +23,14 @@ pub(crate) enum Shape {
     InParentheses,
 }
 
-// Whether a piece is this letter, in either case.
+// Returns whether a piece is just this letter, in upper or lower case.
 fn is_letter(piece: &[u8], c: u8) -> bool
     ensures { result ≡ shapes.is_letter c piece.now }
 {
     matches!(piece, [x] if capital(*x) == c)
 }
 
-// What stands behind a sign at the front.
+// Returns the pieces after this first piece, or `None` if the first piece is another one.
 fn behind<'a, 'b>(pieces: &'a [&'b [u8]], c: u8) -> Option<&'a [&'b [u8]]>
     ensures is { option_map (λ r. map (λ x. x.now) r.now) result ≡ shapes.behind (is_byte c) (map (λ x. x.now) pieces.now) }
     ensures within { IfSome result (λ r. length r.now ≤ length pieces.now) }
@@ -39,7 +39,7 @@ fn behind<'a, 'b>(pieces: &'a [&'b [u8]], c: u8) -> Option<&'a [&'b [u8]]>
     if is_byte(*first, c) { Some(rest) } else { None }
 }
 
-// What stands before a sign at the end.
+// Returns the pieces before this last piece, or `None` if the last piece is another one.
 fn front_of<'a, 'b>(pieces: &'a [&'b [u8]], c: u8) -> Option<&'a [&'b [u8]]>
     ensures is { option_map (λ r. map (λ x. x.now) r.now) result ≡ shapes.before (is_byte c) (map (λ x. x.now) pieces.now) }
     ensures within { IfSome result (λ r. length r.now ≤ length pieces.now) }
@@ -48,7 +48,7 @@ fn front_of<'a, 'b>(pieces: &'a [&'b [u8]], c: u8) -> Option<&'a [&'b [u8]]>
     if is_byte(*last, c) { Some(front) } else { None }
 }
 
-// What stands before a comma and the letter of a register.
+// Returns the pieces before a final comma and register letter.
 fn indexed<'a, 'b>(pieces: &'a [&'b [u8]], c: u8) -> Option<&'a [&'b [u8]]>
     ensures is { option_map (λ r. map (λ x. x.now) r.now) result ≡ shapes.indexed c (map (λ x. x.now) pieces.now) }
     ensures within { IfSome result (λ r. length r.now ≤ length pieces.now) }
@@ -67,7 +67,7 @@ fn is_accumulator(pieces: &[&[u8]]) -> bool
     matches!(pieces, [a] if is_letter(*a, b'A'))
 }
 
-// What stands in parentheses.
+// Returns the pieces between parentheses.
 fn enclosed<'a, 'b>(pieces: &'a [&'b [u8]]) -> Option<&'a [&'b [u8]]>
     ensures is { option_map (λ r. map (λ x. x.now) r.now) result ≡ shapes.enclosed (map (λ x. x.now) pieces.now) }
     ensures within { IfSome result (λ r. length r.now ≤ length pieces.now) }
@@ -76,7 +76,8 @@ fn enclosed<'a, 'b>(pieces: &'a [&'b [u8]]) -> Option<&'a [&'b [u8]]>
     front_of(rest, b')')
 }
 
-// The shape of an operand that is neither nothing nor a letter alone, and the pieces of its expression.
+// Returns the shape of an operand, and the pieces of its expression. The operand must not be empty or a single
+// letter.
 fn shape_of<'a, 'b>(pieces: &'a [&'b [u8]]) -> (Shape, &'a [&'b [u8]])
     ensures is { (result.0, map (λ x. x.now) result.1.now) ≡ shapes.shape_of (map (λ x. x.now) pieces.now) }
     ensures within { length result.1.now ≤ length pieces.now }
@@ -117,7 +118,8 @@ fn shaped<A: Allocator>(shape: Shape, found: Option<Expr<A>>) -> Option<Operand<
     })
 }
 
-// The operand that pieces are, one or more. Apart from the function of a line, which so keeps its registers.
+// Reads one or more pieces as an operand. Not inlined, so that the function that parses a line keeps its values in
+// registers.
 #[inline(never)]
 pub(crate) fn operand<A: Allocator + Copy>(
     alloc: A,

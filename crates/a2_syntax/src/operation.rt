@@ -1,4 +1,4 @@
-//! The words of operations.
+//! The names of operations.
 
 ghost use Rattle.std.specs.Prelude.{◌≡◌, map, Some, IfSome, IfNone};
 ghost use Rattle.a2_text.specs.Bytes.{capital as capital_of};
@@ -9,27 +9,27 @@ ghost use Rattle.a2_syntax.specs.declared.operation.Operation.{Operation as Decl
 use a2_opcode::Mnemonic;
 use a2_text::capital;
 
-/// What the word behind a line's label says: an instruction's mnemonic, or a directive. The grammar tells by it what
-/// `Body` a line may have.
+/// What the name after a line's label stands for: a mnemonic or a directive. It determines which `Body` the grammar
+/// allows in the line.
 #[derive(Clone, Copy, Drop)]
 pub enum Operation {
     /// An instruction of the processor.
     Instr(Mnemonic),
-    /// `ORG`, which sets the address.
+    /// `ORG`: sets the address.
     Org,
-    /// `EQU`, which gives the label a value.
+    /// `EQU`: gives the label a value.
     Equ,
-    /// `DFB`, bytes.
+    /// `DFB`: bytes.
     Dfb,
-    /// `DW`, words of two bytes.
+    /// `DW`: 16-bit words.
     Dw,
-    /// `ASC`, the codes of a text.
+    /// `ASC`: the codes of a text.
     Asc,
-    /// `DS`, so many zero bytes.
+    /// `DS`: this many zero bytes.
     Ds,
 }
 
-// The directive of these letters.
+// Returns the directive with these letters.
 fn directive(letters: &[u8]) -> Option<Operation>
     ensures found { IfSome result (λ o. letters_of o ≡ letters.now) }
     ensures none { IfNone result ((o : DeclaredOperation) → letters_of o ≡ letters.now → IsInstr o) }
@@ -45,7 +45,7 @@ fn directive(letters: &[u8]) -> Option<Operation>
     }
 }
 
-// The directive that a word names, in either case.
+// Returns the directive with this name, in upper or lower case.
 fn directive_named(word: &[u8]) -> Option<Operation>
     ensures found { IfSome result (λ o. letters_of o ≡ map capital_of word.now) }
     ensures none { IfNone result ((o : DeclaredOperation) → letters_of o ≡ map capital_of word.now → IsInstr o) }
@@ -57,7 +57,7 @@ fn directive_named(word: &[u8]) -> Option<Operation>
     }
 }
 
-// The operation that a word names, in either case.
+// Returns the operation with this name, in upper or lower case.
 pub(crate) fn named(word: &[u8]) -> Option<Operation>
     ensures found { IfSome result (λ o. letters_of o ≡ map capital_of word.now) }
     ensures only { (o : DeclaredOperation) → letters_of o ≡ map capital_of word.now → result ≡ Some o }

@@ -1,4 +1,4 @@
-//! Source texts.
+//! Parses source texts.
 
 ghost use Rattle.std.specs.Prelude.{◌≡◌, ◌≢◌, ◌≤◌, List, ℕ, map, length, IfOk, IfErr};
 ghost use Rattle.std.specs.List.{All};
@@ -12,7 +12,7 @@ use crate::line::line;
 use crate::source::Source;
 use std::alloc::Allocator;
 
-// The lines of a source text that is cut.
+// Parses a source text that is already split into lines.
 fn parse_lines<'a, A: Allocator + Copy>(alloc: A, texts: &[&'a [u8]]) -> Result<Source<A>, Fault>
     requires few { length texts.now ≤ 4096 }
     requires short { All (λ text. length text.now ≤ 255) texts.now }
@@ -35,10 +35,11 @@ fn parse_lines<'a, A: Allocator + Copy>(alloc: A, texts: &[&'a [u8]]) -> Result<
     Ok(Source::of(parsed))
 }
 
-/// The lines of a source text, of any bytes, one for each line of the text and in its order.
+/// Parses a source text, which may hold any bytes. The result has one line for each line of the text, in the same
+/// order.
 ///
-/// Refused by `TooLarge` as `lines` says, else by `Syntax` with the number of the first line, counted from 1, that is
-/// not in the grammar; and for want of memory.
+/// Returns `TooLarge` as described for `lines`. Otherwise returns `Syntax` with the number (from 1) of the first line
+/// that does not follow the grammar. Returns `Memory` if memory runs out.
 pub fn parse<A: Allocator + Copy>(alloc: A, text: &[u8]) -> Result<Source<A>, Fault>
     ensures read { IfOk result (λ source. IsSource text.now source) }
     ensures only { IfOk result (λ source. (others : List BareLine) → IsSource text.now others → others ≡ source) }
@@ -48,19 +49,20 @@ pub fn parse<A: Allocator + Copy>(alloc: A, text: &[u8]) -> Result<Source<A>, Fa
     parse_lines(alloc, texts.as_slice())
 }
 
-/// A law, and no code: a text that has a refusal has no lines.
+/// A law; the function does nothing. A text that has an error has no list of lines.
 pub fn a_refused_text_is_no_source()
     ensures { (text : List ℕ) (fault : Fault) (source : List BareLine) → IsTextRefusal text fault → IsSource text source → ⊥ }
 {}
 
-/// A law, and no code: a text has one list of lines at most, by the grammar and not only by what `parse` finds.
+/// A law; the function does nothing. A text has at most one list of lines. This follows from the grammar itself, not
+/// only from how `parse` works.
 pub fn a_text_is_one_source()
     ensures { (text : List ℕ) (a b : List BareLine) → IsSource text a → IsSource text b → a ≡ b }
 {}
 
-/// A law, and no code: a text, of any bytes, has one refusal at most, and no text is without both a refusal and lines. So
-/// a text is a source exactly where nothing refuses it, and what refuses it is one: its size, or its first line that is
-/// not in the grammar.
+/// A law; the function does nothing. A text of any bytes has at most one error, and every text has either an error or
+/// a list of lines. So a text is a source exactly if it has no error. The error, if any, is unique: it is either the
+/// text's size or its first line that does not follow the grammar.
 pub fn a_text_has_one_refusal()
     ensures one { (text : List ℕ) (fault other : Fault) → IsTextRefusal text fault → IsTextRefusal text other → fault ≡ other }
     ensures either { (text : List ℕ) → ((source : List BareLine) → IsSource text source → ⊥)

@@ -1,4 +1,4 @@
-//! The pieces of a text: signs, words and texts in quotes.
+//! Splits a text into its pieces (tokens): signs, names, numbers and quoted texts.
 
 ghost use Rattle.std.specs.Prelude.{◌≡◌, ◌+◌, ◌≤◌, ℕ, List, true, false, take, drop, map, length, IfOk};
 ghost use Rattle.a2_syntax.specs.Numbers as numbers;
@@ -9,7 +9,7 @@ use crate::word::in_name;
 use a2_text::{behind_blanks, front_len, is_blank};
 use std::alloc::{AllocError, Allocator};
 
-// How many name bytes stand at the front.
+// Returns the number of name bytes at the start of a text.
 fn run_len(text: &[u8]) -> usize
     ensures is { result ≡ reading.run_len text.now }
     ensures within { result ≤ length text.now }
@@ -17,21 +17,21 @@ fn run_len(text: &[u8]) -> usize
     front_len(text, |c| in_name(c))
 }
 
-// Whether a byte is a quote.
+// Returns whether a byte is a quote.
 pub(crate) fn is_quote(c: u8) -> bool
     ensures { result ≡ numbers.is_quote c }
 {
     c == b'\'' || c == b'"'
 }
 
-// Whether a character may stand in quotes of this kind.
+// Returns whether a character may appear between quotes of this kind.
 pub(crate) fn is_quotable(quote: u8, c: u8) -> bool
     ensures { result ≡ numbers.is_quotable quote c }
 {
     c >= 32 && c <= 126 && c != quote
 }
 
-// How long a quoted text is, from what stands behind the opening quote, or 0 where there is none.
+// Returns the length of a quoted text, given what follows the opening quote. Returns 0 if there is no quoted text.
 fn quoted_len(quote: u8, text: &[u8]) -> usize
     requires { length text.now ≤ 65536 }
     ensures is { result ≡ reading.quoted_len quote text.now }
@@ -45,7 +45,7 @@ fn quoted_len(quote: u8, text: &[u8]) -> usize
     }
 }
 
-// The name bytes at the front, and what stands behind them.
+// Splits a text after the name bytes at its start.
 pub(crate) fn front_run(text: &[u8]) -> (&[u8], &[u8])
     ensures word { result.0.now ≡ take (reading.run_len text.now) text.now }
     ensures rest { result.1.now ≡ drop (reading.run_len text.now) text.now }
@@ -53,14 +53,14 @@ pub(crate) fn front_run(text: &[u8]) -> (&[u8], &[u8])
     text.split_at(run_len(text))
 }
 
-// Whether there is nothing, or a comment.
+// Returns whether the text is empty or a comment.
 pub(crate) fn is_over(text: &[u8]) -> bool
     ensures { result ≡ is_over text.now }
 {
     matches!(text, [] | [b';', ..])
 }
 
-// Whether there is nothing, a blank or a comment.
+// Returns whether the text is empty or starts with a space or a comment.
 pub(crate) fn is_gap(text: &[u8]) -> bool
     ensures { result ≡ is_gap text.now }
 {
@@ -70,7 +70,7 @@ pub(crate) fn is_gap(text: &[u8]) -> bool
     }
 }
 
-// How long the piece at the front is, or 0 where there is none.
+// Returns the length of the first piece, or 0 if the text does not start with a piece.
 fn piece_len(text: &[u8]) -> usize
     requires { length text.now ≤ 65536 }
     ensures is { result ≡ reading.piece_len text.now }
@@ -82,7 +82,7 @@ fn piece_len(text: &[u8]) -> usize
             b'#' | b',' | b'(' | b')' | b'<' | b'>' | b'+' | b'-' | b'*',
             ..
         ] => 1,
-        // A mark of a number's base is no piece without a run behind it.
+        // `$` and `%` mark a number's base. They are a piece only together with a following run of name bytes.
         [b'$' | b'%', others @ ..] => match run_len(others) {
             0 => 0,
             n => 1 + n,
@@ -92,7 +92,7 @@ fn piece_len(text: &[u8]) -> usize
     }
 }
 
-// Finds the pieces of a text, which take the place of those found before; false where it is no text of pieces.
+// Replaces the contents of `found` by the pieces of a text. Returns false if the text cannot be split into pieces.
 pub(crate) fn pieces<'a, A: Allocator>(
     text: &'a [u8],
     found: &mut Vec<&'a [u8], A>,
@@ -103,7 +103,7 @@ pub(crate) fn pieces<'a, A: Allocator>(
     ensures few { IfOk result (λ is. is ≡ true → length found.new.items ≤ length text.now) }
 {
     found.clear();
-    // A piece has a byte at least.
+    // A piece has at least one byte.
     found.reserve(text.len())?;
     let mut rest = text;
     'pieces: loop {

@@ -1,4 +1,4 @@
-//! Lists of plain numbers, which are read without the pieces of their text.
+//! Reads lists of plain decimal numbers directly, without splitting the text into pieces. This is a fast path.
 
 ghost use Rattle.std.specs.Prelude.{◌≡◌, ◌≤◌, List, ℕ, length, IfOk, IfSome};
 ghost use Rattle.a2_syntax.specs.Pieces.{Spells};
@@ -13,7 +13,7 @@ use crate::term::number;
 use a2_text::behind_blanks;
 use std::alloc::{AllocError, Allocator};
 
-// How many commas a text has.
+// Returns the number of commas in a text.
 fn commas(text: &[u8]) -> usize
     ensures { result ≤ length text.now }
 {
@@ -26,7 +26,7 @@ fn commas(text: &[u8]) -> usize
     count
 }
 
-// The expression that is one number.
+// Returns the expression that consists of one number.
 fn one_number<A: Allocator>(alloc: A, number: u16) -> Result<Expr<A>, AllocError>
     ensures { IfOk result (λ e. e ≡ one_number number) }
 {
@@ -41,7 +41,7 @@ fn one_number<A: Allocator>(alloc: A, number: u16) -> Result<Expr<A>, AllocError
     })
 }
 
-// The expressions that a text of decimal numbers with commas between them is; none where it is another text.
+// Reads a text of decimal numbers separated by commas as expressions. Returns `None` for any other text.
 fn numbers<A: Allocator + Copy>(alloc: A, text: &[u8]) -> Result<Option<Exprs<A>>, AllocError>
     requires { length text.now ≤ 255 }
     ensures { IfOk result (λ o. IfSome o (λ es. SpellsExprs text.now es)) }
@@ -68,7 +68,8 @@ fn numbers<A: Allocator + Copy>(alloc: A, text: &[u8]) -> Result<Option<Exprs<A>
     }
 }
 
-// What DFB or DW does with decimal numbers alone behind it; none where it is another operation, or another text.
+// Reads the body of a DFB or DW that has only decimal numbers. Returns `None` for another operation or any other
+// text.
 pub(crate) fn plain_body<A: Allocator + Copy>(
     alloc: A,
     operation: Operation,

@@ -9,7 +9,7 @@ use a2_opcode::Mnemonic;
 use std::alloc::{Allocator, Global};
 use std::marker::Model;
 
-/// A name, as it was written.
+/// A name, spelt as in the source.
 #[derive(Drop)]
 pub struct Name<A: Allocator = Global> {
     text: String<A>,
@@ -34,7 +34,7 @@ impl<A: Allocator> Name<A> {
         Name { text }
     }
 
-    /// The name's text.
+    /// Returns the name's text.
     pub fn get(&self) -> &str
         ensures is { result.now ≡ self.now }
         ensures name { is_name result.now ≡ true }
@@ -47,13 +47,13 @@ impl<A: Allocator> Name<A> {
 pub enum Term<A: Allocator = Global> {
     /// A number, or the code of a character.
     Number(u16),
-    /// What a name stands for.
+    /// A name, which stands for its value.
     Named(Name<A>),
-    /// `*`, the address of the line.
+    /// `*`: the address of the line.
     Here,
 }
 
-// Not derived, for the prover alone: it follows this as one call, and a derived one field by field.
+// Written by hand only for the prover: it handles this as one call, but a derived `Drop` field by field.
 impl<A: Allocator> Drop for Term<A> {
     fn drop(self) {
         match self {
@@ -64,16 +64,16 @@ impl<A: Allocator> Drop for Term<A> {
     }
 }
 
-/// A term, and whether a `-` stands before it.
+/// A term, and whether it has a `-` before it.
 #[derive(Drop)]
 pub struct Signed<A: Allocator = Global> {
-    /// Whether the term counts below zero.
+    /// Whether the term is subtracted.
     pub minus: bool,
     /// The term without its sign.
     pub term: Term<A>,
 }
 
-/// Terms, expressions or bytes of one line, at most 255.
+/// At most 255 terms, expressions or bytes of one line.
 #[derive(Drop)]
 pub struct Few<T: Drop, A: Allocator = Global> {
     items: Vec<T, A>,
@@ -97,7 +97,7 @@ impl<T: Drop, A: Allocator> Few<T, A> {
         Few { items }
     }
 
-    /// All of them in order.
+    /// Returns all items in order.
     pub fn get(&self) -> &[T]
         ensures is { result.now ≡ self.now }
         ensures few { length result.now ≤ 255 }
@@ -106,23 +106,23 @@ impl<T: Drop, A: Allocator> Few<T, A> {
     }
 }
 
-/// The terms of an expression, one or more.
+/// The terms of an expression; at least one.
 pub type Terms<A = Global> = Few<Signed<A>, A>;
 
-/// Expressions with commas between them, one or more.
+/// Expressions separated by commas; at least one.
 pub type Exprs<A = Global> = Few<Expr<A>, A>;
 
-/// The bytes of a text in quotes, one or more.
+/// The bytes of a quoted text; at least one.
 pub type Bytes<A = Global> = Few<u8, A>;
 
-/// Which part of an expression's sum is its value.
+/// The part of an expression's sum that is its value.
 #[derive(Clone, Copy, Debug, PartialEq, Eq, Drop)]
 pub enum Part {
-    /// The sum itself.
+    /// The whole sum.
     Whole,
-    /// `<`, the sum modulo 256.
+    /// `<`: the sum modulo 256.
     Low,
-    /// `>`, the sum's quotient by 256, modulo 256.
+    /// `>`: the sum divided by 256, modulo 256.
     High,
 }
 
@@ -135,11 +135,11 @@ pub struct Expr<A: Allocator = Global> {
     pub terms: Terms<A>,
 }
 
-/// The operand of an instruction, by the form in which it is written. `e` is an expression.
+/// The operand of an instruction, by its written form. `e` is an expression.
 pub enum Operand<A: Allocator = Global> {
     /// No operand.
     Nothing,
-    /// `A`, or nothing behind ASL, LSR, ROL or ROR.
+    /// `A`, or no operand after ASL, LSR, ROL or ROR.
     Accumulator,
     /// `#e`
     Immediate(Expr<A>),
@@ -157,7 +157,7 @@ pub enum Operand<A: Allocator = Global> {
     InParentheses(Expr<A>),
 }
 
-// Not derived, for the prover alone: it follows this as one call, and a derived one field by field.
+// Written by hand only for the prover: it handles this as one call, but a derived `Drop` field by field.
 impl<A: Allocator> Drop for Operand<A> {
     fn drop(self) {
         match self {
@@ -175,7 +175,7 @@ impl<A: Allocator> Drop for Operand<A> {
 }
 
 impl<A: Allocator> Operand<A> {
-    /// The expression in it: none where it is `Nothing` or `Accumulator`, and one in every other form.
+    /// Returns the operand's expression, or `None` for `Nothing` and `Accumulator`. All other forms have one.
     pub fn expr(&self) -> Option<&Expr<A>>
         ensures { MatchOption result (expr_of self.now ≡ None) (λ e. expr_of self.now ≡ Some e.now) }
     {
@@ -202,17 +202,17 @@ pub enum Body<A: Allocator = Global> {
     Org(Expr<A>),
     /// Gives the label a value.
     Equ(Expr<A>),
-    /// One byte for each value.
+    /// Stores one byte for each value.
     Dfb(Exprs<A>),
-    /// Two bytes for each value, the low one first.
+    /// Stores two bytes for each value, low byte first.
     Dw(Exprs<A>),
-    /// The codes of a text.
+    /// Stores the codes of a text.
     Asc(Bytes<A>),
-    /// So many zero bytes.
+    /// Stores this many zero bytes.
     Ds(Expr<A>),
 }
 
-// Not derived, for the prover alone: it follows this as one call, and a derived one field by field.
+// Written by hand only for the prover: it handles this as one call, but a derived `Drop` field by field.
 impl<A: Allocator> Drop for Body<A> {
     fn drop(self) {
         match self {
@@ -230,20 +230,21 @@ impl<A: Allocator> Drop for Body<A> {
 
 /// A line of a source text.
 pub struct Line<A: Allocator = Global> {
-    /// The name in the first column.
+    /// The name in the first column, if there is one.
     pub label: Option<Name<A>>,
-    /// What stands behind it.
+    /// What follows the label.
     pub body: Body<A>,
 }
 
-// Not derived, for the prover alone: it follows this as one call, and a derived one field by field.
+// Written by hand only for the prover: it handles this as one call, but a derived `Drop` field by field.
 impl<A: Allocator> Drop for Line<A> {
     fn drop(self) {
         let Line { label: _, body: _ } = self;
     }
 }
 
-/// The lines of a source text, at most 4,096. Only `parse` makes one. Contracts see them without their allocator.
+/// The lines of a source text, at most 4,096. Only `parse` creates a value of this type. Contracts see the lines
+/// without their allocator.
 #[derive(Drop)]
 pub struct Source<A: Allocator = Global> {
     lines: Vec<Line<A>, A>,
@@ -268,7 +269,7 @@ impl<A: Allocator> Source<A> {
         Source { lines }
     }
 
-    /// The lines in order, one for each line of the text.
+    /// Returns the lines in order, one for each line of the text.
     pub fn lines(&self) -> &[Line<A>]
         ensures is { bare result.now ≡ self.now }
         ensures few { length result.now ≤ 4096 }

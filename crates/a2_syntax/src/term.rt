@@ -1,4 +1,4 @@
-//! The terms of an expression.
+//! Reads the terms of an expression.
 
 ghost use Rattle.std.specs.Prelude.{◌≡◌, ◌≤◌, true, codes, IsTrue, ◌↔◌, IfOk};
 ghost use Rattle.a2_syntax.specs.Names.{is_name};
@@ -12,7 +12,7 @@ use crate::word::is_name;
 use a2_text::number_in;
 use std::alloc::{AllocError, Allocator};
 
-// What a character between such quotes stands for.
+// Returns the code of a character between quotes of this kind.
 pub(crate) fn code_in(quote: u8, c: u8) -> u8
     requires { c ≤ 127 }
     ensures { result ≡ numbers.code_in quote c }
@@ -20,7 +20,7 @@ pub(crate) fn code_in(quote: u8, c: u8) -> u8
     if quote == b'"' { c + 128 } else { c }
 }
 
-// The number that a piece spells.
+// Returns the number that a piece spells.
 pub(crate) fn number(piece: &[u8]) -> Option<u16>
     ensures { result ≡ numbers.number piece.now }
 {
@@ -35,7 +35,7 @@ pub(crate) fn number(piece: &[u8]) -> Option<u16>
     }
 }
 
-// Whether a term behind this sign counts below zero.
+// Returns whether a term after this sign is subtracted. Returns `None` if the piece is not a sign.
 pub(crate) fn minus(sign: &[u8]) -> Option<bool>
     ensures { Finds (IsSign sign.now) result }
 {
@@ -46,7 +46,7 @@ pub(crate) fn minus(sign: &[u8]) -> Option<bool>
     }
 }
 
-// A name of its own from bytes that are one.
+// Copies the bytes of a name into a `Name`.
 pub(crate) fn name_of<A: Allocator>(alloc: A, bytes: &[u8]) -> Result<Name<A>, AllocError>
     requires { is_name bytes.now ≡ true }
     ensures { IfOk result (λ n. n ≡ bytes.now) }
@@ -57,7 +57,7 @@ pub(crate) fn name_of<A: Allocator>(alloc: A, bytes: &[u8]) -> Result<Name<A>, A
     }
 }
 
-// The term that a piece is.
+// Reads a piece as a term.
 pub(crate) fn term<A: Allocator>(alloc: A, piece: &[u8]) -> Result<Option<Term<A>>, AllocError>
     ensures { IfOk result (λ o. Finds (IsTerm piece.now) o) }
 {

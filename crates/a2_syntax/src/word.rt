@@ -1,4 +1,4 @@
-//! Names, and the bytes that they are made of.
+//! Names, and the bytes they may contain.
 
 ghost use Rattle.std.specs.Prelude.{◌≡◌};
 ghost use Rattle.std.specs.List.{list_all};
@@ -12,7 +12,7 @@ fn starts_name(c: u8) -> bool
     matches!(c, b'A'..=b'Z' | b'a'..=b'z' | b'_')
 }
 
-// Whether a byte may stand in a name.
+// Returns whether a byte may appear in a name.
 pub(crate) fn in_name(c: u8) -> bool
     ensures { result ≡ is_name_byte c }
 {
@@ -25,8 +25,8 @@ fn all_in_name(bytes: &[u8]) -> bool
     bytes.iter().all(|c| in_name(*c))
 }
 
-/// Whether the bytes are a name: a letter or `_`, then letters, digits and `_`, at most 32 bytes, but not `A` or `a`
-/// alone.
+/// Returns whether the bytes are a name: a letter or `_`, then letters, digits and `_`. A name has at most 32 bytes
+/// and is not just `A` or `a`.
 pub fn is_name(bytes: &[u8]) -> bool
     ensures { result ≡ is_name bytes.now }
 {

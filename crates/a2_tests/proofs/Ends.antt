@@ -1,4 +1,4 @@
--- The end of a machine's run is that of the run that a case asks for.
+-- The end of a machine's run is the end of the run that a case asks for.
 use Rattle.std.specs.Prelude.{◌≡◌, ℕ, ◌-◌, ◌^◌, ◌<◌, List, false, Option, unwrap_or, []}
 use Rattle.std.proofs.Common.{subst, arith}
 use Rattle.a2_stream.specs.Stream.{Taker}
@@ -14,7 +14,7 @@ use Rattle.a2_run.specs.Started.{IsStarted, guard_of_run}
 use Rattle.a2_run.proofs.Runs.{meant}
 use Rattle.a2_tests.specs.Asks.{end_at}
 
--- what a taker took
+-- the bytes that an output has taken
 abbrev pub took : Taker → List ℕ
 took taker = unwrap_or taker.bytes []
 

@@ -1,4 +1,4 @@
--- Pieces joined.
+-- Joined pieces.
 use Rattle.std.specs.Prelude.{◌≡◌, ℕ, List, ◌++◌}
 use Rattle.std.proofs.Common.{append_assoc}
 

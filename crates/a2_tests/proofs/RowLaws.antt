@@ -1,4 +1,4 @@
--- Rows one behind another.
+-- Rows one after another.
 use Rattle.std.specs.Prelude.{◌≡◌, ℕ, zero, suc, ◌+◌, ◌<◌, ◌≤◌, true, List, [], ◌∷◌, drop, length, map, refl}
 use Rattle.std.specs.Borrow.{Bor}
 use Rattle.std.proofs.Common.{arith, ◌∙◌, ap, sym, get_or}

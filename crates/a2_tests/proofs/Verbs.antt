@@ -1,4 +1,4 @@
--- A word is that of one verb.
+-- A word belongs to only one verb.
 use Rattle.std.specs.Prelude.{◌≡◌, ◌≢◌, ℕ, ◌<◌, ◌≤◌, List, nat_eq, slice_index_or, Some, refl}
 use Rattle.std.proofs.Common.{sym, ap, ◌∙◌, arith}
 use Rattle.std.specs.List.{position_or_len}
@@ -8,7 +8,7 @@ use Rattle.a2_tests.specs.declared.line.Verb.TheVariants.{Case, Keys, Limit, Cal
 use Rattle.a2_tests.specs.declared.line.TheConstants.{VERBS}
 use Rattle.a2_tests.specs.Lines.{verb_letters}
 
--- the place of a verb in the table
+-- the index of a verb in the table
 abbrev verb_number : Verb → ℕ
 verb_number Case = 0
 verb_number Keys = 1
@@ -31,7 +31,7 @@ verb-at : (v : Verb) → slice_index_or VERBS (verb_number v) Case ≡ v
 verb-at Case = refl
 verb-at _ = refl
 
--- the place of the first verb of a word
+-- the index of the first verb that a word spells
 place_of : List ℕ → ℕ
 place_of word = position_or_len (λ v. pointwise nat_eq (verb_letters v) word) VERBS
 
@@ -49,7 +49,7 @@ same_verb v w e =
 pub verb-only : (word : List ℕ) (v w : Verb) → verb_letters v ≡ word → verb_letters w ≡ word → Some v ≡ Some w
 verb-only word v w e f = ap (λ k. Some k) (same_verb v w (e ∙ sym f))
 
--- a word that none of the verbs in the table is, is no verb's
+-- a word that differs from all verbs in the table is not a verb
 pub verb-none : (word : List ℕ) (n : ℕ) → 12 ≤ n
     → ((k : ℕ) → k < n → verb_letters (slice_index_or VERBS k Case) ≢ word)
     → (v : Verb) → verb_letters v ≢ word

@@ -1,4 +1,4 @@
--- Verdicts over cases, one behind another.
+-- Verdicts on cases, one after another.
 use Rattle.std.specs.Prelude.{ℕ, List, [], ◌∷◌, ◌++◌}
 use Rattle.a2_asm.specs.Assembled.{Assembled}
 use Rattle.a2_tests.specs.declared.cases.Case.{Case}

@@ -1,4 +1,4 @@
--- What a line of a case asks of a run's end. This project's profile.
+-- What a line of a case requires of the end of a run. This project's profile.
 use Rattle.std.specs.Prelude.{◌≡◌, ℕ, ◌+◌, ◌%◌, ◌==◌, ◌<◌, ◌≤◌, Bool, true, false, ◌&&◌, not, List, [], ◌∷◌, drop, length, find, Option, Some, None, is_some, is_none, if◌then◌else◌}
 use Rattle.std.specs.List.{list_all}
 use Rattle.std.specs.Str.{bytes_eq}
@@ -22,17 +22,17 @@ use Rattle.a2_tests.specs.declared.line.Asked.{Asked}
 use Rattle.a2_tests.specs.declared.line.Line.{Line}
 use Rattle.a2_tests.specs.declared.line.Line.TheVariants.{Screen, Shows, Holds, Mem, Reg, Stop, Cycles, Bytes, Uses, Avoids}
 
--- the address of a place: a number behind $, or a name of the program
+-- the address of a place: a number after $, or a name of the program
 abbrev pub place_of : Assembled → List ℕ → Option ℕ
 place_of program [] = name_value program.names []
 place_of program (c ∷ rest) = if c == 0x24 then number_in 16 4 rest else name_value program.names (c ∷ rest)
 
--- a byte is the one that is wanted
+-- whether a byte is the expected one
 abbrev pub is_byte : Option ℕ → Option ℕ → Bool
 is_byte (Some byte) (Some wanted) = byte == wanted
 is_byte _ _ = false
 
--- these bytes stand in memory from an address on
+-- whether memory has these bytes from an address on
 abbrev pub has_bytes : Memory → ℕ → List (List ℕ) → Bool
 has_bytes memory address [] = true
 has_bytes memory address (word ∷ more) = is_byte (peek memory address) (byte_of word) && has_bytes memory ((address + 1) % 65536) more
@@ -41,23 +41,23 @@ abbrev pub has_bytes_at : Memory → Option ℕ → List ℕ → Bool
 has_bytes_at memory None bytes = false
 has_bytes_at memory (Some address) bytes = has_bytes memory address (words bytes)
 
--- what a register of one letter holds
+-- the value of a register named by one letter
 abbrev pub register_byte : Registers → List ℕ → Option ℕ
 register_byte r (c ∷ []) =
     if c == 0x41 then Some r.a else if c == 0x58 then Some r.x else if c == 0x59 then Some r.y
     else if c == 0x50 then Some (byte_of_flags r.flags) else if c == 0x53 then Some r.s else None
 register_byte r _ = None
 
--- the register that a word names holds its byte, as A=E9
+-- whether the register in a word such as A=E9 has the value given there
 abbrev pub is_held : Registers → List ℕ → Bool
 is_held r word = is_byte (register_byte r (name_in word)) (byte_of (digits_in word))
 
--- how many bytes statements have
+-- how many bytes some statements have
 abbrev pub size_of : List Statement → ℕ
 size_of [] = 0
 size_of (s ∷ more) = s.length + size_of more
 
--- a statement is an instruction of this mnemonic
+-- whether a statement is an instruction with this mnemonic
 abbrev pub is_use : Mnemonic → Statement → Bool
 is_use m s = elim s.instr [ None ↦ false | Some instr ↦ bytes_eq (name_of instr.mnemonic) (name_of m) ]
 
@@ -68,11 +68,11 @@ user_of statements m = find (is_use m) statements
 abbrev pub rows_of : Memory → List (List ℕ)
 rows_of memory = lines (picture_of memory)
 
--- the end of a machine's run by a cause
+-- the end of a machine's run with a cause
 abbrev pub end_at : MachineState → Cause → End
 end_at state cause = record { world = world_of_state state; steps = state.steps; cause = cause }
 
--- what a line asks holds of the end of a run; behind the line stand these lines, and the source has this program
+-- the end of a run meets a line; these lines follow it, and the source has this program
 abbrev pub Meets : Line → List Asked → Assembled → End → Type 0
 Meets Screen rest program end = rows_fit rest (rows_of end.world.memory) ≡ true
 Meets (Shows number text) rest program end = row_is number text.now (rows_of end.world.memory) ≡ true
@@ -86,16 +86,16 @@ Meets (Uses mnemonic) rest program end = is_some (user_of program.statements mne
 Meets (Avoids mnemonic) rest program end = is_none (user_of program.statements mnemonic) ≡ true
 Meets _ rest program end = Unit {0}
 
--- of the first of these lines
+-- the end of a run meets the first of these lines
 abbrev pub MeetsFirst : List Asked → Assembled → End → Type 0
 MeetsFirst [] program end = Unit {0}
 MeetsFirst (asked ∷ rest) program end = Meets asked.line rest program end
 
--- what each of these lines asks holds
+-- the end of a run meets each of these lines
 abbrev pub MeetsAll : List Asked → Assembled → End → Type 0
 MeetsAll lines program end = (k : ℕ) → k < length lines → MeetsFirst (drop k lines) program end
 
--- this is the first of these lines whose demand does not hold
+-- this is the first of these lines that is not met
 pub record IsFirstMissed (lines : List Asked) (program : Assembled) (end : End) (n : ℕ) : Type 0 where
   pub within : n < length lines
   pub missed : ¬ (MeetsFirst (drop n lines) program end)

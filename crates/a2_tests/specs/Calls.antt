@@ -1,4 +1,4 @@
--- What a case runs: the source; or, where the case calls a routine, the source behind lines that call it. This project's profile.
+-- What a case runs: the source, preceded by lines that call a routine if the case calls one. This project's profile.
 use Rattle.std.specs.Prelude.{ℕ, ◌==◌, Bool, true, false, List, [], ◌∷◌, ◌++◌, codes, Option, Some, None, if◌then◌else◌}
 use Rattle.std.specs.List.{concat}
 use Rattle.a2_text.specs.Words.{words}
@@ -8,7 +8,7 @@ use Rattle.a2_tests.specs.declared.line.Line.{Line}
 use Rattle.a2_tests.specs.declared.line.Line.TheVariants as line
 use Rattle.a2_tests.specs.declared.line.Call.{Call}
 
--- the operation that gives a register its byte
+-- the mnemonic of the instruction that loads a register
 abbrev pub load_of : List ℕ → Option (List ℕ)
 load_of (c ∷ []) =
     if c == 0x41 then Some (codes " LDA #$")
@@ -17,7 +17,7 @@ load_of (c ∷ []) =
     else None
 load_of _ = None
 
--- the lines of a word such as X=04 or RESULT=04: a load of a register, or a store elsewhere
+-- the lines for a word such as X=04 or RESULT=04: a load of a register, or a store elsewhere
 abbrev pub load_lines : List ℕ → List ℕ
 load_lines word = elim (load_of (name_in word)) [ Some load ↦ concat (load ∷ digits_in word ∷ codes "\n" ∷ []) | None ↦ [] ]
 
@@ -31,26 +31,26 @@ store_lines word =
 abbrev pub setting_lines : Bool → List ℕ → List ℕ
 setting_lines stores word = if stores then store_lines word else load_lines word
 
--- those of each word
+-- the lines for all words
 abbrev pub all_lines : Bool → List (List ℕ) → List ℕ
 all_lines stores [] = []
 all_lines stores (word ∷ more) = setting_lines stores word ++ all_lines stores more
 
--- the lines that call a routine and return, and behind which a source begins as it would by itself
+-- the lines that call a routine and return, after which a source begins as it would without them
 unfoldable pub call_lines : List ℕ → List ℕ
 call_lines name = concat (codes " JSR " ∷ name ∷ codes "\n RTS\n ORG $300\n" ∷ [])
 
--- the source behind lines at $BF00 that store the bytes, load the registers and call the routine
+-- lines at $BF00 that store the bytes, load the registers and call the routine, and then the source
 abbrev pub calling_text : List ℕ → List ℕ → List ℕ → List ℕ
 calling_text name settings source =
     codes " ORG $BF00\n" ++ (all_lines true (words settings) ++ (all_lines false (words settings) ++ (call_lines name ++ source)))
 
--- the call of a line, or the one before
+-- the call of a line, or the earlier one if the line has none
 abbrev pub call_or : Option Call → Line → Option Call
 call_or before (line.Call call) = Some call
 call_or before _ = before
 
--- that of the last line that calls one
+-- the call of the last line that calls a routine
 abbrev pub call_from : Option Call → List Asked → Option Call
 call_from before [] = before
 call_from before (asked ∷ rest) = call_from (call_or before asked.line) rest

@@ -1,4 +1,4 @@
--- What is found of a case of a source. This project's profile.
+-- The verdict on a case of a source. This project's profile.
 use Rattle.std.specs.Prelude.{◌≡◌, ◌⊎◌, ℕ, ◌<◌, false, List, [], ◌∷◌, length, Option, Some, slice_get}
 use Rattle.std.specs.Option.{option_map}
 use Rattle.a2_bus.specs.KeyText.{SpellsKeys}
@@ -16,7 +16,7 @@ use Rattle.a2_tests.specs.declared.cases.Case.{Case}
 use Rattle.a2_tests.specs.declared.judge.Verdict.{Verdict}
 use Rattle.a2_tests.specs.declared.judge.Verdict.TheVariants.{Passed, Missed, NotCalled}
 
--- the most steps of a case: of several lines the last counts, and without one they are the usual ones
+-- the most steps of a case: the last line with a limit counts, and without one it is the default
 abbrev pub limit_or : ℕ → Line → ℕ
 limit_or before (Limit n) = n
 limit_or before _ = before
@@ -28,7 +28,7 @@ limit_from before (asked ∷ rest) = limit_from (limit_or before asked.line) res
 abbrev pub limit_of : List Asked → ℕ
 limit_of lines = limit_from default_steps lines
 
--- the spelling of the keys that wait: of several lines the last counts, and without one it is empty
+-- the spelling of the keys that wait at the start: the last line with keys counts, and without one it is empty
 abbrev pub keys_or : List ℕ → Line → List ℕ
 keys_or before (Keys text) = text.now
 keys_or before _ = before
@@ -37,30 +37,30 @@ abbrev pub keys_from : List ℕ → List Asked → List ℕ
 keys_from before [] = before
 keys_from before (asked ∷ rest) = keys_from (keys_or before asked.line) rest
 
--- the number of a line in the WANT
+-- the number of a line in the WANT file
 abbrev pub number_at : List Asked → ℕ → Option ℕ
 number_at lines n = option_map (λ asked. asked.number) (slice_get lines n)
 
--- a text spells these keys; no keys, where it spells none that fit
+-- a text spells these keys; there are no keys if it spells none that fit
 abbrev pub AreKeys : List ℕ → List ℕ → Type 0
 AreKeys text keys =
     SpellsKeys text keys ⊎ (((others : List ℕ) → SpellsKeys text others → 4096 < length others) × (keys ≡ []))
 
--- the run of a program that a case asks for, guarded, ends so
+-- the guarded run that a case asks for has this end
 pub record RunsTo (lines : List Asked) (running : Assembled) (end : End) : Type 0 where
   pub keys : List ℕ
   pub are_keys : AreKeys (keys_from [] lines) keys
   pub is_end : IsEnd (code_of_run false running) (start_of_run running keys) (limit_of lines) end
 
--- this is found of the end of a case's run: it passed, and all that it asks holds; or this is the number of its first line whose
--- demand does not. What a line asks of the statements, and its names, are of the source's program.
+-- the verdict on the end of a case's run: it passed, and all its lines are met; or this is the number of its first line
+-- that is not met. The statements and names that a line mentions are those of the source's program.
 abbrev pub IsFound : {A : Type 0} → List Asked → Assembled → End → Verdict A → Type 0
 IsFound lines program end Passed = MeetsAll lines program end
 IsFound lines program end (Missed number told) = (n : ℕ) × IsFirstMissed lines program end n × (number_at lines n ≡ Some number)
 IsFound lines program end NotCalled = ⊥
 
--- the verdict over a case in which this text runs, of a source with this program: what is found of the end of the run; or the text is
--- refused, so that no routine is called
+-- the verdict on a case in which this text runs, for a source with this program: it follows from the end of the run; or
+-- the text has errors, so no routine is called
 abbrev pub IsVerdictOf : {A : Type 0} → List Asked → List ℕ → Assembled → Verdict A → Type 0
 IsVerdictOf lines text program verdict =
     ((running : Assembled) × (end : End) × IsProgramOf text running × RunsTo lines running end × IsFound lines program end verdict)
@@ -69,7 +69,7 @@ IsVerdictOf lines text program verdict =
 abbrev pub IsVerdict : {A : Type 0} → List Asked → List ℕ → Assembled → Verdict A → Type 0
 IsVerdict lines source program verdict = IsVerdictOf lines (case_text lines source) program verdict
 
--- those over cases, in their order
+-- the verdicts on some cases, in their order
 abbrev pub AreVerdicts : {A B : Type 0} → List ℕ → Assembled → List (Case A) → List (Verdict B) → Type 0
 AreVerdicts source program [] [] = Unit {0}
 AreVerdicts source program (case ∷ cases) (verdict ∷ verdicts) =

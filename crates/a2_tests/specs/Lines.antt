@@ -1,4 +1,4 @@
--- The lines of a WANT. This project's profile.
+-- The lines of a WANT file. This project's profile.
 use Rattle.std.specs.Prelude.{◌≡◌, ℕ, List, codes}
 use Rattle.std.specs.Str.Parse.{digits_value}
 use Rattle.a2_run.specs.Limits.{IsStepLimit}

@@ -1,4 +1,4 @@
--- Whether the rows of a screen are those that lines of a WANT ask for. This project's profile.
+-- Whether the rows of a screen are those that the lines of a WANT file require. This project's profile.
 use Rattle.std.specs.Prelude.{ℕ, Bool, true, false, not, if◌then◌else◌, ◌==◌, ◌&&◌, ◌||◌, List, [], ◌∷◌, Some, None, nat_eq, slice_get}
 use Rattle.std.specs.List.{list_all, list_any, starts_with}
 use Rattle.a2_text.specs.Bytes.{is_blank}
@@ -6,7 +6,7 @@ use Rattle.a2_tests.specs.declared.line.Asked.{Asked}
 use Rattle.a2_tests.specs.declared.line.Line.{Line}
 use Rattle.a2_tests.specs.declared.line.Line.TheVariants.{Row}
 
--- two rows are the same but for blanks at their ends
+-- two rows are the same except for blanks at their ends
 abbrev pub is_same : List ℕ → List ℕ → Bool
 is_same [] shown = list_all is_blank shown
 is_same (c ∷ wanted) [] = list_all is_blank (c ∷ wanted)
@@ -20,7 +20,7 @@ is_any _ = false
 abbrev pub row_fits : List ℕ → List ℕ → Bool
 row_fits wanted shown = is_any wanted || is_same wanted shown
 
--- the row that lines begin with, blank where they begin with none, and the lines behind it
+-- the row that some lines begin with, blank if they do not begin with one, and the lines after it
 abbrev pub row_of : Line → List ℕ
 row_of (Row text) = text.now
 row_of _ = []
@@ -41,24 +41,25 @@ abbrev pub behind_row : List Asked → List Asked
 behind_row [] = []
 behind_row (asked ∷ rest) = if is_row asked.line then rest else asked ∷ rest
 
--- one, where lines begin with a row
+-- 1 if the lines begin with a row, otherwise 0
 abbrev pub row_count : List Asked → ℕ
 row_count lines = if begins_with_row lines then 1 else 0
 
--- the rows of a screen, from the top, are those of these lines, and blank behind them; and no more are wanted
+-- the rows of a screen, from the top, are those of these lines, and the remaining rows are blank; no more rows are
+-- required
 abbrev pub rows_fit : List Asked → List (List ℕ) → Bool
 rows_fit wanted [] = not (begins_with_row wanted)
 rows_fit wanted (row ∷ rows) = row_fits (first_row wanted) row && rows_fit (behind_row wanted) rows
 
--- the row of this number, from 0 at the top, is as it is wanted
+-- the row with this number, from 0 at the top, is the expected one
 abbrev pub row_is : ℕ → List ℕ → List (List ℕ) → Bool
 row_is number wanted rows = elim (slice_get rows number) [ None ↦ false | Some row ↦ row_fits wanted row ]
 
--- a text has a part in it
+-- a text contains a part
 abbrev pub has : List ℕ → List ℕ → Bool
 has part [] = starts_with nat_eq [] part
 has part (c ∷ text) = starts_with nat_eq (c ∷ text) part || has part text
 
--- a row has it
+-- a row contains the part
 abbrev pub holds : List ℕ → List (List ℕ) → Bool
 holds part rows = list_any (has part) rows

@@ -1,4 +1,4 @@
-//! Whether what a line of a case asks holds of a run's end.
+//! Whether the end of a run meets the requirement of a line.
 
 ghost use Rattle.std.specs.Prelude.{◌≡◌, ◌↔◌, true, false, map, MatchOption};
 ghost use Rattle.std.specs.List.{list_all};
@@ -18,7 +18,8 @@ use a2_opcode::Mnemonic;
 use a2_text::{first_word, number_in};
 use std::alloc::Allocator;
 
-/// A run's end: the program of the source, the machine where its run ended, by which cause, and the rows of its screen.
+/// The end of a run: the program of the source, the machine as the run left it, the stop cause, and the rows of its
+/// screen.
 #[derive(Drop)]
 pub(crate) struct Ending<'a, A: Allocator> {
     pub program: &'a Program<A>,
@@ -27,7 +28,7 @@ pub(crate) struct Ending<'a, A: Allocator> {
     pub rows: &'a [&'a [u8]],
 }
 
-/// The address of a place: a number behind `$`, or a name of the program.
+/// Returns the address of a place: a number after `$`, or a name of the program.
 pub(crate) fn place_of<A: Allocator>(program: &Program<A>, place: &str) -> Option<u16>
     ensures { result ≡ asked.place_of program.now place.now }
 {
@@ -37,7 +38,7 @@ pub(crate) fn place_of<A: Allocator>(program: &Program<A>, place: &str) -> Optio
     }
 }
 
-// Whether a byte is the one that is wanted.
+// Returns whether a byte is the expected one.
 fn is_byte(byte: Option<u8>, wanted: Option<u16>) -> bool
     ensures { result ≡ asked.is_byte byte wanted }
 {
@@ -50,7 +51,8 @@ fn is_byte(byte: Option<u8>, wanted: Option<u16>) -> bool
     }
 }
 
-/// The first byte of memory that is not as it is wanted from an address on: its address, and the word that says what is wanted.
+/// Returns the first byte of memory, from an address on, that differs from the expected one: its address, and the word
+/// for the expected byte.
 pub(crate) fn first_other<'a, A: Allocator>(
     machine: &Machine<A>,
     address: u16,
@@ -71,7 +73,7 @@ pub(crate) fn first_other<'a, A: Allocator>(
     None
 }
 
-// What a register of one letter holds.
+// Returns the value of a register named by one letter.
 fn held_by(regs: Regs, name: &[u8]) -> Option<u8>
     ensures { result ≡ asked.register_byte (registers_of regs) name.now }
 {
@@ -88,14 +90,14 @@ fn held_by(regs: Regs, name: &[u8]) -> Option<u8>
     }
 }
 
-/// What a register of the machine holds, by its letter.
+/// Returns the value of a register of the machine, named by its letter.
 pub(crate) fn register_byte<A: Allocator>(machine: &Machine<A>, name: &[u8]) -> Option<u8>
     ensures { result ≡ asked.register_byte (registers_of machine.now.state.regs) name.now }
 {
     held_by(machine.regs(), name)
 }
 
-// Whether the register that a word names holds its byte.
+// Returns whether the register in a word such as `A=E9` has the value given there.
 fn is_held<A: Allocator>(machine: &Machine<A>, word: &[u8]) -> bool
     ensures { result ≡ asked.is_held (registers_of machine.now.state.regs) word.now }
 {
@@ -105,7 +107,7 @@ fn is_held<A: Allocator>(machine: &Machine<A>, word: &[u8]) -> bool
     )
 }
 
-/// The first word of a text whose register does not hold its byte.
+/// Returns the first word of a text whose register does not have the value given there.
 pub(crate) fn first_wrong<'a, A: Allocator>(
     machine: &Machine<A>,
     text: &'a [u8],
@@ -123,7 +125,7 @@ pub(crate) fn first_wrong<'a, A: Allocator>(
     None
 }
 
-/// How many bytes statements have.
+/// Returns how many bytes some statements have.
 pub(crate) fn size_of(statements: &[Statement]) -> u128
     ensures { result ≡ asked.size_of statements.now }
 {
@@ -134,7 +136,7 @@ pub(crate) fn size_of(statements: &[Statement]) -> u128
     size
 }
 
-// Whether a statement is an instruction of this mnemonic.
+// Returns whether a statement is an instruction with this mnemonic.
 fn is_use(statement: &Statement, mnemonic: Mnemonic) -> bool
     ensures { result ≡ asked.is_use mnemonic statement.now }
 {
@@ -144,7 +146,7 @@ fn is_use(statement: &Statement, mnemonic: Mnemonic) -> bool
     }
 }
 
-/// The first statement that is an instruction of this mnemonic.
+/// Returns the first statement that is an instruction with this mnemonic.
 pub(crate) fn user_of(statements: &[Statement], mnemonic: Mnemonic) -> Option<Statement>
     ensures { result ≡ asked.user_of statements.now mnemonic }
 {
@@ -156,14 +158,14 @@ pub(crate) fn user_of(statements: &[Statement], mnemonic: Mnemonic) -> Option<St
     None
 }
 
-// Whether two causes are one.
+// Returns whether two causes are the same.
 fn is_cause(cause: Cause, other: Cause) -> bool
     ensures { (result ≡ true) ↔ (cause ≡ other) }
 {
     cause == other
 }
 
-// Whether these bytes stand at a place.
+// Returns whether these bytes are at a place.
 fn has_bytes<A: Allocator>(ending: &Ending<A>, place: &str, bytes: &[u8]) -> bool
     ensures { result ≡ asked.has_bytes_at (memory_of ending.now.machine.now.state.bus)
         (asked.place_of ending.now.program.now place.now) bytes.now }
@@ -174,7 +176,7 @@ fn has_bytes<A: Allocator>(ending: &Ending<A>, place: &str, bytes: &[u8]) -> boo
     }
 }
 
-// Whether what a line asks of the program and the counts holds of a run's end.
+// Returns whether the end of a run meets a line that is about the program or about counts.
 fn is_met_by<A: Allocator>(line: Line, rest: &[Asked], ending: &Ending<A>) -> bool
     requires { map (λ x. x.now) ending.now.rows.now ≡ asked.rows_of (memory_of ending.now.machine.now.state.bus) }
     ensures { (result ≡ true) ↔ Meets line.entry rest.now ending.now.program.now
@@ -195,7 +197,7 @@ fn is_met_by<A: Allocator>(line: Line, rest: &[Asked], ending: &Ending<A>) -> bo
     }
 }
 
-// Whether what the first of these lines asks holds of a run's end.
+// Returns whether the end of a run meets the first of these lines.
 fn is_met<A: Allocator>(lines: &[Asked], ending: &Ending<A>) -> bool
     requires { map (λ x. x.now) ending.now.rows.now ≡ asked.rows_of (memory_of ending.now.machine.now.state.bus) }
     ensures { (result ≡ true) ↔ MeetsFirst lines.now ending.now.program.now
@@ -207,7 +209,7 @@ fn is_met<A: Allocator>(lines: &[Asked], ending: &Ending<A>) -> bool
     }
 }
 
-/// The index of the first of these lines that asks what does not hold.
+/// Returns the index of the first of these lines that the end of a run does not meet.
 pub(crate) fn first_missed<A: Allocator>(lines: &[Asked], ending: &Ending<A>) -> Option<usize>
     requires { map (λ x. x.now) ending.now.rows.now ≡ asked.rows_of (memory_of ending.now.machine.now.state.bus) }
     ensures { MatchOption result (MeetsAll lines.now ending.now.program.now

@@ -1,4 +1,4 @@
-//! What a case runs: the source, and where the case calls a routine, lines before it that call it.
+//! What a case runs: the source, preceded by lines that call a routine if the case calls one.
 
 ghost use Rattle.std.specs.Prelude.{◌≡◌, ◌++◌, Some, None, IfOk, OnOk, IfSome, MatchOption, map, true, false};
 ghost use Rattle.std.specs.List.{flat_map};
@@ -10,7 +10,7 @@ use crate::settings::{digits_in, name_in};
 use a2_text::first_word;
 use std::alloc::{AllocError, Allocator};
 
-// The call of a line, or the one before.
+// Returns the call of a line, or the earlier one if the line has none.
 fn call_or<'a>(before: Option<Call<'a>>, line: Line<'a>) -> Option<Call<'a>>
     ensures { result ≡ said.call_or before.entry line.entry }
 {
@@ -20,7 +20,7 @@ fn call_or<'a>(before: Option<Call<'a>>, line: Line<'a>) -> Option<Call<'a>>
     }
 }
 
-/// The call of a routine that lines ask for: that of the last line that says so.
+/// Returns the call of a routine that some lines ask for; the last such line counts.
 pub(crate) fn call_in<'a>(lines: &[Asked<'a>]) -> Option<Call<'a>>
     ensures { result ≡ said.call_from None lines.now }
 {
@@ -31,7 +31,7 @@ pub(crate) fn call_in<'a>(lines: &[Asked<'a>]) -> Option<Call<'a>>
     found
 }
 
-// The operation that gives a register its byte.
+// Returns the mnemonic of the instruction that loads a register.
 fn load_of<'a>(place: &'a [u8]) -> Option<&'a [u8]>
     ensures { MatchOption result (said.load_of place.now ≡ None) (λ load. said.load_of place.now ≡ Some load.now) }
 {
@@ -59,7 +59,7 @@ pub(crate) fn append<A: Allocator>(
     Ok(())
 }
 
-// Appends the line of a word that gives a register its byte.
+// Appends the line for a word that loads a register.
 fn append_load<A: Allocator>(text: &mut Vec<u8, A>, word: &[u8]) -> Result<(), AllocError>
     ensures { OnOk result (text.new.items ≡ text.old.items ++ said.load_lines word.now) }
 {
@@ -69,7 +69,7 @@ fn append_load<A: Allocator>(text: &mut Vec<u8, A>, word: &[u8]) -> Result<(), A
     }
 }
 
-// Appends the lines of a word that stores a byte.
+// Appends the lines for a word that stores a byte.
 fn append_store<A: Allocator>(text: &mut Vec<u8, A>, word: &[u8]) -> Result<(), AllocError>
     ensures { OnOk result (text.new.items ≡ text.old.items ++ said.store_lines word.now) }
 {
@@ -88,7 +88,7 @@ fn append_store<A: Allocator>(text: &mut Vec<u8, A>, word: &[u8]) -> Result<(), 
     }
 }
 
-// Appends the ones or the others.
+// Appends the lines that store the byte of a word, or those that load it.
 fn append_setting<A: Allocator>(
     text: &mut Vec<u8, A>,
     word: &[u8],
@@ -103,7 +103,7 @@ fn append_setting<A: Allocator>(
     }
 }
 
-// Appends those of each word.
+// Appends the lines for each word.
 fn append_settings<A: Allocator>(
     text: &mut Vec<u8, A>,
     settings: &[u8],
@@ -119,7 +119,7 @@ fn append_settings<A: Allocator>(
     Ok(())
 }
 
-// Appends the lines that call a routine and return, and behind which the source begins as it would by itself.
+// Appends the lines that call a routine and return. After them, the source begins as it would without them.
 #[tactic(auto, unfolding(crate::specs::Calls::call_lines))]
 fn append_call<A: Allocator>(text: &mut Vec<u8, A>, name: &[u8]) -> Result<(), AllocError>
     ensures { OnOk result (text.new.items ≡ text.old.items ++ said.call_lines name.now) }
@@ -134,8 +134,8 @@ fn append_text<A: Allocator>(text: &mut Vec<u8, A>, other: &[u8]) -> Result<(), 
     text.extend_from_slice(other)
 }
 
-/// The text that runs in a case that calls a routine: at $BF00 lines that store the bytes, load the registers, call the
-/// routine and return, and behind them the source.
+/// Returns the text that runs in a case that calls a routine. It begins at $BF00 with lines that store the bytes, load
+/// the registers, call the routine and return. The source follows.
 pub(crate) fn calling_text<A: Allocator>(
     alloc: A,
     call: Call,

@@ -1,18 +1,19 @@
-//! The lines and cases of a WANT.
+//! The lines and cases of a WANT file.
 
 ghost use Rattle.std.specs.Prelude.{◌≤◌, length};
 
 use crate::line::{Asked, Line, asked_of};
 use std::alloc::{AllocError, Allocator};
 
-/// A case: its name, empty where the WANT names none, and its lines, before which those stand that come before the first case.
+/// A case: its name, which is empty if the WANT file has no cases, and its lines. They begin with the lines before the
+/// first case.
 #[derive(Drop)]
 pub struct Case<'a, A: Allocator> {
     pub name: &'a [u8],
     pub lines: Vec<Asked<'a>, A>,
 }
 
-/// What each line of a WANT says. Refused only for want of memory.
+/// Returns the meaning of each line of a WANT file. Fails only if memory runs out.
 pub fn lines_of<'a, A: Allocator>(
     alloc: A,
     texts: &[&'a [u8]],
@@ -24,7 +25,7 @@ pub fn lines_of<'a, A: Allocator>(
     Ok(lines)
 }
 
-// The name of the case that a line begins, if it begins one.
+// Returns the name of the case that a line begins, if it begins one.
 fn case_in<'a>(line: Line<'a>) -> Option<&'a [u8]> {
     match line {
         Line::Case(name) => Some(name),
@@ -32,7 +33,7 @@ fn case_in<'a>(line: Line<'a>) -> Option<&'a [u8]> {
     }
 }
 
-// How many lines stand before the first that begins a case.
+// Returns how many lines come before the first line that begins a case.
 fn front_of(lines: &[Asked]) -> usize
     ensures { result ≤ length lines.now }
 {
@@ -44,12 +45,12 @@ fn front_of(lines: &[Asked]) -> usize
     lines.len()
 }
 
-// The lines before the first that begins a case.
+// Returns the lines before the first line that begins a case.
 fn front<'a, 'b>(lines: &'b [Asked<'a>]) -> &'b [Asked<'a>] {
     &lines[..front_of(lines)]
 }
 
-// Adds the case of this name with these lines behind those of the head.
+// Adds the case with this name, whose lines follow those before the first case.
 fn push_case<'a, A: Allocator>(
     cases: &mut Vec<Case<'a, A>, A>,
     alloc: A,
@@ -64,8 +65,9 @@ fn push_case<'a, A: Allocator>(
     Ok(())
 }
 
-/// The cases of lines: each begins with a line `case NAME` and ends before the next. What stands before the first is asked in
-/// each; where there is none, that alone is a case without a name. Refused only for want of memory.
+/// Returns the cases of some lines. Each case begins with a line `case NAME` and ends before the next one. The lines
+/// before the first case belong to every case; without any case, they are a single case without a name. Fails only if
+/// memory runs out.
 pub fn cases_of<'a, A: Allocator + Copy>(
     alloc: A,
     lines: &[Asked<'a>],

@@ -1,4 +1,4 @@
-//! What is found of a source, case by case.
+//! Judging a source, case by case.
 
 ghost use Rattle.std.specs.Prelude.{◌≡◌, [], Some, IfOk, IfErr};
 ghost use Rattle.a2_bus.specs.View.{memory_of};
@@ -24,17 +24,18 @@ use a2_stream::{Kept, Output};
 use a2_text::cut;
 use std::alloc::{AllocError, Allocator};
 
-/// What is found of a case.
+/// The verdict on a case.
 pub enum Verdict<A: Allocator> {
-    /// All that it asks holds.
+    /// All its requirements are met.
     Passed,
-    /// What the line of this number asks does not hold; and what is there in its place.
+    /// The requirement on the line with this number is not met; the text reports what was found instead.
     Missed(usize, Vec<u8, A>),
-    /// Its routine can't be called: the source has none of that name, or it can't stand behind the lines that call it.
+    /// Its routine cannot be called: the source has no routine with that name, or the source is not valid after the
+    /// lines that call it.
     NotCalled,
 }
 
-// Not derived, for the prover alone: it follows this as one call, and a derived one field by field.
+// Not derived, only for the prover: it follows this as one call, and a derived one field by field.
 impl<A: Allocator> Drop for Verdict<A> {
     fn drop(self) {
         match self {
@@ -45,7 +46,7 @@ impl<A: Allocator> Drop for Verdict<A> {
     }
 }
 
-// The limit of a line, or the one before.
+// Returns the limit of a line, or the earlier one if the line has none.
 fn limit_or(before: u32, line: Line) -> u32
     ensures { result ≡ judging.limit_or before line.entry }
 {
@@ -55,7 +56,7 @@ fn limit_or(before: u32, line: Line) -> u32
     }
 }
 
-// The most steps that lines allow: of several the last.
+// Returns the most steps that some lines allow; the last limit counts.
 fn limit_in(lines: &[Asked]) -> u32
     ensures { result ≡ judging.limit_of lines.now }
 {
@@ -66,7 +67,7 @@ fn limit_in(lines: &[Asked]) -> u32
     limit
 }
 
-// The keys of a line, as they are spelt, or those before.
+// Returns the keys of a line, as they are spelled, or the earlier ones if the line has none.
 fn keys_or<'a>(before: &'a str, line: Line<'a>) -> &'a str
     ensures { result.now ≡ judging.keys_or before.now line.entry }
 {
@@ -76,7 +77,7 @@ fn keys_or<'a>(before: &'a str, line: Line<'a>) -> &'a str
     }
 }
 
-// The keys that lines have waiting, as they are spelt: of several the last.
+// Returns the keys that wait at the start, as they are spelled; the last line with keys counts.
 fn spelling_in<'a>(lines: &[Asked<'a>]) -> &'a str
     ensures { result.now ≡ judging.keys_from [] lines.now }
 {
@@ -87,7 +88,7 @@ fn spelling_in<'a>(lines: &[Asked<'a>]) -> &'a str
     keys
 }
 
-// The keys that lines have waiting.
+// Returns the keys that wait at the start.
 fn keys_in(lines: &[Asked]) -> Keys
     ensures { AreKeys (judging.keys_from [] lines.now) result }
 {
@@ -97,7 +98,7 @@ fn keys_in(lines: &[Asked]) -> Keys
     }
 }
 
-// The picture of what a machine's screen shows.
+// Returns the picture of a machine's screen.
 fn picture_of<A: Allocator + Copy>(alloc: A, machine: &Machine<A>) -> Result<Kept<A>, AllocError>
     ensures { IfOk result (λ kept. (⟦<Kept<A> as Output>⟧.taker kept).bytes ≡ Some (picture (memory_of machine.now.state.bus))) }
 {
@@ -108,7 +109,7 @@ fn picture_of<A: Allocator + Copy>(alloc: A, machine: &Machine<A>) -> Result<Kep
     }
 }
 
-// What is told of the first line whose demand does not hold.
+// Returns the report on the first line whose requirement is not met.
 fn missed<A: Allocator + Copy>(
     alloc: A,
     lines: &[Asked],
@@ -123,7 +124,7 @@ fn missed<A: Allocator + Copy>(
     Ok(Verdict::Missed(lines[index].number, told))
 }
 
-// What is found of a run that ended.
+// Returns the verdict on a run that ended.
 fn weighed<A: Allocator + Copy>(
     alloc: A,
     lines: &[Asked],
@@ -147,7 +148,7 @@ fn weighed<A: Allocator + Copy>(
     }
 }
 
-// What is found of the run of a program, where the source's program is this one.
+// Returns the verdict on the run of a program; names and statements are those of the source's program.
 fn ran<A: Allocator + Copy>(
     alloc: A,
     lines: &[Asked],
@@ -157,7 +158,7 @@ fn ran<A: Allocator + Copy>(
     ensures { IfOk result (λ verdict. (end : End) × RunsTo lines.now running.now end
         × IsFound lines.now program.now end verdict) }
 {
-    // For the prover alone: a law of every program, by which the guarded bytes run as its statements.
+    // Only for the prover: a law about every program, by which its guarded bytes run as its statements.
     running.is_sound();
     let keys = keys_in(lines);
     let mut machine = started(alloc, running, &keys, false)?;
@@ -165,7 +166,7 @@ fn ran<A: Allocator + Copy>(
     weighed(alloc, lines, program, &machine, cause)
 }
 
-// The verdict over a case that calls a routine.
+// Returns the verdict on a case that calls a routine.
 fn judge_call<A: Allocator + Copy>(
     alloc: A,
     lines: &[Asked],
@@ -181,7 +182,7 @@ fn judge_call<A: Allocator + Copy>(
     }
 }
 
-// The verdict over a case of a source with this program.
+// Returns the verdict on a case, for a source with this program.
 fn judge_case<A: Allocator + Copy>(
     alloc: A,
     lines: &[Asked],
@@ -200,7 +201,7 @@ fn judge_case<A: Allocator + Copy>(
     }
 }
 
-// The verdicts over the cases of a source with this program.
+// Returns the verdicts on some cases, for a source with this program.
 fn judge_cases<A: Allocator + Copy>(
     alloc: A,
     cases: &[Case<A>],
@@ -217,8 +218,8 @@ fn judge_cases<A: Allocator + Copy>(
     Ok(verdicts)
 }
 
-/// What is found of a source in each of these cases. A case passed exactly where all that it asks holds of the end of its run.
-/// Refused where the source is, and for want of memory. This project's profile.
+/// Returns the verdict on a source in each of these cases. A case passes exactly if the end of its run meets all its
+/// requirements. Fails if the source has errors, or if memory runs out. This project's profile.
 pub fn judge_source<A: Allocator + Copy>(
     alloc: A,
     cases: &[Case<A>],

@@ -1,6 +1,6 @@
-//! The tests of a class or an author: what a WANT asks of a source, and whether the source's run is so.
+//! Tests of programs against a WANT file, which states what the run of each case must end with.
 //!
-//! How it is called is shown in CALLING.md.
+//! CALLING.md shows how to call it.
 #![tactic(auto)]
 
 mod asks;

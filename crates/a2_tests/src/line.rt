@@ -1,4 +1,4 @@
-//! The lines of a WANT.
+//! The lines of a WANT file.
 
 ghost use Rattle.std.specs.Prelude.{◌≡◌, ◌≤◌, ◌∷◌, ℕ, List, [], drop, length, IfSome, IfNone};
 ghost use Rattle.a2_text.specs.Words.{words};
@@ -12,60 +12,60 @@ use a2_opcode::Mnemonic;
 use a2_run::step_limit;
 use a2_text::{behind_blanks, first_word, number_in, only_word, split_word};
 
-/// What a line of a WANT says. Of the texts in it each is a part of the line.
+/// The meaning of a line of a WANT file. Each text in it is a part of the line.
 #[derive(Clone, Copy)]
 pub enum Line<'a> {
-    /// Nothing: blanks alone, or `;` and a comment.
+    /// Nothing: only blanks, or `;` and a comment.
     Silent,
     /// `case NAME`: a case begins.
     Case(&'a [u8]),
-    /// `keys K`: these keys wait at the start, spelt as in a command line.
+    /// `keys K`: these keys wait at the start, spelled as on the command line.
     Keys(&'a str),
-    /// `limit N`: at most so many steps, 0 to 100,000,000.
+    /// `limit N`: the run has at most this many steps, 0 to 100,000,000.
     Limit(u32),
-    /// `call NAME A=3 $320=05`: the routine of this name is called, with these bytes at these places.
+    /// `call NAME A=3 $320=05`: the routine with this name is called, with these bytes at these places.
     Call(Call<'a>),
-    /// `screen`: the rows that stand in the lines behind it are the screen's, from the top; those behind them are blank.
+    /// `screen`: the rows on the lines that follow are those of the screen, from the top; the remaining rows are blank.
     Screen,
     /// `|TEXT`: a row of the screen.
     Row(&'a [u8]),
-    /// `screen row 3 = "TEXT"`: the row of this number, from 0 at the top, is this text; `~` is any.
+    /// `screen row 3 = "TEXT"`: the row with this number, from 0 at the top, is this text; `~` means any text.
     Shows(u16, &'a [u8]),
-    /// `screen holds "TEXT"`: a row of the screen has this text in it.
+    /// `screen holds "TEXT"`: a row of the screen contains this text.
     Holds(&'a [u8]),
-    /// `mem $320 = A9 01`: at this place, a number or a name, and behind it stand these bytes.
+    /// `mem $320 = A9 01`: these bytes begin at this place, a number or a name.
     Mem(&'a str, &'a [u8]),
-    /// `reg A=E9 X=00`: these registers hold these bytes.
+    /// `reg A=E9 X=00`: these registers have these values.
     Reg(&'a [u8]),
-    /// `stop RETURNED`, or `stops RETURNED`: the run stops by this cause.
+    /// `stop RETURNED` or `stops RETURNED`: the run stops with this cause.
     Stop(Cause),
-    /// `cycles <= N`: the run takes at most so many cycles.
+    /// `cycles <= N`: the run takes at most this many cycles.
     Cycles(u32),
-    /// `bytes <= N`: the statements have at most so many bytes.
+    /// `bytes <= N`: the statements have at most this many bytes.
     Bytes(u32),
     /// `must use BNE`: an instruction has this mnemonic.
     Uses(Mnemonic),
-    /// `must not use BNE`: no instruction has it.
+    /// `must not use BNE`: no instruction has this mnemonic.
     Avoids(Mnemonic),
-    /// It is in no form of these.
+    /// The line has none of these forms.
     Unknown,
 }
 
-/// The call of a routine: its name, and words such as `A=3` that give places their bytes.
+/// The call of a routine: its name, and words such as `A=3` that set the bytes of places.
 #[derive(Clone, Copy)]
 pub struct Call<'a> {
     pub name: &'a [u8],
     pub settings: &'a [u8],
 }
 
-/// A line of a WANT with its number, from 1.
+/// A line of a WANT file with its number, from 1.
 #[derive(Clone, Copy)]
 pub struct Asked<'a> {
     pub number: usize,
     pub line: Line<'a>,
 }
 
-/// The lines behind so many.
+/// Returns the lines after the first `count`.
 pub(crate) fn behind<'a, 'b>(lines: &'b [Asked<'a>], count: usize) -> &'b [Asked<'a>]
     requires { count ≤ length lines.now }
     ensures { result.now ≡ drop count lines.now }
@@ -73,7 +73,7 @@ pub(crate) fn behind<'a, 'b>(lines: &'b [Asked<'a>], count: usize) -> &'b [Asked
     &lines[count..]
 }
 
-/// The word that a line begins with.
+/// The first word of a line.
 #[derive(Clone, Copy)]
 pub(crate) enum Verb {
     Case,
@@ -107,7 +107,7 @@ const VERBS: [Verb; 12] = [
 ];
 
 impl Verb {
-    // The word that it is.
+    // Returns the spelling of the verb.
     fn letters(self) -> &'static [u8]
         ensures { result.now ≡ said.verb_letters self }
     {
@@ -128,7 +128,7 @@ impl Verb {
     }
 }
 
-// The verb that a word is.
+// Returns the verb that a word means.
 fn verb_of(word: &[u8]) -> Option<Verb>
     ensures found { IfSome result (λ v. said.verb_letters v ≡ word.now) }
     ensures only { (v : DeclaredVerb) → said.verb_letters v ≡ word.now → result ≡ Some v }
@@ -141,7 +141,7 @@ fn verb_of(word: &[u8]) -> Option<Verb>
     None
 }
 
-// The number that a word spells, 0 to 100,000,000.
+// Returns the number that a word spells, 0 to 100,000,000.
 fn number_of(word: &[u8]) -> Option<u32>
     ensures { IfSome result (λ n. said.IsNumber word.now n) }
 {
@@ -151,23 +151,23 @@ fn number_of(word: &[u8]) -> Option<u32>
     step_limit(text)
 }
 
-// What stands behind the first word of a text, where that is this one.
+// Returns the text after the first word of `text`, if that is `word`.
 fn after<'a>(word: &[u8], text: &'a [u8]) -> Option<&'a [u8]> {
     let (first, behind) = first_word(text)?;
     if first == word { Some(behind) } else { None }
 }
 
-// The line of a verb that has one number behind it.
+// Returns the only number after a verb.
 fn limit_in(rest: &[u8]) -> Option<u32> {
     number_of(only_word(rest)?)
 }
 
-// The number that stands behind `<=`.
+// Returns the number after `<=`.
 fn most_in(rest: &[u8]) -> Option<u32> {
     limit_in(after(b"<=", rest)?)
 }
 
-// The keys that stand behind the one blank.
+// Returns the keys after exactly one blank.
 fn keys_in(rest: &[u8]) -> Option<&str> {
     let (_, text) = rest.split_first()?;
     let Ok(text) = std::str::from_utf8(text) else {
@@ -177,7 +177,7 @@ fn keys_in(rest: &[u8]) -> Option<&str> {
     Some(text)
 }
 
-// What the words of a text have to be.
+// The kind of word that a text must consist of.
 #[derive(Clone, Copy)]
 enum Kind {
     Byte,
@@ -185,22 +185,22 @@ enum Kind {
     Register,
 }
 
-// Whether a word is a byte.
+// Returns whether a word is a byte.
 fn is_byte(word: &[u8]) -> bool {
     byte_of(word).is_some()
 }
 
-// Whether a word is `PLACE=BYTE`.
+// Returns whether a word has the form `PLACE=BYTE`.
 fn is_setting(word: &[u8]) -> bool {
     !name_in(word).is_empty() && is_byte(digits_in(word))
 }
 
-// Whether a word is a register with a byte, such as `A=E9`.
+// Returns whether a word is a register with a byte, such as `A=E9`.
 fn is_register(word: &[u8]) -> bool {
     matches!(name_in(word), [b'A' | b'X' | b'Y' | b'P' | b'S']) && is_byte(digits_in(word))
 }
 
-// Whether a word is of a kind.
+// Returns whether a word is of a kind.
 fn is_kind(kind: Kind, word: &[u8]) -> bool {
     match kind {
         Kind::Byte => is_byte(word),
@@ -209,7 +209,7 @@ fn is_kind(kind: Kind, word: &[u8]) -> bool {
     }
 }
 
-// Whether all words of a text are of a kind.
+// Returns whether all words of a text are of a kind.
 fn are_all(kind: Kind, text: &[u8]) -> bool {
     let mut rest = text;
     while let Some((word, behind)) = first_word(rest) {
@@ -221,7 +221,7 @@ fn are_all(kind: Kind, text: &[u8]) -> bool {
     true
 }
 
-// Whether two texts have the same words.
+// Returns whether two texts have the same words.
 fn are_same_words(text: &[u8], other: &[u8]) -> bool {
     match first_word(text) {
         None => first_word(other).is_none(),
@@ -232,7 +232,7 @@ fn are_same_words(text: &[u8], other: &[u8]) -> bool {
     }
 }
 
-// The cause whose name a text is.
+// Returns the cause with this name.
 fn cause_in(rest: &[u8]) -> Option<Cause> {
     for cause in &Cause::ALL {
         if are_same_words(cause.name(), rest) {
@@ -242,12 +242,12 @@ fn cause_in(rest: &[u8]) -> Option<Cause> {
     None
 }
 
-// The mnemonic that is the one word of a text.
+// Returns the mnemonic that is the only word of a text.
 fn mnemonic_in(rest: &[u8]) -> Option<Mnemonic> {
     Mnemonic::named(only_word(rest)?)
 }
 
-// What stands behind `must`.
+// Parses the text after `must`.
 fn must<'a>(rest: &'a [u8]) -> Option<Line<'a>> {
     if let Some(name) = after(b"use", rest) {
         return Some(Line::Uses(mnemonic_in(name)?));
@@ -256,7 +256,7 @@ fn must<'a>(rest: &'a [u8]) -> Option<Line<'a>> {
     Some(Line::Avoids(mnemonic_in(name)?))
 }
 
-// What stands between the quotes of a text.
+// Returns the text between the quotes.
 fn quoted(text: &[u8]) -> Option<&[u8]> {
     match behind_blanks(text) {
         [b'"', inner @ .., b'"'] => Some(inner),
@@ -264,14 +264,14 @@ fn quoted(text: &[u8]) -> Option<&[u8]> {
     }
 }
 
-// What stands behind `screen row`.
+// Parses the text after `screen row`.
 fn shown<'a>(rest: &'a [u8]) -> Option<Line<'a>> {
     let (number, behind) = first_word(rest)?;
     let number = number_in(10, 2, number)?;
     Some(Line::Shows(number, quoted(after(b"=", behind)?)?))
 }
 
-// What stands behind `screen`.
+// Parses the text after `screen`.
 fn screen<'a>(rest: &'a [u8]) -> Option<Line<'a>> {
     if first_word(rest).is_none() {
         return Some(Line::Screen);
@@ -282,7 +282,7 @@ fn screen<'a>(rest: &'a [u8]) -> Option<Line<'a>> {
     Some(Line::Holds(quoted(after(b"holds", rest)?)?))
 }
 
-// What stands behind `mem`.
+// Parses the text after `mem`.
 fn mem<'a>(rest: &'a [u8]) -> Option<Line<'a>> {
     let (place, behind) = first_word(rest)?;
     let Ok(place) = std::str::from_utf8(place) else {
@@ -296,7 +296,7 @@ fn mem<'a>(rest: &'a [u8]) -> Option<Line<'a>> {
     }
 }
 
-// What stands behind `reg`.
+// Parses the text after `reg`.
 fn reg<'a>(rest: &'a [u8]) -> Option<Line<'a>> {
     if first_word(rest).is_some() && are_all(Kind::Register, rest) {
         Some(Line::Reg(rest))
@@ -305,7 +305,7 @@ fn reg<'a>(rest: &'a [u8]) -> Option<Line<'a>> {
     }
 }
 
-// What stands behind `call`.
+// Parses the text after `call`.
 fn called<'a>(rest: &'a [u8]) -> Option<Line<'a>> {
     let (name, settings) = first_word(rest)?;
     if are_all(Kind::Setting, settings) {
@@ -315,7 +315,7 @@ fn called<'a>(rest: &'a [u8]) -> Option<Line<'a>> {
     }
 }
 
-// What a verb and what stands behind it say.
+// Parses the text after a verb.
 fn said<'a>(verb: Verb, rest: &'a [u8]) -> Option<Line<'a>> {
     match verb {
         Verb::Case => Some(Line::Case(behind_blanks(rest))),
@@ -332,13 +332,13 @@ fn said<'a>(verb: Verb, rest: &'a [u8]) -> Option<Line<'a>> {
     }
 }
 
-// What a line says that begins with a word.
+// Parses a line that begins with a word.
 fn worded<'a>(text: &'a [u8]) -> Option<Line<'a>> {
     let (word, rest) = split_word(text);
     said(verb_of(word)?, rest)
 }
 
-/// What a line says.
+/// Parses a line.
 pub(crate) fn line_of<'a>(text: &'a [u8]) -> Line<'a> {
     match behind_blanks(text) {
         [] | [b';', ..] => Line::Silent,
@@ -350,8 +350,8 @@ pub(crate) fn line_of<'a>(text: &'a [u8]) -> Line<'a> {
     }
 }
 
-/// Whether a text begins as a line of a WANT does that says something, by its word or by `|`: what stands behind may still be in
-/// no form.
+/// Returns whether a text begins like a line of a WANT file that says something: with a verb or with `|`. The rest of
+/// the text may still be invalid.
 pub fn is_asking(text: &[u8]) -> bool {
     match behind_blanks(text) {
         [b'|', ..] => true,
@@ -362,7 +362,7 @@ pub fn is_asking(text: &[u8]) -> bool {
     }
 }
 
-/// What a text says as the line of a WANT that has this number, from 1.
+/// Returns the meaning of a text as the line of a WANT file with this number, from 1.
 pub fn asked_of<'a>(number: usize, text: &'a [u8]) -> Asked<'a>
     ensures { result.number ≡ number }
 {

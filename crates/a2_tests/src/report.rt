@@ -1,4 +1,4 @@
-//! The report of what is found of solutions: a table, or CSV, JSON or JUnit's XML.
+//! The report on some solutions: a table, or CSV, JSON or the XML of JUnit.
 
 use crate::cases::Case;
 use crate::judge::Verdict;
@@ -6,7 +6,7 @@ use a2_stream::{Output, WriteFault, put, put_all};
 use a2_text::decimal;
 use std::alloc::Allocator;
 
-/// In which form a report is written.
+/// The format of a report.
 #[derive(Clone, Copy, Debug, PartialEq, Eq)]
 pub enum Format {
     /// A line for each solution.
@@ -16,16 +16,16 @@ pub enum Format {
     Junit,
 }
 
-/// What is found of a solution.
+/// The result for a solution.
 #[derive(Drop)]
 pub enum Found<'a, A: Allocator> {
-    /// It was judged: a verdict for each case.
+    /// It was judged, with a verdict on each case.
     Judged(&'a [Verdict<A>]),
-    /// It is refused, or could not be read, for this reason.
+    /// It has errors or could not be read, for this reason.
     Refused(&'a [u8]),
 }
 
-/// How many solutions passed all cases, failed one, or were refused; at 2^64 - 1 a count stays.
+/// How many solutions passed all cases, failed a case, or had errors. Each count stays at 2^64 - 1.
 #[derive(Clone, Copy, Debug, PartialEq, Eq)]
 pub struct Totals {
     pub passed: u64,
@@ -34,7 +34,7 @@ pub struct Totals {
 }
 
 impl Totals {
-    /// None yet.
+    /// Returns totals of zero.
     pub fn new() -> Totals {
         Totals {
             passed: 0,
@@ -58,7 +58,7 @@ impl Totals {
     }
 }
 
-// How many cases passed.
+// Returns how many cases passed.
 fn passed_of<A: Allocator>(verdicts: &[Verdict<A>]) -> usize {
     let mut count: usize = 0;
     for verdict in verdicts {
@@ -69,7 +69,8 @@ fn passed_of<A: Allocator>(verdicts: &[Verdict<A>]) -> usize {
     count
 }
 
-// The characters of a byte in a string of JSON, in XML, or in a field of CSV; itself where it is written as it is.
+// Returns the characters that a format writes for a byte, in a JSON string, in XML, or in a CSV field. The byte itself
+// if it needs no escape.
 fn spelt<'a>(format: Format, c: &'a u8) -> &'a [u8] {
     match (format, *c) {
         (Format::Csv, b'"') => b"\"\"",
@@ -84,7 +85,7 @@ fn spelt<'a>(format: Format, c: &'a u8) -> &'a [u8] {
     }
 }
 
-// Writes a text, each byte as the format has it.
+// Writes a text, with each byte as the format spells it.
 fn put_text<W: Output>(format: Format, text: &[u8], writer: &mut W) -> Result<(), WriteFault> {
     for c in text {
         put(spelt(format, c), writer)?;
@@ -92,12 +93,12 @@ fn put_text<W: Output>(format: Format, text: &[u8], writer: &mut W) -> Result<()
     Ok(())
 }
 
-// A piece of what is written.
+// A piece of the output.
 #[derive(Clone, Copy)]
 enum Piece<'a> {
-    // These bytes.
+    // These bytes, unchanged.
     Plain(&'a [u8]),
-    // A text, each byte as the format has it.
+    // A text, with each byte as the format spells it.
     Text(&'a [u8]),
     Number(usize),
 }
@@ -115,7 +116,7 @@ fn put_piece<W: Output>(
     }
 }
 
-// Writes pieces, one behind another.
+// Writes pieces, one after another.
 fn put_pieces<W: Output>(
     format: Format,
     pieces: &[Piece<'_>],
@@ -127,7 +128,8 @@ fn put_pieces<W: Output>(
     Ok(())
 }
 
-// A case of a solution: its name, whether it passed, and else in which line of the WANT it did not, or 0, and what is told.
+// A case of a solution: its name and whether it passed. If it did not, also the line of the WANT file that was not met,
+// or 0, and the report on it.
 #[derive(Clone, Copy)]
 struct Outcome<'a> {
     name: &'a [u8],
@@ -137,7 +139,7 @@ struct Outcome<'a> {
 }
 
 impl<'a> Outcome<'a> {
-    // What is found of a case.
+    // Returns the outcome of a case.
     fn of<A: Allocator>(name: &'a [u8], verdict: &'a Verdict<A>) -> Outcome<'a> {
         Outcome {
             name,
@@ -148,7 +150,7 @@ impl<'a> Outcome<'a> {
     }
 }
 
-// The line of the WANT that a verdict is of, or 0.
+// Returns the line of the WANT file that a verdict names, or 0.
 fn line_of<A: Allocator>(verdict: &Verdict<A>) -> usize {
     match verdict {
         Verdict::Missed(line, _) => *line,
@@ -156,7 +158,7 @@ fn line_of<A: Allocator>(verdict: &Verdict<A>) -> usize {
     }
 }
 
-// What is told of a verdict.
+// Returns the report of a verdict.
 fn told_of<A: Allocator>(verdict: &Verdict<A>) -> &[u8] {
     match verdict {
         Verdict::Passed => b"",
@@ -165,7 +167,7 @@ fn told_of<A: Allocator>(verdict: &Verdict<A>) -> &[u8] {
     }
 }
 
-// The name of the case at an index; empty where there is none.
+// Returns the name of the case at an index, or an empty name if there is no such case.
 fn name_at<'a, A: Allocator>(cases: &[Case<'a, A>], index: usize) -> &'a [u8] {
     match cases.get(index) {
         Some(case) => case.name,
@@ -176,14 +178,14 @@ fn name_at<'a, A: Allocator>(cases: &[Case<'a, A>], index: usize) -> &'a [u8] {
 // Why a solution did not pass all its cases.
 #[derive(Clone, Copy)]
 enum Reason<'a> {
-    // It passed them.
+    // It passed all of them.
     Nothing,
-    // The first that it did not pass.
+    // The first case that it did not pass.
     Failed(Outcome<'a>),
     Refused(&'a [u8]),
 }
 
-// The first case that did not pass.
+// Returns the first case that did not pass.
 fn first_failed<'a, 'b, A: Allocator>(
     cases: &'b [Case<'a, A>],
     verdicts: &'b [Verdict<A>],
@@ -197,7 +199,7 @@ fn first_failed<'a, 'b, A: Allocator>(
     Reason::Nothing
 }
 
-// Why a solution did not pass all its cases.
+// Returns why a solution did not pass all its cases.
 fn reason_of<'a, 'b, A: Allocator>(
     cases: &'b [Case<'a, A>],
     found: &'b Found<'a, A>,
@@ -208,7 +210,7 @@ fn reason_of<'a, 'b, A: Allocator>(
     }
 }
 
-// Writes why a solution did not pass all its cases, behind these bytes; nothing where it did.
+// Writes these bytes and why a solution did not pass all its cases; nothing if it passed them.
 fn put_reason<'a, W: Output>(
     format: Format,
     front: &'a [u8],
@@ -230,7 +232,7 @@ fn put_reason<'a, W: Output>(
     }
 }
 
-// Writes which case did not pass, and what is told of it, behind these bytes.
+// Writes these bytes, the case that did not pass, and the report on it.
 fn put_failed<'a, W: Output>(
     format: Format,
     front: &'a [u8],
@@ -258,7 +260,7 @@ fn put_failed<'a, W: Output>(
     )
 }
 
-// How many cases a solution passed.
+// Returns how many cases a solution passed.
 fn passed_in<A: Allocator>(found: &Found<A>) -> usize {
     match found {
         Found::Judged(verdicts) => passed_of(*verdicts),
@@ -266,16 +268,16 @@ fn passed_in<A: Allocator>(found: &Found<A>) -> usize {
     }
 }
 
-// The blanks behind a name.
+// Padding after a name.
 const BLANKS: &[u8] = b"                        ";
 
-// Those that bring a name to their number.
+// Returns the blanks that align the number after a name.
 fn blanks_behind(name: &[u8]) -> &[u8] {
     let (_, blanks) = BLANKS.split_at(name.len().min(BLANKS.len()));
     blanks
 }
 
-// Writes the line of a solution, which passed so many of all cases.
+// Writes the line of a solution, with how many of all cases it passed.
 fn put_row<'a, W: Output>(
     name: &'a [u8],
     (passed, all): (usize, usize),
@@ -322,7 +324,7 @@ fn put_record<'a, W: Output>(
     put(b"\"\n", writer)
 }
 
-// Writes what the object of a case that did not pass has behind its name.
+// Writes the part after the name in the object of a case that did not pass.
 fn put_difference<W: Output>(outcome: Outcome<'_>, writer: &mut W) -> Result<(), WriteFault> {
     put(b"\",\"passed\":false", writer)?;
     if outcome.line > 0 {
@@ -343,7 +345,7 @@ fn put_difference<W: Output>(outcome: Outcome<'_>, writer: &mut W) -> Result<(),
     )
 }
 
-// Writes the object of a case, behind these bytes.
+// Writes these bytes and the object of a case.
 fn put_object<'a, W: Output>(
     front: &'a [u8],
     outcome: Outcome<'a>,
@@ -365,7 +367,7 @@ fn put_object<'a, W: Output>(
     }
 }
 
-// Writes the objects of cases, with commas between them.
+// Writes the objects of some cases, separated by commas.
 fn put_objects<A: Allocator, W: Output>(
     cases: &[Case<A>],
     verdicts: &[Verdict<A>],
@@ -380,7 +382,7 @@ fn put_objects<A: Allocator, W: Output>(
     Ok(())
 }
 
-// Writes the object of a solution, behind these bytes.
+// Writes these bytes and the object of a solution.
 fn put_json<'a, A: Allocator, W: Output>(
     front: &'a [u8],
     name: &'a [u8],
@@ -415,7 +417,7 @@ fn put_json<'a, A: Allocator, W: Output>(
     }
 }
 
-// Writes a test case of JUnit that did not pass: of this kind, and for this reason.
+// Writes a JUnit test case that did not pass, with its kind and reason.
 fn put_failure<'a, W: Output>(
     name: &'a [u8],
     kind: &'a [u8],
@@ -466,7 +468,7 @@ fn put_tests<A: Allocator, W: Output>(
     Ok(())
 }
 
-// Writes the test cases of a solution that is refused, for this reason.
+// Writes the test cases of a solution that has errors, with the reason.
 fn put_errors<A: Allocator, W: Output>(
     cases: &[Case<A>],
     why: &[u8],
@@ -503,7 +505,7 @@ fn put_suite<A: Allocator, W: Output>(
     put(b"  </testsuite>\n", writer)
 }
 
-/// Writes what stands before the solutions.
+/// Writes the part of a report before the solutions.
 pub fn put_head<W: Output>(format: Format, writer: &mut W) -> Result<(), WriteFault> {
     put(
         match format {
@@ -516,7 +518,7 @@ pub fn put_head<W: Output>(format: Format, writer: &mut W) -> Result<(), WriteFa
     )
 }
 
-/// Writes what is found of a solution, which is called `name`. `is_first` says whether it is the first one.
+/// Writes the result for a solution called `name`. `is_first` says whether it is the first one.
 pub fn put_solution<A: Allocator, W: Output>(
     format: Format,
     name: &[u8],
@@ -546,7 +548,7 @@ pub fn put_solution<A: Allocator, W: Output>(
     }
 }
 
-// Writes the line of how many solutions there are, and of each kind.
+// Writes the line that states how many solutions there are, and how many of each kind.
 fn put_totals<W: Output>(totals: &Totals, writer: &mut W) -> Result<(), WriteFault> {
     let files = totals
         .passed
@@ -571,7 +573,7 @@ fn put_totals<W: Output>(totals: &Totals, writer: &mut W) -> Result<(), WriteFau
     )
 }
 
-/// Writes what stands behind the solutions.
+/// Writes the part of a report after the solutions.
 pub fn put_tail<W: Output>(
     format: Format,
     totals: &Totals,

@@ -1,4 +1,4 @@
-//! Whether the rows of a screen are those that are wanted.
+//! Whether the rows of a screen are the expected ones.
 
 ghost use Rattle.std.specs.Prelude.{◌≡◌, map};
 ghost use Rattle.std.specs.List.{list_all};
@@ -8,14 +8,14 @@ ghost use Rattle.a2_tests.specs.Rows as row;
 use crate::line::{Asked, Line, behind};
 use a2_text::is_blank;
 
-// Whether a text is of blanks alone.
+// Returns whether a text consists only of blanks.
 fn is_empty_row(text: &[u8]) -> bool
     ensures { result ≡ list_all is_blank_byte text.now }
 {
     text.iter().all(|c| is_blank(*c))
 }
 
-// Whether two rows are the same but for blanks at their ends.
+// Returns whether two rows are the same except for blanks at their ends.
 fn is_same(wanted: &[u8], shown: &[u8]) -> bool
     ensures { result ≡ row.is_same wanted.now shown.now }
 {
@@ -34,14 +34,14 @@ fn is_same(wanted: &[u8], shown: &[u8]) -> bool
     }
 }
 
-/// Whether a row is as it is wanted: `~` is any row, and blanks at the ends don't count.
+/// Returns whether a row is the expected one. `~` stands for any row, and blanks at the ends are ignored.
 pub(crate) fn row_fits(wanted: &[u8], shown: &[u8]) -> bool
     ensures { result ≡ row.row_fits wanted.now shown.now }
 {
     matches!(wanted, [b'~']) || is_same(wanted, shown)
 }
 
-/// The row that lines begin with; an empty row where they begin with none.
+/// Returns the row that some lines begin with, or an empty row if they do not begin with one.
 pub(crate) fn first_row<'a>(lines: &[Asked<'a>]) -> &'a [u8]
     ensures { result.now ≡ row.first_row lines.now }
 {
@@ -54,7 +54,7 @@ pub(crate) fn first_row<'a>(lines: &[Asked<'a>]) -> &'a [u8]
     }
 }
 
-/// Whether lines begin with a row.
+/// Returns whether some lines begin with a row.
 fn begins_with_row(lines: &[Asked]) -> bool
     ensures { result ≡ row.begins_with_row lines.now }
 {
@@ -64,14 +64,14 @@ fn begins_with_row(lines: &[Asked]) -> bool
     }
 }
 
-/// How many rows stand at the very front of lines: 1 where they begin with one, and else 0.
+/// Returns 1 if some lines begin with a row, otherwise 0.
 pub(crate) fn row_count(lines: &[Asked]) -> usize
     ensures { result ≡ row.row_count lines.now }
 {
     if begins_with_row(lines) { 1 } else { 0 }
 }
 
-/// Whether the rows of a screen, from the top, are those that stand in lines; behind these they are blank.
+/// Returns whether the rows of a screen, from the top, are those on the lines, and the remaining rows are blank.
 pub(crate) fn rows_fit(lines: &[Asked], shown: &[&[u8]]) -> bool
     ensures { result ≡ row.rows_fit lines.now (map (λ x. x.now) shown.now) }
 {
@@ -86,7 +86,7 @@ pub(crate) fn rows_fit(lines: &[Asked], shown: &[&[u8]]) -> bool
     !begins_with_row(behind(lines, used))
 }
 
-/// Whether the row of a number, from 0 at the top, is as it is wanted.
+/// Returns whether the row with this number, from 0 at the top, is the expected one.
 pub(crate) fn row_is(number: u16, wanted: &[u8], shown: &[&[u8]]) -> bool
     ensures { result ≡ row.row_is number wanted.now (map (λ x. x.now) shown.now) }
 {
@@ -96,7 +96,7 @@ pub(crate) fn row_is(number: u16, wanted: &[u8], shown: &[&[u8]]) -> bool
     }
 }
 
-// Whether a text has another in it.
+// Returns whether a text contains another one.
 fn has(text: &[u8], part: &[u8]) -> bool
     ensures { result ≡ row.has part.now text.now }
 {
@@ -110,7 +110,7 @@ fn has(text: &[u8], part: &[u8]) -> bool
     part.is_empty()
 }
 
-/// Whether a row has a text in it.
+/// Returns whether a row contains a text.
 pub(crate) fn holds(shown: &[&[u8]], part: &[u8]) -> bool
     ensures { result ≡ row.holds part.now (map (λ x. x.now) shown.now) }
 {

@@ -1,4 +1,4 @@
-//! What is told of a line whose demand does not hold: what is wanted, what is there, and where the run came to its end.
+//! Reports on a line that is not met: what was expected, what was found, and where the run ended.
 
 use crate::asks::{Ending, first_other, first_wrong, place_of, register_byte, size_of, user_of};
 use crate::call::append;
@@ -10,7 +10,7 @@ use a2_symbols::statement_at;
 use a2_text::{decimal, hex_pair, hex_word, is_blank};
 use std::alloc::{AllocError, Allocator};
 
-// A row without the blanks at its end.
+// Returns a row without the blanks at its end.
 fn trimmed(row: &[u8]) -> &[u8] {
     let mut rest = row;
     while let [front @ .., c] = rest {
@@ -22,7 +22,8 @@ fn trimmed(row: &[u8]) -> &[u8] {
     rest
 }
 
-// The first row of the screen that is not as it is wanted: its number, from 0, what is wanted, and what is there.
+// Returns the first row of the screen that is not the expected one: its number, from 0, the expected row, and the row
+// found.
 fn first_unlike<'a, 'b>(
     lines: &[Asked<'a>],
     shown: &[&'b [u8]],
@@ -39,7 +40,7 @@ fn first_unlike<'a, 'b>(
     None
 }
 
-// Tells the first row of the screen that is not as it is wanted.
+// Reports the first row of the screen that is not the expected one.
 fn tell_rows<A: Allocator>(
     text: &mut Vec<u8, A>,
     lines: &[Asked],
@@ -51,7 +52,7 @@ fn tell_rows<A: Allocator>(
     tell_row(text, number, wanted, row)
 }
 
-// Tells a row of the screen that is not as it is wanted.
+// Reports a row of the screen that is not the expected one.
 fn tell_row<A: Allocator>(
     text: &mut Vec<u8, A>,
     number: usize,
@@ -73,7 +74,7 @@ fn tell_row<A: Allocator>(
     )
 }
 
-// Tells the row of a number that is not as it is wanted.
+// Reports the row with a given number, which is not the expected one.
 fn tell_row_at<A: Allocator>(
     text: &mut Vec<u8, A>,
     number: u16,
@@ -94,7 +95,7 @@ fn tell_byte<A: Allocator>(text: &mut Vec<u8, A>, byte: Option<u8>) -> Result<()
     }
 }
 
-// Tells the first byte of memory that is not as it is wanted.
+// Reports the first byte of memory that is not the expected one.
 fn tell_memory<A: Allocator>(
     text: &mut Vec<u8, A>,
     place: &str,
@@ -117,7 +118,7 @@ fn tell_memory<A: Allocator>(
     tell_byte(text, ending.machine.peek(at))
 }
 
-// Tells the first register that does not hold its byte.
+// Reports the first register that does not have the expected value.
 fn tell_registers<A: Allocator>(
     text: &mut Vec<u8, A>,
     words: &[u8],
@@ -130,7 +131,7 @@ fn tell_registers<A: Allocator>(
     tell_byte(text, register_byte(ending.machine, name_in(word)))
 }
 
-// Tells that a number is above the most.
+// Reports that a number is above the maximum.
 fn tell_most<A: Allocator>(
     text: &mut Vec<u8, A>,
     name: &[u8],
@@ -151,7 +152,7 @@ fn tell_most<A: Allocator>(
     )
 }
 
-// Tells where a mnemonic is used, or that it is nowhere.
+// Reports where a mnemonic is used, or that it is not used.
 fn tell_use<A: Allocator>(
     text: &mut Vec<u8, A>,
     mnemonic: Mnemonic,
@@ -167,7 +168,7 @@ fn tell_use<A: Allocator>(
     }
 }
 
-// Tells the difference.
+// Reports the difference.
 fn tell_difference<A: Allocator>(
     text: &mut Vec<u8, A>,
     lines: &[Asked],
@@ -196,7 +197,7 @@ fn tell_difference<A: Allocator>(
     }
 }
 
-// Tells where a run ended that did not come to its end by itself.
+// Reports where a run ended that did not end by itself.
 fn tell_end<A: Allocator>(text: &mut Vec<u8, A>, ending: &Ending<A>) -> Result<(), AllocError> {
     if ending.cause.is_own_end() {
         return Ok(());
@@ -212,7 +213,7 @@ fn tell_end<A: Allocator>(text: &mut Vec<u8, A>, ending: &Ending<A>) -> Result<(
     }
 }
 
-/// What is told of the first of these lines, whose demand does not hold of a run's end.
+/// Returns the report on the first of these lines, which the end of a run does not meet.
 pub(crate) fn told_of_miss<A: Allocator + Copy>(
     alloc: A,
     lines: &[Asked],

@@ -1,4 +1,4 @@
--- The first line of a text, and the rest of it.
+-- The first line of a text, and the rest of the text.
 use Rattle.std.proofs.Common.{◌≡◌, ℕ, ◌+◌, ◌<◌, Bool, true, false, not, cond, eqb, List, [], ◌∷◌, ◌++◌, length, take, drop, refl, sym, ap, ◌∙◌, arith}
 use Rattle.std.proofs.lemmas.List.{append_assoc, take_all}
 use Rattle.std.specs.List.{slice_split, onto_first, position_or_len, before_first, after_first}
@@ -12,7 +12,7 @@ use Rattle.a2_text.specs.Lines.{lines, lines_of_pieces}
 abbrev is_feed : ℕ → Bool
 is_feed c = eqb c 10
 
--- a cut has a first part
+-- a cut has at least one part
 onto_first-some : (x : ℕ) (ps : List (List ℕ)) → (q : List ℕ) × (qs : List (List ℕ)) × (onto_first x ps ≡ q ∷ qs)
 onto_first-some x [] = (x ∷ [], [], refl)
 onto_first-some x (p ∷ ps) = (x ∷ p, ps, refl)
@@ -41,7 +41,7 @@ lines_last text h e =
     let none = slice_split_none is_feed text (All-from_get_or (λ x. is_feed x ≡ false) text 0 (λ i lt. not-true _ (prefix_len_passes (λ x. not (is_feed x)) text i 0 (omega (arith, e))))) in
     ap lines_of_pieces none ∙ lines_of_one text h
 
--- one line more was found
+-- after one more line is found, the lines found and those of the rest are still all lines
 pub cut_more : (front : List (List ℕ)) (rest text line next : List ℕ) (end : ℕ) → front ++ lines rest ≡ lines text → end ≡ position_or_len is_feed rest → end < length rest → line ≡ strip_carriage_return (take end rest) → next ≡ drop (end + 1) rest → (front ++ line ∷ []) ++ lines next ≡ lines text
 cut_more front rest text line next end h e lt l n =
     let lt' : position_or_len is_feed rest < length rest = omega (arith, e) in
@@ -49,7 +49,7 @@ cut_more front rest text line next end h e lt l n =
     let same : line ∷ lines next ≡ lines rest = rw (l, n, e) (sym m) in
     append_assoc front (line ∷ []) (lines next) ∙ ap (λ x. front ++ x) same ∙ h
 
--- the last line was found
+-- after the last line is found, the lines found are all lines
 pub cut_last : (front : List (List ℕ)) (rest text line : List ℕ) (end : ℕ) → front ++ lines rest ≡ lines text → end ≡ position_or_len is_feed rest → end ≡ length rest → 0 < length rest → line ≡ strip_carriage_return (take end rest) → front ++ line ∷ [] ≡ lines text
 cut_last front rest text line end h e last some l =
     let same : line ∷ [] ≡ lines rest = rw (l, last, take_all (length rest) rest (omega arith)) (sym (lines_last rest some (sym e ∙ last))) in

@@ -1,4 +1,4 @@
--- Digits that stand for too much.
+-- Digits whose value is too large.
 use Rattle.std.proofs.Common.{◌≡◌, ℕ, ◌+◌, ◌*◌, ◌<◌, ◌≤◌, ◌&&◌, ltb, leb, List, [], ◌∷◌, length, get_or, drop, fold, sym, Some, None, arith}
 use Rattle.std.proofs.Math.Nat.{mul-le-mul_left}
 use Rattle.std.specs.List.{list_all}
@@ -14,7 +14,7 @@ number_in-large : (base most : ℕ) (digits : List ℕ) → 65535 < value_of_dig
 number_in-large base most digits h =
     sym (cond-false _ (Some (value_of_digits base digits)) None (and_right (ltb 0 (length digits) && leb (length digits) most && list_all (is_digit_in base) digits) _ (le-ltb (value_of_digits base digits) 65536 (omega arith))))
 
--- too much so far
+-- once the value is too large, more digits do not make it smaller
 pub number_in-grown : (base most n i : ℕ) (digits : List ℕ) → 1 ≤ base → i < length digits → fold (λ n c. n * base + digit c) n (drop i digits) ≡ value_of_digits base digits → 65535 < n * base + digit (get_or digits i 0) → None ≡ number_in base most digits
 number_in-grown base most n i digits h lt is large =
     let step = at_drop_more (fold (λ n c. n * base + digit c) n) digits i 0 lt in

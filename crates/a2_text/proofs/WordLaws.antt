@@ -1,4 +1,4 @@
--- The first word of a text, and the others.
+-- The first word of a text, and the words after it.
 use Rattle.std.proofs.Common.{◌≡◌, ℕ, suc, ◌+◌, ◌<◌, ◌≤◌, Bool, true, false, not, ltb, List, [], ◌∷◌, length, get_or, take, drop, inl, inr, refl, sym, ap, ◌∙◌, arith}
 use Rattle.std.specs.List.{slice_split, position_or_len, prefix_len, filter, before_first, after_first}
 use Rattle.std.proofs.lemmas.Bool.{cases_Bool, cases_lt, cond-true, cond-false, lt-ltb, not-true}
@@ -12,7 +12,7 @@ use Rattle.a2_text.specs.Words.{behind_blanks, words}
 abbrev is_some_piece : List ℕ → Bool
 is_some_piece piece = ltb 0 (length piece)
 
--- a blank at the front changes nothing
+-- a blank at the front does not change the words
 pub words-blank : (c : ℕ) (text : List ℕ) → is_blank c ≡ true → words (c ∷ text) ≡ words text
 words-blank c text h = ap (filter is_some_piece) (slice_split-cons_yes is_blank c text h)
 
@@ -35,7 +35,7 @@ pub words-none : (text here : List ℕ) → here ≡ behind_blanks text → leng
 words-none text [] e h = words-behind text ∙ ap words (sym e)
 words-none text (c ∷ here) e h = absurd (omega arith)
 
--- what is left behind the blanks begins with no blank
+-- the text after the blanks does not begin with a blank
 behind-stops : (text : List ℕ) → 0 < length (behind_blanks text) → is_blank (get_or (behind_blanks text) 0 0) ≡ false
 behind-stops [] h = absurd (omega arith)
 behind-stops (c ∷ text) h = elim (cases_Bool (is_blank c)) [
@@ -74,7 +74,7 @@ words-first text here n e some is =
       | inr ge ↦ same ∙ words-last here n is first ge
     ]
 
--- what stands behind the first word is shorter
+-- the text after the first word is shorter
 pub behind-shorter : (text here : List ℕ) (n : ℕ) → here ≡ behind_blanks text → 0 < length here → n ≡ position_or_len is_blank here → (0 < n) × (length here ≤ length text)
 behind-shorter text here n e some is =
     let stops : is_blank (get_or here 0 0) ≡ false = rw e (behind-stops text (rw e at some)) in

@@ -1,4 +1,4 @@
--- Numbers written in digits.
+-- Numbers written as digits.
 use Rattle.std.specs.Prelude.{ℕ, ◌+◌, ◌/◌, ◌%◌, nat_lt, List, [], ◌∷◌, ◌++◌, if◌then◌else◌}
 
 -- the capital hexadecimal digit of a number below 16

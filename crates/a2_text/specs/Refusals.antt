@@ -1,8 +1,8 @@
--- The first of several refusals, and how one is shown. This project's profile.
+-- The first of several errors, and how an error is shown. This project's profile.
 use Rattle.std.specs.Prelude.{ℕ, ◌+◌, ◌==◌, Bool, List, [], ◌∷◌, ◌++◌, codes, Option, Some, None, if◌then◌else◌}
 use Rattle.std.specs.Fmt.{decimal}
 
--- the first where there is one, and else the second
+-- the first value if there is one, otherwise the second
 infixr 20 ◌otherwise◌
 abbrev pub ◌otherwise◌ : {F : Type 0} → Option F → Option F → Option F
 (Some f) otherwise g = Some f
@@ -11,11 +11,11 @@ None otherwise g = g
 abbrev pub refuse_if : {F : Type 0} → Bool → F → Option F
 refuse_if b f = if b then Some f else None
 
--- the first line that a check refuses, where the lines are numbered from n on
+-- the error of the first line that fails a check; the lines are numbered from n on
 abbrev pub first_line : {X F : Type 0} → (ℕ → X → Option F) → ℕ → List X → Option F
 first_line check n [] = None
 first_line check n (x ∷ xs) = check n x otherwise first_line check (n + 1) xs
 
--- a refusal's text, behind `LINE `, its line and a blank where it is of a line; 0 is no line
+-- the text of an error, preceded by `LINE `, the line number and a blank if it belongs to a line; 0 means no line
 abbrev pub of_line : ℕ → List ℕ → List ℕ
 of_line line text = if line == 0 then text else codes "LINE " ++ (decimal line ++ (codes " " ++ text))

@@ -1,4 +1,4 @@
-//! Numbers written in digits.
+//! Numbers written as hexadecimal and decimal digits.
 
 ghost use Rattle.std.specs.Prelude.{◌≡◌};
 ghost use Rattle.std.specs.Fmt.{decimal as decimal_of};
@@ -9,17 +9,17 @@ use crate::room::append;
 use arrayvec::ArrayVec;
 use itoa::Buffer;
 
-/// The two capital hexadecimal digits of a byte.
+/// Returns the two capital hexadecimal digits of a byte.
 pub fn hex_pair(byte: u8) -> [u8; 2]
     ensures { result ≡ digits.hex_pair byte }
 {
     let mut small = [0u8; 2];
-    // A byte has two digits, so they fit.
+    // A byte has exactly two digits, so the buffer is large enough.
     hex::encode_to_slice([byte], &mut small).unwrap();
     [capital(small[0]), capital(small[1])]
 }
 
-/// The four capital hexadecimal digits of an address.
+/// Returns the four capital hexadecimal digits of an address.
 pub fn hex_word(word: u16) -> [u8; 4]
     ensures { result ≡ digits.hex_word word }
 {
@@ -28,7 +28,7 @@ pub fn hex_word(word: u16) -> [u8; 4]
     [a, b, c, d]
 }
 
-/// The decimal digits of a number, without leading zeros.
+/// Returns the decimal digits of a number, without leading zeros.
 pub fn decimal(number: u64) -> ArrayVec<u8, 20>
     ensures { result.items ≡ decimal_of number }
 {

@@ -1,4 +1,4 @@
-//! Bytes in strings of JSON.
+//! Escaping of bytes in JSON strings.
 
 ghost use Rattle.std.specs.Prelude.{◌≡◌};
 ghost use Rattle.a2_text.specs.Json as json;
@@ -7,8 +7,9 @@ use crate::digits::hex_pair;
 use crate::room::append;
 use arrayvec::ArrayVec;
 
-/// A byte in a string of JSON (RFC 8259), 1 to 6 characters: `"` and `\` behind a `\`, what is no printing character of ASCII
-/// by its number, as `\u00C1`, and any other byte itself.
+/// Returns a byte as it is written in a JSON string (RFC 8259), 1 to 6 characters long. `"` and `\` get a `\` before
+/// them. A byte that is not a printable ASCII character is written by its number, as in `\u00C1`. Any other byte is
+/// unchanged.
 pub fn json_escape(byte: u8) -> ArrayVec<u8, 6>
     ensures { result.items ≡ json.escaped byte }
 {

@@ -1,6 +1,6 @@
-//! Texts as bytes: their lines, blanks and digits, and how a refusal is shown.
+//! Basic work on text held as bytes, such as cutting lines and words, reading and writing numbers, and showing errors.
 //!
-//! How it is called is shown in CALLING.md.
+//! CALLING.md shows how to call it.
 #![tactic(auto)]
 
 mod digits;

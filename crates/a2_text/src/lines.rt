@@ -1,4 +1,4 @@
-//! The cut of a text into lines.
+//! Cutting a text into lines.
 
 ghost use Rattle.std.specs.Prelude.{◌≡◌, map, IfOk};
 ghost use Rattle.std.specs.Str.Lines.{strip_carriage_return};
@@ -7,7 +7,7 @@ ghost use Rattle.a2_text.specs.Lines.{lines};
 use crate::words::front_len;
 use std::alloc::{AllocError, Allocator};
 
-// A piece without the carriage return at its end.
+// Returns a piece without the carriage return at its end, if it has one.
 fn trimmed(piece: &[u8]) -> &[u8]
     ensures { result.now ≡ strip_carriage_return piece.now }
 {
@@ -17,8 +17,8 @@ fn trimmed(piece: &[u8]) -> &[u8]
     }
 }
 
-/// The lines of a text: its pieces between line feeds, each without a carriage return at its end. A final empty piece
-/// is no line. Refused only for want of memory.
+/// Returns the lines of a text: the pieces between its line feeds, each without a carriage return at its end. A final
+/// empty piece is not a line. Fails only if memory runs out.
 pub fn cut<A: Allocator>(alloc: A, text: &[u8]) -> Result<Vec<&[u8], A>, AllocError>
     ensures { IfOk result (λ v. map (λ x. x.now) v.items ≡ lines text.now) }
 {

@@ -1,24 +1,24 @@
-//! Blanks, capitals, and the numbers that digits stand for.
+//! Blanks, capital letters, and the values of digits.
 
 ghost use Rattle.std.specs.Prelude.{◌≡◌, ◌≤◌, true, false, MatchOption, Some, None, length};
 ghost use Rattle.a2_text.specs.Bytes as byte;
 ghost use Rattle.a2_text.specs.Bytes.{is_hex_digit, digit as digit_of};
 
-/// Whether a byte is a space or a tab.
+/// Returns whether a byte is a space or a tab.
 pub fn is_blank(c: u8) -> bool
     ensures { result ≡ byte.is_blank c }
 {
     c == b' ' || c == b'\t'
 }
 
-/// The capital of a small letter, and any other byte itself.
+/// Returns the capital of a small letter; any other byte is unchanged.
 pub fn capital(c: u8) -> u8
     ensures { result ≡ byte.capital c }
 {
     if matches!(c, b'a'..=b'z') { c - 32 } else { c }
 }
 
-// What a hexadecimal digit stands for.
+// Returns the value of a hexadecimal digit.
 fn digit(c: u8) -> Option<u8>
     ensures { MatchOption result (is_hex_digit c ≡ false) (λ d. (is_hex_digit c ≡ true) × (d ≡ digit_of c)) }
 {
@@ -30,8 +30,8 @@ fn digit(c: u8) -> Option<u8>
     }
 }
 
-/// The number that one digit or more, but at most so many, stand for in a base from 1 to 16; none where there are
-/// other bytes, too many, or the number is above 65,535.
+/// Returns the value of `digits` in a base from 1 to 16. Returns `None` if `digits` is empty, has more than `most`
+/// bytes, contains a byte that is not a digit of the base, or if the value is above 65,535.
 pub fn number_in(base: u32, most: usize, digits: &[u8]) -> Option<u16>
     requires low { 1 ≤ base }
     requires high { base ≤ 16 }

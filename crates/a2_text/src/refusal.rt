@@ -1,4 +1,4 @@
-//! A refusal as it is shown.
+//! The text that shows an error.
 
 ghost use Rattle.std.specs.Prelude.{◌≡◌, ◌≤◌, length};
 ghost use Rattle.a2_text.specs.Refusals.{of_line};
@@ -6,11 +6,11 @@ ghost use Rattle.a2_text.specs.Refusals.{of_line};
 use arrayvec::ArrayString;
 use itoa::Buffer;
 
-/// A refusal as it is shown: `LINE `, at most 20 digits, a blank, and words of at most 22 bytes.
+/// The text of an error: `LINE `, at most 20 digits, a blank, and a message of at most 22 bytes.
 pub type RefusalText = ArrayString<48>;
 
-/// `LINE `, the line and a blank, where the refusal is of a line, and its words, at most 22 bytes. A line counts from 1, and 0
-/// is no line. This project's profile.
+/// Returns the text of an error. If the error belongs to a line, the text begins with `LINE `, the line number and a
+/// blank. The message follows, at most 22 bytes long. Lines count from 1, and 0 means no line. This project's profile.
 pub fn refusal_text(line: usize, words: &str) -> RefusalText
     requires { length words.now ≤ 22 }
     ensures { result.bytes ≡ of_line line words.now }

@@ -1,11 +1,11 @@
-//! Texts with room for so many bytes.
+//! Texts of limited size.
 
 ghost use Rattle.std.specs.Prelude.{◌≡◌, ◌+◌, ◌≤◌, ◌++◌, length};
 ghost use Rattle.arrayvec.specs.ArrayVec.{array_vec_len};
 
 use arrayvec::ArrayVec;
 
-/// Adds `bytes` behind those of `text`, which has room for them.
+/// Appends `bytes` to `text`, which must have room for them.
 pub fn append<const N: usize>(text: &mut ArrayVec<u8, N>, bytes: &[u8])
     requires { array_vec_len text.old + length bytes.now ≤ N }
     ensures bytes { text.new.items ≡ text.old.items ++ bytes.now }

@@ -1,4 +1,4 @@
-//! The words of a text: its pieces between blanks.
+//! The words of a text: the pieces between its blanks.
 
 ghost use Rattle.std.specs.Prelude.{◌≡◌, ◌<◌, ◌≤◌, ℕ, Bool, [], ◌∷◌, None, Some, length, MatchOption, IfSome};
 ghost use Rattle.std.specs.List.{prefix_len};
@@ -7,7 +7,7 @@ ghost use Rattle.a2_text.specs.Words.{IsTest};
 
 use crate::numbers::is_blank;
 
-/// How many bytes at the front of a text pass a test, 0 to the text's length.
+/// Returns how many bytes at the front of a text pass a test, from 0 to the text's length.
 pub fn front_len<P: Fn(u8) -> bool>(text: &[u8], test: P) -> usize
     requires { P.IsAlwaysCallable test }
     ensures is { (p : ℕ → Bool) → IsTest p (P.post test) → result ≡ prefix_len p text.now }
@@ -21,14 +21,14 @@ pub fn front_len<P: Fn(u8) -> bool>(text: &[u8], test: P) -> usize
     text.len()
 }
 
-/// What stands behind the blanks at the front of a text.
+/// Returns the text after the blanks at its front.
 pub fn behind_blanks(text: &[u8]) -> &[u8]
     ensures { result.now ≡ word.behind_blanks text.now }
 {
     &text[front_len(text, |c| is_blank(c))..]
 }
 
-/// The first word of a text and what stands behind it, or none where the text is blank.
+/// Returns the first word of a text and the text after it, or `None` if the text is blank.
 pub fn first_word(text: &[u8]) -> Option<(&[u8], &[u8])>
     ensures words { MatchOption result (word.words text.now ≡ [])
         (λ (first, behind). word.words text.now ≡ first.now ∷ word.words behind.now) }
@@ -41,7 +41,7 @@ pub fn first_word(text: &[u8]) -> Option<(&[u8], &[u8])>
     Some(here.split_at(front_len(here, |c| !is_blank(c))))
 }
 
-/// The first word of a text and what stands behind it; of a blank text two empty ones.
+/// Returns the first word of a text and the text after it; both are empty if the text is blank.
 #[tactic(auto, unfolding(crate::specs::Words::first_word, crate::specs::Words::behind_word))]
 pub fn split_word(text: &[u8]) -> (&[u8], &[u8])
     ensures word { result.0.now ≡ word.first_word text.now }
@@ -51,7 +51,7 @@ pub fn split_word(text: &[u8]) -> (&[u8], &[u8])
     here.split_at(front_len(here, |c| !is_blank(c)))
 }
 
-/// The one word of a text, or none where it has none or several.
+/// Returns the only word of a text, or `None` if the text has no word or several.
 pub fn only_word(text: &[u8]) -> Option<&[u8]>
     ensures { MatchOption result (word.only_word (word.words text.now) ≡ None) (λ w. word.only_word (word.words text.now) ≡ Some w.now) }
 {

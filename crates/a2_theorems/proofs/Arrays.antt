@@ -1,4 +1,4 @@
--- Cells of RAM one behind another, which a loop stores through an index.
+-- Consecutive cells of RAM, which a loop stores through an index.
 use Rattle.std.specs.Prelude.{◌≡◌, ◌≢◌, ◌<◌, ◌≤◌, ◌⊎◌, ℕ, suc, ◌+◌, ◌&&◌, nat_le, nat_lt, Bool, true, false, Some}
 use Rattle.std.specs.List.{list_all}
 use Rattle.std.proofs.Common.{sym, ap, ◌∙◌, arith, inl, inr}
@@ -17,7 +17,7 @@ use Rattle.a2_theorems.proofs.Places.{stepping}
 use Rattle.a2_theorems.proofs.Stepping.{Stands}
 use Rattle.a2_theorems.proofs.Indexing.{store, stored_at}
 
--- so many cells from an address on
+-- this many cells, starting at an address
 abbrev pub cells : (base count : ℕ) → ℕ → Bool
 cells base count a = nat_le base a && nat_lt a (base + count)
 
@@ -27,7 +27,7 @@ is_cell base count i few = grind (arith, nat_tests, few)
 pub is_below : (base count a : ℕ) → a < base → cells base count a ≡ false
 is_below base count a low = grind (arith, nat_tests, low)
 
--- a part, STA (zp),Y into the i-th cell behind the text pages, where code lies below them, and what follows
+-- a part, then STA (zp),Y into the i-th cell, above the text pages with all code below the cells, and what follows
 pub storing : (code : Code) (w v u : World) (m n : ℕ) (P Q : World → Type 0) (pointer base i : ℕ) → walked code w m ≡ Some v
     → Stands code v (record { row = fixed Sta IndirectIndexed 0x91 6; value = pointer })
     → zero_page_word memory_access v.memory pointer ≡ base → v.registers.y ≡ i → 0xC00 ≤ base → base + i < ram_end
@@ -38,11 +38,11 @@ storing code w v u m n P Q pointer base i walk stands points index high low code
     (store code v pointer (base + i) stands (omega (arith, points, index, low)) low
     (outside 0xC00 code.protected (base + i) code_low (omega (arith, high)))) (u, more, (at, holds))
 
--- the cells from the k-th to before the n-th have the bytes of a function
+-- the cells from the k-th up to, but not including, the n-th hold the bytes of a function
 abbrev pub Have : (memory : Memory) (base k n : ℕ) (f : ℕ → ℕ) → Type 0
 Have memory base k n f = (i : ℕ) → k ≤ i → i < n → ram_byte memory (base + i) ≡ f i
 
--- one cell more, below those, or above them
+-- one more cell, below those or above them
 module _ (memory : Memory) (base byte : ℕ) (f : ℕ → ℕ) (high : 0xC00 ≤ base) where
   at : (k i : ℕ) → byte ≡ f k → ((k ≡ i) ⊎ (ram_byte memory (base + i) ≡ f i) × (base + i ≢ base + k))
       → ram_byte (with_ram memory (base + k) byte) (base + i) ≡ f i

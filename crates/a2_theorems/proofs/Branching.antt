@@ -1,4 +1,4 @@
--- Branches over a flag of which a fact is known, and not its value.
+-- Branches that test a flag about which a fact is known, but not its value.
 use Rattle.std.specs.Prelude.{◌≡◌, ℕ, ◌+◌, ◌%◌, Bool, true, false, not, if◌then◌else◌, Some, refl}
 use Rattle.std.proofs.Common.{sym, ap, subst}
 use Rattle.a2_opcode.specs.declared.Mnemonic.{Mnemonic}
@@ -36,19 +36,20 @@ with_flag V b w = record w { registers = record w.registers { flags = record w.r
 with_flag Z b w = record w { registers = record w.registers { flags = record w.registers.flags { z = b } } }
 with_flag C b w = record w { registers = record w.registers { flags = record w.registers.flags { c = b } } }
 
--- with its own value it is the same
+-- with the value that the flag has, the world is the same
 same_flag : (flag : Flag) (b : Bool) (w : World) → flag_of flag w ≡ b → with_flag flag b w ≡ w
 same_flag N b w is = λ i. with_flag N (sym is i) w
 same_flag V b w is = λ i. with_flag V (sym is i) w
 same_flag Z b w is = λ i. with_flag Z (sym is i) w
 same_flag C b w is = λ i. with_flag C (sym is i) w
 
--- A part up to a world of which a flag is known, and what follows with that flag
+-- A part that ends in a world in which a flag is known, and what follows with that flag
 pub onward : (code : Code) (flag : Flag) (b : Bool) (w v : World) (m n : ℕ) (Q : World → Type 0) → walked code w m ≡ Some v
     → flag_of flag v ≡ b → Leads code (with_flag flag b v) n Q → Leads code w (m + n) Q
 onward code flag b w v m n Q walk is leads = along code w v m n Q walk (subst (λ u. Leads code u n Q) (same_flag flag b v is) leads)
 
--- A part up to a branch over a flag, and what follows where it is set, and where it is clear: each with its steps, which add up
+-- A part up to a branch that tests a flag, and what follows if it is set and if it is clear. Each path has its own
+-- steps, which are added to those of the part.
 pub branching : (code : Code) (flag : Flag) (w v : World) (m steps : ℕ) (Q : World → Type 0) → walked code w m ≡ Some v
     → (flag_of flag v ≡ true → (n : ℕ) × (m + n ≡ steps) × Leads code (with_flag flag true v) n Q)
     → (flag_of flag v ≡ false → (n : ℕ) × (m + n ≡ steps) × Leads code (with_flag flag false v) n Q) → Leads code w steps Q
@@ -61,7 +62,7 @@ branching code flag w v m steps Q walk set clear = by (flag_of flag v) refl
     by true is = go true is (set is)
     by false is = go false is (clear is)
 
--- what depends on a flag, where it is set, and where it is clear
+-- a value that depends on a flag, if the flag is set and if it is clear
 pub then_is : (b : Bool) (m n : ℕ) → b ≡ true → m ≡ (if b then m else n)
 then_is b m n is = sym (ap (λ v. if v then m else n) is)
 
@@ -84,7 +85,7 @@ abbrev pub is_taken : (value is : Bool) → Bool
 is_taken true is = is
 is_taken false is = not is
 
--- where it leads: to its target, or on
+-- the world after it: at its target, or at the next instruction
 abbrev pub branched : (taken : Bool) → ℕ → World → World
 branched true to w = record w {
   registers = record w.registers { pc = to };

@@ -1,4 +1,4 @@
--- Calls of subroutines, the author's own or services: each call is one part of a run.
+-- Calls of subroutines, either the author's or services: each call is one part of a run.
 use Rattle.std.specs.Prelude.{◌≡◌, ℕ, ◌+◌, ◌*◌, ◌%◌, ◌==◌, Bool, true, false, List, Some, None, refl}
 use Rattle.std.specs.List.{list_all}
 use Rattle.std.proofs.Common.{◌∙◌, subst}
@@ -14,21 +14,22 @@ use Rattle.a2_theorems.proofs.Keeping.{after_stores, keeps_on, keeps_stores}
 use Rattle.a2_theorems.proofs.Places.{At, put, from, along}
 use Rattle.a2_theorems.proofs.Stepping.{serve}
 
--- where the RTS of a subroutine leads that was entered with this S: behind the call, by the two bytes above S
+-- the address to which the RTS of a subroutine returns if it was entered with this S: after the call, given by the two
+-- bytes above S
 abbrev pub return_of : (s : ℕ) → World → ℕ
 return_of s w = (ram_byte w.memory (0x101 + s) + 256 * ram_byte w.memory (0x102 + s) + 1) % 65536
 
--- there, with the S of before the call
+-- back at that address, with S as before the call
 abbrev pub Back : (s : ℕ) (entered w : World) → Type 0
 Back s entered w = (w.registers.pc ≡ return_of s entered) × (w.registers.s ≡ s + 2) × (w.registers.flags.d ≡ false)
 
--- What a subroutine at an address does: entered with this S in a world of which `Before` holds, it is back behind so many steps,
--- in a world of which `After` holds
+-- The effect of a subroutine at an address: if it is entered with this S in a world in which `Before` holds, it returns
+-- after this many steps, and then `After` holds
 abbrev pub Subroutine : Code → (to s steps : ℕ) → (Before : World → Type 0) → (After : World → World → Type 0) → Type 0
 Subroutine code to s steps Before After =
     (entered : World) (z : Bool) → Before entered → Leads code (put to s z entered) steps (λ w. Back s entered w × After entered w)
 
--- A call: a part that ends with a JSR, the subroutine, and what follows behind the call
+-- A call: a part that ends with a JSR, the subroutine, and what follows after the call
 pub calls : (code : Code) (to s steps : ℕ) (Before : World → Type 0) (After : World → World → Type 0)
     → Subroutine code to s steps Before After → (w entered : World) (next m n all : ℕ) (Q : World → Type 0) → m + (steps + n) ≡ all
     → walked code w m ≡ Some entered → At to s entered.registers.flags.z entered → return_of s entered ≡ next → Before entered
@@ -43,7 +44,7 @@ calls code to s steps Before After does w entered next m n all Q are walk at hom
     behind v ((pc, is_s, d), after) =
         from code next (s + 2) v.registers.flags.z v n Q (pc ∙ home, is_s, d, refl) (later v v.registers.flags.z after)
 
--- what is kept behind a call: the stores up to it, with those of its JSR, and the subroutine's own
+-- what is unchanged after a call, given the stores before it, those of its JSR, and those of the subroutine
 pub keeps_call : (stores : List (ℕ × ℕ)) (ns : List ℕ) (memory middle : Memory) (changed : ℕ → Bool) (w v : World)
     → Keeps middle (is_among ns) v → middle ≡ after_stores stores w.memory
     → list_all (λ s. changed s.0) stores ≡ true → list_all changed ns ≡ true
@@ -51,7 +52,7 @@ pub keeps_call : (stores : List (ℕ × ℕ)) (ns : List ℕ) (memory middle : M
 keeps_call stores ns memory middle changed w v own is stored all rest =
     keeps_on memory middle changed ns v own all (keeps_stores stores memory changed w (entered 0 middle) stored is rest)
 
--- A service is a subroutine of one step, where it is not stuck
+-- A service is a subroutine of one step, if it is not stuck
 pub serves : (code : Code) (service : Service) (to s : ℕ) (Before : World → Type 0) (After : World → World → Type 0)
     → service_at to ≡ Some service → (to == return_address) ≡ false
     → ((entered : World) (z : Bool) → Before entered → service_cause code.protected service (put to s z entered) ≡ None)

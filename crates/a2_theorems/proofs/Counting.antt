@@ -1,4 +1,4 @@
--- Loops over a count, in a register or a byte, that goes down by one to 0.
+-- Loops over a count, in a register or a byte, that is decremented to 0.
 use Rattle.std.specs.Prelude.{◌≡◌, ◌≢◌, ◌<◌, ◌≤◌, ℕ, zero, suc, ◌+◌, ◌*◌, ◌%◌, ◌==◌, Bool, true, false, refl}
 use Rattle.std.proofs.Common.{ap, ◌∙◌, arith}
 use Rattle.std.proofs.lemmas.Bool.Decides.{nat_tests}
@@ -7,7 +7,7 @@ use Rattle.a2_machine.specs.Meaning.{Code}
 use Rattle.a2_machine.proofs.Walks.{Leads}
 use Rattle.a2_theorems.proofs.Places.{At, put, from, so, counted}
 
--- Z of a count: it came to 0
+-- Z for a count: the count is 0
 abbrev pub is_last : ℕ → Bool
 is_last zero = true
 is_last (suc k) = false
@@ -16,16 +16,17 @@ tests : (k : ℕ) → (k == 0) ≡ is_last k
 tests zero = refl
 tests (suc k) = grind (arith, nat_tests)
 
--- Z of a byte that is not 0
+-- Z for a byte that is not 0
 pub not_zero : (n : ℕ) → n ≢ 0 → (n == 0) ≡ false
 not_zero n other = grind (arith, nat_tests, other)
 
--- a world comes to the top of a loop, with this count and its Z, and so many cycles
+-- a world reaches the top of a loop, with this count and its Z, and this many cycles
 abbrev pub Comes : (pc s : ℕ) (count : World → ℕ) (k cycles : ℕ) → World → Type 0
 Comes pc s count k cycles w = At pc s (k == 0) w × (count w ≡ k) × (w.cycles ≡ cycles)
 
--- A loop that BEQ leaves at its top, over a count that DEX, DEY or DEC takes down at the end of a round: of `n` rounds, `Left k`
--- says what holds where k of them are left. `begun` are the cycles before the loop, `cost` those of a round.
+-- A loop that BEQ leaves at its top, with a count that DEX, DEY or DEC decrements at the end of each round. There are
+-- `n` rounds, and `Left k` states what holds if k of them are left. `begun` is the number of cycles before the loop,
+-- and `cost` that of a round.
 module _ (code : Code) (pc s : ℕ) (count : World → ℕ) (Left : ℕ → World → Type 0) (n begun cost : ℕ) where
   record Round (k : ℕ) (w : World) : Type 0 where
     at : At pc s (is_last k) w

@@ -16,7 +16,7 @@ use Rattle.a2_theorems.proofs.Counting.{Comes, counting}
 abbrev code : Code
 code = routine 0x300 filling
 
--- the cells to be filled, and how many; Y counts those that are left
+-- the address of the cells to be filled, and how many there are; Y counts those that are left
 abbrev base : Memory → ℕ
 base memory = word memory 0x06
 
@@ -32,7 +32,7 @@ record Left (memory : Memory) (k : ℕ) (w : World) : Type 0 where
   filled : Have w.memory (base memory) k (count memory) (λ i. ram_byte memory 0x09)
   rest : Keeps memory (cells (base memory) (count memory)) w
 
--- below them nothing changes
+-- nothing below the cells changes
 below : (memory : Memory) → 0xC00 ≤ base memory → (a : ℕ) → a < 0xC00 → cells (base memory) (count memory) a ≡ false
 below memory low a small = is_below (base memory) (count memory) a (omega (arith, small, low))
 

@@ -1,5 +1,5 @@
--- Loads and stores by an index, at addresses that are not known by value: one step each. And what they cost in all where the
--- index leads into another page.
+-- Loads and stores through an index, at addresses whose values are not known: one step each. Also their total cost if
+-- the index leads into another page.
 use Rattle.std.specs.Prelude.{◌≡◌, ◌<◌, ◌≤◌, ◌⊎◌, ℕ, ◌+◌, ◌-◌, ◌/◌, ◌%◌, ◌==◌, [], ◌∷◌, Bool, true, false, not, ◌||◌, nat_lt, Some, None, if◌then◌else◌, refl}
 use Rattle.std.specs.List.{list_any}
 use Rattle.std.proofs.Common.{sym, ap, ◌∙◌, arith, inl, inr, true≢false}
@@ -22,7 +22,7 @@ use Rattle.a2_machine.specs.Meaning.{Code, Decoded}
 use Rattle.a2_machine.proofs.Walks.{walked}
 use Rattle.a2_theorems.proofs.Stepping.{Stands, step}
 
--- An instruction that stores a byte at one address, by how it is computed
+-- An instruction that stores a byte at one address, given how the address is computed
 pub stores_at : (code : Code) (w : World) (decoded : Decoded) (registers : Registers) (cycles byte e at : ℕ) → Stands code w decoded
     → refusal_of decoded.row.mnemonic w.registers.flags ≡ None → stores_of memory_access decoded.row decoded.value w ≡ e ∷ []
     → performed memory_access decoded.row decoded.value w
@@ -42,7 +42,7 @@ stores_at code w decoded registers cycles byte e at stands allowed stored comput
       cycles = cycles;
     }
 
--- an instruction that reads a byte at one address, and stores none
+-- an instruction that reads a byte at one address, and stores nothing
 pub reads_at : (code : Code) (w : World) (decoded : Decoded) (registers : ℕ → Registers) (cycles : ℕ → ℕ) (e at : ℕ) → Stands code w decoded
     → refusal_of decoded.row.mnemonic w.registers.flags ≡ None → stores_of memory_access decoded.row decoded.value w ≡ []
     → performed memory_access decoded.row decoded.value w
@@ -61,16 +61,16 @@ reads_at code w decoded registers cycles e at stands allowed stored computed is 
       cycles = cycles a;
     }
 
--- behind an instruction of so many bytes
+-- the registers after an instruction of this many bytes
 abbrev pub behind : ℕ → World → Registers
 behind length w = record w.registers { pc = (w.registers.pc + length) % 65536 }
 
--- behind STA by an index
+-- the world after an indexed STA
 abbrev pub stored_at : (length cycles at : ℕ) → World → World
 stored_at length cycles at w =
     record { registers = behind length w; memory = with_ram w.memory at w.registers.a; cycles = w.cycles + cycles }
 
--- behind LDA by an index, which takes one cycle more where that leads into another page than this base's
+-- the world after an indexed LDA, which takes one more cycle if the address is in another page than this base
 abbrev pub loaded_at : (length cycles base at : ℕ) → World → World
 loaded_at length cycles base at w = record {
   registers = to_a (ram_byte w.memory at) (behind length w);
@@ -120,11 +120,11 @@ load_y code w base at stands is low =
     reads_at code w _ (λ byte. to_a byte (behind 3 w)) (λ a. w.cycles + (4 + one_if (is_other_page base a) + 0)) _ at
     stands refl refl refl is low
 
--- how many of the first n bytes from an address on lie in another page than it
+-- how many of the first n bytes that start at an address are in another page than that address
 abbrev pub crossed : (at n : ℕ) → ℕ
 crossed at n = at % 256 + n - 256
 
--- one byte more costs one cycle more where it lies in another page
+-- one more byte costs one more cycle if it is in another page
 pub crosses : (at i : ℕ) → i < 256 → one_if (is_other_page at (at + i)) + crossed at i ≡ crossed at (i + 1)
 crosses at i small = by (at / 256 == (at + i) / 256) refl (cases_lt (at % 256 + i) 256)
   where

@@ -1,4 +1,4 @@
--- Bytes that stores leave as they were.
+-- Bytes that stores leave unchanged.
 use Rattle.std.specs.Prelude.{◌≡◌, ℕ, ◌+◌, ◌*◌, ◌<◌, ◌≤◌, Bool, true, false, ◌||◌, ◌&&◌, ◌==◌, nat_lt, List, [], ◌∷◌, Option, Some, None, if◌then◌else◌, refl}
 use Rattle.std.specs.List.{list_all}
 use Rattle.std.proofs.Common.{sym, ap, ap₂, ◌∙◌, arith, true≢false}
@@ -23,7 +23,7 @@ both : (x y : Bool) → (x && y) ≡ true → (x ≡ true) × (y ≡ true)
 both true y h = (refl, h)
 both false y h = absurd (true≢false (sym h))
 
--- it leaves each byte at which none of them stores
+-- it keeps each byte at which none of them stores
 kept_byte : (stores : List (ℕ × ℕ)) (memory : Memory) (changed : ℕ → Bool) (a : ℕ) → list_all (λ s. changed s.0) stores ≡ true
     → changed a ≡ false → ram_byte (after_stores stores memory) a ≡ ram_byte memory a
 kept_byte [] memory changed a all h = refl
@@ -33,7 +33,7 @@ kept_byte ((at, byte) ∷ later) memory changed a all h =
 
 -- Stores into an array
 
--- an address at the end or behind it is none of those before it
+-- an address at or after the end differs from all addresses before the end
 pub outside : (end : ℕ) (ns : List ℕ) (a : ℕ) → list_all (λ n. nat_lt n end) ns ≡ true → end ≤ a → is_among ns a ≡ false
 outside end [] a h high = refl
 outside end (n ∷ ns) a h high = go (nat_lt n end) refl h (λ e. outside end ns a e high)
@@ -43,7 +43,7 @@ outside end (n ∷ ns) a h high = go (nat_lt n end) refl h (λ e. outside end ns
     go true is e rest = let other : (n == a) ≡ false = grind (arith, nat_tests, is, high) in ap (λ v. v || is_among ns a) other ∙ rest e
     go false is e rest = absurd (true≢false (sym e))
 
--- behind the text pages there is no cell
+-- there is no cell above the text pages
 no_cell : (a : ℕ) → 0xC00 ≤ a → cell_at a ≡ None
 no_cell a high = go (cell_at a) refl
   where
@@ -57,7 +57,7 @@ no_cell a high = go (cell_at a) refl
         let stands : StandsAt a cell = cell_at-stands a cell is in
         absurd (at_page cell.page cell.row cell.column stands.row_ok stands.column_ok stands.address_is)
 
--- there a byte that is stored is the byte that is read
+-- a byte that is stored there is read back
 pub stored : (memory : Memory) (a byte : ℕ) → 0xC00 ≤ a → ram_byte (with_ram memory a byte) a ≡ byte
 unfolding ram_byte with_ram
 stored memory a byte high = go (cell_at a) (no_cell a high)
@@ -70,7 +70,7 @@ stored memory a byte high = go (cell_at a) (no_cell a high)
     go None is = let e : (a == a) ≡ true = grind (arith, nat_tests) in ap (λ b. if b then byte else memory.plain a) e
     go (Some cell) is = cc
 
--- stores leave the devices as they were
+-- stores leave the devices unchanged
 stored_devices : (memory : Memory) (a byte : ℕ) → (with_ram memory a byte).devices ≡ memory.devices
 unfolding with_ram
 stored_devices memory a byte = go (cell_at a)
@@ -90,7 +90,7 @@ stores_devices : (stores : List (ℕ × ℕ)) (memory : Memory) → (after_store
 stores_devices [] memory = refl
 stores_devices ((at, byte) ∷ later) memory = stores_devices later (with_ram memory at byte) ∙ stored_devices memory at byte
 
--- what stores behind a world keep of what that world kept
+-- the bytes that later stores keep, of those that were kept until then
 pub keeps_stores : (stores : List (ℕ × ℕ)) (memory : Memory) (changed : ℕ → Bool) (w v : World) → list_all (λ s. changed s.0) stores ≡ true
     → v.memory ≡ after_stores stores w.memory → Keeps memory changed w → Keeps memory changed v
 keeps_stores stores memory changed w v all is rest = record {
@@ -102,17 +102,17 @@ keeps_stores stores memory changed w v all is rest = record {
 pub keeps_all : (org : ℕ) (memory : Memory) (changed : ℕ → Bool) → Keeps memory changed (entered org memory)
 keeps_all org memory changed = record { bytes = λ a h. refl; devices = refl }
 
--- what the stores of a routine keep
+-- the bytes that the stores of a routine keep
 pub kept : (stores : List (ℕ × ℕ)) (memory : Memory) (changed : ℕ → Bool) (v : World) → list_all (λ s. changed s.0) stores ≡ true
     → v.memory ≡ after_stores stores memory → Keeps memory changed v
 kept stores memory changed v all is = keeps_stores stores memory changed (entered 0 memory) v all is (keeps_all 0 memory changed)
 
--- what a world with the same memory keeps
+-- the bytes that a world with the same memory keeps
 pub keeps_same : (memory : Memory) (changed : ℕ → Bool) (w v : World) → v.memory ≡ w.memory → Keeps memory changed w
     → Keeps memory changed v
 keeps_same memory changed w v is rest = keeps_stores [] memory changed w v refl is rest
 
--- an address that may not have changed is none of those that may
+-- an address that may not change differs from all that may
 other : (changed : ℕ → Bool) (ns : List ℕ) (a : ℕ) → list_all changed ns ≡ true → changed a ≡ false → is_among ns a ≡ false
 other changed [] a all h = refl
 other changed (n ∷ ns) a all h = by (n == a) refl (other changed ns a (both _ _ all).1 h)
@@ -123,13 +123,13 @@ other changed (n ∷ ns) a all h = by (n == a) refl (other changed ns a (both _ 
         absurd (true≢false (sym (both _ _ all).0 ∙ ap changed e ∙ h))
     by false is rest = ap (λ b. b || is_among ns a) is ∙ rest
 
--- what is kept behind a memory but at some addresses, and before it
+-- the bytes that are kept up to a middle memory, and then after it except at some addresses
 pub keeps_on : (memory middle : Memory) (changed : ℕ → Bool) (ns : List ℕ) (v : World) → Keeps middle (is_among ns) v
     → list_all changed ns ≡ true → Keeps memory changed (entered 0 middle) → Keeps memory changed v
 keeps_on memory middle changed ns v more all rest =
     record { bytes = λ a h. more.bytes a (other changed ns a all h) ∙ rest.bytes a h; devices = more.devices ∙ rest.devices }
 
--- a word that is kept
+-- a 16-bit word that is kept
 pub keeps_word : (memory : Memory) (changed : ℕ → Bool) (w : World) (at : ℕ) → Keeps memory changed w → changed at ≡ false
     → changed (at + 1) ≡ false → word w.memory at ≡ word memory at
 keeps_word memory changed w at keeps low high = ap₂ (λ l h. l + 256 * h) (keeps.bytes at low) (keeps.bytes (at + 1) high)

@@ -39,7 +39,7 @@ text_length_measures memory length bytes stack few high text =
     is_text : IsText memory base length
     is_text = record { few = few; low = high; some = text.some; ends = text.ends }
 
-    -- the cycles behind LDA: of a round, and at the end
+    -- the cycles after LDA: in a round, and at the end
     round : (c : ℕ) → c + 2 + 2 + 3 ≡ c + 7
     round c = omega arith
 

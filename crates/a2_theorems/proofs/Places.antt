@@ -1,4 +1,4 @@
--- Worlds of which a part of a run need know only where they stand, S, and Z; and parts put together.
+-- A part of a run may need only the address, S and Z of its world; and parts can be put together.
 use Rattle.std.specs.Prelude.{◌≡◌, ℕ, suc, ◌+◌, ◌*◌, Bool, false, Some}
 use Rattle.std.proofs.Common.{sym, subst}
 use Rattle.a2_bus.specs.Memory.{Memory}
@@ -6,15 +6,15 @@ use Rattle.a2_services.specs.World.{World}
 use Rattle.a2_machine.specs.Meaning.{Code}
 use Rattle.a2_machine.proofs.Walks.{walked, Leads, then, and_then, rounds}
 
--- the world stands at an address with this S and this Z, and D is clear
+-- the world is at an address, with this S and this Z, and D is clear
 abbrev pub At : (pc s : ℕ) (z : Bool) → World → Type 0
 At pc s z w = (w.registers.pc ≡ pc) × (w.registers.s ≡ s) × (w.registers.flags.d ≡ false) × (w.registers.flags.z ≡ z)
 
--- a world put there
+-- a world with this address, S and Z
 abbrev pub put : (pc s : ℕ) (z : Bool) → World → World
 put pc s z w = record w { registers = record w.registers { pc = pc; s = s; flags = record w.registers.flags { d = false; z = z } } }
 
--- what a world put there leads to, a world that stands there leads to
+-- if a world with this address, S and Z leads somewhere, so does a world that already has them
 pub from : (code : Code) (pc s : ℕ) (z : Bool) (w : World) (n : ℕ) (Q : World → Type 0) → At pc s z w → Leads code (put pc s z w) n Q
     → Leads code w n Q
 from code pc s z w n Q (at, is_s, d, is_z) leads = subst (λ v. Leads code v n Q) same leads
@@ -28,27 +28,27 @@ from code pc s z w n Q (at, is_s, d, is_z) leads = subst (λ v. Leads code v n Q
       };
     }
 
--- where the memory is known, it may be taken for the world's
+-- a memory that is known can replace the world's
 pub in_memory : (code : Code) (memory : Memory) (w : World) (n : ℕ) (Q : World → Type 0) → w.memory ≡ memory
     → Leads code (record w { memory = memory }) n Q → Leads code w n Q
 in_memory code memory w n Q same leads = subst (λ v. Leads code v n Q) (λ i. record w { memory = sym same i }) leads
 
--- a part that is computed: the world that it ends in, and what holds there, as two facts
+-- a part that is computed: the world in which it ends, and what holds there, as two facts
 pub ends : (code : Code) (w v : World) (n : ℕ) (P Q : World → Type 0) → walked code w n ≡ Some v → P v → Q v
     → Leads code w n (λ u. P u × Q u)
 ends code w v n P Q walk at holds = (v, walk, (at, holds))
 
--- one part behind another, with the world between
+-- one part after another, with the world between them
 pub along : (code : Code) (w v : World) (m n : ℕ) (Q : World → Type 0) → walked code w m ≡ Some v → Leads code v n Q
     → Leads code w (m + n) Q
 along code w v m n Q walk (u, more, holds) = (u, then code w v u m n walk more, holds)
 
--- a part, a step that a rule tells of the world it leads to, and what follows
+-- a part, a step for which a rule gives the next world, and what follows
 pub stepping : (code : Code) (w v u : World) (m n : ℕ) (Q : World → Type 0) → walked code w m ≡ Some v → walked code v 1 ≡ Some u
     → Leads code u n Q → Leads code w (m + (1 + n)) Q
 stepping code w v u m n Q walk step leads = along code w v m (1 + n) Q walk (along code v u 1 n Q step leads)
 
--- what holds at the end of a part, by what is known of it
+-- what holds at the end of a part, derived from what is known about it
 pub so : (code : Code) (w : World) (n : ℕ) (P Q : World → Type 0) → Leads code w n P → ((v : World) → P v → Q v) → Leads code w n Q
 so code w n P Q (v, walk, holds) then = (v, walk, then v holds)
 

@@ -1,4 +1,4 @@
--- Loops over a text: LDA (zp),Y at the top, BEQ leaves at the 0 behind the text, and Y goes up by one each round.
+-- Loops over a text: LDA (zp),Y at the top, BEQ exits at the 0 that ends the text, and Y is incremented in each round.
 use Rattle.std.specs.Prelude.{◌≡◌, ◌≢◌, ◌<◌, ℕ, suc, ◌+◌, ◌*◌, ◌%◌, ◌==◌, Bool, true, false, Some}
 use Rattle.std.proofs.Common.{sym, ap, ◌∙◌, arith}
 use Rattle.a2_opcode.specs.declared.Mnemonic.TheVariants.{Lda}
@@ -16,23 +16,23 @@ use Rattle.a2_theorems.proofs.Counting.{not_zero}
 use Rattle.a2_theorems.proofs.Indexing.{load, loaded_at, crossed, crosses}
 use Rattle.a2_theorems.proofs.Branching.{Z, with_flag, onward}
 
--- the world at the loop's top, its memory known
+-- the world at the top of the loop, with a known memory
 abbrev pub at_top : (pc s : ℕ) → Memory → Bool → World → World
 at_top pc s memory z w = record (put pc s z w) { memory = memory }
 
--- behind LDA, with this Z; the text begins at an address
+-- the world after LDA, with this Z; the text begins at an address
 abbrev pub read : (pc s : ℕ) → Memory → (base : ℕ) → Bool → World → World
 read pc s memory base z w = with_flag Z z (loaded_at 2 5 base (base + w.registers.y) (at_top pc s memory z w))
 
--- a text of so many bytes begins at an address in RAM: none of them is 0, and one behind it is
+-- a text of this many bytes begins at an address in RAM: none of them is 0, and the byte after them is 0
 pub record IsText (memory : Memory) (base n : ℕ) : Type 0 where
   pub few : n < 256
   pub low : base + n < ram_end
   pub some : (i : ℕ) → i < n → ram_byte memory (base + i) ≢ 0
   pub ends : ram_byte memory (base + n) ≡ 0
 
--- The memory is not changed; of `n` bytes, `Left k` says what holds where k of them are left. `begun` are the cycles before the
--- loop, `more` those of a round beside LDA's.
+-- The memory is not changed. There are `n` bytes, and `Left k` states what holds if k of them are left. `begun` is the
+-- number of cycles before the loop, and `more` that of a round without LDA.
 module _ (code : Code) (pc s pointer base : ℕ) (memory : Memory) (Left : ℕ → World → Type 0) (n begun more : ℕ)
     (text : IsText memory base n) (points : zero_page_word memory_access memory pointer ≡ base)
     (stands : (z : Bool) (w : World) → Stands code (at_top pc s memory z w)
@@ -67,7 +67,7 @@ module _ (code : Code) (pc s pointer base : ℕ) (memory : Memory) (Left : ℕ �
       place : (zero_page_word memory_access memory pointer + w.registers.y) % 65536 ≡ base + w.registers.y
       place = omega (arith, points, low)
 
-  -- the cycles so far, with LDA's
+  -- the cycles so far, including those of LDA
   spent : (k : ℕ) (w : World) → Round k w
       → w.cycles + (5 + one_if (is_other_page base (base + w.registers.y)) + 0) + k * (5 + more)
       ≡ n * (5 + more) + begun + 5 + crossed base (w.registers.y + 1)

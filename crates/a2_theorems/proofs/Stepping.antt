@@ -14,18 +14,18 @@ use Rattle.a2_machine.specs.declared.causes.Cause.TheVariants.{Returned, CodeWri
 use Rattle.a2_machine.specs.Meaning.{Code, Decoded, service_cause, instruction_cause, cause_of_refusal, return_address, found_at_pc, stuck, stuck_at, next, next_at}
 use Rattle.a2_machine.proofs.Walks.{walked}
 
--- a world that is not stuck goes on to the next one
+-- a world that is not stuck continues with the next one
 goes : (code : Code) (w v : World) → stuck code w ≡ None → next code w ≡ v → walked code w 1 ≡ Some v
 unfolding walked
 goes code w v free is = ap (λ o. let r : Option World = elim o [ Some cause ↦ None | None ↦ Some (next code w) ] in r) free ∙ ap Some is
 
--- an instruction stands at PC, which is no return address and no service
+-- an instruction is at PC, which is not the return address and not the address of a service
 pub record Stands (code : Code) (w : World) (decoded : Decoded) : Type 0 where
   pub found : found_at_pc code w ≡ Ok decoded
   pub no_return : (w.registers.pc == return_address) ≡ false
   pub no_service : service_at w.registers.pc ≡ None
 
--- it is done, where nothing refuses it and it stores into no code
+-- the instruction is executed, if nothing stops it and it does not store into code
 pub step : (code : Code) (w : World) (decoded : Decoded) → Stands code w decoded → refusal_of decoded.row.mnemonic w.registers.flags ≡ None
     → list_any (is_among code.protected) (stores_of memory_access decoded.row decoded.value w) ≡ false
     → walked code w 1 ≡ Some (performed memory_access decoded.row decoded.value w)
@@ -51,7 +51,7 @@ step code w decoded stands allowed free = goes code w _ is_free is_next
           | None ↦ elim (stands.found i) as (λ _. World) [ Err cause ↦ w | Ok d ↦ performed memory_access d.row d.value w ]
         ]
 
--- a service is done, where it is called
+-- a service is executed when it is called
 pub serve : (code : Code) (w : World) (service : Service) → service_at w.registers.pc ≡ Some service
     → (w.registers.pc == return_address) ≡ false → service_cause code.protected service w ≡ None → walked code w 1 ≡ Some (served service w)
 unfolding stuck stuck_at next next_at

@@ -17,7 +17,7 @@ use Rattle.a2_theorems.proofs.Calling.{Subroutine, calls, keeps_call}
 abbrev code : Code
 code = routine 0x300 byte_sum
 
--- the subroutine is entered with x in A, and the word's bytes y and h
+-- the subroutine is entered with x in A, and the bytes y and h of the word
 abbrev Operands : (x y h : ℕ) → World → Type 0
 Operands x y h w = (w.registers.a ≡ x) × (ram_byte w.memory 0x09 ≡ y) × (ram_byte w.memory 0x0A ≡ h)
 

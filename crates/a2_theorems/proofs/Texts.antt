@@ -1,5 +1,5 @@
--- From a source text to what its run writes: the text is read and laid out by computing, its run is a walk over its
--- statements, and what `run_text` answers follows.
+-- From a source text to what its run writes. The text is read and its bytes are placed by computation, its run is a
+-- walk over its statements, and the result of `run_text` follows.
 use Rattle.std.specs.Prelude.{◌≡◌, ◌≤◌, ℕ, Bool, true, false, ◌&&◌, not, nat_lt, List, [], Option, Some, None, Result, Ok, Err, is_some, unwrap_or, if◌then◌else◌, refl}
 use Rattle.std.specs.List.{list_all}
 use Rattle.std.proofs.Common.{sym, ap, ◌∙◌, subst, inl, inr}
@@ -35,7 +35,7 @@ use Rattle.a2_run.specs.Answers.{Answers, OfSource}
 use Rattle.a2_run.specs.Meaning.{IsRefused, IsRun, output_of}
 use Rattle.a2_theorems.specs.Runs.{Told, RunWrites, Runs}
 
--- A text's lines, statements and image
+-- The lines, statements and image of a text
 
 abbrev pub source_of : List ℕ → List BareLine
 source_of text = unwrap_or (read_source text) []
@@ -50,21 +50,21 @@ image_of text = laid.image (names (source_rows (source_of text))) (source_rows (
 abbrev pub code_of : List ℕ → Code
 code_of text = statements (instr_at (statements_of text)) (code_bytes (statements_of text))
 
--- the world at which its run begins
+-- the world in which its run begins
 abbrev pub start_of : List ℕ → ℕ → List ℕ → World
 start_of text entry keys = start_world (image_of text) entry keys
 
--- all code lies in RAM
+-- all code is in RAM
 abbrev pub is_in_ram : List ℕ → Bool
 is_in_ram text = list_all (λ n. nat_lt n ram_end) (code_bytes (statements_of text))
 
--- where the text's run begins, if the text is read and not refused
+-- the address at which the text's run begins, if the text is read and has no errors
 abbrev pub entry_of : List ℕ → Option ℕ
 entry_of text =
     if is_some (read_source text) && (not (is_some (layout_refusal (source_of text))) && is_in_ram text)
     then laid.first_instruction (source_rows (source_of text)) else None
 
--- the text is read, not refused, and its code lies in RAM
+-- the text is read, it has no errors, and its code is in RAM
 pub record IsAccepted (text : List ℕ) (entry : ℕ) : Type 0 where
   pub read : IsSource text (source_of text)
   pub accepted : layout_refusal (source_of text) ≡ None
@@ -89,13 +89,13 @@ accepted text entry e = go (read_source text) (layout_refusal (source_of text)) 
       begins = h;
     }
 
--- no fault refuses such a text
+-- such a text has no errors
 pub not_refused : (text : List ℕ) (entry : ℕ) → IsAccepted text entry → (f : Fault) → IsRefused text f → ⊥
 not_refused text entry is f (inl refusal) = refused-none text f (source_of text) refusal is.read
 not_refused text entry is f (inr (other, it, e)) =
     false≢true (ap is_some (sym is.accepted ∙ refusal-of (source_of text) f (subst (λ s. IsLayoutRefusal s f) (one-source text other (source_of text) it is.read) e)))
 
--- a walk from the start to a world that returns is the text's run
+-- a walk from the start to a world that returns is the run of the text
 one_run : (text keys : List ℕ) (entry steps limit : ℕ) (last : World) → IsAccepted text entry
     → walked (code_of text) (start_of text entry keys) steps ≡ Some last → stuck (code_of text) last ≡ Some Returned → steps ≤ limit
     → (attr : Bool) (cause : Cause) (output : List ℕ) → IsRun text keys limit (record { free = false; attr = attr }) cause output
@@ -156,17 +156,17 @@ writes text keys entry steps limit last is walk stops within attr old new result
     go (Err fault.Write) (cause, other, run, broken) = subst (Breaks old new) (one cause other run).1 broken
     go (Err fault.Memory) h = h
 
--- THE BRIDGE: a text that is read, and a walk from its start to a world that returns, are a run of the text
+-- THE BRIDGE: if a text is read, a walk from its start to a world that returns is a run of the text
 pub runs : (text keys : List ℕ) (entry steps : ℕ) (Q : World → Type 0) → entry_of text ≡ Some entry
     → Leads (code_of text) (start_of text entry keys) steps (λ v. (stuck (code_of text) v ≡ Some Returned) × Q v) → Runs text keys steps Q
 runs text keys entry steps Q is (last, walk, (stops, holds)) =
     (last, holds, λ limit attr within. writes text keys entry steps limit last (accepted text entry is) walk stops within attr)
 
--- the world after so many steps of a text's run, and the start where there is none
+-- the world after this many steps of a text's run, or the start if it cannot be reached
 abbrev pub last_of : (text : List ℕ) (entry : ℕ) (keys : List ℕ) (steps : ℕ) → World
 last_of text entry keys steps = unwrap_or (walked (code_of text) (start_of text entry keys) steps) (start_of text entry keys)
 
--- where nothing but keys is unknown, the whole output is computed
+-- if only the keys are unknown, the whole output is computed
 pub prints : (text keys : List ℕ) (entry steps limit : ℕ) (attr : Bool) (output : List ℕ) → entry_of text ≡ Some entry
     → is_some (walked (code_of text) (start_of text entry keys) steps) ≡ true
     → stuck (code_of text) (last_of text entry keys steps) ≡ Some Returned

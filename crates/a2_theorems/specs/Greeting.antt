@@ -22,7 +22,7 @@ greeting = concat (
     codes "        DFB     0\n" ∷
     [])
 
--- the registers at the end: A has the 0 behind the text, X its length, and Z is set
+-- the registers at the end: A has the 0 that ends the text, X its length, and Z is set
 abbrev pub greeting_registers : Registers
 greeting_registers =
     record { a = 0; x = 5; y = 0; s = 0xFF; pc = 0xFF69; flags = record { n = false; v = false; d = false; i = false; z = true; c = false } }
@@ -33,6 +33,6 @@ greeting_output =
     codes "HELLO" ++ (replicate 35 32 ++ (codes "\n" ++ (blank_rows 23
     ++ (register_line greeting_registers 39 155 ++ cause_line Returned))))
 
--- with every limit from 39 steps on, whatever keys wait
+-- with every limit of at least 39 steps, whatever keys wait
 abbrev pub GreetingGreets : Type 0
 GreetingGreets = (keys : List ℕ) (limit : ℕ) → 39 ≤ limit → RunWrites greeting keys limit false greeting_output

@@ -20,7 +20,8 @@ key_sum = concat (
     codes "        RTS\n" ∷
     [])
 
--- A is the sum modulo 256, whatever bit 7 of RDKEY's bytes adds; the further keys still wait; and the screen is blank
+-- A is the sum modulo 256, because bit 7, which RDKEY sets in both bytes, cancels; the other keys still wait, and the
+-- screen is blank
 pub record SumsKeys (a b : ℕ) (more : List ℕ) (last : World) : Type 0 where
   pub sum : last.registers.a ≡ (a + b) % 256
   pub first : ram_byte last.memory 0x06 ≡ 0x80 + a
@@ -28,6 +29,6 @@ pub record SumsKeys (a b : ℕ) (more : List ℕ) (last : World) : Type 0 where
   pub screen : picture_of last.memory ≡ blank_rows 24
   pub cycles : last.cycles ≡ 48
 
--- for any two keys, and whatever keys wait behind them
+-- for any two keys, whatever keys wait after them
 abbrev pub KeySumSums : Type 0
 KeySumSums = (a b : ℕ) (more : List ℕ) → Runs key_sum (a ∷ b ∷ more) 10 (SumsKeys a b more)

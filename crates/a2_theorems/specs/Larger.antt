@@ -14,7 +14,7 @@ larger =
     -- at $308
     ∷ op Sta ZeroPage 0x08 ∷ op Rts Implied 0 ∷ []
 
--- one number where the first byte is as large as the second, and else another
+-- one number if the first byte is at least as large as the second, and otherwise another
 abbrev pub choice : Memory → (m n : ℕ) → ℕ
 choice memory m n = if nat_le (ram_byte memory 0x07) (ram_byte memory 0x06) then m else n
 
@@ -22,7 +22,7 @@ pub record Takes (memory : Memory) (last : World) : Type 0 where
   pub taken : ram_byte last.memory 0x08 ≡ choice memory (ram_byte memory 0x06) (ram_byte memory 0x07)
   pub rest : Keeps memory (is_among (0x08 ∷ [])) last
 
--- for any two bytes, after 5 steps and 18 cycles where the first is taken, and else after 6 and 20
+-- for any two bytes, after 5 steps and 18 cycles if the first is taken, and otherwise after 6 steps and 20 cycles
 abbrev pub LargerTakes : Type 0
 LargerTakes =
     (memory : Memory) → Returns memory → Does 0x300 larger memory (choice memory 5 6) (choice memory 18 20) (Takes memory)

@@ -1,7 +1,7 @@
-//! Lessons: theorems about 6502 routines and source texts, each proved for every input. The calls do nothing: their
+//! Theorems about 6502 routines and source texts, each proved for every input, as lessons. The calls do nothing: their
 //! contracts are the theorems.
 //!
-//! How it is called is shown in CALLING.md.
+//! CALLING.md shows how to use this crate.
 #![tactic(auto)]
 
 ghost use Rattle.a2_theorems.specs.ByteSum.{ByteSumSums};
@@ -19,27 +19,27 @@ pub fn swap_swaps()
     ensures { SwapSwaps }
 {}
 
-/// A theorem, and no code: `wide_sum` adds two words, for any two.
+/// A theorem, and no code: `wide_sum` adds any two 16-bit words.
 pub fn wide_sum_adds()
     ensures { WideSumAdds }
 {}
 
-/// A theorem, and no code: `larger` takes the larger of two bytes, for any two.
+/// A theorem, and no code: `larger` finds the larger of any two bytes.
 pub fn larger_takes()
     ensures { LargerTakes }
 {}
 
-/// A theorem, and no code: `byte_sum` sums three bytes, for any three, by a subroutine.
+/// A theorem, and no code: `byte_sum` sums any three bytes, with a subroutine.
 pub fn byte_sum_sums()
     ensures { ByteSumSums }
 {}
 
-/// A theorem, and no code: `product` multiplies two bytes, for any two.
+/// A theorem, and no code: `product` multiplies any two bytes.
 pub fn product_multiplies()
     ensures { ProductMultiplies }
 {}
 
-/// A theorem, and no code: `filling` fills as many cells as it is told to, and no other, for any count and byte.
+/// A theorem, and no code: `filling` fills the given number of cells and no others, for any count and byte.
 pub fn filling_fills()
     ensures { FillingFills }
 {}
@@ -49,12 +49,12 @@ pub fn text_length_measures()
     ensures { TextLengthMeasures }
 {}
 
-/// A theorem, and no code: a run of `key_sum` sums the two keys that wait first, for any two.
+/// A theorem, and no code: a run of `key_sum` sums the first two waiting keys, whatever they are.
 pub fn key_sum_sums()
     ensures { KeySumSums }
 {}
 
-/// A theorem, and no code: a run of `greeting` writes the greeting, whatever keys wait.
+/// A theorem, and no code: a run of `greeting` prints the greeting, whatever keys wait.
 pub fn greeting_greets()
     ensures { GreetingGreets }
 {}

@@ -25,7 +25,7 @@ loses-more (Some input) (Some rest) None heard more p q = absurd q
 loses-more (Some input) (Some rest) (Some left) heard more p q = p ∙ ap (λ l. heard ++ l) q ∙ sym (append_assoc heard more (lines left))
 
 module _ {S : Type 0} (Meets : List ℕ → S → List ℕ → S → Type 0) (prompt : List ℕ) where
-  -- one line more
+  -- one more line
   answered-more : (heard : List (List ℕ)) (line output text : List ℕ) (old here new : S) → AreAnswered Meets prompt heard old output here → Meets line here text new
       → AreAnswered Meets prompt (heard ++ line ∷ []) old (output ++ (prompt ++ text)) new
   answered-more [] line output text old here new (none, same) meets =
@@ -69,19 +69,19 @@ module _ {S : Type 0} (Meets : List ℕ → S → List ℕ → S → Type 0) (pr
     counted = counts ∙ far.counted;
   }
 
-  -- the prompt broke off
+  -- writing the prompt failed
   pub broke-prompt : (old here : S) (from now : Giver) (a b c : Taker) → SoFar old here from now a b → Breaks b c prompt → IsTalk Meets prompt old here from now a c (Err Write)
   broke-prompt old here from now a b c far breaks =
       (far.told, Breaks-then a b c far.told.output (prompt ++ closing prompt) far.sent (Breaks-more b c prompt (closing prompt) breaks))
 
-  -- a read failed behind it
+  -- a read failed after the prompt
   pub unread : (old here : S) (from now next : Giver) (a b c : Taker) → SoFar old here from now a b → Sends b c prompt → IsTalk Meets prompt old here from next a c (Err Read)
   unread old here from now next a b c far prompted = (now.bytes, far.told, Sends-then a b c far.told.output prompt far.sent prompted)
 
   pub endless-line : (old here : S) (from now next : Giver) (a b c : Taker) → SoFar old here from now a b → Sends b c prompt → IsTalk Meets prompt old here from next a c (Err Endless)
   endless-line old here from now next a b c far prompted = (now.bytes, far.told, prompt, Sends-then a b c far.told.output prompt far.sent prompted)
 
-  -- it failed, for whatever but a write
+  -- it failed, for any reason except a write
   pub failed : (fault : TalkFault) (old here : S) (from now next : Giver) (a b c : Taker) → (fault ≡ Write → ⊥) → SoFar old here from now a b → Sends b c prompt
       → IsTalk Meets prompt old here from next a c (Err fault)
   failed Read old here from now next a b c other far prompted = unread old here from now next a b c far prompted
@@ -140,7 +140,7 @@ module _ {S : Type 0} (Meets : List ℕ → S → List ℕ → S → Type 0) (pr
       let (said, loses, texts) = subst (λ h. IsHeard now next h kept) is hears in
       quits old here from now next a b c said far prompted (subst (λ l. IsQuit l) (sym texts.0) quit) loses
 
-  -- an answer broke off
+  -- writing an answer failed
   pub broke-answer : (old here new : S) (from now next : Giver) (a b c d : Taker) (line : List ℕ) (e : WriteFault) → SoFar old here from now a b → Sends b c prompt
       → Loses now.bytes next.bytes (line ∷ []) → RepliesTo Meets line here new c d (Err e) → IsTalk Meets prompt old new from next a d (Err Write)
   unfolding told-more
@@ -151,7 +151,7 @@ module _ {S : Type 0} (Meets : List ℕ → S → List ℕ → S → Type 0) (pr
             (Breaks-then a b d far.told.output (prompt ++ text) far.sent (Breaks-then b c d prompt text prompted breaks)),
       )
 
--- a line's reply, and what is told of a line that is too long
+-- the reply to a line, and the message for a line that is too long
 module _ {S : Type 0} (Meets : List ℕ → S → List ℕ → S → Type 0) where
   pub line-replied : (heard : Heard) (said kept : List ℕ) (old new : S) (a b : Taker) (r : Result (Unit {0}) WriteFault) → heard ≡ Line → IsTextOf heard said kept
       → RepliesTo Meets kept old new a b r → RepliesTo (MeetsOr Meets) said old new a b r

@@ -1,4 +1,4 @@
--- Ends of lists, and places in a line.
+-- Ends of lists, and positions in a line.
 use Rattle.std.proofs.Common.{◌≡◌, ℕ, zero, suc, ◌-◌, ◌<◌, Bool, true, false, ◌≤◌, List, [], ◌∷◌, ◌++◌, length, get_or, drop, Some, None, if◌then◌else◌, refl, sym, ap, ◌∙◌, arith, inl, inr, subst}
 use Rattle.std.specs.Prelude.{map, slice_index, slice_get, nat_le}
 use Rattle.std.proofs.Math.Bool.{beq}
@@ -19,7 +19,7 @@ lines_kept f n xs x =
     ∙ ap (λ l. drop (length (xs ++ x ∷ []) - n) l) (map-append f xs (x ∷ []))
     ∙ ap (λ k. drop (k - n) (map f xs ++ f x ∷ [])) many
 
--- no line was given so many lines ago
+-- there are not so many lines
 if-empty : (is : Bool) (l : List ℕ) → l ≡ [] → [] ≡ (if is then l else [])
 if-empty true l none = sym none
 if-empty false l none = refl

@@ -1,4 +1,4 @@
--- The cells of a page, and pieces that are written of numbers in a row.
+-- The cells of a page, and pieces that are written for consecutive numbers.
 use Rattle.std.proofs.Common.{◌≡◌, ℕ, suc, ◌+◌, ◌-◌, ◌*◌, ◌/◌, ◌%◌, ◌<◌, ◌≤◌, List, [], ◌++◌, ap, ◌∙◌, arith}
 use Rattle.std.specs.Prelude.{slice_index}
 use Rattle.std.specs.List.{flat_map}
@@ -11,7 +11,7 @@ pub cell_byte : (bytes : List ℕ) (row column : ℕ) → row < 24 → column < 
     → byte_in (page_grid bytes) row column ≡ slice_index bytes (128 * (row % 8) + 40 * (row / 8) + column)
 cell_byte bytes row column row_ok column_ok = page_grid-byte bytes row column row_ok column_ok
 
--- what is left of a text of numbers, before the next of them
+-- the rest of a text for numbers, before the next of them
 counted-more : (f : ℕ → List ℕ) (first left count : ℕ) → count ≡ suc left → flat_map f (numbers_from first count) ≡ f first ++ flat_map f (numbers_from (suc first) left)
 counted-more f first left count is = ap (λ n. flat_map f (numbers_from first n)) is
 
@@ -22,7 +22,7 @@ left_before f end first l =
     counted-more f first (end - (first + 1)) (end - first) (omega (arith, l))
     ∙ ap (λ n. f first ++ flat_map f (numbers_from n (end - (first + 1)))) next
 
--- behind the last of them nothing is left
+-- nothing is left after the last of them
 nothing-counted : (f : ℕ → List ℕ) (first count : ℕ) → count ≡ 0 → flat_map f (numbers_from first count) ≡ []
 nothing-counted f first count is = ap (λ n. flat_map f (numbers_from first n)) is
 

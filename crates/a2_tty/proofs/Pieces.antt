@@ -22,11 +22,11 @@ use Rattle.a2_tty.specs.Hearing.{Loses, IsPiece, IsHeard, IsTextOf}
 abbrev pub Plain : List ℕ → Type 0
 Plain piece = All (λ c. eqb c 10 ≡ false) piece
 
--- one byte more
+-- one more byte
 pub plain-more : (piece : List ℕ) (c : ℕ) → Plain piece → eqb c 10 ≡ false → Plain (piece ++ c ∷ [])
 plain-more piece c plain other = All-append (λ c. eqb c 10 ≡ false) piece (c ∷ []) plain (All-cons (λ c. eqb c 10 ≡ false) c [] other (All-nil (λ c. eqb c 10 ≡ false)))
 
--- what is kept, with one byte more
+-- what is kept, with one more byte
 pub kept-more : (kept piece : List ℕ) (c : ℕ) → kept ≡ take 257 piece → length kept < 257 → kept ++ c ∷ [] ≡ take 257 (piece ++ c ∷ [])
 kept-more kept piece c is room =
     let short : length piece < 257 = omega (arith, ap length is, length-take 257 piece) in
@@ -83,7 +83,7 @@ strip-shorter l = if-shorter (eqb (get_or l (length l - 1) 0) 13) l
 strip-no-longer : (l : List ℕ) → length (strip_carriage_return l) ≤ length l
 strip-no-longer l = if-no-longer (eqb (get_or l (length l - 1) 0) 13) l
 
--- a line that is kept whole, and one that is too long
+-- a line that is kept completely, and one that is too long
 pub kept-whole : (piece kept line : List ℕ) → kept ≡ take 257 piece → line ≡ strip_carriage_return kept → length line ≤ 255 → strip_carriage_return piece ≡ line
 kept-whole piece kept line is stripped few =
     let short : length piece ≤ 257 = omega (arith, ap length is, ap length stripped, length-take 257 piece, strip-shorter kept) in
@@ -98,7 +98,7 @@ kept-long piece kept line is stripped many =
           subst (λ (l : List ℕ). 255 < length l) same many
     ]
 
--- what was read so far of a piece
+-- the part of a piece that was read so far
 pub record IsFront (old now : Giver) (kept : List ℕ) : Type 0 where
   pub piece : List ℕ
   pub plain : Plain piece
@@ -109,7 +109,7 @@ pub record IsFront (old now : Giver) (kept : List ℕ) : Type 0 where
 pub front-nil : (old : Giver) (kept : List ℕ) → kept ≡ [] → IsFront old old kept
 front-nil old kept none = record { piece = []; plain = All-nil (λ c. eqb c 10 ≡ false); came = Consumes-nil old.bytes; front = none; counted = refl }
 
--- a read of one byte gives it, or none
+-- a read of one byte gives that byte, or none
 one-byte : (buffer : List ℕ) (n : ℕ) → length buffer ≡ 1 → n ≤ length buffer → (n ≡ 0 → ⊥) → take n buffer ≡ get_or buffer 0 0 ∷ []
 one-byte [] n one low some = absurd (omega (arith, one))
 one-byte (b ∷ []) n one low some =
@@ -117,7 +117,7 @@ one-byte (b ∷ []) n one low some =
     ap (λ k. take k (b ∷ [])) is
 one-byte (b ∷ c ∷ more) n one low some = absurd (omega (arith, one))
 
--- a byte more came
+-- another byte was read
 pub front-more : (old now next : Giver) (kept longer buffer : List ℕ) (n : ℕ) → IsFront old now kept → Reads {E = ReadFault} now next (Ok n) buffer → length buffer ≡ 1 → (n ≡ 0 → ⊥)
     → (get_or buffer 0 0 ≡ 10 → ⊥) → (length kept < 257 → longer ≡ kept ++ get_or buffer 0 0 ∷ []) → (257 ≤ length kept → longer ≡ kept) → IsFront old next longer
 front-more old now next kept longer buffer n far (low, came, end, counts) one some other room full =
@@ -130,7 +130,7 @@ front-more old now next kept longer buffer n far (low, came, end, counts) one so
       counted = counts ∙ far.counted;
     }
 
--- a line feed came, or the end
+-- a line feed or the end of the input was reached
 pub feed-came : (old now next : Giver) (kept buffer : List ℕ) (n : ℕ) → IsFront old now kept → Reads {E = ReadFault} now next (Ok n) buffer → length buffer ≡ 1 → (n ≡ 0 → ⊥)
     → get_or buffer 0 0 ≡ 10 → IsPiece old next Feed kept
 feed-came old now next kept buffer n far (low, came, end, counts) one some is = record {
@@ -151,7 +151,7 @@ end-came old now next kept buffer n far (low, came, end, counts) one none = reco
   front = far.front;
 }
 
--- what was heard
+-- the end of the input
 
 pub heard-end : (old new : Giver) (ending : Ending) (kept : List ℕ) → IsPiece old new ending kept → ending ≡ Input → kept ≡ [] → IsHeard old new End kept
 heard-end old new Feed kept p is none = absurd (feed≢input is)
@@ -184,7 +184,7 @@ pub heard-long : (old new : Giver) (ending : Ending) (kept line : List ℕ) → 
 heard-long old new ending kept line p some stripped many =
     (strip_carriage_return p.piece, said-loses old new ending kept p some, kept-long p.piece kept line p.front stripped many)
 
--- what was heard is a line, but for the end
+-- a line, if it is not the end of the input
 pub heard-some : (old new : Giver) (heard : Heard) (kept : List ℕ) → (heard ≡ End → ⊥) → IsHeard old new heard kept
     → (said : List ℕ) × Loses old.bytes new.bytes (said ∷ []) × IsTextOf heard said kept
 heard-some old new Line kept other h = h

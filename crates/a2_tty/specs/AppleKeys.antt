@@ -1,11 +1,12 @@
--- What typed bytes say. This project's profile; the codes of keys: Apple II Reference Manual (1979), page 7.
+-- The keys and commands that typed bytes stand for. This project's profile; the codes of keys: Apple II Reference
+-- Manual (1979), page 7.
 use Rattle.std.specs.Prelude.{ℕ, Bool, true, false, List, [], ◌∷◌, Option, Some, None, ◌<◌, ◌==◌, nat_le, ◌&&◌, ◌||◌, if◌then◌else◌}
 use Rattle.a2_text.specs.Bytes.{capital, is_between}
 use Rattle.a2_tty.specs.declared.apple_keys.Stroke.{Stroke}
 use Rattle.a2_tty.specs.declared.apple_keys.Stroke.TheVariants.{Key, Prefix, Order, Nothing}
 use Rattle.a2_tty.specs.declared.apple_keys.Order.TheVariants as order
 
--- the first thing that bytes say, and those behind it
+-- the first key or command, and the bytes after it
 pub record First : Type 0 where
   pub stroke : Stroke
   pub rest : List ℕ
@@ -15,15 +16,15 @@ abbrev pub HasSevenBits : Stroke → Type 0
 HasSevenBits (Key key) = key < 128
 HasSevenBits stroke = Unit {0}
 
--- the key of a byte: rub out is the left arrow, letters are capitals, and there are none from $80 on
+-- the key for a byte: RUB OUT is the left arrow, letters are upper-case, and there are none from $80 up
 abbrev pub key_of : ℕ → Stroke
 key_of byte = if byte == 0x7F then Key 0x08 else if nat_le byte 0x7E then Key (capital byte) else Nothing
 
--- the key of an arrow by its letter
+-- the key for an arrow, given its letter
 abbrev pub arrow_of : ℕ → Stroke
 arrow_of letter = if letter == 0x43 then Key 0x15 else if letter == 0x44 then Key 0x08 else Nothing
 
--- what a byte behind the prefix says, in either case; the prefix again is its own key
+-- the meaning of a byte after the prefix, in upper or lower case; the prefix typed twice is its own key
 abbrev pub order_named : ℕ → Stroke
 order_named letter =
     if letter == 0x51 then Order order.Quit else if letter == 0x50 then Order order.Pause else if letter == 0x53 then Order order.Step
@@ -35,11 +36,11 @@ order_named letter =
 abbrev pub order_of : ℕ → Stroke
 order_of byte = order_named (capital byte)
 
--- a terminal's bytes of an arrow: ESC, [ or O, and A to D
+-- the bytes that a terminal sends for an arrow: ESC, [ or O, and A to D
 abbrev pub is_arrow : ℕ → ℕ → ℕ → Bool
 is_arrow byte kind letter = (byte == 0x1B) && ((kind == 0x5B) || (kind == 0x4F)) && is_between 0x41 0x44 letter
 
--- what bytes say that stand behind no prefix, by the first alone
+-- the meaning of bytes without a prefix and without an arrow, given by the first byte
 abbrev pub plain : ℕ → List ℕ → First
 plain byte rest = record { stroke = if byte == 0x1D then Prefix else key_of byte; rest = rest }
 

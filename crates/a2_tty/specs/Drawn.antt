@@ -3,22 +3,22 @@ use Rattle.std.specs.Prelude.{ℕ, ◌+◌, ◌-◌, ◌==◌, max, min, List, [
 use Rattle.std.specs.Fmt.{decimal}
 use Rattle.a2_tty.specs.Lines.{Edited}
 
--- an order of the terminal's: X makes so many cells blank, and C goes so many to the right; none of 0
+-- a control sequence of the terminal: X makes this many cells blank, and C moves this many to the right; empty for 0
 abbrev pub order_text : ℕ → ℕ → List ℕ
 order_text number letter = if number == 0 then [] else 0x1B ∷ codes "[" ++ (decimal number ++ letter ∷ [])
 
--- the columns behind the prompt, of which the last is the cursor's behind a line
+-- the columns after the prompt, except the last one, which is for a cursor after the end of the line
 abbrev pub room : List ℕ → ℕ → ℕ
 room prompt columns = max (columns - (length prompt + 1)) 1
 
--- the first byte that is shown, and those that are
+-- the first byte that is shown, and the bytes that are shown
 abbrev pub first : ℕ → Edited → ℕ
 first room line = line.cursor - (room - 1)
 
 abbrev pub visible : ℕ → Edited → List ℕ
 visible room line = take room (drop (first room line) line.bytes)
 
--- the prompt and what is shown, blanks to the last column, and the cursor
+-- the prompt and the shown bytes, blanks to the last column, and the cursor
 abbrev pub shown_text : List ℕ → ℕ → Edited → List ℕ
 shown_text prompt room line =
     13 ∷ prompt ++ (visible room line ++ (order_text (room - length (visible room line)) 0x58

@@ -1,4 +1,4 @@
--- The keys of a line that is edited, and the bytes that a terminal gives for them. This project's profile.
+-- The keys of the line editor, and the bytes that a terminal sends for them. This project's profile.
 use Rattle.std.specs.Prelude.{ℕ, ◌==◌, ◌||◌, if◌then◌else◌, Option, Some, None}
 use Rattle.a2_text.specs.Bytes.{is_between}
 use Rattle.a2_tty.specs.declared.line_editor.keys.Key.{Key}
@@ -7,14 +7,14 @@ use Rattle.a2_tty.specs.declared.line_editor.keys.Sequence.{Sequence}
 use Rattle.a2_tty.specs.declared.line_editor.keys.Sequence.TheVariants.{Plain, Escape, Opened, Numbered}
 use Rattle.a2_tty.specs.declared.line_editor.keys.Heard.{Heard}
 
--- a key ended, or what is none; and one goes on
+-- a key ended, or the bytes are not a key; and a key continues
 abbrev pub ended : Option Key → Heard
 ended key = record { next = Plain; key = key }
 
 abbrev pub amid : Sequence → Heard
 amid next = record { next = next; key = None }
 
--- characters, and control letters: Ctrl-A, C, D, E, H and Rub Out, J and Return, K, L, U, W
+-- characters, and control characters: Ctrl-A, C, D, E, H and Rub Out, J and Return, K, L, U, W
 abbrev pub key_of : ℕ → Option Key
 key_of byte =
     if is_between 0x20 0x7E byte then Some (key.Letter byte) else if byte == 0x01 then Some key.Start else if byte == 0x03 then Some key.GiveUp
@@ -34,7 +34,7 @@ numbered digit =
     if (digit == 0x31) || (digit == 0x37) then Some key.Start else if digit == 0x33 then Some key.Delete
     else if (digit == 0x34) || (digit == 0x38) then Some key.End else None
 
--- what a byte is that stands there; of several digits none is a key
+-- the effect of a byte at this position; several digits do not make a key
 abbrev pub heard : Sequence → ℕ → Heard
 heard Plain byte = if byte == 0x1B then amid Escape else ended (key_of byte)
 heard Escape byte = if byte == 0x1B then amid Escape else if (byte == 0x5B) || (byte == 0x4F) then amid Opened else ended None

@@ -1,4 +1,4 @@
--- What typed bytes make of a line and its history. This project's profile.
+-- The effect of typed bytes on a line and its history. This project's profile.
 use Rattle.std.specs.Prelude.{ℕ, ◌+◌, ◌-◌, ◌==◌, nat_lt, List, [], length, take, if◌then◌else◌, Option, Some, None}
 use Rattle.a2_tty.specs.declared.line_editor.keys.Key.{Key}
 use Rattle.a2_tty.specs.declared.line_editor.keys.Key.TheVariants as key
@@ -14,9 +14,9 @@ pub record Editing : Type 0 where
   pub line : Edited
   -- what was typed before an older line was shown
   pub draft : List ℕ
-  -- the lines before, the oldest first
+  -- the earlier lines, the oldest first
   pub history : List (List ℕ)
-  -- how many lines ago the shown one was given, 0 where it is typed now
+  -- how many lines ago the shown line was given, or 0 if it is being typed now
   pub age : ℕ
   pub sequence : Sequence
 
@@ -29,11 +29,11 @@ edited line e = record e { line = line }
 abbrev pub emptied : Editing → Editing
 emptied e = record e { line = empty; draft = []; age = 0 }
 
--- a line of the history, or the one that is typed
+-- a line of the history, or the one that is being typed
 abbrev pub showing : ℕ → Editing → Editing
 showing age e = record e { line = shown (take 255 (if age == 0 then e.draft else aged age e.history)); age = age }
 
--- what is typed is kept where an older line takes its place
+-- what is typed is kept when an older line replaces it
 abbrev pub drafted : Editing → Editing
 drafted e = if e.age == 0 then record e { draft = e.line.bytes } else e
 
@@ -46,11 +46,11 @@ newer e = if e.age == 0 then e else showing (e.age - 1) e
 abbrev pub done_letter : ℕ → Edited → Edited
 done_letter letter line = with_letter letter line
 
--- Ctrl-D of a line that has a character
+-- Ctrl-D on a line that is not empty
 abbrev pub left : Edited → Edited
 left line = if length line.bytes == 0 then line else without_next line
 
--- what a key makes
+-- the effect of a key
 abbrev pub done : Key → Editing → Editing
 done (key.Letter letter) e = edited (done_letter letter e.line) e
 done key.Left e = edited (at (e.line.cursor - 1) e.line) e
@@ -69,7 +69,7 @@ done key.GiveUp e = emptied e
 done key.Return e = e
 done key.Leave e = edited (left e.line) e
 
--- what is to be done then
+-- what the caller must do then
 abbrev pub act_of_letter : Edited → Act
 act_of_letter line = if is_full line then act_is.Ring else act_is.Draw
 
@@ -94,7 +94,7 @@ act_of key.DropWord line = act_is.Draw
 act_of key.Older line = act_is.Draw
 act_of key.Newer line = act_is.Draw
 
--- the same of a byte, which may end no key
+-- the same for a byte, which may not end a key
 abbrev pub done_where : Option Key → Editing → Editing
 done_where None e = e
 done_where (Some key) e = done key e
@@ -109,6 +109,6 @@ after byte e = let h = heard e.sequence byte in done_where h.key (record e { seq
 abbrev pub act : ℕ → Editing → Act
 act byte e = act_where (heard e.sequence byte).key e.line
 
--- a line that was taken is noted
+-- a line that was taken is added to the history
 abbrev pub finished : Editing → Editing
 finished e = emptied (record e { history = noted e.line.bytes e.history })

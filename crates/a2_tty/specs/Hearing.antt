@@ -1,4 +1,4 @@
--- What is read of an input, line by line.
+-- The lines that are read from an input, one by one.
 use Rattle.std.specs.Prelude.{◌≡◌, ℕ, ◌<◌, ◌≤◌, ◌==◌, Bool, true, false, List, [], ◌∷◌, ◌++◌, length, take, All, Option, Some, None, Result, Err}
 use Rattle.std.specs.Io.KnownBytes.{Consumes, IsAtEnd}
 use Rattle.a2_text.specs.Lines.{lines}
@@ -15,17 +15,17 @@ abbrev pub is_unread : {T : Type 0} → Result T TalkFault → Bool
 is_unread (Err Read) = true
 is_unread _ = false
 
--- the bytes of what ends a piece
+-- the bytes that end a piece
 abbrev pub ending_bytes : Ending → List ℕ
 ending_bytes Feed = 10 ∷ []
 ending_bytes Input = []
 
--- nothing is left behind the end of an input
+-- nothing is left after the end of an input
 abbrev pub EndsThere : Ending → Option (List ℕ) → Type 0
 EndsThere Feed new = Unit {0}
 EndsThere Input new = IsAtEnd new
 
--- a piece without line feeds was read, with what ends it, and its front is kept
+-- a piece without line feeds was read, and what ends it; the first bytes of the piece are kept
 pub record IsPiece (old new : Giver) (ending : Ending) (kept : List ℕ) : Type 0 where
   pub piece : List ℕ
   pub plain : All (λ c. (c == 10) ≡ false) piece
@@ -33,19 +33,19 @@ pub record IsPiece (old new : Giver) (ending : Ending) (kept : List ℕ) : Type 
   pub end : EndsThere ending new.bytes
   pub front : kept ≡ take 257 piece
 
--- known bytes begin with these lines, and lose them
+-- known bytes begin with these lines, which are then removed
 abbrev pub Loses : Option (List ℕ) → Option (List ℕ) → List (List ℕ) → Type 0
 Loses None new heard = Unit {0}
 Loses (Some input) None heard = ⊥
 Loses (Some input) (Some rest) heard = lines input ≡ heard ++ lines rest
 
--- a line, and what is kept of it: all, where it is not too long
+-- a line, and what is kept of it: everything, if it is not too long
 abbrev pub IsTextOf : Heard → List ℕ → List ℕ → Type 0
 IsTextOf Line said kept = (said ≡ kept) × (length said ≤ 255)
 IsTextOf Long said kept = 255 < length said
 IsTextOf End said kept = ⊥
 
--- a line was read, and nothing behind it; or the input ended
+-- a line was read, and nothing after it; or the input ended
 abbrev pub IsHeard : Giver → Giver → Heard → List ℕ → Type 0
 IsHeard old new End kept = Loses old.bytes new.bytes [] × IsAtEnd new.bytes
 IsHeard old new heard kept = (said : List ℕ) × Loses old.bytes new.bytes (said ∷ []) × IsTextOf heard said kept

@@ -10,7 +10,7 @@ use Rattle.a2_page.specs.Picture.{first_text_row}
 use Rattle.a2_tty.specs.declared.cells.tiles.Tile.{Tile}
 use Rattle.a2_tty.specs.declared.cells.tiles.Tile.TheVariants.{Letter, Inverse, Blocks}
 
--- what is shown at a time: the rows of the shown page, the switches, and whether flashing characters are inverse
+-- what is shown at one moment: the rows of the shown page, the switches, and whether flashing characters are inverse
 pub record Shown : Type 0 where
   pub rows : Grid
   pub switches : Switches
@@ -22,7 +22,7 @@ letter lit code shows.Inverse = Inverse code
 letter lit code shows.Flashing = if lit then Inverse code else Letter code
 letter lit code shows.Normal = Letter code
 
--- from the first row of text on a row is text; hi-res is blank
+-- rows from the first text row down are text; hi-res is blank
 abbrev pub tile : Switches → ℕ → Bool → ℕ → Tile
 tile switches row lit byte =
     if nat_le (first_text_row switches) row then letter lit (glyph byte) (attribute byte)

@@ -1,4 +1,4 @@
--- A session: lines that are answered one after another, each behind a prompt. This project's profile.
+-- A session: lines that are answered one after another, each after a prompt. This project's profile.
 use Rattle.std.specs.Prelude.{◌≡◌, ◌⊎◌, ℕ, ◌<◌, ◌≤◌, ◌==◌, List, [], ◌∷◌, ◌++◌, length, map, codes, Option, Result, Ok, Err, if◌then◌else◌}
 use Rattle.std.specs.Io.KnownBytes.{IsAtEnd}
 use Rattle.a2_text.specs.Bytes.{capital}
@@ -8,24 +8,25 @@ use Rattle.a2_tty.specs.declared.session.fault.TalkFault.{TalkFault}
 use Rattle.a2_tty.specs.declared.session.fault.TalkFault.TheVariants.{Read, Write, Endless}
 use Rattle.a2_tty.specs.Hearing.{Loses}
 
--- what a call for one line answers, where `Meets line old text new` says which text a line has, and what it leaves
+-- the result of the call for one line; `Meets line old text new` states which text answers a line, and the state after
+-- it
 abbrev pub RepliesTo : {S : Type 0} → (List ℕ → S → List ℕ → S → Type 0) → List ℕ → S → S → Taker → Taker → Result (Unit {0}) WriteFault → Type 0
 RepliesTo Meets line old new before after answer = (text : List ℕ) × Meets line old text new × SendsOrBreaks before after answer text
 
--- the same, but a line of more than 255 bytes is told, and leaves all as it is
+-- the same, but a line of more than 255 bytes is reported as too long, and changes nothing
 abbrev pub MeetsOr : {S : Type 0} → (List ℕ → S → List ℕ → S → Type 0) → List ℕ → S → List ℕ → S → Type 0
 MeetsOr Meets line old text new =
     ((length line ≤ 255) × Meets line old text new)
     ⊎ ((255 < length line) × (text ≡ codes "LINE TOO LONG: AT MOST 255 BYTES\n") × (new ≡ old))
 
--- these lines, one after another, each behind a prompt
+-- these lines, one after another, each after a prompt
 abbrev pub AreAnswered : {S : Type 0} → (List ℕ → S → List ℕ → S → Type 0) → List ℕ → List (List ℕ) → S → List ℕ → S → Type 0
 AreAnswered Meets prompt [] old output new = (output ≡ []) × (new ≡ old)
 AreAnswered {S} Meets prompt (line ∷ others) old output new =
     (text : List ℕ) × (next : S) × (rest : List ℕ) × Meets line old text next × AreAnswered Meets prompt others next rest new
     × (output ≡ prompt ++ (text ++ rest))
 
--- what stands behind the last prompt: a line feed, where there are prompts
+-- the text after the last prompt: a line feed, if the prompt is not empty
 abbrev pub closing : List ℕ → List ℕ
 closing prompt = if length prompt == 0 then [] else codes "\n"
 
@@ -33,15 +34,15 @@ closing prompt = if length prompt == 0 then [] else codes "\n"
 abbrev pub IsQuit : List ℕ → Type 0
 IsQuit line = map capital line ≡ codes "QUIT"
 
--- lines that were read, and nothing behind them, are answered by this
+-- the lines that were read, with nothing after them, and the output that answers them
 pub record Told {S : Type 0} (Meets : List ℕ → S → List ℕ → S → Type 0) (prompt : List ℕ) (old new : S) (from to : Option (List ℕ)) : Type 0 where
   pub heard : List (List ℕ)
   pub read : Loses from to heard
   pub output : List ℕ
   pub answered : AreAnswered Meets prompt heard old output new
 
--- the lines of an input, the last of which may be QUIT, are answered; where a write failed, so far, and a front of that went out;
--- where a read failed, those before it
+-- the lines of an input, the last of which may be QUIT, are answered. If a write failed, a prefix of the output was
+-- written; if a read failed, the lines before it were answered.
 abbrev pub IsTalk : {S : Type 0} → (List ℕ → S → List ℕ → S → Type 0) → List ℕ → S → S → Giver → Giver → Taker → Taker → Result (Unit {0}) TalkFault → Type 0
 IsTalk Meets prompt old new from to before after (Ok _) =
     ((told : Told Meets prompt old new from.bytes to.bytes) × IsAtEnd to.bytes × Sends before after (told.output ++ (prompt ++ closing prompt)))

@@ -1,4 +1,4 @@
--- What is written of cells on an ANSI terminal: those that changed. This project's profile.
+-- The bytes that are written for the cells that changed, on an ANSI terminal. This project's profile.
 use Rattle.std.specs.Prelude.{ℕ, ◌+◌, ◌==◌, Bool, true, false, List, [], ◌∷◌, ◌++◌, codes, slice_index_or, if◌then◌else◌, Option, Some, None}
 use Rattle.std.specs.List.{flat_map}
 use Rattle.std.specs.Fmt.{decimal}
@@ -9,7 +9,7 @@ use Rattle.a2_tty.specs.declared.cells.colours.Colours.{Colours}
 use Rattle.a2_tty.specs.declared.cells.colours.Colours.TheVariants as have
 use Rattle.a2_tty.specs.Tiles.{is_same}
 
--- what an order of a terminal begins with
+-- the start of a control sequence
 abbrev pub escape : List ℕ
 escape = 0x1B ∷ codes "["
 
@@ -17,11 +17,11 @@ escape = 0x1B ∷ codes "["
 abbrev pub upper : List ℕ
 upper = 0xE2 ∷ 0x96 ∷ 0x80 ∷ []
 
--- the cursor goes to a cell: a terminal counts rows and columns from 1
+-- moves the cursor to a cell: a terminal counts rows and columns from 1
 unfoldable pub place_text : List ℕ → List ℕ → List ℕ
 place_text row column = escape ++ (row ++ (codes ";" ++ (column ++ codes "H")))
 
--- the sixteen colours by their shares of red, green and blue, and by the nearest of the palette of 256
+-- the sixteen colours by their red, green and blue values, and by the nearest colour in the palette of 256
 abbrev pub shares : List (List ℕ)
 shares =
     codes "0;0;0" ∷ codes "221;0;51" ∷ codes "0;0;153" ∷ codes "221;34;221" ∷ codes "0;119;34" ∷ codes "85;85;85" ∷ codes "34;34;255"
@@ -33,7 +33,7 @@ nearest =
     codes "16" ∷ codes "161" ∷ codes "18" ∷ codes "170" ∷ codes "29" ∷ codes "240" ∷ codes "27" ∷ codes "75" ∷ codes "94" ∷ codes "202"
     ∷ codes "248" ∷ codes "216" ∷ codes "40" ∷ codes "226" ∷ codes "85" ∷ codes "231" ∷ []
 
--- the upper half of a cell in one colour, over the lower in another
+-- the upper half of a cell in one colour, and the lower half in another
 abbrev pub halves_text : List ℕ → List ℕ → List ℕ → List ℕ
 halves_text kind above below =
     escape ++ (codes "0;38;" ++ (kind ++ (above ++ (codes ";48;" ++ (kind ++ (below ++ 0x6D ∷ upper))))))
@@ -45,7 +45,7 @@ light false true = upper
 light true false = 0xE2 ∷ 0x96 ∷ 0x84 ∷ []
 light false false = 0xE2 ∷ 0x96 ∷ 0x88 ∷ []
 
--- what a cell shows, where the cursor stands
+-- what a cell shows, written at the cursor
 abbrev pub tile_text : Colours → Tile → List ℕ
 tile_text colours (Letter code) = escape ++ (codes "0m" ++ code ∷ [])
 tile_text colours (Inverse code) = escape ++ (codes "0;7m" ++ code ∷ [])
@@ -53,18 +53,18 @@ tile_text have.Full (Blocks above below) = halves_text (codes "2;") (slice_index
 tile_text have.Palette (Blocks above below) = halves_text (codes "5;") (slice_index_or nearest above []) (slice_index_or nearest below [])
 tile_text have.None (Blocks above below) = escape ++ (codes "0m" ++ light (above == 0) (below == 0))
 
--- a cell showed the same before, of a picture that `shows` what each cell does by its row and column
+-- a cell showed the same before, in a picture whose cells are given by `shows`, from row and column
 abbrev pub is_kept : {S : Type 0} → (S → ℕ → ℕ → Tile) → Option S → ℕ → ℕ → Tile → Bool
 is_kept shows None row column tile = false
 is_kept shows (Some before) row column tile = is_same (shows before row column) tile
 
--- a cell that changed: its place, and what it shows
+-- a cell that changed: its position, and what it shows
 abbrev pub cell_text : {S : Type 0} → (S → ℕ → ℕ → Tile) → Option S → S → Colours → ℕ → ℕ → List ℕ
 cell_text shows before after colours row column =
     if is_kept shows before row column (shows after row column) then []
     else place_text (decimal (row + 1)) (decimal (column + 1)) ++ tile_text colours (shows after row column)
 
--- those of a row, from the left, and of all rows, from the top
+-- the cells that changed in a row, from left to right, and in all rows, from top to bottom
 unfoldable pub row_text : {S : Type 0} → (S → ℕ → ℕ → Tile) → Option S → S → Colours → ℕ → ℕ → List ℕ
 row_text shows before after colours columns row = flat_map (cell_text shows before after colours row) (numbers_from 0 columns)
 

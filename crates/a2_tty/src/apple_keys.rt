@@ -1,43 +1,43 @@
-//! What typed bytes say.
+//! The keys and commands that typed bytes stand for.
 
 ghost use Rattle.std.specs.Prelude.{◌≡◌, ◌<◌, Some, [], length, IfSome, IfNone};
 ghost use Rattle.a2_tty.specs.AppleKeys as strokes;
 
 use a2_text::capital;
 
-/// What begins an order of the session: Ctrl-].
+/// The byte that begins a command to the session: Ctrl-].
 const PREFIX: u8 = 0x1D;
 
-/// What begins the bytes of an arrow.
+/// The first byte of an arrow key.
 const ESCAPE: u8 = 0x1B;
 
-/// The arrows of an Apple II, and what a terminal gives for the key above Return.
+/// The arrows of an Apple II, and the byte that a terminal sends for the key above Return.
 const LEFT: u8 = 0x08;
 
 const RIGHT: u8 = 0x15;
 
 const RUB_OUT: u8 = 0x7F;
 
-/// What is done with the session, not the machine.
+/// A command to the session, not to the machine.
 #[derive(Clone, Copy, Debug, PartialEq, Eq)]
 pub enum Order {
-    /// Ends it.
+    /// Ends the session.
     Quit,
-    /// Halts the machine, or lets it go on.
+    /// Pauses the machine, or resumes it.
     Pause,
-    /// Makes one step, and halts.
+    /// Executes one step, and pauses.
     Step,
-    /// Goes back a second.
+    /// Goes back one second.
     Back,
     /// Doubles the pace.
     Faster,
-    /// Halves it.
+    /// Halves the pace.
     Slower,
-    /// Begins again, with no key typed.
+    /// Restarts the machine, with no key typed.
     Restart,
-    /// Tells at the end which keys were typed.
+    /// Reports at the end which keys were typed.
     Save,
-    /// Goes into the debugger, and comes back.
+    /// Enters the debugger, or leaves it.
     Debug,
     /// Draws the whole screen again.
     Redraw,
@@ -46,17 +46,17 @@ pub enum Order {
 /// What was typed.
 #[derive(Clone, Copy, Debug, PartialEq, Eq)]
 pub enum Stroke {
-    /// A key of the Apple's, 0 to 127.
+    /// A key of the Apple's keyboard, 0 to 127.
     Key(u8),
-    /// What begins an order that is still to come.
+    /// The prefix of a command whose character is not typed yet.
     Prefix,
-    /// An order.
+    /// A command.
     Order(Order),
-    /// Nothing that there is a key or an order for.
+    /// Anything that is neither a key nor a command.
     Nothing,
 }
 
-// The key of a byte: capitals alone, and RUB OUT as the left arrow.
+// Returns the key for a byte: letters become upper-case, and RUB OUT becomes the left arrow.
 fn key_of(byte: u8) -> Stroke
     ensures value { result ≡ strokes.key_of byte }
     ensures code { strokes.HasSevenBits result }
@@ -68,7 +68,7 @@ fn key_of(byte: u8) -> Stroke
     }
 }
 
-// What a byte behind the prefix says; the prefix again is its own key.
+// Returns the meaning of a byte after the prefix. The prefix typed twice is its own key.
 fn order_of(byte: u8) -> Stroke
     ensures value { result ≡ strokes.order_of byte }
     ensures code { strokes.HasSevenBits result }
@@ -89,7 +89,7 @@ fn order_of(byte: u8) -> Stroke
     }
 }
 
-// The key of an arrow by its letter: there are none up and down.
+// Returns the key for an arrow, given its letter. There are no keys for up and down.
 fn arrow_of(letter: u8) -> Stroke
     ensures value { result ≡ strokes.arrow_of letter }
     ensures code { strokes.HasSevenBits result }
@@ -101,10 +101,11 @@ fn arrow_of(letter: u8) -> Stroke
     }
 }
 
-/// The first thing that typed bytes say, and the bytes behind it; none where there are none. `is_ordered` says whether the
-/// prefix stood before them. Keys are those of the Apple's keyboard: letters are capitals, RUB OUT and the left arrow are $08,
-/// the right arrow is $15, all other codes below $80 are their own, and there are none from $80 on, up or down. This project's
-/// profile; Apple II Reference Manual (1979), page 7.
+/// Returns the first key or command that the typed bytes stand for and the bytes after it, or `None` if there are no
+/// bytes. `is_ordered` says whether the prefix was typed before them. Keys are those of the Apple's keyboard. Letters
+/// are upper-case, RUB OUT and the left arrow are $08, the right arrow is $15, and all other codes below $80 stand for
+/// themselves. There are no keys for codes from $80 up, or for the up and down arrows. This project's profile; Apple II
+/// Reference Manual (1979), page 7.
 pub fn first_stroke(bytes: &[u8], is_ordered: bool) -> Option<(Stroke, &[u8])>
     ensures value { IfSome result (λ found. strokes.first is_ordered bytes.now ≡ Some (record { stroke = found.0; rest = found.1.now })) }
     ensures none { IfNone result (bytes.now ≡ []) }

@@ -1,4 +1,5 @@
-//! Cells on an ANSI terminal, of the Apple's screen or of a whole terminal: those that changed, each at its place.
+//! Cells of the Apple's screen or of a whole terminal, drawn on an ANSI terminal: only those that changed, each in its
+//! place.
 
 mod changes;
 mod colours;

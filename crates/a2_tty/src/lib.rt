@@ -1,6 +1,7 @@
-//! Terminal plumbing: sessions that are answered line by line, keys, a line editor, and cells that are drawn where they changed.
+//! Terminal input and output, with sessions that answer each line, keys, a line editor, and drawing of the cells that
+//! changed.
 //!
-//! How it is called is shown in CALLING.md.
+//! CALLING.md shows how to use this crate.
 #![tactic(auto)]
 
 mod apple_keys;

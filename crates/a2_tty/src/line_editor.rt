@@ -1,5 +1,5 @@
-//! A line that is edited at a terminal in raw mode: keys from its bytes, the line and its cursor, a history of lines, and how it is
-//! drawn.
+//! A line editor for a terminal in raw mode: keys from the terminal's bytes, the line and its cursor, a history of
+//! lines, and the drawing of the line.
 
 mod drawing;
 mod editor;

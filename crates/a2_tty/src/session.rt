@@ -1,4 +1,4 @@
-//! Sessions at a terminal: each line that is read is answered before the next.
+//! Sessions at a terminal: each line that is read is answered before the next one is read.
 
 mod fault;
 mod hearing;

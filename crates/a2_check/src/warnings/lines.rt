@@ -1,4 +1,4 @@
-//! Warnings of lines by themselves.
+//! Warnings about single lines.
 
 ghost use Rattle.std.specs.Prelude.{◌≡◌};
 ghost use Rattle.a2_check.specs.Warnings as warnings;
@@ -10,14 +10,14 @@ use a2_syntax::{Body, Expr, Line, Operand, Part, Term};
 use a2_text::behind_blanks;
 use std::alloc::Allocator;
 
-// Whether a number begins with a byte.
+// Whether a number can begin with this byte.
 fn begins_number(c: u8) -> bool
     ensures { result ≡ warnings.begins_number c }
 {
     c == b'$' || matches!(c, b'0'..=b'9')
 }
 
-// Whether `=` and a number stand at the front of a text.
+// Whether a text begins with `=` and a number.
 fn equals_number(text: &[u8]) -> bool
     ensures { result ≡ warnings.equals_number text.now }
 {
@@ -30,7 +30,7 @@ fn equals_number(text: &[u8]) -> bool
     }
 }
 
-/// Whether a line is a comment that was meant to set the place of what follows: `*` in column 1, `=` and a number.
+/// Whether a line is a comment that was meant to set the address of the next lines: `*` in column 1, `=` and a number.
 pub(crate) fn sets_no_place(text: &[u8]) -> bool
     ensures { result ≡ warnings.sets_no_place text.now }
 {
@@ -40,7 +40,7 @@ pub(crate) fn sets_no_place(text: &[u8]) -> bool
     }
 }
 
-/// Whether a line has a label alone, and that is spelt as an operation.
+/// Whether a line has only a label, and that label is spelt like a mnemonic.
 pub(crate) fn operation_in_label<A: Allocator>(line: &Line<A>) -> bool {
     match (&line.label, &line.body) {
         (Some(name), Body::Empty) => Mnemonic::named(name.get().as_bytes()).is_some(),
@@ -48,7 +48,7 @@ pub(crate) fn operation_in_label<A: Allocator>(line: &Line<A>) -> bool {
     }
 }
 
-// The number that an expression is, where it is one alone, and one of a byte.
+// Returns the value of an expression that is a single number of 0 to 255, or `None`.
 fn number<A: Allocator>(e: &Expr<A>) -> Option<u8> {
     match (e.part, e.terms.get()) {
         (Part::Whole, [signed]) if !signed.minus => match &signed.term {
@@ -59,7 +59,7 @@ fn number<A: Allocator>(e: &Expr<A>) -> Option<u8> {
     }
 }
 
-// The address below $0100 that a line reads by its number, where that could have been the number itself.
+// Returns the address below $0100 that a line reads, if it is given as a number and the mnemonic also has an immediate mode.
 fn read_by<A: Allocator>(line: &Line<A>) -> Option<u8> {
     let Body::Instr(mnemonic, Operand::Plain(e)) = &line.body else {
         return None;
@@ -70,13 +70,13 @@ fn read_by<A: Allocator>(line: &Line<A>) -> Option<u8> {
         .then_some(address)
 }
 
-// Whether the Monitor keeps a byte at an address below $0100. Apple II Reference Manual (1979), its table of page 0.
+// Whether the Monitor uses the byte at an address below $0100. Apple II Reference Manual (1979), its table of page 0.
 fn is_the_monitors(address: u8) -> bool {
     matches!(address, 0x20..=0x55)
 }
 
-/// Whether a line reads a byte below $0100 by its number where no instruction may store, the source has no byte, and the Monitor
-/// keeps none.
+/// Whether a line reads a byte below $0100 that nothing sets: no instruction may store there, the program has no byte there,
+/// and the Monitor does not use it.
 pub(crate) fn unwritten<A: Allocator>(
     line: &Line<A>,
     program: &Program<A>,

@@ -1,10 +1,10 @@
-//! Warnings as lines of text.
+//! Writes warnings as lines of text.
 
 use crate::warnings::{Warning, WarningKind};
 use a2_stream::{Output, WriteFault, put, put_all};
 use a2_text::decimal;
 
-// What a line does, and what to write instead; the line comes after it.
+// Returns the sentence for a kind of warning: what the line does and what to write instead. The line is written after it.
 fn sentence_of(kind: WarningKind) -> &'static [u8] {
     match kind {
         WarningKind::Place =>
@@ -21,7 +21,7 @@ fn sentence_of(kind: WarningKind) -> &'static [u8] {
     }
 }
 
-// Writes a line of a note: a source's name, a line's number, what that line does, and its text.
+// Writes one note: the name of the source, the number of the line, what the line does, and its text.
 fn put_note<W: Output>(
     name: &str,
     line: usize,
@@ -34,8 +34,9 @@ fn put_note<W: Output>(
     put_all(&[b": note: ", what, text, b"\n"], writer)
 }
 
-/// Writes `warnings` of a source with this `name` and these lines, `texts`: each as a line with the name, the line's number, what the
-/// line does, what to write instead, and the line itself. Fails if a write does: a front of the text went out then.
+/// Writes `warnings` of a source with this `name` and these lines, `texts`. Each is one line of output: the name, the number of
+/// the line, what the line does, what to write instead, and the line itself. Fails if a write fails; then only the first part
+/// of the text was written.
 pub fn put_warnings<W: Output>(
     name: &str,
     texts: &[&[u8]],

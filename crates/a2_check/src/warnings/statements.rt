@@ -1,4 +1,4 @@
-//! Warnings of statements, by where they lie.
+//! Warnings that depend on the addresses of statements.
 
 ghost use Rattle.std.specs.Prelude.{◌≡◌, ◌<◌, ℕ, List, false, length, get_or, IfOk};
 ghost use Rattle.a2_asm.specs.declared.program.Statement.{Statement as Stated};
@@ -12,15 +12,15 @@ use a2_text::{behind_blanks, front_len};
 use std::alloc::{AllocError, Allocator};
 use std::marker::Model;
 
-// How many addresses there are.
+// The number of addresses.
 const ADDRESSES: usize = 0x1_0000;
 
-// The outputs of characters. Apple II Reference Manual (1979), its list of Monitor subroutines.
+// The Monitor's routines that output a character. Apple II Reference Manual (1979), its list of Monitor subroutines.
 const COUT: u16 = 0xFDED;
 
 const COUT1: u16 = 0xFDF0;
 
-/// Of each address whether an instruction begins there.
+/// For each address, whether an instruction begins there.
 #[derive(Drop)]
 pub(crate) struct Begins<A: Allocator> {
     marks: Vec<bool, A>,
@@ -36,7 +36,7 @@ impl<A: Allocator> Model for Begins<A> {
     ghost invariant = { λ a. length a.marks.items ≡ 65536 };
 }
 
-// No mark for so many addresses.
+// Returns a list with no address marked.
 fn no_marks<A: Allocator>(alloc: A) -> Result<Vec<bool, A>, AllocError>
     ensures size { IfOk result (λ marks. length marks.items ≡ 65536) }
     ensures none { IfOk result (λ marks. (a : ℕ) → get_or marks.items a false ≡ false) }
@@ -44,7 +44,7 @@ fn no_marks<A: Allocator>(alloc: A) -> Result<Vec<bool, A>, AllocError>
     vec![in alloc; false; ADDRESSES]
 }
 
-// Marks the address of each instruction, where none is marked.
+// Marks the address of each instruction. At the start none is marked.
 fn mark<A: Allocator>(marks: &mut Vec<bool, A>, statements: &[Statement])
     requires size { length marks.old.items ≡ 65536 }
     requires none { (a : ℕ) → get_or marks.old.items a false ≡ false }
@@ -57,7 +57,7 @@ fn mark<A: Allocator>(marks: &mut Vec<bool, A>, statements: &[Statement])
 }
 
 impl<A: Allocator> Begins<A> {
-    /// Where the instructions among statements begin. Refused only for want of memory.
+    /// Returns where the instructions among the statements begin. Fails only if there is not enough memory.
     pub(crate) fn of(alloc: A, statements: &[Statement]) -> Result<Begins<A>, AllocError>
         ensures { IfOk result (λ begins. MarksBegins statements.now begins) }
     {
@@ -74,7 +74,7 @@ impl<A: Allocator> Begins<A> {
     }
 }
 
-// Whether an instruction leads elsewhere than behind it, or may.
+// Whether an instruction continues, or may continue, somewhere other than at the next instruction.
 fn leads_away(instr: Instr) -> bool
     ensures { result ≡ warnings.leads_away instr }
 {
@@ -85,15 +85,15 @@ fn leads_away(instr: Instr) -> bool
     leaves || instr.mode == Mode::Relative
 }
 
-// Whether an instruction jumps or branches to its operand's value.
+// Whether an instruction jumps or branches to the value of its operand.
 fn jumps(instr: Instr) -> bool
     ensures { result ≡ warnings.jumps instr }
 {
     instr.mode == Mode::Relative || instr.mode == Mode::Absolute && instr.mnemonic == Mnemonic::Jmp
 }
 
-/// What is told of a statement, where these are all at which instructions begin: that none begins behind it, though it goes on
-/// there, or that it jumps to itself.
+/// Returns the warning for a statement if it jumps to itself, or if it continues where no instruction begins. `begins` marks
+/// the addresses of all instructions.
 pub(crate) fn kind_of<A: Allocator>(
     begins: &Begins<A>,
     statement: &Statement,
@@ -111,7 +111,7 @@ pub(crate) fn kind_of<A: Allocator>(
     None
 }
 
-// What stands behind the first `#` of a line and blanks; nothing where it has none.
+// Returns the text after the first `#` of a line and blanks, or nothing if the line has no `#`.
 fn behind_number_sign(text: &[u8]) -> &[u8]
     ensures { result.now ≡ warnings.behind_number_sign text.now }
 {
@@ -121,7 +121,7 @@ fn behind_number_sign(text: &[u8]) -> &[u8]
     }
 }
 
-// Whether a text begins with a character of this code between single quotes.
+// Whether a text begins with a single quote and the character with this code.
 fn is_quoted(text: &[u8], code: u16) -> bool
     ensures { result ≡ warnings.is_quoted code text.now }
 {
@@ -131,7 +131,7 @@ fn is_quoted(text: &[u8], code: u16) -> bool
     }
 }
 
-// Whether an instruction, in a line with this text, loads A with a character between single quotes.
+// Whether an instruction, in a line with this text, loads A with a character in single quotes.
 fn loads_plain(text: &[u8], instr: Instr) -> bool
     ensures { result ≡ warnings.loads_plain text.now instr }
 {
@@ -140,7 +140,7 @@ fn loads_plain(text: &[u8], instr: Instr) -> bool
         && is_quoted(behind_number_sign(text), instr.value)
 }
 
-// Whether a statement is a load of X or Y.
+// Whether a statement is LDX or LDY.
 fn loads_index(statement: &Statement) -> bool
     ensures { result ≡ warnings.loads_index statement.now }
 {
@@ -150,7 +150,7 @@ fn loads_index(statement: &Statement) -> bool
     }
 }
 
-// Whether a statement puts A on the screen: by an output of characters, or by a store at the first page of text.
+// Whether a statement writes A to the screen: by a call of COUT or COUT1, or by a store in text page 1.
 fn puts(statement: &Statement) -> bool
     ensures { result ≡ warnings.puts statement.now }
 {
@@ -164,7 +164,7 @@ fn puts(statement: &Statement) -> bool
     }
 }
 
-// Whether the first of statements that is no load of X or Y puts A on the screen.
+// Whether the first of these statements that is not LDX or LDY writes A to the screen.
 fn is_put(behind: &[Statement]) -> bool
     ensures { result ≡ warnings.is_put behind.now }
 {
@@ -176,8 +176,8 @@ fn is_put(behind: &[Statement]) -> bool
     false
 }
 
-/// Whether a statement, of a line with this text, loads A with a character that has bit 7 clear, and those behind it put it on the
-/// screen.
+/// Whether a statement, in a line with this text, loads A with a character with bit 7 clear, and the statements after it write
+/// A to the screen.
 pub(crate) fn shows_plain(text: &[u8], statement: &Statement, behind: &[Statement]) -> bool
     ensures { result ≡ warnings.shows_plain text.now statement.now behind.now }
 {

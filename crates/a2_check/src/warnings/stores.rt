@@ -4,16 +4,16 @@ use a2_asm::Statement;
 use a2_effect::stores_operand;
 use a2_opcode::{Instr, Mode};
 
-/// The addresses below $0100 at which the instructions of a program may store.
+/// The addresses below $0100 where the instructions of a program may store.
 #[derive(Drop)]
 pub(crate) struct LowStores {
-    // Whether one stores by an index or a pointer, and so at any address.
+    // Whether an instruction stores with an index or through a pointer, and so perhaps at any address.
     anywhere: bool,
     at: [bool; 256],
 }
 
 impl LowStores {
-    /// Those of a program with these statements.
+    /// Returns the addresses for a program with these statements.
     pub(crate) fn of(statements: &[Statement]) -> LowStores {
         let mut all = LowStores {
             anywhere: false,
@@ -27,7 +27,7 @@ impl LowStores {
         all
     }
 
-    // Adds those of an instruction.
+    // Adds the addresses where one instruction may store.
     fn add(&mut self, instr: Instr) {
         if !stores_operand(instr.mnemonic) {
             return;

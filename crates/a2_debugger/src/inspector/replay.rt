@@ -1,4 +1,4 @@
-//! A run that was made elsewhere, made again.
+//! Replaying a run that was recorded elsewhere.
 
 ghost use Rattle.std.specs.Prelude.{◌≡◌, ◌↔◌, ◌-◌, min, true, false, OnOk, OnErr};
 ghost use Rattle.a2_debugger.specs.Inspections.{GoesOn, with_keys_typed};
@@ -12,8 +12,8 @@ use std::alloc::Allocator;
 const MOST_POSITION: u64 = 100_000_000;
 
 impl<A: Allocator + Copy> Inspector<'_, A> {
-    /// Goes on to `position`, so many steps behind the start, or as far as the run goes, at most to 100,000,000: whether it
-    /// stands there. No byte counts as changed by that.
+    /// Executes steps up to `position`, counted in steps from the start, or as far as the run goes, at most to 100,000,000.
+    /// Returns whether the run reached the position. No byte counts as changed by this.
     pub fn bring(&mut self, position: u64) -> bool
         ensures gone { GoesOn (λ world. false) (min (position - self.old.track.position) 100_000_000) self.old.track
             self.new.track }
@@ -28,8 +28,8 @@ impl<A: Allocator + Copy> Inspector<'_, A> {
         self.history.position() == position
     }
 
-    /// Types `keys` where it stands; keys that were typed at later positions are forgotten. Refused, with nothing changed, where
-    /// more than 4,096 would wait, and for want of memory.
+    /// Types `keys` at the current position; keys typed at later positions are forgotten. Fails, with nothing changed, if more
+    /// than 4,096 keys would be waiting or if memory runs out.
     pub fn type_keys(&mut self, keys: Keys) -> Result<(), TypingFault>
         ensures typed { OnOk result (self.new ≡ record self.old { track = with_keys_typed keys self.old.track }) }
         ensures kept { OnErr result (self.new ≡ self.old) }

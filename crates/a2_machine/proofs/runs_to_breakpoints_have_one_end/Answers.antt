@@ -9,7 +9,7 @@ use Rattle.a2_machine.specs.State.{Device, world_of_state, code_of, steps_left, 
 use Rattle.a2_machine.proofs.Runs.{end-unique}
 use Rattle.a2_machine.proofs.runs_to_breakpoints_have_one_end.Goals as goal
 
--- what holds of each such run, whatever ended it
+-- a property of each such run, whatever ended it
 record Went (limit : ℕ) (old new : Device) : Type 0 where
   more : old.state.steps ≤ new.state.steps
   within : new.state.steps - old.state.steps ≤ steps_left limit old.state
@@ -21,7 +21,7 @@ went limit old new (stop.Cause cause) ran = record { more = ran.more; within = r
 went limit old new stop.Breakpoint ran = record { more = omega (arith, ran.0, ran.2.steps); within = ran.1; reached = ran.2.reached; going = ran.2.going }
 
 module _ (is_breakpoint : ℕ → Bool) (limit : ℕ) (old : Device) where
-  -- none ends before the other
+  -- neither run ends before the other
   not_before : (new other : Device) (a b : Stop) → IsRunTo is_breakpoint limit old new a → IsRunTo is_breakpoint limit old other b
       → new.state.steps - old.state.steps < other.state.steps - old.state.steps → ⊥
   not_before new other (stop.Cause cause) b x y less =
@@ -40,7 +40,7 @@ module _ (is_breakpoint : ℕ → Bool) (limit : ℕ) (old : Device) where
         (went limit old new a x.ends).reached ∙ ap (λ n. world_at (code_of old.state) (world_of_state old.state) n) count
         ∙ sym (went limit old other b y.ends).reached
 
-  -- where one comes to a breakpoint, the other does
+  -- if one run reaches a breakpoint, the other does too
   apart : (new other : Device) (cause : Cause) → IsRunTo is_breakpoint limit old new (stop.Cause cause) → IsRunTo is_breakpoint limit old other stop.Breakpoint → ⊥
   apart new other cause x y =
       let same = count new other (stop.Cause cause) stop.Breakpoint x y in

@@ -15,7 +15,7 @@ use a2_text::decimal;
 pub struct Size {
     /// The rows.
     pub rows: u8,
-    /// The columns of each.
+    /// The columns of each row.
     pub columns: u8,
 }
 
@@ -39,7 +39,7 @@ pub(crate) trait Cells {
         ensures { result ≡ shows self.now row column };
 }
 
-// Moves the terminal's cursor to the row and the column of these digits.
+// Moves the terminal's cursor to the row and the column with these digits.
 #[tactic(auto, unfolding(crate::specs::Written::place_text))]
 fn put_digits<W: Output>(row: &[u8], column: &[u8], writer: &mut W) -> Result<(), WriteFault>
     ensures { SendsOrBreaks (W.taker writer.old) (W.taker writer.new) result (written.place_text row.now column.now) }
@@ -59,7 +59,7 @@ fn put_place<W: Output>(row: u8, column: u8, writer: &mut W) -> Result<(), Write
     put_digits(row.as_slice(), column.as_slice(), writer)
 }
 
-// Writes a place and what it shows.
+// Writes the position of a cell and what it shows.
 #[tactic(auto, using(a2_stream::proofs::Joined::broke_off, a2_stream::proofs::Joined::went_on))]
 fn put_placed<W: Output>(
     row: u8,
@@ -77,7 +77,7 @@ fn put_placed<W: Output>(
     put_tile(tile, colours, writer)
 }
 
-/// What is drawn: cells over those that were shown before, if any were.
+/// What is drawn: cells that replace those that were shown before, if any were.
 #[derive(Drop)]
 pub(crate) struct Change<'a, C> {
     /// What was shown before.
@@ -88,7 +88,7 @@ pub(crate) struct Change<'a, C> {
     pub colours: Colours,
 }
 
-// Whether a cell shows the same as before.
+// Returns whether a cell shows the same as before.
 fn is_kept<C: Cells>(before: &Option<C>, row: u8, column: u8, tile: Tile) -> bool
     requires row { row < C.height }
     requires column { column < C.width }
@@ -121,7 +121,7 @@ fn put_cell<C: Cells, W: Output>(
     put_placed(row, column, tile, change.colours, writer)
 }
 
-// Writes the cells of a row that changed, of so many columns.
+// Writes the cells that changed in a row of this many columns.
 fn put_row<C: Cells, W: Output>(
     change: &Change<'_, C>,
     columns: u8,
@@ -140,8 +140,9 @@ fn put_row<C: Cells, W: Output>(
     Ok(())
 }
 
-/// Writes the cells that changed, of so many rows and columns from the top left, row by row from the left, each by its place and what
-/// it shows; all of them if nothing was shown before. Fails if a write does: a front of that went out then.
+/// Writes the cells that changed, in this many rows and columns from the top left. The order is row by row, each from
+/// left to right. Each cell is written as its position and what it shows. If nothing was shown before, all cells are
+/// written. If a write fails, returns an error, and only a prefix of this was written.
 pub(crate) fn put_change<C: Cells, W: Output>(
     change: &Change<'_, C>,
     size: Size,

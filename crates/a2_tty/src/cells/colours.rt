@@ -7,10 +7,10 @@ ghost use Rattle.a2_tty.specs.Written as written;
 use crate::cells::tiles::Tile;
 use a2_stream::{Output, WriteFault, put_all};
 
-/// Which colours a terminal has.
+/// The colours that a terminal has.
 #[derive(Clone, Copy, Debug, PartialEq, Eq)]
 pub enum Colours {
-    /// Any, by 24 bits.
+    /// Any colour, given by 24 bits.
     Full,
     /// Those of the palette of 256.
     Palette,
@@ -18,8 +18,8 @@ pub enum Colours {
     None,
 }
 
-// A lo-res colour by red, green and blue. Apple II Reference Manual (1979), page 17, names the sixteen; their shares are this
-// project's profile.
+// Returns the red, green and blue values of a lo-res colour. Apple II Reference Manual (1979), page 17, names the
+// sixteen; their values are this project's profile.
 fn shares_of(colour: u8) -> &'static [u8]
     ensures { result.now ≡ slice_index_or written.shares colour [] }
 {
@@ -44,7 +44,7 @@ fn shares_of(colour: u8) -> &'static [u8]
     }
 }
 
-// The nearest of the palette of 256.
+// Returns the nearest colour in the palette of 256.
 fn nearest_to(colour: u8) -> &'static [u8]
     ensures { result.now ≡ slice_index_or written.nearest colour [] }
 {
@@ -69,7 +69,7 @@ fn nearest_to(colour: u8) -> &'static [u8]
     }
 }
 
-// Which blocks of a cell are light, without colours: those that are not black.
+// Returns the character for the blocks of a cell that are light without colours: those that are not black.
 fn light(above: u8, below: u8) -> &'static [u8]
     ensures { result.now ≡ written.light (above == 0) (below == 0) }
 {
@@ -81,7 +81,7 @@ fn light(above: u8, below: u8) -> &'static [u8]
     }
 }
 
-// Writes two blocks: the upper half of a cell in the colour of one, over that of the other.
+// Writes two blocks: the upper half of a cell in one colour, on a background of the other.
 fn put_halves<W: Output>(
     kind: &[u8],
     above: &[u8],
@@ -104,8 +104,8 @@ fn put_halves<W: Output>(
     )
 }
 
-/// Writes what a cell shows where the terminal's cursor stands: how it is shown, and one character. Refused where a write fails:
-/// what went out then is a front of that.
+/// Writes what a cell shows at the terminal's cursor: its colours or attribute, and one character. If a write fails,
+/// returns an error, and only a prefix of this was written.
 pub fn put_tile<W: Output>(tile: Tile, colours: Colours, writer: &mut W) -> Result<(), WriteFault>
     ensures { SendsOrBreaks (W.taker writer.old) (W.taker writer.new) result (written.tile_text colours tile) }
 {

@@ -1,4 +1,4 @@
-//! What all of a terminal shows.
+//! The contents of a whole terminal.
 
 ghost use Rattle.std.specs.Prelude.{◌≡◌, ◌+◌, ◌*◌, ◌<◌, ◌≤◌, length, slice_set};
 ghost use Rattle.a2_stream.specs.Stream.{SendsOrBreaks};
@@ -11,14 +11,14 @@ use crate::cells::tiles::Tile;
 use a2_stream::{Output, WriteFault};
 use std::marker::Model;
 
-/// The most rows and columns, and the cells of all.
+/// The greatest number of rows; the greatest number of columns and the number of cells follow.
 pub const MOST_ROWS: u8 = 64;
 
 pub const MOST_COLUMNS: u8 = 255;
 
 const CELLS: usize = 16_320;
 
-/// What a terminal shows, of at most 64 rows of 255 columns. Contracts see its cells, row by row.
+/// The contents of a terminal with at most 64 rows of 255 columns. Contracts see its cells, row by row.
 #[derive(Drop)]
 pub struct Frame {
     tiles: [Tile; CELLS],
@@ -33,7 +33,7 @@ impl Model for Frame {
     ghost view = { λ f. f.tiles };
 }
 
-// The number of a cell.
+// Returns the index of a cell.
 fn number_of(row: u8, column: u8) -> usize
     requires row { row < 64 }
     requires column { column < 255 }
@@ -44,7 +44,7 @@ fn number_of(row: u8, column: u8) -> usize
 }
 
 impl Frame {
-    /// A blank terminal.
+    /// Returns a blank terminal.
     pub fn new() -> Frame
         ensures { result ≡ frames.blank }
     {
@@ -53,7 +53,7 @@ impl Frame {
         }
     }
 
-    /// Shows this in `row`, 0 to 63 from the top, and `column`, 0 to 254 from the left.
+    /// Puts `tile` into the cell in `row`, 0 to 63 from the top, and `column`, 0 to 254 from the left.
     pub fn put(&mut self, row: u8, column: u8, tile: Tile)
         requires row { row < 64 }
         requires column { column < 255 }
@@ -75,9 +75,10 @@ impl Cells for Frame {
     }
 }
 
-/// Writes the cells of `after` that show something else than `before`, of so many rows, at most 64, and columns from the top left, row
-/// by row from the left, each by its place and what it shows; all of them if nothing was shown before. Fails if a write does: a front
-/// of that went out then. This project's profile.
+/// Writes the cells of `after` that differ from `before`, in this many rows (at most 64) and columns from the top left.
+/// The order is row by row, each from left to right. Each cell is written as its position and what it shows. If nothing
+/// was shown before, all cells are written. If a write fails, returns an error, and only a prefix of this was written.
+/// This project's profile.
 pub fn put_frame<W: Output>(
     before: &Option<Frame>,
     after: &Frame,

@@ -1,4 +1,4 @@
-//! What a terminal shows of a screen at a time.
+//! The contents of an Apple screen at one moment, as a terminal shows them.
 
 ghost use Rattle.std.specs.Prelude.{◌≡◌, ◌<◌};
 ghost use Rattle.a2_stream.specs.Stream.{SendsOrBreaks};
@@ -17,8 +17,8 @@ use std::marker::Model;
 /// The first address of page 1.
 const PAGE: u16 = 0x400;
 
-/// What a terminal shows of a screen at a time. Contracts see the rows of the shown page, the switches, and whether flashing
-/// characters are inverse.
+/// The contents of an Apple screen at one moment. Contracts see the rows of the shown page, the switches, and whether
+/// flashing characters are inverse.
 #[derive(Drop)]
 pub struct Shot {
     page: [u8; 1024],
@@ -35,7 +35,7 @@ impl Model for Shot {
     ghost view = { λ s. record { rows = page_grid s.page; switches = s.switches; lit = s.lit } };
 }
 
-// The bytes of the shown page.
+// Returns the bytes of the shown page.
 fn shown_bytes<'a>(view: &View<'a>) -> &'a [u8; 1024]
     ensures { page_grid result.now ≡ shown_by view.now }
 {
@@ -46,7 +46,7 @@ fn shown_bytes<'a>(view: &View<'a>) -> &'a [u8; 1024]
     }
 }
 
-// The byte of a cell of a page.
+// Returns the byte of a cell of a page.
 #[tactic(auto, using(crate::proofs::Numbered::cell_byte))]
 fn byte_of(page: &[u8; 1024], row: u8, column: u8) -> u8
     requires row { row < 24 }
@@ -57,7 +57,7 @@ fn byte_of(page: &[u8; 1024], row: u8, column: u8) -> u8
 }
 
 impl Shot {
-    /// The screen of `view`; `lit` says whether flashing characters are inverse.
+    /// Returns the screen of `view`; `lit` says whether flashing characters are inverse.
     pub fn new(view: &View<'_>, lit: bool) -> Shot
         ensures { result ≡ record { rows = shown_by view.now; switches = view.now.switches; lit = lit } }
     {
@@ -68,7 +68,7 @@ impl Shot {
         }
     }
 
-    /// What the cell in `row`, 0 to 23 from the top, and `column`, 0 to 39 from the left, shows.
+    /// Returns what the cell in `row`, 0 to 23 from the top, and `column`, 0 to 39 from the left, shows.
     pub fn tile(&self, row: u8, column: u8) -> Tile
         requires row { row < 24 }
         requires column { column < 40 }
@@ -95,9 +95,10 @@ impl Cells for Shot {
     }
 }
 
-/// Writes the cells of `after` that show something else than `before`, row by row from the left, each by its place and what it
-/// shows; all of them if nothing was shown before. The screen's first cell is the terminal's. Fails if a write does: a front of that
-/// went out then. This project's profile.
+/// Writes the cells of `after` that differ from `before`, row by row, each from left to right. Each cell is written as
+/// its position and what it shows. If nothing was shown before, all cells are written. The first cell of the screen is
+/// the first cell of the terminal. If a write fails, returns an error, and only a prefix of this was written. This
+/// project's profile.
 pub fn put_changes<W: Output>(
     before: &Option<Shot>,
     after: &Shot,

@@ -10,18 +10,18 @@ use a2_page::{Attribute, Half, Switches, attribute_of, block, glyph};
 /// What a cell of the terminal shows.
 #[derive(Clone, Copy, Debug, PartialEq, Eq)]
 pub enum Tile {
-    /// A character by its ASCII code, from $20 to $7E, white on black; of the Apple's screen up to $5F.
+    /// A character, white on black, given by its ASCII code: $20 to $7E, and at most $5F on the Apple's screen.
     Letter(u8),
     /// The same, black on white.
     Inverse(u8),
-    /// Two lo-res blocks by their colours, from 0 to 15: the one above, and the one below.
+    /// Two lo-res blocks, given by their colours, from 0 to 15: the upper block and the lower one.
     Blocks(u8, u8),
 }
 
 /// The first of the rows that are text in the mixed modes.
 const MIXED_ROW: u8 = 20;
 
-// A byte as a character.
+// Returns a byte as a character.
 fn letter(byte: u8, lit: bool) -> Tile
     ensures { result ≡ tiles.letter lit (glyph_of byte) (attribute byte) }
 {
@@ -32,7 +32,7 @@ fn letter(byte: u8, lit: bool) -> Tile
     }
 }
 
-// Whether a row, 0 to 23, is shown as text.
+// Returns whether a row, 0 to 23, is shown as text.
 fn is_text(switches: Switches, row: u8) -> bool
     requires { row < 24 }
     ensures { result ≡ nat_le (first_text_row switches) row }
@@ -40,9 +40,9 @@ fn is_text(switches: Switches, row: u8) -> bool
     switches.text || switches.mixed && row >= MIXED_ROW
 }
 
-/// What the cell of `row`, 0 to 23 from the top, shows of its byte: in rows of text a character, in lo-res two blocks; hi-res
-/// is not shown, and its cells are blank. `lit` says whether flashing characters are inverse now. Apple II Reference Manual
-/// (1979), pages 12 to 18.
+/// Returns what a cell in `row`, 0 to 23 from the top, shows for its byte: a character in rows of text, and two blocks
+/// in lo-res. Hi-res is not shown, and its cells are blank. `lit` says whether flashing characters are inverse now.
+/// Apple II Reference Manual (1979), pages 12 to 18.
 pub fn tile_of(switches: Switches, row: u8, lit: bool, byte: u8) -> Tile
     requires { row < 24 }
     ensures { result ≡ tiles.tile switches row lit byte }
@@ -56,7 +56,7 @@ pub fn tile_of(switches: Switches, row: u8, lit: bool, byte: u8) -> Tile
     }
 }
 
-/// Whether two cells show the same.
+/// Returns whether two cells show the same.
 pub(crate) fn is_same(one: Tile, other: Tile) -> bool
     ensures { result ≡ tiles.is_same one other }
 {

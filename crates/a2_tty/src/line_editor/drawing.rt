@@ -1,4 +1,4 @@
-//! The line as it is drawn.
+//! Draws the line.
 
 ghost use Rattle.std.specs.Prelude.{◌≡◌, ◌<◌, ◌≤◌, ◌++◌, length};
 ghost use Rattle.a2_stream.specs.Stream.{SendsOrBreaks};
@@ -9,10 +9,10 @@ use a2_stream::{Output, WriteFault, put_all};
 use a2_text::decimal;
 use arrayvec::ArrayVec;
 
-/// An order of the terminal's.
+/// A control sequence for the terminal.
 type Order = ArrayVec<u8, 24>;
 
-// An order of the terminal's with a number; none where it is 0.
+// Returns a control sequence with a number, or an empty one if the number is 0.
 fn order_of(number: usize, letter: u8) -> Order
     ensures { result.items ≡ drawn.order_text number letter }
 {
@@ -27,7 +27,7 @@ fn order_of(number: usize, letter: u8) -> Order
     order
 }
 
-// The bytes of a line that are shown in so many columns, 1 or more: those around the cursor.
+// Returns the bytes of a line that are shown in this many columns, 1 or more: those around the cursor.
 fn visible(line: &Line, room: usize) -> &[u8]
     requires { 0 < room }
     ensures shown { result.now ≡ drawn.visible room line.now }
@@ -38,10 +38,10 @@ fn visible(line: &Line, room: usize) -> &[u8]
     &behind[..room.min(behind.len())]
 }
 
-/// Draws a line behind its prompt in the terminal's row, from its first column on, and puts the terminal's cursor where that of the
-/// line stands. The row has `columns` columns for both: of a longer line the part around the cursor
-/// is shown, and the rest of the columns is blank. Refused where a write fails: a front of that went out. This project's
-/// profile.
+/// Draws a line after its prompt, from the first column of the terminal's row, and puts the terminal's cursor at the
+/// cursor of the line. The row has `columns` columns for prompt and line. If the line is longer, only the part around
+/// the cursor is shown; columns that are left over are blank. If a write fails, returns an error, and only a prefix of
+/// this was written. This project's profile.
 pub fn put_line<W: Output>(
     prompt: &[u8],
     columns: usize,

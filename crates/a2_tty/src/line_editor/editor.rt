@@ -1,4 +1,4 @@
-//! What typed bytes make of a line and its history.
+//! The effect of typed bytes on a line and its history.
 
 ghost use Rattle.std.specs.Prelude.{◌≡◌, ◌+◌, ◌-◌, ◌≤◌, ◌<◌, length, IfOk, IfErr};
 ghost use Rattle.a2_tty.specs.Lines.{Edited};
@@ -10,25 +10,26 @@ use crate::line_editor::line::{Bytes, Line};
 use std::alloc::{AllocError, Global};
 use std::marker::Model;
 
-/// What is to be done behind a byte.
+/// What the caller must do after a byte.
 #[derive(Clone, Copy, Debug, PartialEq, Eq)]
 pub enum Act {
     /// Nothing.
     Nothing,
-    /// To draw the line.
+    /// Draw the line.
     Draw,
-    /// To ring, for a character that had no room.
+    /// Ring the bell, because there was no room for a character.
     Ring,
-    /// To draw all again.
+    /// Draw everything again.
     Clear,
-    /// To take the line.
+    /// Take the line.
     Take,
-    /// To end the input.
+    /// End the input.
     Leave,
 }
 
-/// A line that is edited, what was typed before an older one was shown, the lines before, how many of them ago the shown one was
-/// given, 0 where it is typed now, and where in a key's bytes the terminal is. Contracts see all of these.
+/// The state of the editor: the line, the draft that was typed before an older line was shown, the earlier lines, and
+/// the position in the bytes of a key. It also has the age of the shown line: how many lines ago it was given, or 0 if
+/// it is being typed now. Contracts see all of these.
 pub struct Editor {
     line: Line,
     draft: Bytes,
@@ -37,7 +38,7 @@ pub struct Editor {
     sequence: Sequence,
 }
 
-// Not derived, for the prover alone: it follows this as one call, and a derived one field by field.
+// Not derived, because the prover sees this drop as one call, and a derived one as a call for each field.
 impl Drop for Editor {
     fn drop(self) {
         let Editor {
@@ -64,7 +65,7 @@ impl Model for Editor {
     } };
 }
 
-// A copy of these bytes, of which there are no more than a line has.
+// Returns a copy of these bytes; there are at most as many as a line can have.
 fn copy_of(bytes: &[u8]) -> Bytes
     requires { length bytes.now ≤ 255 }
     ensures { result.items ≡ bytes.now }
@@ -75,7 +76,7 @@ fn copy_of(bytes: &[u8]) -> Bytes
 }
 
 impl Editor {
-    /// An empty line, with none before it. Refused only for want of memory.
+    /// Returns an editor with an empty line and no earlier lines. Fails only if memory runs out.
     pub fn new(alloc: Global) -> Result<Editor, AllocError>
         ensures { IfOk result (λ editor. editor ≡ editors.begun) }
     {
@@ -88,14 +89,14 @@ impl Editor {
         })
     }
 
-    /// The line.
+    /// Returns the line.
     pub fn line(&self) -> &Line
         ensures { result.now ≡ self.now.line }
     {
         &self.line
     }
 
-    // Shows the line that was given so many lines ago, or the one that is typed.
+    // Shows the line that was given this many lines ago, or the one that is being typed.
     fn show(&mut self, age: usize)
         ensures { self.new ≡ editors.showing age self.old }
     {
@@ -107,7 +108,7 @@ impl Editor {
         }
     }
 
-    // Shows an older line, where there is one.
+    // Shows an older line, if there is one.
     fn go_back(&mut self)
         ensures { self.new ≡ editors.older self.old }
     {
@@ -120,7 +121,7 @@ impl Editor {
         self.show(self.age + 1);
     }
 
-    // Shows a newer one, where there is one.
+    // Shows a newer line, if there is one.
     fn go_on(&mut self)
         ensures { self.new ≡ editors.newer self.old }
     {
@@ -138,7 +139,7 @@ impl Editor {
         self.age = 0;
     }
 
-    // Puts a character, where there is room.
+    // Inserts a character, if there is room.
     fn put(&mut self, letter: u8) -> Act
         ensures put { self.new ≡ editors.edited (editors.done_letter letter self.old.line) self.old }
         ensures act { result ≡ editors.act_of_letter self.old.line }
@@ -150,7 +151,7 @@ impl Editor {
         Act::Draw
     }
 
-    // Deletes a character, or ends the input where there is none in the line.
+    // Deletes a character, or ends the input if the line is empty.
     fn delete_or_leave(&mut self) -> Act
         ensures done { self.new ≡ editors.edited (editors.left self.old.line) self.old }
         ensures act { result ≡ editors.act_of_leaving self.old.line }
@@ -162,7 +163,7 @@ impl Editor {
         Act::Draw
     }
 
-    // Does what a key says.
+    // Applies a key.
     fn obey(&mut self, key: Key) -> Act
         ensures done { self.new ≡ editors.done key self.old }
         ensures act { result ≡ editors.act_of key self.old.line }
@@ -188,8 +189,8 @@ impl Editor {
         Act::Draw
     }
 
-    /// Does what a typed byte says, 0 to 255: the line, its cursor, what is shown of the history, and what is to be done then. A
-    /// line that is taken or left stays as it is. This project's profile.
+    /// Applies a typed byte, 0 to 255, to the line, its cursor and the part of the history that is shown, and returns
+    /// what the caller must do then. A line that is taken or left is unchanged. This project's profile.
     pub fn press(&mut self, byte: u8) -> Act
         ensures done { self.new ≡ editors.after byte self.old }
         ensures act { result ≡ editors.act byte self.old }
@@ -202,7 +203,7 @@ impl Editor {
         }
     }
 
-    /// Notes the line, where it is not empty, and begins an empty one.
+    /// Adds the line to the history, if it is not empty, and begins an empty one.
     pub fn finish(&mut self)
         ensures { self.new ≡ editors.finished self.old }
     {

@@ -8,10 +8,10 @@ use circular_buffer::HeapCircularBuffer;
 use std::alloc::{AllocError, Global};
 use std::marker::Model;
 
-/// The most lines that are kept.
+/// The greatest number of lines that are kept.
 const MOST_LINES: usize = 100;
 
-/// The last lines that were given, at most 100. Contracts see them, the oldest first.
+/// The last lines that were given, at most 100. Contracts see them with the oldest first.
 #[derive(Drop)]
 pub(crate) struct History {
     ring: HeapCircularBuffer<Bytes>,
@@ -28,7 +28,8 @@ impl Model for History {
 }
 
 impl History {
-    /// No lines. Refused only for want of memory, of some 26,000 bytes; none is wanted later.
+    /// Returns a history without lines. Fails only if there is no memory for about 26,000 bytes; no more is needed
+    /// later.
     pub(crate) fn new(alloc: Global) -> Result<History, AllocError>
         ensures { IfOk result (λ history. history ≡ []) }
     {
@@ -37,14 +38,14 @@ impl History {
         })
     }
 
-    /// How many lines there are.
+    /// Returns how many lines there are.
     pub(crate) fn len(&self) -> usize
         ensures { result ≡ length self.now }
     {
         self.ring.len()
     }
 
-    /// Notes a line, where it is not empty; of more than 100 the oldest goes.
+    /// Adds a line, if it is not empty. If there are then more than 100, the oldest is removed.
     #[tactic(auto, using(crate::proofs::Lists::lines_kept))]
     pub(crate) fn note(&mut self, line: Bytes)
         ensures { self.new ≡ histories.noted line.items self.old }
@@ -54,7 +55,7 @@ impl History {
         }
     }
 
-    /// The line that was given so many lines ago, 1 for the last; an empty one where there is none.
+    /// Returns the line that was given this many lines ago, 1 for the last, or an empty line if there are not so many.
     pub(crate) fn line(&self, age: usize) -> &[u8]
         ensures { result.now ≡ histories.aged age self.now }
     {

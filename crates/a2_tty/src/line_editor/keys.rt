@@ -1,4 +1,4 @@
-//! Keys, from the bytes of a terminal.
+//! Keys, decoded from the bytes of a terminal.
 
 ghost use Rattle.std.specs.Prelude.{◌≡◌};
 ghost use Rattle.a2_tty.specs.EditorKeys as keys;
@@ -8,59 +8,59 @@ ghost use Rattle.a2_tty.specs.EditorKeys as keys;
 pub(crate) enum Key {
     /// A character, from $20 to $7E.
     Letter(u8),
-    /// The cursor goes to the left.
+    /// Moves the cursor to the left.
     Left,
-    /// The cursor goes to the right.
+    /// Moves the cursor to the right.
     Right,
-    /// The cursor goes to the line's start.
+    /// Moves the cursor to the start of the line.
     Start,
-    /// The cursor goes to the line's end.
+    /// Moves the cursor to the end of the line.
     End,
-    /// Takes the character before the cursor away.
+    /// Deletes the character before the cursor.
     RubOut,
-    /// Takes the character at the cursor away.
+    /// Deletes the character at the cursor.
     Delete,
-    /// Takes all from the cursor on away.
+    /// Deletes everything from the cursor to the end of the line.
     DropRest,
-    /// Takes all before the cursor away.
+    /// Deletes everything before the cursor.
     DropFront,
-    /// Takes the word before the cursor away.
+    /// Deletes the word before the cursor.
     DropWord,
     /// Shows an older line of the history.
     Older,
-    /// Shows a newer one.
+    /// Shows a newer line of the history.
     Newer,
-    /// Draws all again.
+    /// Draws everything again.
     Clear,
-    /// Gives the line up.
+    /// Discards the line.
     GiveUp,
     /// Ends the line.
     Return,
-    /// Ends the input where the line is empty, and else takes the character at the cursor away.
+    /// Ends the input if the line is empty, and otherwise deletes the character at the cursor.
     Leave,
 }
 
-/// Where in the bytes of a key a terminal is.
+/// The position in the bytes of a key.
 #[derive(Clone, Copy, Debug, PartialEq, Eq)]
 pub(crate) enum Sequence {
     /// Between keys.
     Plain,
-    /// Behind ESC.
+    /// After ESC.
     Escape,
-    /// Behind ESC and `[` or `O`.
+    /// After ESC and `[` or `O`.
     Opened,
-    /// Behind these and a digit, or several, which are then no key: 0.
+    /// After these and a digit; or 0 after several digits, which do not make a key.
     Numbered(u8),
 }
 
-/// What a byte is: where the next one stands, and the key that it ended, if it did.
+/// The effect of a byte: the position after it, and the key that it ended, if any.
 #[derive(Clone, Copy, Debug, PartialEq, Eq)]
 pub(crate) struct Heard {
     pub next: Sequence,
     pub key: Option<Key>,
 }
 
-// What stands between keys.
+// Returns the position between keys, with the key that ended, if any.
 const fn ended(key: Option<Key>) -> Heard
     ensures { result ≡ keys.ended key }
 {
@@ -70,14 +70,14 @@ const fn ended(key: Option<Key>) -> Heard
     }
 }
 
-// What stands amid a key.
+// Returns a position inside the bytes of a key.
 const fn amid(next: Sequence) -> Heard
     ensures { result ≡ keys.amid next }
 {
     Heard { next, key: None }
 }
 
-// The key of one byte.
+// Returns the key that consists of one byte.
 fn key_of(byte: u8) -> Option<Key>
     ensures { result ≡ keys.key_of byte }
 {
@@ -97,7 +97,7 @@ fn key_of(byte: u8) -> Option<Key>
     }
 }
 
-// The key whose bytes end with a letter.
+// Returns the key whose bytes end with a letter.
 fn lettered(letter: u8) -> Option<Key>
     ensures { result ≡ keys.lettered letter }
 {
@@ -112,7 +112,7 @@ fn lettered(letter: u8) -> Option<Key>
     }
 }
 
-// The key whose bytes are a digit and `~`.
+// Returns the key whose bytes are a digit and `~`.
 fn numbered(digit: u8) -> Option<Key>
     ensures { result ≡ keys.numbered digit }
 {
@@ -124,9 +124,9 @@ fn numbered(digit: u8) -> Option<Key>
     }
 }
 
-/// What a byte is, 0 to 255, that stands there: a character or a control letter; or one of the bytes of an arrow, Home, End or
-/// Delete, of which the last ends the key. What is none of these is no key. This project's profile; the bytes are those that
-/// an ANSI terminal gives.
+/// Returns the effect of a byte, 0 to 255, at this position. It is a character, a control character, or one of the
+/// bytes of an arrow, Home, End or Delete, whose last byte ends the key. Anything else is not a key. This project's
+/// profile; the bytes are those that an ANSI terminal sends.
 pub(crate) fn hear(sequence: Sequence, byte: u8) -> Heard
     ensures { result ≡ keys.heard sequence byte }
 {

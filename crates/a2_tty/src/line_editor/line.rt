@@ -8,13 +8,13 @@ use a2_text::is_blank;
 use arrayvec::ArrayVec;
 use std::marker::Model;
 
-/// The most bytes of a line.
+/// The greatest number of bytes in a line.
 pub(crate) const MOST_BYTES: usize = 255;
 
 /// The bytes of a line.
 pub(crate) type Bytes = ArrayVec<u8, MOST_BYTES>;
 
-/// A line of at most 255 bytes, and where its cursor stands. Contracts see both.
+/// A line of at most 255 bytes, and the position of its cursor. Contracts see both.
 #[derive(Drop)]
 pub struct Line {
     bytes: Bytes,
@@ -32,7 +32,8 @@ impl Model for Line {
     ghost invariant = { λ l. l.cursor ≤ length l.bytes.items };
 }
 
-// The place to the left of which a byte stands that is none of these, from another one on leftwards.
+// Returns the position reached from `at` by moving left past blanks, if `blanks` is true, or past bytes that are not
+// blanks.
 fn back_over(bytes: &[u8], at: usize, blanks: bool) -> usize
     requires { at ≤ length bytes.now }
     ensures place { result ≡ lines.back_over (λ c. lines.is_alike blanks (is_blank_of c)) bytes.now at }
@@ -46,7 +47,7 @@ fn back_over(bytes: &[u8], at: usize, blanks: bool) -> usize
 }
 
 impl Line {
-    /// An empty line.
+    /// Returns an empty line.
     pub(crate) fn new() -> Line
         ensures { result ≡ lines.empty }
     {
@@ -56,7 +57,7 @@ impl Line {
         }
     }
 
-    /// The bytes of the line.
+    /// Returns the bytes of the line.
     pub fn bytes(&self) -> &[u8]
         ensures bytes { result.now ≡ self.now.bytes }
         ensures few { length result.now ≤ 255 }
@@ -64,7 +65,7 @@ impl Line {
         self.bytes.as_slice()
     }
 
-    /// Where the cursor stands: how many bytes are before it.
+    /// Returns the position of the cursor: how many bytes are before it.
     pub fn cursor(&self) -> usize
         ensures cursor { result ≡ self.now.cursor }
         ensures within { result ≤ length self.now.bytes }
@@ -72,14 +73,14 @@ impl Line {
         self.cursor
     }
 
-    /// Whether the line has as many bytes as it may.
+    /// Returns whether the line is full.
     pub(crate) fn is_full(&self) -> bool
         ensures { result ≡ lines.is_full self.now }
     {
         self.bytes.is_full()
     }
 
-    /// Shows these bytes, the cursor behind the last; of more than 255 the first ones.
+    /// Replaces the line with these bytes, of which the first 255 are kept, and puts the cursor after the last one.
     #[tactic(auto, using(std::proofs::lemmas::List::take_min))]
     pub(crate) fn show(&mut self, bytes: &[u8])
         ensures { self.new ≡ lines.shown (take 255 bytes.now) }
@@ -91,7 +92,7 @@ impl Line {
         self.cursor = self.bytes.len();
     }
 
-    /// Puts a character where the cursor stands, which stands behind it then; where the line is full, nothing changes.
+    /// Inserts a character at the cursor and moves the cursor after it. If the line is full, nothing changes.
     pub(crate) fn put(&mut self, letter: u8)
         ensures { self.new ≡ lines.with_letter letter self.old }
     {
@@ -117,21 +118,21 @@ impl Line {
         }
     }
 
-    /// Moves the cursor to the line's start.
+    /// Moves the cursor to the start of the line.
     pub(crate) fn go_to_start(&mut self)
         ensures { self.new ≡ lines.at 0 self.old }
     {
         self.cursor = 0;
     }
 
-    /// Moves the cursor behind the last byte.
+    /// Moves the cursor after the last byte.
     pub(crate) fn go_to_end(&mut self)
         ensures { self.new ≡ lines.at (length self.old.bytes) self.old }
     {
         self.cursor = self.bytes.len();
     }
 
-    // Takes the bytes from a place to the cursor away, which stands there then.
+    // Deletes the bytes from a position to the cursor, and moves the cursor there.
     fn take_from(&mut self, place: usize)
         requires { place ≤ self.old.cursor }
         ensures { self.new ≡ lines.without_from place self.old }
@@ -144,14 +145,14 @@ impl Line {
         self.cursor = place;
     }
 
-    /// Takes the byte before the cursor away, if there is one.
+    /// Deletes the byte before the cursor, if there is one.
     pub(crate) fn rub_out(&mut self)
         ensures { self.new ≡ lines.without_from (self.old.cursor - 1) self.old }
     {
         self.take_from(self.cursor.saturating_sub(1));
     }
 
-    /// Takes the byte at the cursor away, if there is one.
+    /// Deletes the byte at the cursor, if there is one.
     pub(crate) fn delete(&mut self)
         ensures { self.new ≡ lines.without_next self.old }
     {
@@ -160,21 +161,21 @@ impl Line {
         }
     }
 
-    /// Takes all from the cursor on away.
+    /// Deletes everything from the cursor to the end of the line.
     pub(crate) fn drop_rest(&mut self)
         ensures { self.new ≡ lines.without_rest self.old }
     {
         self.bytes.truncate(self.cursor);
     }
 
-    /// Takes all before the cursor away.
+    /// Deletes everything before the cursor.
     pub(crate) fn drop_front(&mut self)
         ensures { self.new ≡ lines.without_from 0 self.old }
     {
         self.take_from(0);
     }
 
-    /// Takes the blanks before the cursor away, and the word before these.
+    /// Deletes the blanks before the cursor, and the word before those.
     pub(crate) fn drop_word(&mut self)
         ensures { self.new ≡ lines.without_from (lines.word_start self.old) self.old }
     {

@@ -13,35 +13,37 @@ use std::cell::Cell;
 /// A line and its end.
 type Given = ArrayVec<u8, 256>;
 
-/// Bytes of a terminal that were read together, and not looked at yet: as many as the longest key has.
+/// Bytes of a terminal that were read together and are not used yet: at most as many as the longest key has.
 type Ahead = ArrayVec<u8, 8>;
 
-/// What makes a terminal's screen blank, and what rings its bell.
+/// The bytes that clear a terminal's screen, and the byte that rings its bell.
 const CLEAR: &[u8] = b"\x1B[H\x1B[2J";
 
 const BELL: &[u8] = b"\x07";
 
-/// Where lines are typed.
+/// The terminal at which lines are typed.
 #[derive(Drop)]
 pub struct Console<'a, R, E> {
     /// The terminal's bytes, as they are typed.
     pub reader: &'a mut R,
-    /// What shows them.
+    /// The output that shows them.
     pub echo: &'a mut E,
-    /// What stands before each line.
+    /// The text before each line.
     pub prompt: &'static [u8],
     /// How many columns a row has for prompt and line.
     pub columns: &'a Cell<usize>,
-    /// The line that Ctrl-L gives where none is begun; without it Ctrl-L draws all again.
+    /// The line that Ctrl-L gives if no line has been begun. If this is `None`, Ctrl-L draws everything again.
     pub by_clear: Option<&'static [u8]>,
-    /// Whether what is typed next is a key, and begins no line, as whoever answers the lines says it: the bytes that the terminal gives
-    /// for the key are then given as a line, without what stands for a line's end. Without it all is lines.
+    /// Whether the next input is a key instead of a line, as set by the program that answers the lines. The bytes that
+    /// the terminal sends for a key are then given as a line; a key that is itself the end of a line gives an empty
+    /// line. If this is `None`, all input is lines.
     pub keys: Option<&'a Cell<bool>>,
 }
 
-/// An input of lines that are edited at a terminal. A read gives a byte of the line that was ended by Return, or its line feed; one
-/// that finds none left shows the prompt, and waits for the next line. There are no more behind Ctrl-D on an empty line, and where the
-/// terminal gives none; a line feed is shown then. A write that fails is not told: the line is read all the same.
+/// An input of lines that are edited at a terminal. A read gives a byte of the line that was ended by Return, or its
+/// line feed. If none is left, the read shows the prompt and waits for the next line. The input ends at Ctrl-D on an
+/// empty line, and when the terminal sends nothing more; a line feed is shown then. A write that fails is not reported:
+/// the line is still read.
 #[derive(Drop)]
 pub struct Typist<'a, R, E> {
     console: Console<'a, R, E>,
@@ -62,7 +64,7 @@ fn draw<R, E: Output>(console: &mut Console<'_, R, E>, editor: &Editor) {
     );
 }
 
-// The line that is given, of at most 255 bytes, and its end.
+// Returns the line that is given, at most 255 bytes, and its end.
 #[tactic(auto, using(std::proofs::lemmas::List::take_min))]
 fn given_of(line: &[u8]) -> Given
     ensures { result.items ≡ take 255 line.now ++ 10 ∷ [] }
@@ -75,7 +77,7 @@ fn given_of(line: &[u8]) -> Given
     given
 }
 
-// Does what is to be done behind a byte; the line that is given, where one is.
+// Does what a byte requires, and returns the line if the byte ended one.
 fn follow<R, E: Output>(
     console: &mut Console<'_, R, E>,
     editor: &mut Editor,
@@ -104,7 +106,7 @@ fn follow<R, E: Output>(
     None
 }
 
-// The next byte that is typed, if there is one.
+// Returns the next byte that is typed, if there is one.
 fn typed_byte<R: Input>(reader: &mut R, ahead: &mut Ahead) -> Result<Option<u8>, ReadFault> {
     if let Some(byte) = ahead.pop_at(0) {
         return Ok(Some(byte));
@@ -116,7 +118,7 @@ fn typed_byte<R: Input>(reader: &mut R, ahead: &mut Ahead) -> Result<Option<u8>,
     }
 }
 
-// The next line that is typed, if there is one.
+// Returns the next line that is typed, if there is one.
 fn typed_line<R: Input, E: Output>(
     console: &mut Console<'_, R, E>,
     ahead: &mut Ahead,
@@ -140,7 +142,7 @@ fn typed_line<R: Input, E: Output>(
     Ok(None)
 }
 
-// Reads what the terminal gives at once, where nothing is left.
+// Reads the bytes that the terminal sends at once, if none are left.
 fn look_ahead<R: Input>(reader: &mut R, ahead: &mut Ahead) -> Result<(), ReadFault> {
     if ahead.is_empty() {
         let mut bytes = [0u8; 8];
@@ -150,7 +152,7 @@ fn look_ahead<R: Input>(reader: &mut R, ahead: &mut Ahead) -> Result<(), ReadFau
     Ok(())
 }
 
-// The bytes of the next key that is typed, as a line; none where there is none.
+// Returns the bytes of the next key that is typed, as a line, or `None` if there is no key.
 fn typed_key<R: Input>(reader: &mut R, ahead: &mut Ahead) -> Result<Option<Given>, ReadFault> {
     look_ahead(reader, ahead)?;
     let mut given = Given::new();
@@ -173,7 +175,7 @@ fn typed_key<R: Input>(reader: &mut R, ahead: &mut Ahead) -> Result<Option<Given
     Ok(Some(given))
 }
 
-// Whether what is typed next is a key.
+// Returns whether the next input is a key.
 fn takes_keys(keys: Option<&Cell<bool>>) -> bool {
     match keys {
         Some(keys) => keys.get(),
@@ -182,7 +184,7 @@ fn takes_keys(keys: Option<&Cell<bool>>) -> bool {
 }
 
 impl<'a, R: Input, E: Output> Typist<'a, R, E> {
-    /// An input of the lines that are typed there, and edited by `editor`. No call failed yet.
+    /// Returns an input of the lines that are typed at `console` and edited by `editor`. No call has failed yet.
     pub fn new(console: Console<'a, R, E>, editor: Editor) -> Typist<'a, R, E> {
         Typist {
             console,
@@ -198,7 +200,7 @@ impl<'a, R: Input, E: Output> Typist<'a, R, E> {
 impl<R: Input, E: Output> Input for Typist<'_, R, E> {
     ghost use Rattle.std.specs.Prelude.{None};
 
-    // Which lines come is not known before.
+    // The lines that will be typed are not known in advance.
     ghost giver = { λ s. record { bytes = None; failures = s.failed } };
 
     fn read(&mut self, buffer: &mut [u8]) -> Result<usize, ReadFault> {

@@ -11,7 +11,7 @@ pub enum TalkFault {
     Read,
     /// A write failed.
     Write,
-    /// There are 2^64 - 1 lines, or bytes in one line, and no end.
+    /// There were 2^64 - 1 lines, or 2^64 - 1 bytes in one line, without an end.
     Endless,
 }
 

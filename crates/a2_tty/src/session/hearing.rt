@@ -11,10 +11,10 @@ use crate::session::TalkFault;
 use a2_stream::Input;
 use arrayvec::ArrayVec;
 
-/// The most bytes of a line that is answered.
+/// The greatest number of bytes in a line that is answered.
 const MOST_BYTES: usize = 255;
 
-/// What is kept of a line: enough to show that it is too long, with a carriage return at its end.
+/// The part of a line that is kept: enough to show that it is too long, even with a carriage return at its end.
 pub type Line = ArrayVec<u8, 257>;
 
 /// What ends a piece.
@@ -37,7 +37,7 @@ pub enum Heard {
     End,
 }
 
-// Keeps a byte where there is room.
+// Keeps a byte if there is room.
 fn keep(piece: &mut Line, code: u8)
     ensures room { length piece.old.items < 257 → piece.new.items ≡ piece.old.items ++ code ∷ [] }
     ensures full { 257 ≤ length piece.old.items → piece.new.items ≡ piece.old.items }
@@ -47,7 +47,8 @@ fn keep(piece: &mut Line, code: u8)
     }
 }
 
-// Reads up to a line feed or the end of the input, byte by byte so that nothing behind it is read, and keeps the front.
+// Reads up to a line feed or the end of the input, and keeps the first bytes. It reads byte by byte, so that nothing
+// after that is read.
 fn read_piece<R: Input>(piece: &mut Line, reader: &mut R) -> Result<Ending, TalkFault>
     ensures piece { IfOk result (λ ending. IsPiece (R.giver reader.old) (R.giver reader.new) ending piece.new.items) }
     ensures fault { IfErr result (λ fault. fault ≢ Write) }
@@ -78,7 +79,7 @@ fn drop_return(line: &mut Line)
     }
 }
 
-// Whether there is neither a line feed nor a byte before the end.
+// Returns whether the input ended without another byte.
 fn is_nothing(ending: Ending, line: &Line) -> bool
     ensures { (result ≡ true) ↔ ((ending ≡ Input) × (line.now.items ≡ [])) }
 {
@@ -88,9 +89,9 @@ fn is_nothing(ending: Ending, line: &Line) -> bool
     }
 }
 
-/// Reads the next line of `reader` into `line`, without the line feed and a carriage return at its end, and nothing behind
-/// it. A final empty piece is no line. Of a line of more than 255 bytes what is left in `line` is not told. Refused where
-/// a read fails, and where 2^64 - 1 bytes come without an end.
+/// Reads the next line of `reader` into `line`, without its line feed and a carriage return before that. Nothing after
+/// the line is read. An empty piece at the end of the input is not a line. After a line of more than 255 bytes, the
+/// contents of `line` are not specified. Fails if a read fails, or after 2^64 - 1 bytes without an end of the line.
 pub fn hear<R: Input>(line: &mut Line, reader: &mut R) -> Result<Heard, TalkFault>
     ensures heard { IfOk result (λ heard. IsHeard (R.giver reader.old) (R.giver reader.new) heard line.new.items) }
     ensures fault { IfErr result (λ fault. fault ≢ Write) }

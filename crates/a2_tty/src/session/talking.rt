@@ -1,4 +1,4 @@
-//! A session: a prompt, a line, its answer, and again.
+//! A session: a prompt, a line and its answer, again and again.
 
 ghost use Rattle.std.specs.Prelude.{◌≡◌, ◌≢◌, ◌↔◌, List, ℕ, map, codes, true};
 ghost use Rattle.a2_text.specs.Bytes.{capital as capital_of};
@@ -12,7 +12,7 @@ use crate::session::{Partner, TalkFault};
 use a2_stream::{Input, Output, WriteFault, put};
 use a2_text::capital;
 
-// Whether a line ends the session: QUIT, in either case.
+// Returns whether a line ends the session: QUIT, in upper or lower case.
 fn is_quit(line: &[u8]) -> bool
     ensures { (result ≡ true) ↔ (map capital_of line.now ≡ codes "QUIT") }
 {
@@ -22,14 +22,14 @@ fn is_quit(line: &[u8]) -> bool
     }
 }
 
-// What is written behind the last prompt.
+// Returns what is written after the last prompt.
 fn end_of(prompt: &[u8]) -> &'static [u8]
     ensures { result.now ≡ closing prompt.now }
 {
     if prompt.is_empty() { b"" } else { b"\n" }
 }
 
-// Answers what was heard, or tells that it is too long.
+// Answers the line that was read, or reports that it is too long.
 fn reply<P: Partner, W: Output>(
     partner: &mut P,
     heard: Heard,
@@ -47,10 +47,11 @@ fn reply<P: Partner, W: Output>(
     }
 }
 
-/// Talks with `partner` until the input of `reader` ends, or a line is `QUIT` in either case: writes `prompt`, reads a line
-/// and nothing behind it, writes its answer, and so on. A line of more than 255 bytes is told, and the session goes on.
-/// At the end of the input a line feed goes out where there are prompts. Refused where a read or write fails: the lines
-/// so far were answered, and what went out is a front of that.
+/// Answers lines until the input of `reader` ends, or until a line is `QUIT`, in upper or lower case. For each line it
+/// writes `prompt`, reads the line and nothing after it, and writes the answer of `partner`. A line of more than 255
+/// bytes is reported, and the session continues. At the end of the input, a line feed is written if the prompt is not
+/// empty. If a read or a write fails, returns an error: the lines read so far were answered, and only a prefix of the
+/// output was written.
 pub fn talk<P: Partner, R: Input, W: Output>(
     partner: &mut P,
     prompt: &[u8],

@@ -1,6 +1,6 @@
 use Rattle.std.proofs.Common.{length}
 use Rattle.a2_check.proofs.operand.word_at.Given as goal
 
--- a word fewer
+-- each turn removes one word
 abbrev pub decreases-loop-name : goal.decreases-loop-name
 decreases-loop-name l = length l.rest

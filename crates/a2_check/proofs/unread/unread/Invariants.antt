@@ -3,7 +3,7 @@ use Rattle.a2_syntax.specs.declared.fault.Fault.TheVariants.{Syntax}
 use Rattle.a2_check.proofs.Numbering.{AreUnreadTo}
 use Rattle.a2_check.proofs.unread.unread.Given as goal
 
--- the refusals are those of the lines so far
+-- the errors are those of the lines so far
 abbrev pub invariant-loop-text : goal.invariant-loop-text
 invariant-loop-text g l = record {
   counted : l.n ≡ l.text-index + 1;

@@ -4,7 +4,7 @@ use Rattle.a2_debugger.specs.Stops.{Moment, is_hit}
 use Rattle.a2_debugger.specs.Alerts.{is_marked}
 use Rattle.a2_debugger.proofs.alerts.mark_stops.Given as goal
 
--- those so far are marked
+-- the addresses of the breakpoints so far are marked
 abbrev pub invariant-loop-place : goal.invariant-loop-place
 invariant-loop-place l = record {
   size : length l.marks ≡ 65536;

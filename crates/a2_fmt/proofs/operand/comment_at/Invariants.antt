@@ -2,7 +2,7 @@ use Rattle.std.proofs.Common.{◌≡◌, ◌+◌, ◌≤◌, length, None}
 use Rattle.a2_fmt.specs.Operand.{comment_at}
 use Rattle.a2_fmt.proofs.operand.comment_at.Given as goal
 
--- the comment is as far behind the bytes that are left as it is behind all of them
+-- the position of the comment in the whole text is that in the remaining bytes plus the number of bytes before them
 abbrev pub invariant-loop-c : goal.invariant-loop-c
 invariant-loop-c l = record {
   within : length l.rest ≤ length l.text;

@@ -1,7 +1,7 @@
 use Rattle.std.proofs.Common.{◌≡◌, ◌↔◌, length}
 use Rattle.a2_fmt.proofs.same.are_same.Given as goal
 
--- what is left is the same where all is
+-- the remaining lists are equal exactly if the whole lists are
 abbrev pub invariant-loop-first : goal.invariant-loop-first
 invariant-loop-first g l = l.a ≡ l.b ↔ l.left ≡ l.right
 

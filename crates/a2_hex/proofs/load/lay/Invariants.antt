@@ -3,7 +3,7 @@ use Rattle.a2_hex.specs.Images.{held, overlaid}
 use Rattle.a2_hex.specs.ObjectLines.{hex_bytes}
 use Rattle.a2_hex.proofs.load.lay.Given as goal
 
--- the bytes that are left go behind those that were put
+-- the bytes left go after those already put
 abbrev pub invariant-loop-byte : goal.invariant-loop-byte
 invariant-loop-byte g l =
     (left : List ℕ) × (hex_bytes l.rest ≡ Some left) × (overlaid (held l.image) l.next left ≡ overlaid (held l.fn.image) l.fn.address g.all)

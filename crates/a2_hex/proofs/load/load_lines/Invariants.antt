@@ -4,7 +4,7 @@ use Rattle.a2_hex.specs.Images.{held, no_bytes}
 use Rattle.a2_hex.specs.ObjectLines.{after_lines}
 use Rattle.a2_hex.proofs.load.load_lines.Given as goal
 
--- the lines that are left, after what was loaded, load what all do
+-- loading the lines left, after what is loaded so far, gives what all the lines give
 abbrev pub invariant-loop-i : goal.invariant-loop-i
 invariant-loop-i g l =
     after_lines (l.i + 1) (record { image = held l.image; next = l.next }) (drop l.i (map (λ x. x.now) l.line-items))

@@ -3,7 +3,7 @@ use Rattle.a2_services.specs.World.{World}
 use Rattle.a2_history.specs.Courses.{with_logged}
 use Rattle.a2_history.proofs.course.quiet_end.Given as goal
 
--- of those so far none was typed between the two
+-- None of the entries so far was typed between the two positions.
 abbrev pub invariant-loop-typed : goal.invariant-loop-typed
 invariant-loop-typed l = record {
   ahead : l.from < l.quiet;

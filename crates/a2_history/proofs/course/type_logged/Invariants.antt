@@ -3,7 +3,7 @@ use Rattle.a2_machine.specs.State.{world_of_state}
 use Rattle.a2_history.specs.Courses.{with_logged}
 use Rattle.a2_history.proofs.course.type_logged.Given as goal
 
--- the keys that are left lead to the world that all of them lead to
+-- The keys that remain lead to the same world as all of them from the start.
 abbrev pub invariant-loop-typed : goal.invariant-loop-typed
 invariant-loop-typed g l = record {
   world : with_logged (drop l.typed-index l.log) l.machine.state.steps (world_of_state l.machine.state)

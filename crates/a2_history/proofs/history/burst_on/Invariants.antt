@@ -3,7 +3,7 @@ use Rattle.a2_history.specs.Courses.{world_on}
 use Rattle.a2_history.specs.Going.{IsOn, AreOn}
 use Rattle.a2_history.proofs.history.burst_on.Given as goal
 
--- nothing was seen behind the steps so far
+-- Nothing was seen after the steps so far.
 abbrev pub invariant-loop-from : goal.invariant-loop-from
 invariant-loop-from g l = record {
   on : IsOn l.course l.machine.state;

@@ -3,7 +3,7 @@ use Rattle.a2_history.specs.Courses.{world_on}
 use Rattle.a2_history.specs.Going.{IsOn, AreOn}
 use Rattle.a2_history.proofs.history.go_on.Given as goal
 
--- all steps so far are made, and nothing was seen behind them
+-- All steps so far were executed, and nothing was seen after them.
 abbrev pub invariant-loop : goal.invariant-loop
 invariant-loop g l = record {
   on : IsOn l.course l.machine.state;

@@ -2,7 +2,7 @@ use Rattle.std.proofs.Common.{◌≡◌, ◌≤◌, None}
 use Rattle.a2_history.specs.Going.{IsNewest}
 use Rattle.a2_history.proofs.history.look_back.Given as goal
 
--- there is none from a start on
+-- Nothing is seen from `start` on.
 abbrev pub invariant-loop-behind : goal.invariant-loop-behind
 invariant-loop-behind g l = record {
   within : l.start ≤ l.end;

@@ -3,7 +3,7 @@ use Rattle.a2_history.specs.Going.{IsOn}
 use Rattle.a2_history.specs.Routines.{entered, IsNewestOutside}
 use Rattle.a2_history.proofs.routines.way_to.Given as goal
 
--- all steps so far are made
+-- All steps so far were executed.
 abbrev pub invariant-loop-position : goal.invariant-loop-position
 invariant-loop-position g l = record {
   on : IsOn l.course l.scout.state;

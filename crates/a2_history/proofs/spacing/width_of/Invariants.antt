@@ -2,7 +2,7 @@ use Rattle.std.proofs.Common.{ℕ, ◌<◌, ◌≤◌}
 use Rattle.a2_history.specs.Spacing.{most_kept}
 use Rattle.a2_history.proofs.spacing.width_of.Given as goal
 
--- by each wider one more are kept
+-- Every larger width keeps too many.
 abbrev pub invariant-loop-width : goal.invariant-loop-width
 invariant-loop-width l = record {
   within : l.width ≤ 101;

@@ -7,7 +7,7 @@ use Rattle.a2_services.specs.Services.{reach}
 use Rattle.a2_machine.specs.CodeGuards.{is_blocked}
 use Rattle.a2_machine.proofs.code_guard.block.Given as goal
 
--- those before this one are
+-- the services before this one are blocked correctly
 abbrev pub invariant-loop-service : goal.invariant-loop-service
 invariant-loop-service l = record {
   size : length l.blocked ≡ length services;

@@ -3,7 +3,7 @@ use Rattle.std.specs.List.{slice_split}
 use Rattle.a2_manual.specs.Topics.{Spells}
 use Rattle.a2_manual.proofs.finding.has_name.Given as goal
 
--- a name stands among those that are left where it stands among all
+-- a name is among those left if it is among all
 abbrev pub invariant-loop-behind : goal.invariant-loop-behind
 invariant-loop-behind l = Any (Spells l.name) (slice_split (λ c. eqb c 0x2C) l.names) ↔ Any (Spells l.name) (slice_split (λ c. eqb c 0x2C) l.left)
 

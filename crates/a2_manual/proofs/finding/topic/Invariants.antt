@@ -2,7 +2,7 @@ use Rattle.std.proofs.Common.{ℕ, List, length}
 use Rattle.a2_manual.specs.Topics.{topics, IsKnown, IsSaid}
 use Rattle.a2_manual.proofs.finding.topic.Given as goal
 
--- a name that some topic has is had by one that is left, and what that says is said
+-- if some topic has a name, one of the topics left has it, and what that topic says is said
 abbrev pub invariant-loop-text : goal.invariant-loop-text
 invariant-loop-text l =
     (IsKnown l.name (topics l.manual) → IsKnown l.name (topics l.left))

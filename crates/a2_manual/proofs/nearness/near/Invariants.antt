@@ -5,7 +5,7 @@ use Rattle.a2_manual.specs.Topics.{topics, names}
 use Rattle.a2_manual.specs.Nearer.{best_of, nearest_from}
 use Rattle.a2_manual.proofs.nearness.near.Given as goal
 
--- what is nearest to the end is the same from here on
+-- from here on, the nearest name at the end is the same
 abbrev pub invariant-loop-capitals : goal.invariant-loop-capitals
 invariant-loop-capitals g l =
     (nearest_from l.capitals.items (best_of l.best) (flat_map names (topics l.left))

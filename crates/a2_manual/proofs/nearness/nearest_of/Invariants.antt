@@ -3,7 +3,7 @@ use Rattle.std.specs.List.{slice_split}
 use Rattle.a2_manual.specs.Nearer.{best_of, nearest_from}
 use Rattle.a2_manual.proofs.nearness.nearest_of.Given as goal
 
--- what is nearest to the end is the same from here on
+-- from here on, the nearest name at the end is the same
 abbrev pub invariant-loop-distance : goal.invariant-loop-distance
 invariant-loop-distance g l =
     nearest_from l.capitals (best_of l.best) (slice_split (λ c. eqb c 0x2C) l.left)

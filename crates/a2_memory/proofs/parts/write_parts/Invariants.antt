@@ -5,7 +5,7 @@ use Rattle.a2_monitor.specs.Sittings.{sitting_of}
 use Rattle.a2_memory.specs.Parts.{shown_parts}
 use Rattle.a2_memory.proofs.parts.write_parts.Given as goal
 
--- the session's memory is the machine's, and the parts so far went out
+-- the session's memory is the machine's, and the parts so far are written
 abbrev pub invariant-loop-part : goal.invariant-loop-part
 invariant-loop-part g l = record {
   memory : (sitting_of l.session).world.memory ≡ memory_of l.fn.machine.state.bus;

@@ -3,7 +3,7 @@ use Rattle.a2_asm.specs.Assembled.{Assembled}
 use Rattle.a2_play.specs.Agains.{IsAgain}
 use Rattle.a2_play.proofs.again.bring.Given as goal
 
--- a step at least was made for each count
+-- At least one step was executed for each iteration.
 abbrev pub invariant-loop : goal.invariant-loop
 invariant-loop g l =
     (program : Assembled) (last : ℕ) → IsAgain program l.log last l.fn.machine.state → l.position ≤ last → l.fn.machine.state.steps ≤ l.position

@@ -2,7 +2,7 @@ use Rattle.std.proofs.Common.{◌≡◌, ℕ, ◌<◌, ◌≤◌, [], take}
 use Rattle.a2_timed_keys.specs.Typed.{keys_at}
 use Rattle.a2_play.proofs.again.next_due.Given as goal
 
--- no key so far was typed between
+-- None of the keys so far was typed in between.
 abbrev pub invariant-loop-stroke : goal.invariant-loop-stroke
 invariant-loop-stroke l = record {
   more : l.made < l.until;

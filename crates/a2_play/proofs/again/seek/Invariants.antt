@@ -3,7 +3,7 @@ use Rattle.a2_play.specs.Agains.{IsAgain, IsSlower}
 use Rattle.a2_play.proofs.Remade.{IsSeeking}
 use Rattle.a2_play.proofs.again.seek.Given as goal
 
--- where it stands behind so many pieces at most
+-- the state after at most this many pieces
 abbrev pub invariant-loop : goal.invariant-loop
 invariant-loop g l =
     (program : Assembled) → IsAgain program l.log l.end l.fn.machine.state → IsSlower program l.log l.goal l.fn.machine.state.steps

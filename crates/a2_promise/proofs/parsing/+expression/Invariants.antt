@@ -5,7 +5,7 @@ use Rattle.a2_promise.specs.Grammar.{rank, tightest}
 use Rattle.a2_promise.specs.Reading.{Reads, IsPiece, state_of}
 use Rattle.a2_promise.proofs.parsing.+expression.Given as goal
 
--- (one that looks at no depth of its own gets by more than what it calls)
+-- (a function without a depth of its own has a greater measure than the functions it calls)
 abbrev pub decreases-expression : goal.decreases-expression
 decreases-expression l = 6 * l.depth
 

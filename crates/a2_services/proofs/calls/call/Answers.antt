@@ -11,7 +11,7 @@ use Rattle.a2_services.proofs.Serving.{call_made}
 use Rattle.a2_services.proofs.Unreached.{unreached_by, fewer_by}
 use Rattle.a2_services.proofs.calls.call.Goals as goal
 
--- all that is promised of a call that is made
+-- everything that is promised of an executed call
 record IsPromised (service : Service) (live new_live : Live) (bus new_bus : BusState) (taken : ℕ) : Type 0 where
   called : IsCallMade service (live_registers live) bus (live_registers new_live) new_bus taken
   cycles : new_live.cycles ≡ live.cycles

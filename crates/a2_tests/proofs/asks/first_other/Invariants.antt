@@ -4,7 +4,7 @@ use Rattle.a2_text.specs.Words.{words}
 use Rattle.a2_tests.specs.Asks.{has_bytes}
 use Rattle.a2_tests.proofs.asks.first_other.Given as goal
 
--- what is looked for is not among the words so far
+-- the word searched for is not among the words so far
 abbrev pub invariant-loop-word : goal.invariant-loop-word
 invariant-loop-word g l = has_bytes (memory_of l.machine.state.bus) l.at (words l.rest) ≡ has_bytes (memory_of l.machine.state.bus) l.address (words l.bytes)
 

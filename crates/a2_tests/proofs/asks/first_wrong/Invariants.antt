@@ -5,7 +5,7 @@ use Rattle.a2_text.specs.Words.{words}
 use Rattle.a2_tests.specs.Asks.{is_held}
 use Rattle.a2_tests.proofs.asks.first_wrong.Given as goal
 
--- what is looked for is not among the words so far
+-- the word searched for is not among the words so far
 abbrev pub invariant-loop-word : goal.invariant-loop-word
 invariant-loop-word g l = list_all (is_held (registers_of l.machine.state.regs)) (words l.rest) ≡ list_all (is_held (registers_of l.machine.state.regs)) (words l.text)
 

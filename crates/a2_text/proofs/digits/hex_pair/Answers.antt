@@ -5,7 +5,7 @@ use Rattle.a2_text.specs.Bytes.{capital}
 use Rattle.a2_text.specs.Digits.{hex_digit}
 use Rattle.a2_text.proofs.digits.hex_pair.Goals as goal
 
--- each small digit's capital
+-- the capital of each small digit is the capital digit
 raised : (n : ℕ) → n < 16 → capital (slice_index lower_digits n) ≡ hex_digit n
 raised n h = eqb-true (capital (slice_index lower_digits n)) (hex_digit n)
     (agree_below_at (λ n. eqb (capital (slice_index lower_digits n)) (hex_digit n)) (λ _. true) 16 n refl h)

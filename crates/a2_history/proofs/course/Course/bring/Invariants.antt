@@ -2,7 +2,7 @@ use Rattle.std.proofs.Common.{◌≡◌, ◌-◌, ◌≤◌}
 use Rattle.a2_history.specs.Going.{IsOn}
 use Rattle.a2_history.proofs.course.Course.bring.Given as goal
 
--- all steps so far are made
+-- All steps so far were executed.
 abbrev pub invariant-loop-from : goal.invariant-loop-from
 invariant-loop-from g l = record {
   on : IsOn l.self l.machine.state;

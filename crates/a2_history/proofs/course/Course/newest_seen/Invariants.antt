@@ -2,7 +2,7 @@ use Rattle.std.proofs.Common.{◌≡◌, ◌≤◌}
 use Rattle.a2_history.specs.Going.{IsOn, IsNewest}
 use Rattle.a2_history.proofs.course.Course.newest_seen.Given as goal
 
--- all steps so far are made, and what was found is the newest of them
+-- All steps so far were executed, and what was found is the latest among them.
 abbrev pub invariant-loop-position : goal.invariant-loop-position
 invariant-loop-position g l = record {
   on : IsOn l.self l.machine.state;

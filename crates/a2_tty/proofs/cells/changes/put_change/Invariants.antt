@@ -5,7 +5,7 @@ use Rattle.a2_page.proofs.Sending.{IsLeft}
 use Rattle.a2_tty.specs.Written.{row_text, changes_text}
 use Rattle.a2_tty.proofs.cells.changes.put_change.Given as goal
 
--- the rows so far went out
+-- the rows so far were written
 abbrev pub invariant-loop-row : goal.invariant-loop-row
 invariant-loop-row g l =
     IsLeft (g.W.Output.taker l.fn.writer) (g.W.Output.taker l.writer)

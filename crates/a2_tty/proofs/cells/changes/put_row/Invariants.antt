@@ -5,7 +5,7 @@ use Rattle.a2_page.proofs.Sending.{IsLeft}
 use Rattle.a2_tty.specs.Written.{cell_text, row_text}
 use Rattle.a2_tty.proofs.cells.changes.put_row.Given as goal
 
--- the cells so far went out
+-- the cells so far were written
 abbrev pub invariant-loop-column : goal.invariant-loop-column
 invariant-loop-column g l =
     IsLeft (g.W.Output.taker l.fn.writer) (g.W.Output.taker l.writer)
