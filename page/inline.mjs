@@ -3,26 +3,31 @@ import fs from 'node:fs';
 import path from 'node:path';
 import {gzipSync} from 'node:zlib';
 
-const IMPORT = /^import \{(.*)\} from '(\.[^']*)';$/gm, EXPORT = /^export (?=(?:async )?(?:function|class|const|let) (\w+))/gm;
+const IMPORT = /^import (?:\{(.*)\}|\* as (\w+)) from '(\.[^']*)';$/gm, EXPORT = /^export (?=(?:async )?(?:function|class|const|let) (\w+))/gm;
 
 /**
- * Returns a script of a module and of those that it imports by relative names. Each becomes a function that returns its exports.
+ * Returns a script of a module and of those that it imports by relative names. Each becomes a function that returns its exports. It is an
+ * error to import a name that the other module does not export in a declaration of its own.
  * @param {string} file
  * @returns {string}
  */
 export function inlined(file) {
-  const names = new Map(), parts = [];
-  const nameOf = whole => {
-    if (!names.has(whole)) {
-      const text = fs.readFileSync(whole, 'utf8').replace(IMPORT, (_, wanted, other) =>
-        `const {${wanted.replaceAll(' as ', ': ')}} = ${nameOf(path.resolve(path.dirname(whole), other))};`);
-      names.set(whole, `module${names.size}`);
-      const exported = [...text.matchAll(EXPORT)].map(it => it[1]);
-      parts.push(`const ${names.get(whole)} = (() => {\n${text.replace(EXPORT, '')}return {${exported.join(', ')}};\n})();\n`);
-    }
-    return names.get(whole);
+  const modules = new Map(), parts = [];
+  const take = whole => {
+    if (modules.has(whole)) return modules.get(whole);
+    const text = fs.readFileSync(whole, 'utf8').replace(IMPORT, (_, wanted, all, other) => {
+      const {name, exported} = take(path.resolve(path.dirname(whole), other));
+      for (const it of wanted?.split(',') ?? []) {
+        if (!exported.includes(it.trim().split(' ')[0])) throw new Error(`${whole}: ${other} does not export ${it.trim()}`);
+      }
+      return `const ${all ?? `{${wanted.replaceAll(' as ', ': ')}}`} = ${name};`;
+    });
+    const module = {name: `module${modules.size}`, exported: [...text.matchAll(EXPORT)].map(it => it[1])};
+    modules.set(whole, module);
+    parts.push(`const ${module.name} = (() => {\n${text.replace(EXPORT, '')}return {${module.exported.join(', ')}};\n})();\n`);
+    return module;
   };
-  nameOf(path.resolve(file));
+  take(path.resolve(file));
   return parts.join('');
 }
 

@@ -1,0 +1,93 @@
+// Checks the text while it is typed, and lists errors and notes.
+import {byId, later, make, setText} from './dom.mjs';
+import {Cancelled, Runner, faultText} from './programs.mjs';
+
+const PAUSE = 150, MOST_SHOWN = 100;
+
+/**
+ * What `check` reports of a line. Lines count from 1, 0 is the whole text; `from` and `width` are characters of the line.
+ * @typedef {object} Problem
+ * @property {'error' | 'note'} kind
+ * @property {number} line
+ * @property {number} from
+ * @property {number} width
+ * @property {string} text
+ * @property {string} [code]
+ * @property {string} [fix] What to do, in words.
+ * @property {string} [replacement] What to write in place of the marked characters, if `check` knows it.
+ */
+
+// Columns of `check` are bytes. Returns how many characters of a line these bytes are.
+function characters(line, bytes) {
+  return new TextDecoder().decode(new TextEncoder().encode(line).subarray(0, bytes)).length;
+}
+
+/** @returns {Problem[]} The errors in the JSON that `check` writes. */
+function errorsOf(json, lines) {
+  return JSON.parse(json).map(({line, column, width, code, text, mend, fix, replacement}) => {
+    const it = lines[line - 1] ?? '', from = characters(it, column - 1);
+    return {kind: 'error', line, from, width: characters(it, column - 1 + width) - from, code, text, fix: fix ?? mend, replacement};
+  });
+}
+
+/** @returns {Problem[]} The notes that `check` writes to standard error, each as NAME:LINE: note: TEXT. */
+function notesOf(stderr, lines) {
+  const found = [...stderr.matchAll(/^[^:\n]*:(\d+): [^:\n]*: (.*)$/gm)];
+  return found.map(([, line, text]) => ({kind: 'note', line: Number(line), from: 0, width: (lines[line - 1] ?? '').length, text}));
+}
+
+export class Checker {
+  #runner = new Runner();
+  #soon = later(PAUSE, () => this.#check());
+
+  /** @param {import('./editor.mjs').Editor} editor  @param {() => string} nameOf Returns the name of the file. */
+  constructor(editor, nameOf) {
+    this.editor = editor;
+    this.nameOf = nameOf;
+  }
+
+  /** The text has changed: a check of the text before is cancelled. */
+  textChanged() {
+    this.#runner.cancel();
+    // (A fix belongs to the text that was checked.)
+    for (const it of byId('problems').querySelectorAll('.fixes')) it.disabled = true;
+    this.#soon();
+  }
+
+  async #check() {
+    const name = this.nameOf(), {text, lines} = this.editor;
+    try {
+      const {status, fault, stdout, stderr} = await this.#runner.run(['a2lab', 'check', '--format', 'json', name], {[name]: text});
+      if (fault) this.#show([], faultText(fault));
+      else if (status > 1) this.#show([], stderr);
+      else this.#show([...errorsOf(stdout, lines), ...notesOf(stderr, lines)]);
+    } catch (error) {
+      if (!(error instanceof Cancelled)) this.#show([], String(error.message ?? error));
+    }
+  }
+
+  #show(problems, failure = '') {
+    const errors = problems.filter(it => it.kind === 'error').length, notes = problems.length - errors;
+    const count = (number, what) => number === 0 ? '' : `${number} ${what}${number === 1 ? '' : 's'}`;
+    this.editor.showMarks(problems);
+    setText(byId('count'), failure || [count(errors, 'error'), count(notes, 'note')].filter(Boolean).join(', ') || 'No errors');
+    byId('count').className = failure || errors ? 'bad' : 'good';
+    const more = problems.length - MOST_SHOWN, items = problems.slice(0, MOST_SHOWN).map(it => this.#item(it));
+    byId('problems').replaceChildren(...items, ...(more > 0 ? [make('li', {}, `and ${more} more`)] : []));
+  }
+
+  #item(problem) {
+    const {kind, line, from, width, code, text, fix, replacement} = problem;
+    const place = line === 0 ? 'the whole text' : `line ${line}${kind === 'error' ? `, column ${from + 1}` : ''}`;
+    const parts = [make('b', {}, place), ': ', text];
+    const go = () => this.editor.select(Math.max(line, 1), from + 1, width);
+    const item = make('li', {class: kind}, make('button', {type: 'button', class: 'goes', onclick: go}, ...parts));
+    if (code) item.append(make('small', {title: `error ${code}`}, code));
+    if (fix) item.append(make('p', {class: 'fix'}, fix));
+    if (typeof replacement === 'string') {
+      const apply = () => this.editor.replace(line, from + 1, width, replacement);
+      item.append(make('button', {type: 'button', class: 'fixes', onclick: apply}, 'Fix it'));
+    }
+    return item;
+  }
+}

@@ -1,0 +1,222 @@
+// The programs of the user: which one is open, and where each is kept.
+import {block, byId, grouped, later, make} from './dom.mjs';
+import * as files from './files.mjs';
+import {MOST_TEXT, fragmentOf, holdsProgram, programIn} from './link.mjs';
+import {ask, notify} from './notices.mjs';
+import * as store from './store.mjs';
+
+const PAUSE = 400;
+const FIRST = 'hello';
+
+/**
+ * Examples: their names, titles and texts, and the options that they need.
+ * @type {{name: string, title: string, text: string, keys: string, free: boolean}[]}
+ */
+const EXAMPLES = JSON.parse(block('examples'));
+
+export class Library {
+  #name = null;
+  #kept = null;
+  #soon = later(PAUSE, () => this.keep());
+  #isOpening = false;
+  #isKept = true;
+
+  /**
+   * @param {import('./editor.mjs').Editor} editor
+   * @param {() => void} opened Is called after another program has been opened.
+   */
+  constructor(editor, opened) {
+    Object.assign(this, {editor, opened});
+    const choices = EXAMPLES.map(({name, title}) => make('option', {value: name}, `${name}: ${title}`));
+    byId('examples').append(make('option', {value: ''}, 'Examples…'), ...choices);
+    byId('examples').onchange = event => { this.#openExample(event.target.value); event.target.value = ''; };
+    byId('programs').onchange = event => this.open(event.target.value);
+    byId('new').onclick = () => this.#new();
+    byId('rename').onclick = () => this.#rename();
+    byId('delete').onclick = () => this.#delete();
+    byId('save').onclick = () => this.save();
+    byId('link').onclick = () => this.#link();
+    for (const id of ['keys', 'free', 'want']) byId(id).addEventListener('input', () => this.changed());
+    files.listen((name, text) => this.add({name, text}), why => notify(why, {kind: 'error'}));
+    addEventListener('beforeunload', event => { if (!this.#isKept) event.preventDefault(); });
+    // (A page that is put away may not come back.)
+    addEventListener('pagehide', () => this.keep());
+    document.addEventListener('visibilitychange', () => { if (document.hidden) this.keep(); });
+    addEventListener('hashchange', () => this.#takeLink());
+    store.onOther(name => this.#otherTab(name));
+  }
+
+  /** Opens what was open last, or what a link holds. */
+  async begin() {
+    const last = store.current();
+    if (last !== null && store.load(last)) this.open(last);
+    else if (store.names().length > 0) this.open(store.names()[0]);
+    else this.#openExample(FIRST);
+    await this.#takeLink();
+  }
+
+  /** The name of the file of the present program, as messages of the programs show it. */
+  get file() {
+    return `${(this.#name ?? '').replace(/[^A-Za-z0-9_.-]+/g, '-').replace(/^[-.]+/, '') || 'program'}.s`;
+  }
+
+  get #state() {
+    return {text: this.editor.text, keys: byId('keys').value, free: byId('free').checked, want: byId('want').value};
+  }
+
+  /** The program has changed; it is kept soon. */
+  changed() {
+    if (!this.#isOpening) this.#soon();
+  }
+
+  /** Keeps the program now. Says so if the browser does not keep it. */
+  keep() {
+    if (this.#name === null) return;
+    const state = this.#state, json = JSON.stringify(state);
+    if (json === this.#kept) return;
+    const kept = store.keep(this.#name, state);
+    this.#isKept = kept === store.KEPT.YES;
+    if (kept === store.KEPT.YES) {
+      this.#kept = json;
+      store.setCurrent(this.#name);
+      this.#list();
+      return;
+    }
+    const why = kept === store.KEPT.FULL ? 'The storage of this browser is full, so your last changes are only in this tab.' :
+      'This browser does not keep programs of this page, so your text is only in this tab.';
+    notify(`${why} Save the program as a file before you close the tab.`, {kind: 'error', buttons: [['Save as a file', () => this.save()]]});
+  }
+
+  /** Opens a program that is kept. */
+  open(name) {
+    this.keep();
+    const state = store.load(name);
+    if (!state) return this.#list();
+    this.#show(name, state);
+    this.#kept = JSON.stringify(state);
+    store.setCurrent(name);
+  }
+
+  /** Adds a program under a name that no other has, and opens it. */
+  add({name, text, keys = '', free = false, want = ''}) {
+    this.keep();
+    this.#show(this.#freeName(name || 'program'), {text, keys, free, want});
+    this.#kept = null;
+    this.keep();
+  }
+
+  /** Saves the program as a file. */
+  save() {
+    this.keep();
+    files.save(this.file, this.editor.text);
+  }
+
+  #show(name, {text, keys, free, want}) {
+    this.#isOpening = true;
+    this.#name = name;
+    byId('keys').value = keys;
+    byId('free').checked = free;
+    byId('want').value = want;
+    byId('want-part').open = want !== '';
+    this.editor.text = text;
+    this.#isOpening = false;
+    this.#list();
+    this.opened();
+  }
+
+  #list() {
+    const names = store.names();
+    if (!names.includes(this.#name)) names.push(this.#name);
+    byId('programs').replaceChildren(...names.map(it => make('option', {value: it}, it)));
+    byId('programs').value = this.#name;
+    document.title = `${this.#name} · a2`;
+  }
+
+  // The name, with a number after it if another program has it.
+  #freeName(name) {
+    const names = store.names();
+    for (let number = 1; ; ++number) {
+      const it = number === 1 ? name : `${name} ${number}`;
+      if (!names.includes(it)) return it;
+    }
+  }
+
+  #openExample(name) {
+    const example = EXAMPLES.find(it => it.name === name);
+    if (!example) return;
+    const kept = store.load(name);
+    if (name === this.#name && this.editor.text === example.text) return;
+    // (An example that was opened and not changed is not kept twice.)
+    if (kept?.text === example.text) this.open(name);
+    else this.add(example);
+  }
+
+  async #new() {
+    const name = await ask('The name of the new program', {value: this.#freeName('program'), yes: 'Make it'});
+    if (name !== null) this.add({name: name.trim(), text: ''});
+  }
+
+  async #rename() {
+    const old = this.#name, wanted = (await ask('The new name of this program', {value: old, yes: 'Rename'}))?.trim();
+    if (!wanted || wanted === old) return;
+    this.#name = this.#freeName(wanted);
+    this.#kept = null;
+    this.keep();
+    if (this.#kept) store.forget(old);
+    this.#list();
+  }
+
+  async #delete() {
+    if (await ask(`Delete “${this.#name}” from this browser?`, {yes: 'Delete'}) === null) return;
+    const state = this.#state, name = this.#name;
+    store.forget(name);
+    this.#kept = JSON.stringify(state);
+    const [other] = store.names();
+    if (other === undefined) this.#openExample(FIRST);
+    else this.open(other);
+    notify(`“${name}” was deleted.`, {buttons: [['Undo', () => this.add({name, ...state})]]});
+  }
+
+  async #link() {
+    if (this.editor.text.length > MOST_TEXT) return notify('This program is too long for a link. Save it as a file.', {kind: 'error'});
+    const fragment = await fragmentOf({name: this.#name, ...this.#state}), address = location.href.split('#')[0] + fragment;
+    try {
+      await navigator.clipboard.writeText(address);
+      notify(`The link was copied. It has ${grouped(address.length)} characters and holds the whole program, with its keys and tests.`);
+    } catch {
+      // (From disk some browsers allow no clipboard.)
+      await ask('Copy this link. It holds the whole program, with its keys and tests.', {value: address});
+    }
+  }
+
+  // Opens the program of a link beside the others. The link then leaves the address, so that a reload does not add it again.
+  async #takeLink() {
+    const {hash} = location;
+    if (!holdsProgram(hash)) return;
+    history.replaceState(null, '', location.href.split('#')[0]);
+    try {
+      const program = await programIn(hash), kept = store.load(program.name);
+      if (kept?.text === program.text) this.open(program.name);
+      else this.add(program);
+      notify(`“${this.#name}” came with the link.`);
+    } catch (error) {
+      notify(error.message, {kind: 'error'});
+    }
+  }
+
+  // Another tab has kept a program. If it is this one, neither text is lost.
+  #otherTab(name) {
+    this.#list();
+    const other = store.load(name);
+    if (name !== this.#name || !other || other.text === this.editor.text) return;
+    if (JSON.stringify(this.#state) === this.#kept) {
+      this.#show(name, other);
+      this.#kept = JSON.stringify(other);
+      return;
+    }
+    this.#name = this.#freeName(name);
+    this.#kept = null;
+    this.keep();
+    notify(`“${name}” was changed in another tab. Your text is now “${this.#name}”; the other text is still “${name}”.`);
+  }
+}

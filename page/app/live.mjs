@@ -1,0 +1,150 @@
+// The part of the page with sessions: a program that runs live, the debugger and the Monitor, each in a worker of its own.
+import {canWait} from '../host.mjs';
+import {byId, later, setText} from './dom.mjs';
+import {LiveScreen} from './live-screen.mjs';
+import {faultText, filesOf, moduleOf, startWorker} from './programs.mjs';
+import {Terminal} from './terminal.mjs';
+
+// A command of `play` is this key and a letter.
+const COMMAND = 0x1d;
+// After so many milliseconds without a key, a read of `play` returns, so that it can draw.
+const WAIT = 16;
+// Without a change for so long, the last rows of a terminal are read out.
+const QUIET = 600, READ_ROWS = 4;
+
+const ESCAPES = {ArrowUp: 'A', ArrowDown: 'B', ArrowRight: 'C', ArrowLeft: 'D', Home: 'H', End: 'F', Delete: '3~'};
+const SINGLE = {Enter: 13, Backspace: 127, Escape: 27, Tab: 9};
+
+const bytesOf = text => [...new TextEncoder().encode(text)];
+
+/** Returns the bytes that a key sends at a terminal, or nothing. */
+function keyBytes({key, ctrlKey, altKey, metaKey}) {
+  if (altKey || metaKey) return undefined;
+  if (key in SINGLE) return [SINGLE[key]];
+  if (key in ESCAPES) return bytesOf(`\x1b[${ESCAPES[key]}`);
+  if (key.length !== 1 || key > '~') return undefined;
+  if (!ctrlKey) return bytesOf(key);
+  const code = key.toUpperCase().charCodeAt(0) & 31;
+  return /[A-Za-z@[\\\]^_]/.test(key) ? [code] : undefined;
+}
+
+const KINDS = {
+  play: {rows: 24, columns: 80, wait: WAIT, words: pace => ['--pace', pace], options: true},
+  debug: {rows: 40, columns: 100, words: () => ['--tui'], options: true},
+  mon: {rows: 32, columns: 80, words: () => []},
+};
+
+export class Live {
+  #worker = null;
+  #terminal = null;
+  #decoders = {};
+  #speak = later(QUIET, () => this.#readOut());
+
+  /**
+   * @param {() => {name: string, text: string}} programOf
+   * @param {() => {keys: string, free: boolean}} optionsOf
+   */
+  constructor(programOf, optionsOf) {
+    Object.assign(this, {programOf, optionsOf, element: byId('terminal')});
+    byId('play').onclick = () => this.begin('play');
+    byId('debug').onclick = () => this.begin('debug');
+    byId('monitor').onclick = () => this.begin('mon');
+    byId('end-live').onclick = () => this.stop('Stopped.');
+    for (const it of byId('play-keys').children) it.onclick = () => { this.#type([COMMAND, it.dataset.keys.charCodeAt(0)]); this.element.focus(); };
+    for (const it of document.querySelectorAll('[data-raw]')) it.onclick = () => this.#type([Number(it.dataset.raw)]);
+    this.element.onkeydown = event => this.#key(event);
+    this.element.onpaste = event => { event.preventDefault(); this.#typeText(event.clipboardData.getData('text')); };
+    byId('typed').oninput = event => { this.#typeText(event.target.value); event.target.value = ''; };
+    byId('typed').onkeydown = event => { if (SINGLE[event.key] && event.key !== 'Tab') { event.preventDefault(); this.#type([SINGLE[event.key]]); } };
+    this.#ended(canWait ? 'Choose one of the three above.' :
+      'This browser cannot run sessions. They need Chromium or Chrome 137, or Firefox 153, or later. All the rest of the page works.');
+    for (const it of ['play', 'debug', 'monitor']) byId(it).disabled = !canWait;
+  }
+
+  /** Begins a session, and ends the one before. @param {'play' | 'debug' | 'mon'} kind */
+  async begin(kind) {
+    this.stop('');
+    const {rows, columns, wait, words, options} = KINDS[kind], {name, text} = this.programOf(), {keys, free} = this.optionsOf();
+    const module = await moduleOf('a2lab');
+    const given = options && kind === 'debug' ? [...(keys ? ['--keys', keys] : []), ...(free ? ['--free'] : [])] : [];
+    this.element.style.setProperty('--columns', columns);
+    const screen = new LiveScreen(byId('live-screen'), byId('panel'));
+    this.#terminal = new Terminal(byId('lines'), rows, columns, () => this.#show(kind, screen));
+    this.#decoders = {1: new TextDecoder(), 2: new TextDecoder()};
+    // (Another session may have begun meanwhile.)
+    this.#worker?.terminate();
+    const worker = startWorker();
+    this.#worker = worker;
+    worker.onmessage = ({data}) => { if (worker === this.#worker) this.#take(data); };
+    worker.onerror = event => { event.preventDefault(); this.stop(`The session failed: ${event.message}`); };
+    const all = ['a2lab', kind, '--raw', `${rows}x${columns}xfull`, ...words(byId('pace').value), ...given, name];
+    worker.postMessage({kind: 'begin', module, words: all, files: filesOf({[name]: text}), wait});
+    byId('end-live').hidden = false;
+    byId('play-keys').hidden = kind !== 'play';
+    setText(byId('live-says'), '');
+    this.element.focus();
+  }
+
+  /** What the terminal shows. */
+  get text() {
+    return this.#terminal?.text ?? '';
+  }
+
+  /** Ends the session at once. */
+  stop(why) {
+    this.#worker?.terminate();
+    this.#ended(why);
+  }
+
+  #ended(why) {
+    this.#worker = null;
+    byId('end-live').hidden = byId('play-keys').hidden = true;
+    setText(byId('live-says'), why);
+  }
+
+  #take(data) {
+    if (data.kind === 'shown') {
+      this.#terminal.write(this.#decoders[data.stream].decode(data.bytes, {stream: true}));
+      this.#speak();
+    } else {
+      this.#worker.terminate();
+      // (3 is the status of a program that stopped by another cause than its end.)
+      const status = data.status > 0 && data.status !== 3 ? ` with status ${data.status}` : '';
+      this.#ended(data.fault ? faultText(data.fault) : `The session has ended${status}.`);
+    }
+  }
+
+  // While `play` runs the machine, it hides the cursor, and its screen is drawn. Otherwise the terminal is shown.
+  #show(kind, screen) {
+    const isScreen = kind === 'play' && !this.#terminal.hasCursor;
+    byId('live-view').hidden = !isScreen;
+    byId('lines').hidden = isScreen;
+    if (isScreen) screen.draw(this.#terminal);
+  }
+
+  #type(bytes) {
+    this.#worker?.postMessage({kind: 'type', bytes: new Uint8Array(bytes)});
+  }
+
+  #typeText(text) {
+    this.#type(bytesOf(text.replace(/\r?\n/g, '\r').replace(/[^\r\x20-\x7e]/g, '')));
+  }
+
+  #key(event) {
+    if (event.key === 'F6' && event.ctrlKey) {
+      event.preventDefault();
+      return byId('play').focus();
+    }
+    // (Copying what is selected stays the browser's.)
+    if (event.ctrlKey && event.key.toLowerCase() === 'c' && !getSelection().isCollapsed || event.ctrlKey && event.key.toLowerCase() === 'v') return;
+    if (!this.#worker || event.shiftKey && event.key === 'Tab') return;
+    const bytes = keyBytes(event);
+    if (!bytes) return;
+    event.preventDefault();
+    this.#type(bytes);
+  }
+
+  #readOut() {
+    setText(byId('terminal-words'), this.#terminal.text.split('\n').slice(-READ_ROWS).join('\n'));
+  }
+}

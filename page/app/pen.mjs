@@ -1,0 +1,56 @@
+// Draws characters and blocks on a canvas as the machine shows them. A cell has 7 by 8 dots, each drawn as 2 by 2.
+import {block} from './dom.mjs';
+
+export const ROWS = 24;
+export const COLUMNS = 40;
+export const DOT = 2;
+export const WIDTH = 7 * DOT;
+export const HEIGHT = 8 * DOT;
+
+const LIGHT = '#e4f2e4', DARK = '#000';
+
+/** The shapes of 64 characters; each is 8 rows of 7 dots, `#` or `.`. (font.txt) */
+const SHAPES = JSON.parse(block('font'));
+
+export class Pen {
+  /** @param {HTMLCanvasElement} canvas */
+  constructor(canvas) {
+    [canvas.width, canvas.height] = [COLUMNS * WIDTH, ROWS * HEIGHT];
+    this.context = canvas.getContext('2d');
+  }
+
+  /** Makes all dark. */
+  clear() {
+    this.fill(DARK, 0, 0, COLUMNS * WIDTH, ROWS * HEIGHT);
+  }
+
+  fill(colour, x, y, width, height) {
+    this.context.fillStyle = colour;
+    this.context.fillRect(x, y, width, height);
+  }
+
+  /** Draws the character of these six bits. */
+  character(row, column, bits, isInverse) {
+    const [x, y] = [column * WIDTH, row * HEIGHT];
+    this.fill(isInverse ? LIGHT : DARK, x, y, WIDTH, HEIGHT);
+    this.context.fillStyle = isInverse ? DARK : LIGHT;
+    SHAPES[bits].forEach((dots, down) => {
+      for (let across = 0; across < dots.length; ++across) {
+        if (dots[across] === '#') this.context.fillRect(x + DOT * across, y + DOT * down, DOT, DOT);
+      }
+    });
+  }
+
+  /** Draws two blocks, one above the other. */
+  blocks(row, column, above, below) {
+    this.fill(above, column * WIDTH, row * HEIGHT, WIDTH, HEIGHT / 2);
+    this.fill(below, column * WIDTH, row * HEIGHT + HEIGHT / 2, WIDTH, HEIGHT / 2);
+  }
+
+  /** Draws a frame around a cell. */
+  frame(row, column, colour) {
+    this.context.strokeStyle = colour;
+    this.context.lineWidth = 1;
+    this.context.strokeRect(column * WIDTH + .5, row * HEIGHT + .5, WIDTH - 1, HEIGHT - 1);
+  }
+}

@@ -1,0 +1,101 @@
+// Runs the programs as filters, each call in a worker.
+import {unpack} from '../host.mjs';
+import {block} from './dom.mjs';
+
+const modules = new Map();
+
+/** Returns the compiled module of a program, such as a2lab. @returns {Promise<WebAssembly.Module>} */
+export function moduleOf(name) {
+  if (!modules.has(name)) modules.set(name, unpack(block(`module-${name}`)));
+  return modules.get(name);
+}
+
+/** Whether the page has this program. */
+export function has(name) {
+  return block(`module-${name}`) !== undefined;
+}
+
+let workerUrl = null;
+
+/** Returns a new worker, which understands the messages of worker.mjs. */
+export function startWorker() {
+  workerUrl ??= URL.createObjectURL(new Blob([JSON.parse(block('worker'))], {type: 'text/javascript'}));
+  return new Worker(workerUrl);
+}
+
+/** Returns files as worker.mjs takes them. @param {Record<string, string>} files Texts by their names. */
+export function filesOf(files) {
+  return Object.entries(files).map(([name, text]) => [name, new TextEncoder().encode(text)]);
+}
+
+/** What a call that was cancelled throws. */
+export class Cancelled extends Error {}
+
+const read = bytes => new TextDecoder().decode(bytes);
+
+/** Runs one program at a time. A new call cancels the one before it. */
+export class Runner {
+  #worker = null;
+  #failed = null;
+  #number = 0;
+
+  /**
+   * Runs a program until it ends.
+   * @param {string[]} words The name of the program, and its arguments.
+   * @param {Record<string, string>} files
+   * @returns {Promise<{status: number | null, fault: object | null, stdout: string, stderr: string}>}
+   */
+  async run(words, files) {
+    this.cancel();
+    const number = this.#number, module = await moduleOf(words[0]);
+    if (number !== this.#number) throw new Cancelled();
+    const {status, fault, stdout, stderr} = await this.#ask({kind: 'run', id: number, module, words, files: filesOf(files)});
+    return {status, fault, stdout: read(stdout), stderr: read(stderr)};
+  }
+
+  /** Ends a call that has not ended yet. */
+  cancel() {
+    this.#number += 1;
+    if (!this.#failed) return;
+    this.#end();
+    this.#failed(new Cancelled());
+    this.#failed = null;
+  }
+
+  #end() {
+    this.#worker.terminate();
+    this.#worker = null;
+  }
+
+  #ask(message) {
+    this.#worker ??= startWorker();
+    return new Promise((done, failed) => {
+      this.#failed = failed;
+      this.#worker.onmessage = ({data}) => {
+        this.#failed = null;
+        // (After a fault the worker may lack memory too.)
+        if (data.fault) this.#end();
+        done(data);
+      };
+      this.#worker.onerror = event => {
+        event.preventDefault();
+        this.#failed = null;
+        this.#end();
+        failed(new Error(event.message));
+      };
+      this.#worker.postMessage(message);
+    });
+  }
+}
+
+const FAULTS = {
+  memory: 'The browser has no memory left for this.',
+  stack: 'This is nested too deeply for this browser.',
+  trap: 'The program failed in a way that it should not. Your text is safe.',
+  waiting: 'This needs a newer browser: Chromium or Chrome 137, or Firefox 153, or later.',
+};
+
+/** Says in plain words why a program did not end by itself. */
+export function faultText({kind, message}) {
+  return `${FAULTS[kind] ?? 'The program failed.'} (${message})`;
+}

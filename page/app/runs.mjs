@@ -1,0 +1,69 @@
+// A run of a program, and films of parts of it.
+import {filmIn} from './film.mjs';
+import {Runner, faultText} from './programs.mjs';
+
+/** How many steps a film has at most. Reading one takes about a tenth of a second. */
+const WINDOW = 50000;
+
+/**
+ * What a run is asked for.
+ * @typedef {object} Asked
+ * @property {string} name The name of the file.
+ * @property {string} text
+ * @property {string} keys In the spelling of --keys.
+ * @property {number} limit
+ * @property {boolean} free
+ */
+
+export class Run {
+  #runner;
+  #film = null;
+
+  /** @param {Asked} asked  @param {Runner} runner */
+  constructor(asked, runner) {
+    this.asked = asked;
+    this.#runner = runner;
+    /** How many steps the run has. */
+    this.steps = 0;
+  }
+
+  get film() {
+    return this.#film;
+  }
+
+  /**
+   * Runs the program. Returns what it reports: the register line and the cause, and its explanation; or errors. (The picture comes from the film.)
+   * @returns {Promise<{status: number, lines: string[], explained: string}>}
+   */
+  async begin() {
+    const {status, stdout, stderr} = await this.#call('run', '--limit', String(this.asked.limit));
+    const lines = stdout.trimEnd().split('\n'), from = lines.findLastIndex(it => it.startsWith('A='));
+    const hasRun = status === 0 || status === 3;
+    if (hasRun) await this.#take(this.asked.limit, 0);
+    return {status, lines: hasRun && from >= 0 ? lines.slice(from) : [], explained: stderr.trimEnd()};
+  }
+
+  /** Makes `film` one that has this step of the run, and the steps around it. @param {number} step */
+  async reach(step) {
+    const film = this.#film, isThere = film.count > 0 && step >= film.first && step <= film.first + film.count;
+    if (isThere || this.steps === 0) return;
+    const from = this.steps <= WINDOW ? 0 : Math.max(0, Math.min(step - WINDOW / 2, this.steps - WINDOW));
+    await this.#take(from, WINDOW);
+  }
+
+  async #take(from, steps) {
+    const most = Math.min(steps, this.asked.limit - from);
+    const {stdout, stderr} = await this.#call('film', '--from', String(from), '--steps', String(Math.max(0, most)));
+    if (!stdout) throw new Error(stderr);
+    this.#film = filmIn(stdout);
+    this.steps = Math.max(this.steps, this.#film.first + this.#film.count);
+  }
+
+  async #call(command, ...options) {
+    const {name, text, keys, free} = this.asked;
+    const words = ['a2lab', command, ...(keys ? ['--keys', keys] : []), ...(free ? ['--free'] : []), ...options, name];
+    const result = await this.#runner.run(words, {[name]: text});
+    if (result.fault) throw new Error(faultText(result.fault));
+    return result;
+  }
+}
