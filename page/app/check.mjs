@@ -24,9 +24,9 @@ function characters(line, bytes) {
 
 /** @returns {Problem[]} The errors in the JSON that `check` writes. */
 function errorsOf(json, lines) {
-  return JSON.parse(json).map(({line, column, width, code, text, mend, fix, replacement}) => {
+  return JSON.parse(json).map(({line, column, width, code, text, mend: fix, replacement}) => {
     const it = lines[line - 1] ?? '', from = characters(it, column - 1);
-    return {kind: 'error', line, from, width: characters(it, column - 1 + width) - from, code, text, fix: fix ?? mend, replacement};
+    return {kind: 'error', line, from, width: characters(it, column - 1 + width) - from, code, text, fix, replacement};
   });
 }
 

@@ -2,7 +2,7 @@
 import {byId, make} from './dom.mjs';
 import {save} from './files.mjs';
 import {notify} from './notices.mjs';
-import {Cancelled, Runner, faultText, has} from './programs.mjs';
+import {Cancelled, Runner, faultText, has, runOptions} from './programs.mjs';
 
 /** What can be saved: its label, the words of the program, and the end of the file's name. */
 const KINDS = [
@@ -20,9 +20,8 @@ export function listen(programOf, optionsOf) {
   const list = byId('exports'), runner = new Runner(), kinds = KINDS.filter(it => has(it.words([], '')[0]));
   list.append(make('option', {value: ''}, 'Save as…'), ...kinds.map((it, at) => make('option', {value: at}, it.label)));
   list.onchange = async () => {
-    const {end, type, words} = kinds[list.value], {name, text} = programOf(), {keys, free} = optionsOf();
+    const {end, type, words} = kinds[list.value], {name, text} = programOf(), options = runOptions(optionsOf());
     list.value = '';
-    const options = [...(keys ? ['--keys', keys] : []), ...(free ? ['--free'] : [])];
     try {
       const {status, fault, stdout, stderr} = await runner.run(words(options, name), {[name]: text});
       if (fault) throw new Error(faultText(fault));

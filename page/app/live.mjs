@@ -2,7 +2,7 @@
 import {canWait} from '../host.mjs';
 import {byId, later, setText} from './dom.mjs';
 import {LiveScreen} from './live-screen.mjs';
-import {faultText, filesOf, moduleOf, startWorker} from './programs.mjs';
+import {faultText, filesOf, moduleOf, runOptions, startWorker} from './programs.mjs';
 import {Terminal} from './terminal.mjs';
 
 // A command of `play` is this key and a letter.
@@ -29,8 +29,8 @@ function keyBytes({key, ctrlKey, altKey, metaKey}) {
 }
 
 const KINDS = {
-  play: {rows: 24, columns: 80, wait: WAIT, words: pace => ['--pace', pace], options: true},
-  debug: {rows: 40, columns: 100, words: () => ['--tui'], options: true},
+  play: {rows: 24, columns: 80, wait: WAIT, words: pace => ['--pace', pace]},
+  debug: {rows: 40, columns: 100, words: () => ['--tui'], isRun: true},
   mon: {rows: 32, columns: 80, words: () => []},
 };
 
@@ -64,9 +64,8 @@ export class Live {
   /** Begins a session, and ends the one before. @param {'play' | 'debug' | 'mon'} kind */
   async begin(kind) {
     this.stop('');
-    const {rows, columns, wait, words, options} = KINDS[kind], {name, text} = this.programOf(), {keys, free} = this.optionsOf();
-    const module = await moduleOf('a2lab');
-    const given = options && kind === 'debug' ? [...(keys ? ['--keys', keys] : []), ...(free ? ['--free'] : [])] : [];
+    const {rows, columns, wait, words, isRun} = KINDS[kind], {name, text} = this.programOf();
+    const given = isRun ? runOptions(this.optionsOf()) : [], module = await moduleOf('a2lab');
     this.element.style.setProperty('--columns', columns);
     const screen = new LiveScreen(byId('live-screen'), byId('panel'));
     this.#terminal = new Terminal(byId('lines'), rows, columns, () => this.#show(kind, screen));

@@ -28,6 +28,11 @@ export function filesOf(files) {
   return Object.entries(files).map(([name, text]) => [name, new TextEncoder().encode(text)]);
 }
 
+/** Returns the options of a program's run that has these keys waiting, and no guard if it is free. @returns {string[]} */
+export function runOptions({keys, free}) {
+  return [...(keys ? ['--keys', keys] : []), ...(free ? ['--free'] : [])];
+}
+
 /** What a call that was cancelled throws. */
 export class Cancelled extends Error {}
 

@@ -1,6 +1,6 @@
 // A run of a program, and films of parts of it.
 import {filmIn} from './film.mjs';
-import {Runner, faultText} from './programs.mjs';
+import {Runner, faultText, runOptions} from './programs.mjs';
 
 /** How many steps a film has at most. Reading one takes about a tenth of a second. */
 const WINDOW = 50000;
@@ -60,8 +60,8 @@ export class Run {
   }
 
   async #call(command, ...options) {
-    const {name, text, keys, free} = this.asked;
-    const words = ['a2lab', command, ...(keys ? ['--keys', keys] : []), ...(free ? ['--free'] : []), ...options, name];
+    const {name, text} = this.asked;
+    const words = ['a2lab', command, ...runOptions(this.asked), ...options, name];
     const result = await this.#runner.run(words, {[name]: text});
     if (result.fault) throw new Error(faultText(result.fault));
     return result;

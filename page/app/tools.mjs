@@ -1,7 +1,7 @@
 // The part of the page that runs any other tool of a2lab on the program, and shows what it prints.
 import {byId, make} from './dom.mjs';
 import {save} from './files.mjs';
-import {Cancelled, Runner, faultText} from './programs.mjs';
+import {Cancelled, Runner, faultText, runOptions} from './programs.mjs';
 
 const MOST_SHOWN = 300000;
 const WANT = 'tests.want';
@@ -45,8 +45,8 @@ export class Tools {
 
   /** Runs the chosen tool. */
   async run() {
-    const {words, isRun, makesText, wraps = false} = TOOLS[byId('tool').value], {name, text} = this.programOf(), {keys, free} = this.optionsOf();
-    const [command, ...rest] = words(name), options = isRun ? [...(keys ? ['--keys', keys] : []), ...(free ? ['--free'] : [])] : [];
+    const {words, isRun, makesText, wraps = false} = TOOLS[byId('tool').value], {name, text} = this.programOf();
+    const [command, ...rest] = words(name), options = isRun ? runOptions(this.optionsOf()) : [];
     byId('tool-stop').hidden = false;
     try {
       const files = {[name]: text, [WANT]: byId('want').value};
